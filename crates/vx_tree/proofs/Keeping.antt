@@ -1,0 +1,130 @@
+-- `Keeps` is a preorder that is kept in a slot; `KeepsExactly` as well.
+use Rattle.std.proofs.Common.{◌≡◌, ℕ, zero, suc, ◌-◌, List, [], ◌∷◌, take, drop, map, refl, ◌∙◌, ap, subst}
+use Rattle.vx_value.specs.Types.{DataType}
+use Rattle.vx_value.specs.Values.{integer}
+use Rattle.vx_tree.specs.Tree.{Tree, Data, Slots, node, primitive, slice, no_slots, absent, slot}
+use Rattle.vx_tree.specs.Cells.{Cell, value, fault, rows, slots_rows, node_cells, cells_at, AreClean, HasNoFault}
+use Rattle.vx_tree.specs.Slots.{set_slot, put}
+use Rattle.vx_tree.specs.Keeps.{CellKeeps, RowsKeep, Keeps, KeepsExactly}
+
+-- slot by slot
+abbrev pub AllKeep : List (List Cell) → List (List Cell) → Type 0
+AllKeep [] [] = Unit {0}
+AllKeep [] (d ∷ ds) = ⊥
+AllKeep (c ∷ cs) [] = ⊥
+AllKeep (c ∷ cs) (d ∷ ds) = RowsKeep c d × AllKeep cs ds
+
+cell_refl : (c : Cell) → CellKeeps c c
+cell_refl (value v) = refl
+cell_refl fault = tt
+
+pub rows_refl : (cs : List Cell) → RowsKeep cs cs
+rows_refl [] = tt
+rows_refl (c ∷ cs) = (cell_refl c, rows_refl cs)
+
+pub rows_equal : (cs ds : List Cell) → cs ≡ ds → RowsKeep cs ds
+rows_equal cs ds e = subst (RowsKeep cs) e (rows_refl cs)
+
+cell_trans : (a b c : Cell) → CellKeeps a b → CellKeeps b c → CellKeeps a c
+cell_trans fault b c p q = tt
+cell_trans (value v) b c p q = let r : CellKeeps (value v) c = rw p at q in r
+
+rows_trans : (aa bb cs : List Cell) → RowsKeep aa bb → RowsKeep bb cs → RowsKeep aa cs
+rows_trans [] [] cs p q = q
+rows_trans [] (b ∷ bb) cs p q = absurd p
+rows_trans (a ∷ aa) [] cs p q = absurd p
+rows_trans (a ∷ aa) (b ∷ bb) [] p q = absurd q
+rows_trans (a ∷ aa) (b ∷ bb) (c ∷ cs) p q = (cell_trans a b c p.0 q.0, rows_trans aa bb cs p.1 q.1)
+
+pub no_fault_kept : (aa bb : List Cell) → RowsKeep aa bb → HasNoFault aa → HasNoFault bb
+no_fault_kept [] [] k h = tt
+no_fault_kept [] (b ∷ bb) k h = absurd k
+no_fault_kept (a ∷ aa) [] k h = absurd k
+no_fault_kept (fault ∷ aa) (b ∷ bb) k h = absurd h
+no_fault_kept (value v ∷ aa) (b ∷ bb) k h = rw k.0 (no_fault_kept aa bb k.1 h)
+
+-- what the encodings' operations need
+
+at_keep : (css dss : List (List Cell)) (k : ℕ) → AllKeep css dss → RowsKeep (cells_at css k) (cells_at dss k)
+at_keep [] [] k h = tt
+at_keep [] (d ∷ ds) k h = absurd h
+at_keep (c ∷ cs) [] k h = absurd h
+at_keep (c ∷ cs) (d ∷ ds) zero h = h.0
+at_keep (c ∷ cs) (d ∷ ds) (suc k) h = at_keep cs ds k h.1
+
+take_keep : (k : ℕ) (cs ds : List Cell) → RowsKeep cs ds → RowsKeep (take k cs) (take k ds)
+take_keep zero cs ds h = tt
+take_keep (suc k) [] [] h = tt
+take_keep (suc k) [] (d ∷ ds) h = absurd h
+take_keep (suc k) (c ∷ cs) [] h = absurd h
+take_keep (suc k) (c ∷ cs) (d ∷ ds) h = (h.0, take_keep k cs ds h.1)
+
+drop_keep : (k : ℕ) (cs ds : List Cell) → RowsKeep cs ds → RowsKeep (drop k cs) (drop k ds)
+drop_keep zero cs ds h = h
+drop_keep (suc k) [] [] h = tt
+drop_keep (suc k) [] (d ∷ ds) h = absurd h
+drop_keep (suc k) (c ∷ cs) [] h = absurd h
+drop_keep (suc k) (c ∷ cs) (d ∷ ds) h = drop_keep k cs ds h.1
+
+-- a node keeps what its slots keep: a line for each encoding
+pub node_mono : (ty : DataType) (n : ℕ) (d : Data) (css dss : List (List Cell)) → AllKeep css dss → RowsKeep (node_cells ty n d css) (node_cells ty n d dss)
+node_mono ty n (primitive xs) css dss h = rows_refl (map (λ z. value (integer z)) xs)
+node_mono ty n (slice a b) css dss h = take_keep (b - a) _ _ (drop_keep a _ _ (at_keep css dss 0 h))
+
+-- the laws, whatever the encodings
+
+pub keeps_refl : (t : Tree) → Keeps t t
+keeps_refl t = record { same_type = refl; same_len = refl; same_rows = rows_refl (rows t); still_clean = λ h. h }
+
+pub keeps_trans : (t u v : Tree) → Keeps t u → Keeps u v → Keeps t v
+keeps_trans t u v p q =
+    record { same_type = p.same_type ∙ q.same_type; same_len = p.same_len ∙ q.same_len; same_rows = rows_trans _ _ _ p.same_rows q.same_rows; still_clean = λ h. q.still_clean (p.still_clean h) }
+
+all_refl : (ss : List (List Cell)) → AllKeep ss ss
+all_refl [] = tt
+all_refl (c ∷ cs) = (rows_refl c, all_refl cs)
+
+put_rows : (i : ℕ) (t u : Tree) (ss : Slots) → Keeps t u → AllKeep (slots_rows (set_slot i t ss)) (slots_rows (set_slot i u ss))
+put_rows i t u no_slots h = tt
+put_rows zero t u (absent ss) h = (h.same_rows, all_refl (slots_rows ss))
+put_rows zero t u (slot s ss) h = (h.same_rows, all_refl (slots_rows ss))
+put_rows (suc i) t u (absent ss) h = (tt, put_rows i t u ss h)
+put_rows (suc i) t u (slot s ss) h = (rows_refl (rows s), put_rows i t u ss h)
+
+put_clean : (i : ℕ) (t u : Tree) (ss : Slots) → Keeps t u → AreClean (set_slot i t ss) → AreClean (set_slot i u ss)
+put_clean i t u no_slots h c = tt
+put_clean zero t u (absent ss) h c = (h.still_clean c.0, c.1)
+put_clean zero t u (slot s ss) h c = (h.still_clean c.0, c.1)
+put_clean (suc i) t u (absent ss) h c = put_clean i t u ss h c
+put_clean (suc i) t u (slot s ss) h c = (c.0, put_clean i t u ss h c.1)
+
+pub put_keeps : (i : ℕ) (t u p : Tree) → Keeps t u → Keeps (put i t p) (put i u p)
+put_keeps i t u (node ty n d ss) h =
+    let r : RowsKeep (node_cells ty n d (slots_rows (set_slot i t ss))) (node_cells ty n d (slots_rows (set_slot i u ss))) = node_mono ty n d _ _ (put_rows i t u ss h) in
+    record { same_type = refl; same_len = refl; same_rows = r; still_clean = λ c. (no_fault_kept _ _ r c.0, put_clean i t u ss h c.1) }
+
+equal_in_slots : (i : ℕ) (t u : Tree) (ss : Slots) → rows t ≡ rows u → slots_rows (set_slot i t ss) ≡ slots_rows (set_slot i u ss)
+equal_in_slots i t u no_slots h = refl
+equal_in_slots zero t u (absent ss) h = ap (λ c. c ∷ slots_rows ss) h
+equal_in_slots zero t u (slot s ss) h = ap (λ c. c ∷ slots_rows ss) h
+equal_in_slots (suc i) t u (absent ss) h = ap (λ css. [] ∷ css) (equal_in_slots i t u ss h)
+equal_in_slots (suc i) t u (slot s ss) h = ap (λ css. rows s ∷ css) (equal_in_slots i t u ss h)
+
+put_equal : (i : ℕ) (t u p : Tree) → rows t ≡ rows u → rows (put i t p) ≡ rows (put i u p)
+put_equal i t u (node ty n d ss) h = ap (node_cells ty n d) (equal_in_slots i t u ss h)
+
+pub exactly_refl : (t : Tree) → KeepsExactly t t
+exactly_refl t = record { keeps = keeps_refl t; equal = refl }
+
+pub exactly_trans : (t u v : Tree) → KeepsExactly t u → KeepsExactly u v → KeepsExactly t v
+exactly_trans t u v p q = record { keeps = keeps_trans t u v p.keeps q.keeps; equal = p.equal ∙ q.equal }
+
+pub put_exactly : (i : ℕ) (t u p : Tree) → KeepsExactly t u → KeepsExactly (put i t p) (put i u p)
+put_exactly i t u p h = record { keeps = put_keeps i t u p h.keeps; equal = put_equal i t u p h.equal }
+
+-- columns of the same type, length and rows keep each other exactly
+pub exactly_of_rows : (ty : DataType) (n : ℕ) (d e : Data) (ss ts : Slots) → node_cells ty n d (slots_rows ss) ≡ node_cells ty n e (slots_rows ts) → (AreClean ss → AreClean ts) → KeepsExactly (node ty n d ss) (node ty n e ts)
+exactly_of_rows ty n d e ss ts r c = record {
+  keeps = record { same_type = refl; same_len = refl; same_rows = rows_equal _ _ r; still_clean = λ h. (subst HasNoFault r h.0, c h.1) };
+  equal = r;
+}

@@ -1,0 +1,5 @@
+pub mod Opening
+pub mod Opened
+pub mod Keeping
+pub mod Refusing
+pub mod Bounding

@@ -1,0 +1,100 @@
+-- What is refused, and what isn't.
+use Rattle.std.proofs.Common.{◌≡◌, ◌≢◌, get_or, ℕ, ℤ, ◌-◌, ◌≤◌, List, [], ◌∷◌, length, Bool, true, false, nat_le, ◌&&◌, Option, Some, None, refl, sym, ◌∙◌, ap, subst, arith}
+use Rattle.std.proofs.lemmas.Grind.{common_steps}
+use Rattle.vx_value.specs.Types.{DataType, i32}
+use Rattle.vx_value.specs.declared.error.VortexError.{VortexError}
+use Rattle.vx_value.specs.declared.error.VortexError.TheVariants.{InvalidArgument}
+use Rattle.vx_value.specs.declared.error.ArgKind.TheVariants.{SlotCount}
+use Rattle.vx_tree.specs.Tree.{Tree, Data, primitive, slice, slots_of}
+use Rattle.vx_tree.specs.Well.{Shape, shape, shapes, IsNode}
+use Rattle.vx_tree.specs.Refusals.{refusal, primitive_refusal, slice_refusal, unless, first_of_both, no_validity}
+use Rattle.vx_value.specs.Types.{same_type_Decides}
+use Rattle.std.specs.Cmp.{unsigned_Decides, first_so, second_so}
+
+unless_none : (b : Bool) (e : VortexError) → unless b e ≡ None → b ≡ true
+unless_none true e h = refl
+unless_none false e h = absurd (cc)
+
+none_unless : (b : Bool) (e : VortexError) → b ≡ true → unless b e ≡ None
+none_unless b e h = ap (λ x. unless x e) h
+
+first_none : (x y : Option VortexError) → first_of_both x y ≡ None → x ≡ None
+first_none None y h = refl
+first_none (Some e) y h = absurd (cc)
+
+second_none : (x y : Option VortexError) → first_of_both x y ≡ None → y ≡ None
+second_none None y h = h
+second_none (Some e) y h = absurd (cc)
+
+both_none : (x y : Option VortexError) → x ≡ None → y ≡ None → first_of_both x y ≡ None
+both_none x y p q = ap (λ z. first_of_both z y) p ∙ q
+
+absent_none : (s : Option Shape) → no_validity s ≡ None → s ≡ None
+absent_none None h = refl
+absent_none (Some s) h = absurd (cc)
+
+le_true : (a b : ℕ) → nat_le a b ≡ true → a ≤ b
+le_true a b h = grind (arith, common_steps)
+
+true_le : (a b : ℕ) → a ≤ b → nat_le a b ≡ true
+true_le a b h = grind (arith, common_steps)
+
+-- the parts of a node that isn't refused meet its conditions
+
+primitive_kept : (ty : DataType) (n : ℕ) (xs : List ℤ) (ss : List (Option Shape)) → primitive_refusal ty n (length xs) ss ≡ None → IsNode ty n (primitive xs) ss
+primitive_kept ty n xs [] h = absurd (cc)
+primitive_kept ty n xs (s ∷ []) h =
+    let later = second_none _ _ h in
+    ((same_type_Decides ty i32).0 (unless_none _ _ (first_none _ _ h)), (unsigned_Decides n (length xs)).0 (unless_none _ _ (second_none _ _ later)), ap (λ z. z ∷ []) (absent_none s (first_none _ _ later)))
+primitive_kept ty n xs (s ∷ r ∷ ss) h = absurd (cc)
+
+slice_kept : (ty : DataType) (n a b : ℕ) (ss : List (Option Shape)) → slice_refusal ty n a b ss ≡ None → IsNode ty n (slice a b) ss
+slice_kept ty n a b [] h = absurd (cc)
+slice_kept ty n a b (None ∷ []) h = absurd (cc)
+slice_kept ty n a b (Some (shape s m) ∷ []) h =
+    let later = second_none _ _ h in
+    let range = unless_none _ _ (second_none _ _ later) in
+    let same : ty ≡ s = (same_type_Decides ty s).0 (unless_none _ _ (first_none _ _ h)) in
+    (m, ap (λ z. Some (shape z m) ∷ []) (sym same), le_true a b (first_so _ _ range), le_true b m (second_so _ _ range), (unsigned_Decides n (b - a)).0 (unless_none _ _ (first_none _ _ later)))
+slice_kept ty n a b (None ∷ r ∷ ss) h = absurd (cc)
+slice_kept ty n a b (Some s ∷ r ∷ ss) h = absurd (cc)
+
+pub node_unless_refused : (ty : DataType) (n : ℕ) (d : Data) (ss : List (Option Shape)) → refusal ty n d ss ≡ None → IsNode ty n d ss
+node_unless_refused ty n (primitive xs) ss h = primitive_kept ty n xs ss h
+node_unless_refused ty n (slice a b) ss h = slice_kept ty n a b ss h
+
+-- and the parts that meet them aren't refused
+
+pub refused_unless_node : (ty : DataType) (n : ℕ) (d : Data) (ss : List (Option Shape)) → IsNode ty n d ss → refusal ty n d ss ≡ None
+refused_unless_node ty n (primitive xs) ss h =
+    let e : primitive_refusal ty n (length xs) (None ∷ []) ≡ None = both_none _ _ (none_unless _ _ ((same_type_Decides ty i32).1 h.0)) (both_none None _ refl (none_unless _ _ ((unsigned_Decides n (length xs)).1 h.1))) in
+    subst (λ l. primitive_refusal ty n (length xs) l ≡ None) (sym h.2) e
+refused_unless_node ty n (slice a b) ss h =
+    let range : (nat_le a b && nat_le b h.0) ≡ true = ap (λ x. x && nat_le b h.0) (true_le a b h.2) ∙ true_le b h.0 h.3 in
+    let e : slice_refusal ty n a b (Some (shape ty h.0) ∷ []) ≡ None = both_none _ _ (none_unless _ _ ((same_type_Decides ty ty).1 refl)) (both_none _ _ (none_unless _ _ ((unsigned_Decides n (b - a)).1 h.4)) (none_unless _ _ range)) in
+    subst (λ l. slice_refusal ty n a b l ≡ None) (sym h.1) e
+
+-- what is asked of the slots, as the code asks
+
+pub slice_slot_count : (ty : DataType) (n a b : ℕ) (xs : List (Option Tree)) → length xs ≢ 1 → refusal ty n (slice a b) (shapes (slots_of xs)) ≡ Some (InvalidArgument SlotCount)
+slice_slot_count ty n a b [] h = refl
+slice_slot_count ty n a b (None ∷ []) h = absurd (h refl)
+slice_slot_count ty n a b (Some t ∷ []) h = absurd (h refl)
+slice_slot_count ty n a b (None ∷ None ∷ xs) h = refl
+slice_slot_count ty n a b (None ∷ Some u ∷ xs) h = refl
+slice_slot_count ty n a b (Some t ∷ None ∷ xs) h = refl
+slice_slot_count ty n a b (Some t ∷ Some u ∷ xs) h = refl
+
+pub primitive_slot_count : (ty : DataType) (n : ℕ) (ns : List ℤ) (xs : List (Option Tree)) → length xs ≢ 1 → refusal ty n (primitive ns) (shapes (slots_of xs)) ≡ Some (InvalidArgument SlotCount)
+primitive_slot_count ty n ns [] h = refl
+primitive_slot_count ty n ns (None ∷ []) h = absurd (h refl)
+primitive_slot_count ty n ns (Some t ∷ []) h = absurd (h refl)
+primitive_slot_count ty n ns (None ∷ None ∷ xs) h = refl
+primitive_slot_count ty n ns (None ∷ Some u ∷ xs) h = refl
+primitive_slot_count ty n ns (Some t ∷ None ∷ xs) h = refl
+primitive_slot_count ty n ns (Some t ∷ Some u ∷ xs) h = refl
+
+pub the_slot : (xs : List (Option Tree)) (s : Option Tree) → length xs ≡ 1 → s ≡ get_or xs 0 s → xs ≡ s ∷ []
+the_slot [] s h e = absurd (omega arith)
+the_slot (r ∷ []) s h e = ap (λ z. z ∷ []) (cc)
+the_slot (r ∷ q ∷ xs) s h e = absurd (omega arith)

@@ -1,0 +1,46 @@
+-- What a tree means: a cell for each row.
+use Rattle.std.specs.Prelude.{ℕ, zero, suc, ◌-◌, List, [], ◌∷◌, take, drop, map}
+use Rattle.vx_value.specs.Types.{DataType}
+use Rattle.vx_value.specs.Values.{Value, integer}
+use Rattle.vx_tree.specs.Tree.{Tree, Data, Slots, node, primitive, slice, no_slots, absent, slot}
+
+-- a value, or a fault
+pub data Cell : Type 0 where
+  value : Value → Cell
+  fault : Cell
+
+-- the cells of slot k; of an absent one, none
+abbrev pub cells_at : List (List Cell) → ℕ → List Cell
+cells_at [] k = []
+cells_at (cs ∷ css) zero = cs
+cells_at (cs ∷ css) (suc k) = cells_at css k
+
+-- the cells of a node, from those of its slots: a line for each encoding
+abbrev pub node_cells : DataType → ℕ → Data → List (List Cell) → List Cell
+node_cells ty n (primitive xs) css = map (λ z. value (integer z)) xs
+node_cells ty n (slice a b) css = take (b - a) (drop a (cells_at css 0))
+
+abbrev mutual
+  pub rows : Tree → List Cell
+  rows (node ty n d ss) = node_cells ty n d (slots_rows ss)
+
+  pub slots_rows : Slots → List (List Cell)
+  slots_rows no_slots = []
+  slots_rows (absent ss) = [] ∷ slots_rows ss
+  slots_rows (slot t ss) = rows t ∷ slots_rows ss
+
+-- no fault among these
+abbrev pub HasNoFault : List Cell → Type 0
+HasNoFault [] = Unit {0}
+HasNoFault (value v ∷ cs) = HasNoFault cs
+HasNoFault (fault ∷ cs) = ⊥
+
+-- no node of the tree has a fault among its rows
+abbrev mutual
+  pub IsClean : Tree → Type 0
+  IsClean (node ty n d ss) = HasNoFault (node_cells ty n d (slots_rows ss)) × AreClean ss
+
+  pub AreClean : Slots → Type 0
+  AreClean no_slots = Unit {0}
+  AreClean (absent ss) = AreClean ss
+  AreClean (slot t ss) = IsClean t × AreClean ss

@@ -1,0 +1,39 @@
+-- What bounds the turns of an execution.
+use Rattle.std.specs.Prelude.{ℕ, ◌+◌, ◌*◌, List, [], ◌∷◌, sum}
+use Rattle.vx_tree.specs.Tree.{Tree, Data, Slots, node, primitive, slice, no_slots, absent, slot}
+
+-- how far a slice may have to be pushed down, less one: a line for each encoding
+abbrev pub node_extra : Data → List ℕ → ℕ
+node_extra (primitive xs) es = 0
+node_extra (slice a b) es = sum es
+
+abbrev mutual
+  pub extra : Tree → ℕ
+  extra (node ty n d ss) = node_extra d (slots_extra ss)
+
+  pub slots_extra : Slots → List ℕ
+  slots_extra no_slots = []
+  slots_extra (absent ss) = slots_extra ss
+  slots_extra (slot t ss) = extra t ∷ slots_extra ss
+
+abbrev pub reach : Tree → ℕ
+reach t = 1 + extra t
+
+-- the turns that a node takes itself, and those for a slot of cost c and reach 1 + e: a line for each encoding
+abbrev pub base_cost : Data → ℕ
+base_cost (primitive xs) = 1
+base_cost (slice a b) = 2
+
+abbrev pub slot_cost : Data → ℕ → ℕ → ℕ
+slot_cost (primitive xs) c e = c + 1
+slot_cost (slice a b) c e = c + 1 + 3 * e
+
+-- at most so many turns are taken for the tree
+abbrev mutual
+  pub cost : Tree → ℕ
+  cost (node ty n d ss) = base_cost d + slots_cost d ss
+
+  pub slots_cost : Data → Slots → ℕ
+  slots_cost d no_slots = 0
+  slots_cost d (absent ss) = slots_cost d ss
+  slots_cost d (slot t ss) = slot_cost d (cost t) (extra t) + slots_cost d ss

@@ -1,0 +1,17 @@
+pub use Rattle.vx_value.specs.Types
+pub use Rattle.vx_value.specs.Values
+pub use Rattle.vx_value.specs.View
+pub use Rattle.vx_value.specs.IsOf
+pub use Rattle.vx_value.specs.Typed
+pub use Rattle.vx_value.specs.Ids
+pub mod Tree
+pub mod TreeView
+pub mod Falls
+pub mod Cells
+pub mod Well
+pub mod Refusals
+pub mod Slots
+pub mod Keeps
+pub mod Kinds
+pub mod Cost
+pub mod Columns

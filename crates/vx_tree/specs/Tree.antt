@@ -1,0 +1,129 @@
+-- What an array is: a tree of nodes. Each has a type, a length in rows, data of its encoding, and slots.
+use Rattle.std.specs.Prelude.{◌≡◌, ℕ, ℤ, ◌+◌, List, [], ◌∷◌, max, Option, Some, None, Bool, true, false, ◌⊎◌, refl}
+use Rattle.std.specs.Coded.{Coded, code_by, coded_ℕ, coded_ℤ, coded_list, coded×, coded⊎}
+use Rattle.std.proofs.Common.{ap, inl, inr}
+use base.Stored.{Gv, gnil, gnum, gcons}
+use Rattle.vx_value.specs.Types.{DataType, coded_type}
+use Rattle.vx_value.specs.declared.id.Id.{Id}
+use Rattle.vx_value.specs.declared.id.Id.TheVariants as id
+
+-- the data of a node: its buffers as lists, and its numbers
+pub data Data : Type 0 where
+  primitive : List ℤ → Data
+  slice : ℕ → ℕ → Data
+
+mutual
+  pub data Tree : Type 0 where
+    node : DataType → ℕ → Data → Slots → Tree
+
+  -- a slot that may be left out, or that was taken out, is absent
+  pub data Slots : Type 0 where
+    no_slots : Slots
+    absent : Slots → Slots
+    slot : Tree → Slots → Slots
+
+abbrev pub slots_of : List (Option Tree) → Slots
+slots_of [] = no_slots
+slots_of (None ∷ ss) = absent (slots_of ss)
+slots_of (Some t ∷ ss) = slot t (slots_of ss)
+
+abbrev mutual
+  pub height : Tree → ℕ
+  height (node ty n d ss) = slots_height ss + 1
+
+  pub slots_height : Slots → ℕ
+  slots_height no_slots = 0
+  slots_height (absent ss) = slots_height ss
+  slots_height (slot t ss) = max (height t) (slots_height ss)
+
+-- the parts of a tree's root
+abbrev pub dtype : Tree → DataType
+dtype (node ty n d ss) = ty
+
+abbrev pub len : Tree → ℕ
+len (node ty n d ss) = n
+
+abbrev pub datum : Tree → Data
+datum (node ty n d ss) = d
+
+abbrev pub slots : Tree → Slots
+slots (node ty n d ss) = ss
+
+-- the id of an encoding
+abbrev pub id_of : Data → Id
+id_of (primitive xs) = id.Primitive
+id_of (slice a b) = id.Slice
+
+-- which encoding a node has
+abbrev pub is_primitive : Data → Bool
+is_primitive (primitive xs) = true
+is_primitive (slice a b) = false
+
+abbrev pub is_slice : Data → Bool
+is_slice (primitive xs) = false
+is_slice (slice a b) = true
+
+-- the encodings that hold their rows themselves
+abbrev pub is_canonical : Data → Bool
+is_canonical (primitive xs) = true
+is_canonical (slice a b) = false
+
+-- the canonical encodings, and those that repeat one value
+abbrev pub is_columnar : Data → Bool
+is_columnar (primitive xs) = true
+is_columnar (slice a b) = false
+
+-- ---- the code of a tree: of node data, a line for each encoding in each of three definitions
+
+abbrev pub data_split : Data → List ℤ ⊎ (ℕ × ℕ)
+data_split (primitive xs) = inl xs
+data_split (slice a b) = inr (a, b)
+
+abbrev pub data_join : List ℤ ⊎ (ℕ × ℕ) → Data
+data_join (inl xs) = primitive xs
+data_join (inr p) = slice p.0 p.1
+
+pub data_join_split : (d : Data) → data_join (data_split d) ≡ d
+data_join_split (primitive xs) = refl
+data_join_split (slice a b) = refl
+
+abbrev pub coded_data : Coded Data
+coded_data = code_by (List ℤ ⊎ (ℕ × ℕ)) (coded⊎ (coded_list coded_ℤ) (coded× coded_ℕ coded_ℕ)) data_split data_join data_join_split
+
+abbrev head : Gv → Gv
+head gnil = gnil
+head (gnum n) = gnil
+head (gcons a b) = a
+
+abbrev tail : Gv → Gv
+tail gnil = gnil
+tail (gnum n) = gnil
+tail (gcons a b) = b
+
+abbrev mutual
+  pub tree_code : Tree → Gv
+  tree_code (node ty n d ss) = gcons (coded_type.code ty) (gcons (gnum n) (gcons (coded_data.code d) (slots_code ss)))
+
+  pub slots_code : Slots → Gv
+  slots_code no_slots = gnil
+  slots_code (absent ss) = gcons (gnum 0) (slots_code ss)
+  slots_code (slot t ss) = gcons (gcons (gnum 0) (tree_code t)) (slots_code ss)
+
+mutual
+  pub tree_inj : (x y : Tree) → tree_code x ≡ tree_code y → x ≡ y
+  tree_inj (node s n d ss) (node t m e ts) p =
+      λ i. node (coded_type.inj s t (ap head p) i) (coded_ℕ.inj n m (ap (λ g. head (tail g)) p) i) (coded_data.inj d e (ap (λ g. head (tail (tail g))) p) i) (slots_inj ss ts (ap (λ g. tail (tail (tail g))) p) i)
+
+  pub slots_inj : (x y : Slots) → slots_code x ≡ slots_code y → x ≡ y
+  slots_inj no_slots no_slots p = refl
+  slots_inj no_slots (absent ts) p = absurd (cc)
+  slots_inj no_slots (slot t ts) p = absurd (cc)
+  slots_inj (absent ss) no_slots p = absurd (cc)
+  slots_inj (absent ss) (absent ts) p = ap absent (slots_inj ss ts (ap tail p))
+  slots_inj (absent ss) (slot t ts) p = absurd (cc)
+  slots_inj (slot s ss) no_slots p = absurd (cc)
+  slots_inj (slot s ss) (absent ts) p = absurd (cc)
+  slots_inj (slot s ss) (slot t ts) p = λ i. slot (tree_inj s t (ap (λ g. tail (head g)) p) i) (slots_inj ss ts (ap tail p) i)
+
+abbrev pub coded_tree : Coded Tree
+coded_tree = record { code = tree_code; inj = tree_inj }

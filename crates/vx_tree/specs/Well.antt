@@ -1,0 +1,35 @@
+-- Which trees are well formed: the invariant of an `ArrayRef`.
+use Rattle.std.specs.Prelude.{◌≡◌, ℕ, ◌-◌, ◌≤◌, List, [], ◌∷◌, length, Option, Some, None}
+use Rattle.vx_value.specs.Types.{DataType, i32}
+use Rattle.vx_tree.specs.Tree.{Tree, Data, Slots, node, primitive, slice, no_slots, absent, slot, dtype, len}
+
+-- what a node's conditions see of a slot's tree: its type and its length
+pub data Shape : Type 0 where
+  shape : DataType → ℕ → Shape
+
+abbrev pub shape_of : Tree → Shape
+shape_of t = shape (dtype t) (len t)
+
+abbrev pub shapes : Slots → List (Option Shape)
+shapes no_slots = []
+shapes (absent ss) = None ∷ shapes ss
+shapes (slot t ss) = Some (shape_of t) ∷ shapes ss
+
+-- the conditions on a node, its slots' own apart: a line for each encoding. A column of integers has a slot for a
+-- validity, which is absent where no row is null.
+abbrev pub IsNode : DataType → ℕ → Data → List (Option Shape) → Type 0
+IsNode ty n (primitive xs) ss = (ty ≡ i32) × (n ≡ length xs) × (ss ≡ None ∷ [])
+IsNode ty n (slice a b) ss = (m : ℕ) × (ss ≡ Some (shape ty m) ∷ []) × (a ≤ b) × (b ≤ m) × (n ≡ b - a)
+
+-- the same of a tree's root
+abbrev pub IsNodeOf : Tree → Type 0
+IsNodeOf (node ty n d ss) = IsNode ty n d (shapes ss)
+
+abbrev mutual
+  pub IsWell : Tree → Type 0
+  IsWell (node ty n d ss) = IsNode ty n d (shapes ss) × AreWell ss
+
+  pub AreWell : Slots → Type 0
+  AreWell no_slots = Unit {0}
+  AreWell (absent ss) = AreWell ss
+  AreWell (slot t ss) = IsWell t × AreWell ss

@@ -1,0 +1,15 @@
+//! Arrays: a shared node, behind an untyped reference, a typed handle or a typed view.
+
+mod erased;
+mod kind;
+mod node;
+mod typed;
+mod view;
+mod vtable;
+
+pub use kind::ArrayKind;
+pub(crate) use node::know_well;
+pub use node::{ArrayRef, ArraySlots, Encoding, Node};
+pub use typed::{Array, ArrayParts, IntoArray};
+pub use view::ArrayView;
+pub use vtable::{ArrayId, Encoded, VTable};

@@ -1,0 +1,170 @@
+//! The node that all handles share.
+
+ghost use Rattle.std.specs.Prelude.{◌≡◌, IfOk, IfErr, IfSome};
+ghost use Rattle.vx_tree.specs.Tree.{Tree, slots_of};
+ghost use Rattle.vx_tree.specs.TreeView.{data_of, tree_of};
+ghost use Rattle.vx_tree.specs.Well.{IsNodeOf, IsWell, AreWell};
+
+use crate::arrays::primitive::PrimitiveData;
+use crate::arrays::slice::SliceData;
+use std::alloc::{AllocError, Global};
+use std::marker::Model;
+use std::rc::Rc;
+use vx_value::DType;
+
+/// The children of a node. A slot without a tree is one that may be left out.
+pub type ArraySlots = Vec<Option<ArrayRef>>;
+
+/// The data of a node, by its encoding. (own: the original boxes a dynamic type)
+#[derive(Debug, Drop)]
+pub enum Encoding {
+    Primitive(PrimitiveData),
+    Slice(SliceData),
+}
+
+/// The parts of a node, whose slots may lack a child. (own)
+#[cycle(tree)]
+#[derive(Debug, Drop)]
+pub struct Node {
+    pub dtype: DType,
+    /// In rows.
+    pub len: usize,
+    pub encoding: Encoding,
+    pub slots: Vec<Option<ArrayRef>>,
+}
+
+/// A shared, immutable and well-formed tree. A clone copies nothing but the reference.
+#[cycle(tree)]
+#[derive(Debug, Drop)]
+pub struct ArrayRef {
+    pub(crate) node: Rc<Node>,
+}
+
+impl Model for ArrayRef {
+    ghost use Rattle.vx_tree.specs.Tree.{Tree, coded_tree, height};
+
+    ghost Value = { Tree };
+
+    ghost coded = { coded_tree };
+
+    ghost use Rattle.vx_tree.specs.TreeView.{tree_of};
+    ghost use Rattle.vx_tree.specs.Well.{IsWell};
+
+    ghost view = { λ a. tree_of a.node.value };
+
+    ghost invariant = { λ a. IsWell (tree_of a.node.value) };
+
+    ghost size = { height };
+
+    ghost use Rattle.std.proofs.Common.{arith};
+    ghost use Rattle.vx_tree.specs.Falls.{below};
+
+    ghost size_decreases = { λ a h. omega (arith, below a.node.value.slots.items) };
+}
+
+impl Clone for ArrayRef {
+    ghost is_clone = { λ a b. b ≡ a };
+
+    fn clone(&self) -> Result<ArrayRef, AllocError> {
+        Ok(ArrayRef {
+            node: self.node.clone()?,
+        })
+    }
+}
+
+impl Clone for Encoding {
+    ghost is_clone = { λ a b. data_of b ≡ data_of a };
+
+    fn clone(&self) -> Result<Encoding, AllocError> {
+        match self {
+            Encoding::Primitive(data) => Ok(Encoding::Primitive(data.clone()?)),
+            Encoding::Slice(data) => Ok(Encoding::Slice(data.clone()?)),
+        }
+    }
+}
+
+fn copy_slot(slot: &Option<ArrayRef>) -> Result<Option<ArrayRef>, AllocError>
+    ensures { IfOk result (λ copy. copy ≡ slot.now) }
+{
+    match slot {
+        Some(child) => Ok(Some(child.clone()?)),
+        None => Ok(None),
+    }
+}
+
+fn copy_slots(
+    alloc: Global,
+    slots: &Vec<Option<ArrayRef>>,
+) -> Result<Vec<Option<ArrayRef>>, AllocError>
+    ensures { IfOk result (λ copy. copy.items ≡ slots.now.items) }
+{
+    let mut copy = Vec::with_capacity(alloc, slots.len())?;
+    for slot in slots {
+        copy.push(copy_slot(slot)?)?;
+    }
+    Ok(copy)
+}
+
+fn know_slot(slot: &Option<ArrayRef>)
+    ensures { IfSome slot.now IsWell }
+{
+    match slot {
+        Some(child) => {
+            let _well = &child.node;
+        }
+        None => {}
+    }
+}
+
+/// Each child is well formed, as its type says.
+#[tactic(auto, using(crate::proofs::Opening::well_append))]
+pub(crate) fn know_well(slots: &[Option<ArrayRef>])
+    ensures { AreWell (slots_of slots.now) }
+{
+    for slot in slots {
+        know_slot(slot);
+    }
+}
+
+impl Node {
+    /// The tree of these parts.
+    pub fn into_array(self, alloc: Global) -> Result<ArrayRef, AllocError>
+        requires { IsNodeOf (tree_of self) }
+        ensures { IfOk result (λ t. t ≡ tree_of self) }
+    {
+        know_well(&self.slots);
+        Ok(ArrayRef {
+            node: Rc::new(alloc, self)?,
+        })
+    }
+}
+
+impl ArrayRef {
+    /// The parts of the root, without a copy where no one else holds it.
+    pub fn into_node(self, alloc: Global) -> Result<Node, AllocError>
+        ensures { IfOk result (λ n. tree_of n ≡ self) }
+    {
+        let ArrayRef { node } = self;
+        match Rc::try_unwrap(node) {
+            Ok(node) => Ok(node),
+            Err(shared) => Ok(Node {
+                dtype: shared.dtype.clone()?,
+                len: shared.len,
+                encoding: shared.encoding.clone()?,
+                slots: copy_slots(alloc, &shared.slots)?,
+            }),
+        }
+    }
+
+    /// The parts of the root where no one else holds it, else the tree itself.
+    pub(crate) fn try_into_node(self) -> Result<Node, ArrayRef>
+        ensures ok { IfOk result (λ n. tree_of n ≡ self) }
+        ensures err { IfErr result (λ a. a ≡ self) }
+    {
+        let ArrayRef { node } = self;
+        match Rc::try_unwrap(node) {
+            Ok(node) => Ok(node),
+            Err(node) => Err(ArrayRef { node }),
+        }
+    }
+}

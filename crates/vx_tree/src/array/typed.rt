@@ -1,0 +1,244 @@
+//! A handle that knows its encoding.
+
+ghost use Rattle.std.specs.Prelude.{◌≡◌, ◌⊎◌, is_ok, IfOk, IfErr, OnOk, Some, None};
+ghost use Rattle.vx_value.specs.View.{type_of};
+ghost use Rattle.vx_tree.specs.Tree.{Tree, dtype, len, datum, slots, slots_of, node};
+ghost use Rattle.vx_tree.specs.Well.{shapes};
+ghost use Rattle.vx_tree.specs.Refusals.{refusal};
+
+use crate::array::{ArrayRef, ArrayView, Node, VTable};
+use std::alloc::{AllocError, Global};
+use std::marker::{Model, PhantomData};
+use std::ops::Deref;
+use vx_value::{DType, VortexError, VortexResult};
+
+/// A node of V's encoding. It is the same node as its reference's.
+#[derive(Drop)]
+pub struct Array<V: VTable> {
+    array: ArrayRef,
+    tag: PhantomData<V>,
+}
+
+impl<V: VTable> Model for Array<V> {
+    ghost use Rattle.std.specs.Prelude.{◌≡◌, true};
+    ghost use Rattle.vx_tree.specs.Tree.{Tree, coded_tree, datum};
+
+    ghost Value = { Tree };
+
+    ghost coded = { coded_tree };
+
+    ghost view = { λ a. a.array };
+
+    ghost invariant = { λ a. V.is_kind (datum a.array) ≡ true };
+}
+
+impl<V: VTable> Clone for Array<V> {
+    ghost is_clone = { λ a b. b ≡ a };
+
+    fn clone(&self) -> Result<Array<V>, AllocError> {
+        Ok(Array {
+            array: self.array.clone()?,
+            tag: PhantomData,
+        })
+    }
+}
+
+/// What a node of V's encoding is made of.
+#[derive(Drop)]
+pub struct ArrayParts<V: VTable> {
+    pub vtable: V,
+    pub dtype: DType,
+    /// In rows.
+    pub len: usize,
+    pub payload: V::TypedArrayData,
+    pub slots: Vec<Option<ArrayRef>>,
+}
+
+impl<V: VTable> ArrayParts<V> {
+    /// The parts, by name.
+    pub fn new(
+        vtable: V,
+        dtype: DType,
+        len: usize,
+        payload: V::TypedArrayData,
+        slots: Vec<Option<ArrayRef>>,
+    ) -> ArrayParts<V>
+        ensures { result ≡ record { vtable = vtable; dtype = dtype; len = len; payload = payload; slots = slots } }
+    {
+        ArrayParts {
+            vtable,
+            dtype,
+            len,
+            payload,
+            slots,
+        }
+    }
+}
+
+impl<V: VTable> Array<V> {
+    /// The node of these parts. It refuses by the first condition that fails, in the order of `VTable::validate`.
+    #[tactic(auto, using(crate::proofs::Refusing::node_unless_refused))]
+    pub fn try_from_parts(alloc: Global, parts: ArrayParts<V>) -> VortexResult<Array<V>>
+        ensures ok { IfOk result (λ a. a ≡ node (type_of parts.dtype) parts.len (V.stands_for parts.payload) (slots_of parts.slots.items)) }
+        ensures valid { OnOk result (refusal (type_of parts.dtype) parts.len (V.stands_for parts.payload) (shapes (slots_of parts.slots.items)) ≡ None) }
+        ensures refused { IfErr result (λ e. (e ≡ VortexError.OutOfMemory)
+            ⊎ (refusal (type_of parts.dtype) parts.len (V.stands_for parts.payload) (shapes (slots_of parts.slots.items)) ≡ Some e)) }
+    {
+        let ArrayParts {
+            vtable: _,
+            dtype,
+            len,
+            payload,
+            slots,
+        } = parts;
+        V::validate(&dtype, len, &payload, &slots)?;
+        let node = Node {
+            dtype,
+            len,
+            encoding: V::wrap(payload),
+            slots,
+        };
+        Ok(Array {
+            array: node.into_array(alloc)?,
+            tag: PhantomData,
+        })
+    }
+
+    /// The handle of a tree, which is handed back where it is of another encoding.
+    pub fn try_from_array_ref(array: ArrayRef) -> Result<Array<V>, ArrayRef>
+        ensures which { is_ok result ≡ V.is_kind (datum array) }
+        ensures ok { IfOk result (λ a. a ≡ array) }
+        ensures err { IfErr result (λ a. a ≡ array) }
+    {
+        if V::project(array.encoding()).is_some() {
+            Ok(Array {
+                array,
+                tag: PhantomData,
+            })
+        } else {
+            Err(array)
+        }
+    }
+
+    /// The parts of the node, or the handle where the node is shared.
+    pub fn try_into_parts(self) -> Result<ArrayParts<V>, Array<V>>
+        ensures ok { IfOk result (λ p. node (type_of p.dtype) p.len (V.stands_for p.payload) (slots_of p.slots.items) ≡ self) }
+        ensures err { IfErr result (λ a. a ≡ self) }
+    {
+        let Array { array, tag } = self;
+        match array.try_into_node() {
+            Ok(
+                Node {
+                    dtype,
+                    len,
+                    encoding,
+                    slots,
+                },
+            ) => {
+                let Some(payload) = V::into_data(encoding) else {
+                    unreachable!()
+                };
+                Ok(ArrayParts {
+                    vtable: V::tag(),
+                    dtype,
+                    len,
+                    payload,
+                    slots,
+                })
+            }
+            Err(array) => Err(Array { array, tag }),
+        }
+    }
+
+    /// The data of the node.
+    pub fn data(&self) -> &V::TypedArrayData
+        ensures { V.stands_for result.now ≡ datum self.now }
+    {
+        let Some(payload) = V::project(self.array.encoding()) else {
+            unreachable!()
+        };
+        payload
+    }
+
+    /// The reference of the node.
+    pub fn as_array(&self) -> &ArrayRef
+        ensures { result.now ≡ self.now }
+    {
+        &self.array
+    }
+
+    /// A view of the node.
+    pub fn as_view(&self) -> ArrayView<'_, V>
+        ensures of { result.array.now ≡ self.now }
+        ensures payload { V.stands_for result.payload.now ≡ datum self.now }
+    {
+        ArrayView {
+            array: &self.array,
+            payload: self.data(),
+        }
+    }
+
+    /// How many rows there are.
+    pub fn len(&self) -> usize
+        ensures { result ≡ len self.now }
+    {
+        self.array.len()
+    }
+
+    /// The type of the rows.
+    pub fn dtype(&self) -> &DType
+        ensures { type_of result.now ≡ dtype self.now }
+    {
+        self.array.dtype()
+    }
+
+    /// The slots of the node.
+    pub fn slots(&self) -> &[Option<ArrayRef>]
+        ensures { slots_of result.now ≡ slots self.now }
+    {
+        self.array.slots()
+    }
+}
+
+impl<V: VTable> Deref for Array<V> {
+    type Target = V::TypedArrayData;
+
+    ghost deref_gives = { λ a d. V.stands_for d ≡ datum a };
+
+    fn deref(&self) -> &V::TypedArrayData {
+        self.data()
+    }
+}
+
+impl<V: VTable> From<Array<V>> for ArrayRef {
+    ghost from_gives = { λ a r. r ≡ a };
+
+    fn from(handle: Array<V>) -> ArrayRef {
+        handle.array
+    }
+}
+
+/// Whatever is one tree.
+pub trait IntoArray {
+    ghost tree_of: { Self → Tree };
+
+    /// The reference of the tree. No node is made.
+    fn into_array(self) -> ArrayRef
+        ensures { result ≡ tree_of self };
+}
+
+impl IntoArray for ArrayRef {
+    ghost tree_of = { λ t. t };
+
+    fn into_array(self) -> ArrayRef {
+        self
+    }
+}
+
+impl<V: VTable> IntoArray for Array<V> {
+    ghost tree_of = { λ a. a };
+
+    fn into_array(self) -> ArrayRef {
+        self.array
+    }
+}

@@ -1,0 +1,65 @@
+//! What the code generic over an encoding knows of it.
+
+ghost use Rattle.std.specs.Prelude.{◌≡◌, is_some, IfSome, MatchResult, Some, None, Bool, true};
+ghost use Rattle.vx_value.specs.View.{type_of};
+ghost use Rattle.vx_tree.specs.Tree.{Data, slots_of, id_of};
+ghost use Rattle.vx_tree.specs.TreeView.{data_of};
+ghost use Rattle.vx_tree.specs.Well.{shapes};
+ghost use Rattle.vx_tree.specs.Refusals.{refusal};
+
+use crate::array::{ArrayRef, Encoding};
+use vx_value::{DType, Id, VortexResult};
+
+/// The id of an encoding, as the original names it.
+pub type ArrayId = Id;
+
+/// A tag of an encoding, with the type of its node data. (own: the original has it in `VTable`)
+pub trait Encoded {
+    type TypedArrayData: Drop;
+}
+
+/// An encoding, named by its tag.
+pub trait VTable: Encoded + Drop + Sized {
+    // which node data are of the encoding, and what its typed data stands for
+    ghost is_kind: { Data → Bool };
+
+    ghost stands_for: { Self.TypedArrayData → Data };
+
+    /// The id of the encoding.
+    fn id(&self) -> ArrayId
+        ensures { (d : Self.TypedArrayData) → id_of (stands_for d) ≡ result };
+
+    /// The tag itself. (own)
+    fn tag() -> Self;
+
+    /// The node data, where it is of the encoding. (own)
+    fn project(encoding: &Encoding) -> Option<&Self::TypedArrayData>
+        ensures which { is_some result ≡ is_kind (data_of encoding.now) }
+        ensures value { IfSome result (λ d. stands_for d.now ≡ data_of encoding.now) };
+
+    /// The node data by value, where it is of the encoding. (own)
+    fn into_data(encoding: Encoding) -> Option<Self::TypedArrayData>
+        ensures which { is_some result ≡ is_kind (data_of encoding) }
+        ensures value { IfSome result (λ d. stands_for d ≡ data_of encoding) };
+
+    /// The typed data as node data. (own)
+    fn wrap(payload: Self::TypedArrayData) -> Encoding
+        ensures { data_of result ≡ stands_for payload };
+
+    /// Whether a node of these parts may be made.
+    ///
+    /// It refuses by the first condition that fails: `InvalidArgument` with `SlotCount`, `SlotMissing`, then `BadType`,
+    /// `SlotType` or `NodeType`, then `NodeLen`, and last `OutOfBounds`.
+    fn validate(
+        dtype: &DType,
+        len: usize,
+        payload: &Self::TypedArrayData,
+        slots: &[Option<ArrayRef>],
+    ) -> VortexResult<()>
+        ensures { MatchResult result
+            (λ _. refusal (type_of dtype.now) len (stands_for payload.now) (shapes (slots_of slots.now)) ≡ None)
+            (λ e. refusal (type_of dtype.now) len (stands_for payload.now) (shapes (slots_of slots.now)) ≡ Some e) };
+
+    // what it stands for is of the encoding
+    ghost kind_of: { (d : Self.TypedArrayData) → is_kind (stands_for d) ≡ true };
+}

@@ -1,0 +1,4 @@
+//! The encodings, one module each.
+
+pub mod primitive;
+pub mod slice;

@@ -1,0 +1,134 @@
+//! A range of another array's rows.
+
+ghost use Rattle.std.specs.Prelude.{◌≡◌, ◌⊎◌, ◌-◌, ◌≤◌, IfOk, IfErr, OnOk, Some, None, true, refl};
+ghost use Rattle.vx_tree.specs.Tree.{Tree, dtype, len, slice, is_slice, node, slot, no_slots};
+
+use crate::array::{Array, ArrayId, ArrayParts, ArrayRef, Encoded, Encoding, VTable};
+use std::alloc::{AllocError, Global};
+use std::ops::Range;
+use vx_value::{ArgKind, DType, Id, VortexError, VortexResult};
+
+/// The tag of the encoding.
+#[derive(Clone, Copy, Debug)]
+pub struct Slice;
+
+/// A range of a child's rows, put off.
+pub type SliceArray = Array<Slice>;
+
+/// The rows of the child that are kept: from the start, inclusive, to the end, exclusive.
+#[derive(Debug, Drop)]
+pub struct SliceData {
+    pub range: Range<usize>,
+}
+
+impl Clone for SliceData {
+    ghost is_clone = { λ a b. b ≡ a };
+
+    fn clone(&self) -> Result<SliceData, AllocError> {
+        Ok(SliceData {
+            range: self.range.start..self.range.end,
+        })
+    }
+}
+
+impl Encoded for Slice {
+    type TypedArrayData = SliceData;
+}
+
+impl VTable for Slice {
+    ghost is_kind = { is_slice };
+
+    ghost stands_for = { λ d. slice d.range.start d.range.end };
+
+    fn id(&self) -> ArrayId {
+        Id::Slice
+    }
+
+    fn tag() -> Slice {
+        Slice
+    }
+
+    fn project(encoding: &Encoding) -> Option<&SliceData> {
+        match encoding {
+            Encoding::Slice(data) => Some(data),
+            Encoding::Primitive(_) => None,
+        }
+    }
+
+    fn into_data(encoding: Encoding) -> Option<SliceData> {
+        match encoding {
+            Encoding::Slice(data) => Some(data),
+            Encoding::Primitive(_) => None,
+        }
+    }
+
+    fn wrap(payload: SliceData) -> Encoding {
+        Encoding::Slice(payload)
+    }
+
+    #[tactic(auto, using(crate::proofs::Refusing::slice_slot_count, crate::proofs::Refusing::the_slot))]
+    fn validate(
+        dtype: &DType,
+        len: usize,
+        payload: &SliceData,
+        slots: &[Option<ArrayRef>],
+    ) -> VortexResult<()> {
+        if slots.len() != 1 {
+            return Err(VortexError::InvalidArgument(ArgKind::SlotCount));
+        }
+        let Some(child) = &slots[0] else {
+            return Err(VortexError::InvalidArgument(ArgKind::SlotMissing { slot: 0 }));
+        };
+        if *dtype != *child.dtype() {
+            return Err(VortexError::InvalidArgument(ArgKind::NodeType));
+        }
+        let (start, end) = (payload.range.start, payload.range.end);
+        if len != end.saturating_sub(start) {
+            return Err(VortexError::InvalidArgument(ArgKind::NodeLen));
+        }
+        check_range(start, end, child.len())
+    }
+
+    ghost kind_of = { λ d. refl };
+}
+
+/// Whether a range is in order and in bounds.
+fn check_range(start: usize, stop: usize, len: usize) -> VortexResult<()>
+    ensures ok { OnOk result ((start ≤ stop) × (stop ≤ len)) }
+    ensures refused { IfErr result (λ e. (e ≡ VortexError.OutOfBounds start stop len) × (¬ ((start ≤ stop) × (stop ≤ len)))) }
+{
+    if start <= stop && stop <= len {
+        Ok(())
+    } else {
+        Err(VortexError::OutOfBounds { start, stop, len })
+    }
+}
+
+impl SliceArray {
+    /// The rows of a range of the child's.
+    pub fn new(alloc: Global, child: ArrayRef, range: Range<usize>) -> VortexResult<SliceArray>
+        requires { (range.start ≤ range.end) × (range.end ≤ len child) }
+        ensures ok { IfOk result (λ a. a ≡ node (dtype child) (range.end - range.start) (slice range.start range.end) (slot child no_slots)) }
+        ensures err { IfErr result (λ e. e ≡ VortexError.OutOfMemory) }
+    {
+        let dtype = child.dtype().clone()?;
+        let len = range.end - range.start;
+        let mut slots = Vec::with_capacity(alloc, 1)?;
+        slots.push(Some(child))?;
+        Array::try_from_parts(
+            alloc,
+            ArrayParts::new(Slice, dtype, len, SliceData { range }, slots),
+        )
+    }
+
+    /// The rows of a range of the child's. `OutOfBounds` exactly unless start <= end <= the child's length.
+    pub fn try_new(alloc: Global, child: ArrayRef, range: Range<usize>) -> VortexResult<SliceArray>
+        ensures ok { IfOk result (λ a. a ≡ node (dtype child) (range.end - range.start) (slice range.start range.end) (slot child no_slots)) }
+        ensures valid { OnOk result ((range.start ≤ range.end) × (range.end ≤ len child)) }
+        ensures refused { IfErr result (λ e. (e ≡ VortexError.OutOfMemory)
+            ⊎ ((e ≡ VortexError.OutOfBounds range.start range.end (len child)) × (¬ ((range.start ≤ range.end) × (range.end ≤ len child))))) }
+    {
+        check_range(range.start, range.end, child.len())?;
+        SliceArray::new(alloc, child, range)
+    }
+}

@@ -1,0 +1,31 @@
+//! Laws of trees that no single call states. Each is a function without a body: its contract is the law.
+
+ghost use Rattle.std.specs.Prelude.{◌≡◌, ◌↔◌, ◌+◌, ◌*◌, ◌<◌, ◌≤◌, ℕ, List, Option, None};
+ghost use Rattle.vx_value.specs.Types.{DataType};
+ghost use Rattle.vx_tree.specs.Tree.{Tree, Data, node, slice, slot, no_slots};
+ghost use Rattle.vx_tree.specs.Well.{Shape, IsNode};
+ghost use Rattle.vx_tree.specs.Refusals.{refusal};
+ghost use Rattle.vx_tree.specs.Slots.{put};
+ghost use Rattle.vx_tree.specs.Keeps.{Keeps, KeepsExactly};
+ghost use Rattle.vx_tree.specs.Cost.{cost, reach};
+
+/// A node's parts are refused exactly where they break its conditions.
+pub fn refused_exactly()
+    ensures { (ty : DataType) (n : ℕ) (d : Data) (ss : List (Option Shape)) → (refusal ty n d ss ≡ None) ↔ IsNode ty n d ss }
+{}
+
+/// To keep a tree is a preorder, and is kept in a slot; to keep it exactly as well.
+pub fn keeping_laws()
+    ensures reflexive { (t : Tree) → KeepsExactly t t }
+    ensures transitive { (t u v : Tree) → Keeps t u → Keeps u v → Keeps t v }
+    ensures transitive_exactly { (t u v : Tree) → KeepsExactly t u → KeepsExactly u v → KeepsExactly t v }
+    ensures in_slot { (i : ℕ) (t u p : Tree) → Keeps t u → Keeps (put i t p) (put i u p) }
+    ensures in_slot_exactly { (i : ℕ) (t u p : Tree) → KeepsExactly t u → KeepsExactly (put i t p) (put i u p) }
+{}
+
+/// What the bound on turns is, in the terms of the encodings.
+pub fn execution_bounds()
+    ensures slices { (ty : DataType) (n a b : ℕ) (c : Tree) → cost (node ty n (slice a b) (slot c no_slots)) ≡ cost c + 3 * reach c }
+    ensures slice_reach { (ty : DataType) (n a b : ℕ) (c : Tree) → reach (node ty n (slice a b) (slot c no_slots)) ≡ reach c }
+    ensures positive { (t : Tree) → 0 < cost t }
+{}

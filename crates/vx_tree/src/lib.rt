@@ -1,0 +1,22 @@
+//! Array trees: nodes of a closed set of encodings, each with a logical type, a length, data and child slots.
+#![tactic(auto)]
+
+pub mod array;
+pub mod arrays;
+mod canonical;
+mod columnar;
+mod laws;
+mod matcher;
+#[cfg(test)]
+mod tests;
+
+pub use array::{
+    Array, ArrayId, ArrayKind, ArrayParts, ArrayRef, ArraySlots, ArrayView, Encoded, Encoding,
+    IntoArray, Node, VTable,
+};
+pub use arrays::primitive::{Primitive, PrimitiveArray, PrimitiveData};
+pub use arrays::slice::{Slice, SliceArray, SliceData};
+pub use canonical::Canonical;
+pub use columnar::Columnar;
+pub use laws::{execution_bounds, keeping_laws, refused_exactly};
+pub use matcher::{AnyArray, AnyCanonical, AnyColumnar, Matcher};

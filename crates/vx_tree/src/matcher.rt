@@ -1,0 +1,66 @@
+//! Tests on the root of a tree.
+
+ghost use Rattle.std.specs.Prelude.{◌≡◌, Bool, true};
+ghost use Rattle.vx_tree.specs.Tree.{Tree, datum, is_canonical, is_columnar};
+
+use crate::array::{ArrayRef, Encoding, VTable};
+
+/// A test on the root of a tree.
+pub trait Matcher {
+    ghost fits: { Tree → Bool };
+
+    /// Whether the tree passes. It takes no memory.
+    fn matches(array: &ArrayRef) -> bool
+        ensures { result ≡ fits array.now };
+}
+
+/// Any tree.
+#[derive(Clone, Copy, Debug)]
+pub struct AnyArray;
+
+impl Matcher for AnyArray {
+    ghost fits = { λ _. true };
+
+    fn matches(_array: &ArrayRef) -> bool {
+        true
+    }
+}
+
+/// Trees that hold their rows themselves.
+#[derive(Clone, Copy, Debug)]
+pub struct AnyCanonical;
+
+impl Matcher for AnyCanonical {
+    ghost fits = { λ t. is_canonical (datum t) };
+
+    fn matches(array: &ArrayRef) -> bool {
+        match array.encoding() {
+            Encoding::Primitive(_) => true,
+            Encoding::Slice(_) => false,
+        }
+    }
+}
+
+/// Trees that are canonical, or that repeat one value.
+#[derive(Clone, Copy, Debug)]
+pub struct AnyColumnar;
+
+impl Matcher for AnyColumnar {
+    ghost fits = { λ t. is_columnar (datum t) };
+
+    fn matches(array: &ArrayRef) -> bool {
+        match array.encoding() {
+            Encoding::Primitive(_) => true,
+            Encoding::Slice(_) => false,
+        }
+    }
+}
+
+/// Each tag: trees of its encoding.
+impl<V: VTable> Matcher for V {
+    ghost fits = { λ t. V.is_kind (datum t) };
+
+    fn matches(array: &ArrayRef) -> bool {
+        V::project(array.encoding()).is_some()
+    }
+}

@@ -1,0 +1,18 @@
+//! The types, scalars and errors of array trees.
+#![tactic(auto)]
+
+mod dtype;
+mod error;
+mod fitting;
+mod id;
+mod scalar;
+#[cfg(test)]
+mod tests;
+mod text;
+
+pub use dtype::{DType, Nullability, PType};
+pub use error::{ArgKind, VortexError, VortexResult};
+pub use fitting::fits;
+pub use id::Id;
+pub use scalar::{Scalar, ScalarValue};
+pub use text::type_text;

@@ -1,0 +1,45 @@
+//! The texts of types.
+
+ghost use Rattle.std.specs.Prelude.{◌≡◌, ◌++◌, OnOk, IfOk, string_bytes};
+ghost use Rattle.vx_value.specs.View.{type_of};
+ghost use Rattle.vx_value.specs.Text.{type_text, mark, ptype_text};
+
+use crate::{DType, Nullability, PType};
+use std::alloc::{AllocError, Global};
+
+/// The text of a type, as `i32`, with a final `?` where it is nullable. (own)
+pub fn type_text(alloc: Global, dtype: &DType) -> Result<String, AllocError>
+    ensures { IfOk result (λ s. string_bytes s ≡ type_text (type_of dtype.now)) }
+{
+    let mut text = String::new(alloc);
+    push_type(&mut text, dtype)?;
+    Ok(text)
+}
+
+fn push_type(text: &mut String, dtype: &DType) -> Result<(), AllocError>
+    ensures { OnOk result (string_bytes text.new ≡ string_bytes text.old ++ type_text (type_of dtype.now)) }
+{
+    match dtype {
+        DType::Primitive(ptype, nullability) => {
+            text.push_str(ptype_text(*ptype))?;
+            text.push_str(mark(*nullability))
+        }
+    }
+}
+
+fn ptype_text(ptype: PType) -> &'static str
+    ensures { result.now ≡ ptype_text ptype }
+{
+    match ptype {
+        PType::I32 => "i32",
+    }
+}
+
+fn mark(nullability: Nullability) -> &'static str
+    ensures { result.now ≡ mark nullability }
+{
+    match nullability {
+        Nullability::NonNullable => "",
+        Nullability::Nullable => "?",
+    }
+}
