@@ -3,3 +3,4 @@ pub mod Opened
 pub mod Keeping
 pub mod Refusing
 pub mod Bounding
+pub mod Counting

@@ -1,9 +1,10 @@
 //! What an untyped reference tells of its tree.
 
-ghost use Rattle.std.specs.Prelude.{◌≡◌, ◌==◌, is_some, IfSome};
+ghost use Rattle.std.specs.Prelude.{◌≡◌, ◌==◌, is_some, IfSome, length};
 ghost use Rattle.vx_value.specs.View.{type_of};
 ghost use Rattle.vx_tree.specs.Tree.{dtype, len, datum, slots, slots_of, id_of};
 ghost use Rattle.vx_tree.specs.TreeView.{data_of};
+ghost use Rattle.vx_tree.specs.Cells.{rows};
 ghost use Rattle.vx_tree.specs.Well.{IsWell};
 
 use crate::array::{ArrayRef, ArrayView, Encoding, VTable};
@@ -56,9 +57,11 @@ impl ArrayRef {
         &self.node.slots
     }
 
-    /// What is known of each tree: it is well formed. (own)
+    /// What is known of each tree: it is well formed, and has a cell for each row. (own)
+    #[tactic(auto, using(crate::proofs::Counting::rows_counted))]
     pub fn well(&self)
-        ensures { IsWell self.now }
+        ensures formed { IsWell self.now }
+        ensures counted { length (rows self.now) ≡ len self.now }
     {
         let _well = &self.node;
     }

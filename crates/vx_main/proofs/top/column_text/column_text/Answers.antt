@@ -1,0 +1,18 @@
+use Rattle.std.proofs.Common.{ap, arith, ◌∙◌, ◌++◌, ◌∷◌, [], string_bytes}
+use Rattle.std.proofs.lemmas.Grind.{common_steps}
+use Rattle.vx_tree.specs.Tree.{dtype, datum, id_of}
+use Rattle.vx_tree.specs.Cells.{rows}
+use Rattle.vx_main.proofs.Printing.{shows_none, shows_more, shows_all}
+use Rattle.vx_main.proofs.top.column_text.column_text.Goals as goal
+
+pub loop-index-init : goal.loop-index-init
+loop-index-init c = shows_none _ _ (string_bytes c.in_ok-text.text) c.in_ok-text.ensures
+
+pub loop-index-preserved : goal.loop-index-preserved
+loop-index-preserved c =
+    shows_more _ _ (rows c.args.array.now) c.loop-index.index c.in_ok-execute_scalar.field-0.value (string_bytes c.loop-index.text) _ c.loop-index.invariant c.in_ok-execute_scalar.ensures.ok.0
+    (c.in_ok-push_str.ensures.bytes ∙ ap (λ l. l ++ 10 ∷ []) c.in_ok-push_row.ensures)
+
+pub returns-clause-ok : goal.returns-clause-ok
+returns-clause-ok c =
+    shows_all _ _ (rows c.args.array.now) c.loop-index.index (string_bytes c.loop-index.text) c.loop-index.invariant (omega (arith, c.well.ensures.counted))

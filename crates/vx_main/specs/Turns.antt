@@ -1,0 +1,40 @@
+-- What slots are executed to, and the turns that a node in work has left.
+use Rattle.std.specs.Prelude.{ℕ, ◌+◌, Bool, true, false}
+use Rattle.vx_tree.specs.Tree.{Tree, Data, Slots, node, primitive, slice, no_slots, absent, slot, datum, is_canonical}
+use Rattle.vx_tree.specs.Cost.{cost}
+use Rattle.vx_main.specs.declared.exec.step.SlotTarget.{SlotTarget}
+use Rattle.vx_main.specs.declared.exec.step.SlotTarget.TheVariants.{Canonical}
+
+-- whether a tree is what a slot is executed to
+abbrev pub data_meets : SlotTarget → Data → Bool
+data_meets Canonical d = is_canonical d
+
+abbrev pub meets : SlotTarget → Tree → Bool
+meets g t = data_meets g (datum t)
+
+-- what a node's slots are executed to: a line for each encoding
+abbrev pub slot_target : Data → SlotTarget
+slot_target (primitive xs) = Canonical
+slot_target (slice a b) = Canonical
+
+abbrev pub target_of : Tree → SlotTarget
+target_of t = slot_target (datum t)
+
+-- the turns that a node takes itself, once its slots are done: a line for each encoding
+abbrev pub base_top : Data → ℕ
+base_top (primitive xs) = 1
+base_top (slice a b) = 2
+
+-- a slot of that cost weighs it and a turn, and nothing once it is done
+abbrev pub slot_top : Bool → ℕ → ℕ
+slot_top true c = 0
+slot_top false c = c + 1
+
+abbrev pub slots_top : Data → Slots → ℕ
+slots_top d no_slots = 0
+slots_top d (absent ss) = slots_top d ss
+slots_top d (slot t ss) = slot_top (meets (slot_target d) t) (cost t) + slots_top d ss
+
+-- the turns that are left at a node in work, the current one or a suspended one
+abbrev pub top : Tree → ℕ
+top (node ty n d ss) = base_top d + slots_top d ss

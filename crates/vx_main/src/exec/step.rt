@@ -1,0 +1,77 @@
+//! One step of an encoding.
+
+ghost use Rattle.std.specs.Prelude.{◌≡◌, ◌-◌, ◌≤◌, IfOk, IfErr, true, false};
+ghost use Rattle.vx_tree.specs.Tree.{dtype, len, datum, is_canonical, node, slice, slot, no_slots};
+ghost use Rattle.vx_main.specs.Turns.{meets};
+ghost use Rattle.vx_main.specs.Steps.{IsStep, IsDone};
+
+use std::alloc::Global;
+use vx_tree::{AnyCanonical, ArrayKind, ArrayRef, IntoArray, PrimitiveArray};
+use vx_value::{VortexError, VortexResult};
+
+/// What a slot is executed to. (own)
+#[derive(Clone, Copy)]
+pub enum SlotTarget {
+    /// The canonical column of its type.
+    Canonical,
+}
+
+impl SlotTarget {
+    /// Whether the tree is what the slot is executed to.
+    pub fn is_met_by(self, array: &ArrayRef) -> bool
+        ensures { result ≡ meets self array.now }
+    {
+        match self {
+            SlotTarget::Canonical => array.is::<AnyCanonical>(),
+        }
+    }
+}
+
+/// What a step asks for, or gives.
+#[derive(Drop)]
+pub enum ExecutionStep {
+    /// The slot, counted from 0, is to be executed first.
+    ExecuteSlot(usize, SlotTarget),
+    /// The tree that stands for the node.
+    Done(ArrayRef),
+}
+
+/// One step of a node that isn't canonical. The only error is `OutOfMemory`.
+pub fn step(alloc: Global, array: &ArrayRef) -> VortexResult<ExecutionStep>
+    requires { is_canonical (datum array.now) ≡ false }
+    ensures ok { IfOk result (λ s. IsStep array.now s) }
+    ensures err { IfErr result (λ e. e ≡ VortexError.OutOfMemory) }
+{
+    match array.kind() {
+        ArrayKind::Primitive(_) => unreachable!(),
+        ArrayKind::Slice(child, start, stop) => {
+            if child.is::<AnyCanonical>() {
+                Ok(ExecutionStep::Done(slice_canonical(alloc, child, start, stop)?))
+            } else {
+                Ok(ExecutionStep::ExecuteSlot(0, SlotTarget::Canonical))
+            }
+        }
+    }
+}
+
+/// The rows of a canonical column from a start, inclusive, to a stop, exclusive, as a canonical column. (own)
+fn slice_canonical(
+    alloc: Global,
+    column: &ArrayRef,
+    start: usize,
+    stop: usize,
+) -> VortexResult<ArrayRef>
+    requires canonical { is_canonical (datum column.now) ≡ true }
+    requires range { (start ≤ stop) × (stop ≤ len column.now) }
+    ensures ok { IfOk result (λ u. IsDone (node (dtype column.now) (stop - start) (slice start stop) (slot column.now no_slots)) u) }
+    ensures err { IfErr result (λ e. e ≡ VortexError.OutOfMemory) }
+{
+    match column.kind() {
+        ArrayKind::Primitive(values) => {
+            let kept = values[start..stop].to_vec(alloc)?;
+            let sliced = PrimitiveArray::try_new(alloc, column.dtype().clone()?, kept)?;
+            Ok(sliced.into_array())
+        }
+        ArrayKind::Slice(_, _, _) => unreachable!(),
+    }
+}

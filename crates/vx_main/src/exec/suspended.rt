@@ -1,0 +1,56 @@
+//! Nodes with a slot taken out.
+
+ghost use Rattle.std.specs.Prelude.{◌≡◌, IfOk};
+ghost use Rattle.vx_tree.specs.Slots.{put, IsHole, IsPresent};
+ghost use Rattle.vx_tree.specs.Well.{IsNodeOf};
+
+use std::alloc::{AllocError, Global};
+use std::marker::Model;
+use vx_tree::{ArrayRef, Node};
+
+/// A node with an empty slot. It is never an `ArrayRef`. (own)
+#[derive(Drop)]
+pub struct Suspended {
+    node: Node,
+}
+
+impl Model for Suspended {
+    ghost use Rattle.vx_tree.specs.Tree.{Tree, coded_tree};
+
+    ghost Value = { Tree };
+
+    ghost coded = { coded_tree };
+
+    ghost use Rattle.vx_tree.specs.TreeView.{tree_of};
+
+    ghost view = { λ a. tree_of a.node };
+}
+
+/// Takes the child out of a slot, counted from 0. Nothing is copied where no one else holds the node. (own)
+pub fn take_slot(
+    alloc: Global,
+    array: ArrayRef,
+    slot: usize,
+) -> Result<(Suspended, ArrayRef), AllocError>
+    requires { IsPresent slot array }
+    ensures { IfOk result (λ p. (put slot p.1 p.0 ≡ array) × IsHole slot p.0 × IsNodeOf array) }
+{
+    array.well();
+    let mut node = array.into_node(alloc)?;
+    let taken = node.slots[slot].take();
+    let Some(child) = taken else { unreachable!() };
+    Ok((Suspended { node }, child))
+}
+
+impl Suspended {
+    /// Fills the empty slot, counted from 0. Nothing is copied. (own)
+    pub fn put(self, alloc: Global, slot: usize, child: ArrayRef) -> Result<ArrayRef, AllocError>
+        requires hole { IsHole slot self }
+        requires fits { IsNodeOf (put slot child self) }
+        ensures { IfOk result (λ t. t ≡ put slot child self) }
+    {
+        let Suspended { mut node } = self;
+        node.slots[slot] = Some(child);
+        node.into_array(alloc)
+    }
+}

@@ -1,0 +1,15 @@
+//! Trees from JSON, and the text of a row.
+
+mod fields;
+mod key;
+mod rows;
+#[cfg(test)]
+mod tests;
+mod tree;
+
+pub use rows::{push_row, row_text};
+pub use tree::{tree_of, tree_of_bytes};
+use vx_value::{ArgKind, VortexError};
+
+/// The answer to a value that spells nothing.
+const BAD_VALUE: VortexError = VortexError::InvalidArgument(ArgKind::BadValue);

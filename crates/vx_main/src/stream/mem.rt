@@ -1,0 +1,124 @@
+//! Streams in memory that move a few bytes at a time, and fail where they are told to.
+
+ghost use Rattle.std.specs.Prelude.{◌≡◌, ℕ, [], Some};
+
+use crate::stream::{Failed, Sink, Source};
+use std::alloc::Global;
+use std::marker::Model;
+
+/// Bytes that lie in memory, and the calls of `read` that are to fail. (own)
+#[derive(Drop)]
+pub struct MemSource {
+    bytes: Vec<u8>,
+    at: usize,
+    most: usize,
+    fails: Vec<u64>,
+    calls: u64,
+    faults: u64,
+}
+
+impl Model for MemSource {
+    ghost use Rattle.std.specs.Prelude.{◌≤◌, drop, length};
+    ghost use Rattle.vx_main.specs.Streams.{Told};
+
+    ghost Value = { Told };
+
+    ghost view = { λ s. record { bytes = drop s.at s.bytes.items; faults = s.faults } };
+
+    ghost invariant = { λ s. s.at ≤ length s.bytes.items };
+}
+
+impl MemSource {
+    /// A source of these bytes, which gives at most `most` of them a call (where it is 0, one),
+    /// and fails at the calls in `fails`, counted from 0.
+    pub fn new(bytes: Vec<u8>, most: usize, fails: Vec<u64>) -> MemSource
+        ensures { result ≡ record { bytes = bytes.items; faults = 0 } }
+    {
+        MemSource {
+            bytes,
+            at: 0,
+            most,
+            fails,
+            calls: 0,
+            faults: 0,
+        }
+    }
+}
+
+impl Source for MemSource {
+    ghost left = { λ s. Some s.bytes };
+
+    ghost faults = { λ s. s.faults };
+
+    fn read(&mut self, room: &mut [u8]) -> Result<usize, Failed> {
+        let call = self.calls;
+        self.calls = self.calls.saturating_add(1);
+        if self.fails.contains(&call) {
+            self.faults = self.faults.saturating_add(1);
+            return Err(Failed);
+        }
+        let left = &self.bytes[self.at..];
+        let count = room.len().min(left.len()).min(self.most.max(1));
+        room[..count].copy_from_slice(&left[..count]);
+        self.at += count;
+        Ok(count)
+    }
+}
+
+/// Bytes that are kept in memory, and the calls of `write` that are to fail. (own)
+#[derive(Drop)]
+pub struct MemSink {
+    bytes: Vec<u8>,
+    most: usize,
+    fails: Vec<u64>,
+    calls: u64,
+    faults: u64,
+}
+
+impl Model for MemSink {
+    ghost use Rattle.vx_main.specs.Streams.{Told};
+
+    ghost Value = { Told };
+
+    ghost view = { λ s. record { bytes = s.bytes.items; faults = s.faults } };
+}
+
+impl MemSink {
+    /// A sink that holds nothing yet. It takes at most `most` bytes a call (where it is 0, one),
+    /// and fails at the calls in `fails`, counted from 0, and where memory is refused.
+    pub fn new(alloc: Global, most: usize, fails: Vec<u64>) -> MemSink
+        ensures { result ≡ record { bytes = []; faults = 0 } }
+    {
+        MemSink {
+            bytes: Vec::new(alloc),
+            most,
+            fails,
+            calls: 0,
+            faults: 0,
+        }
+    }
+
+    /// What was written so far.
+    pub fn held(&self) -> &[u8]
+        ensures { result.now ≡ self.now.bytes }
+    {
+        &self.bytes
+    }
+}
+
+impl Sink for MemSink {
+    ghost held = { λ s. Some s.bytes };
+
+    ghost faults = { λ s. s.faults };
+
+    fn write(&mut self, piece: &[u8]) -> Result<usize, Failed> {
+        let call = self.calls;
+        self.calls = self.calls.saturating_add(1);
+        let count = piece.len().min(self.most.max(1));
+        if !self.fails.contains(&call) && self.bytes.extend_from_slice(&piece[..count]).is_ok() {
+            return Ok(count);
+        }
+        self.faults = self.faults.saturating_add(1);
+        Err(Failed)
+    }
+}

@@ -1,0 +1,17 @@
+//! Streams of bytes that count their faults. (own)
+
+mod mem;
+mod plain;
+mod read;
+mod system;
+#[cfg(test)]
+mod tests;
+mod traits;
+mod write;
+
+pub use mem::{MemSink, MemSource};
+pub use plain::{PlainSink, PlainSource};
+pub use read::{INPUT_LIMIT, ReadError, read_all};
+pub use system::{StdinSource, StdoutSink};
+pub use traits::{Failed, Sink, Source};
+pub use write::write_all;

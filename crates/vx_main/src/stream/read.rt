@@ -1,0 +1,72 @@
+//! Reading a source to its end.
+
+ghost use Rattle.std.specs.Prelude.{◌≡◌, ◌≤◌, ◌<◌, ℕ, List, length, Some, IsErr, IfOk, IsErrOf};
+ghost use Rattle.vx_main.specs.Causes.{Rose};
+ghost use Rattle.vx_main.specs.Streams.{TakesAll, TakesSome};
+
+use crate::stream::{Failed, Source};
+use std::alloc::{AllocError, Global};
+
+/// The most bytes that an input may have.
+pub const INPUT_LIMIT: usize = 67_108_864;
+
+/// The most bytes that are asked of a source at once.
+const PIECE: usize = 65_536;
+
+/// Why an input was not read. (own)
+#[derive(Clone, Copy, Debug, PartialEq, Eq)]
+pub enum ReadError {
+    /// A read failed.
+    Failed,
+    /// The input has more than `INPUT_LIMIT` bytes. So many were read of it.
+    TooLarge(usize),
+    OutOfMemory,
+}
+
+impl From<AllocError> for ReadError {
+    ghost use Rattle.vx_main.specs.declared.stream.read.ReadError.TheVariants.{OutOfMemory};
+
+    ghost from_gives = { λ _ e. e ≡ OutOfMemory };
+
+    fn from(_error: AllocError) -> ReadError {
+        ReadError::OutOfMemory
+    }
+}
+
+impl From<Failed> for ReadError {
+    ghost use Rattle.vx_main.specs.declared.stream.read.ReadError.TheVariants.{Failed as ReadFailed};
+
+    ghost from_gives = { λ _ e. e ≡ ReadFailed };
+
+    fn from(_error: Failed) -> ReadError {
+        ReadError::Failed
+    }
+}
+
+/// All the bytes of a source, read to its end. (own)
+pub fn read_all<S: Source>(alloc: Global, source: &mut S) -> Result<Vec<u8>, ReadError>
+    ensures all { IfOk result (λ bytes. TakesAll (S.left source.old) (S.left source.new) bytes.items) }
+    ensures fits { IfOk result (λ bytes. length bytes.items ≤ INPUT_LIMIT) }
+
+    // Each error has its cause, but for memory that is refused.
+    ensures too_large { (n : ℕ) → IsErrOf result (ReadError.TooLarge n)
+        → (INPUT_LIMIT < n) × TakesSome (S.left source.old) (S.left source.new) n }
+    ensures too_large_comes { (bytes : List ℕ) → S.left source.old ≡ Some bytes
+        → INPUT_LIMIT < length bytes → IsErr result }
+    ensures failed { IsErrOf result ReadError.Failed → Rose (S.faults source.old) (S.faults source.new) }
+
+    ensures later { S.faults source.old ≤ S.faults source.new }
+{
+    let mut bytes = Vec::new(alloc);
+    let mut room = [0u8; PIECE];
+    loop {
+        let count = source.read(&mut room)?;
+        if count == 0 {
+            return Ok(bytes);
+        }
+        if count > INPUT_LIMIT - bytes.len() {
+            return Err(ReadError::TooLarge(bytes.len() + count));
+        }
+        bytes.extend_from_slice(&room[..count])?;
+    }
+}

@@ -1,0 +1,38 @@
+//! The text for an input. (own)
+
+ghost use Rattle.std.specs.Prelude.{◌≡◌, IfOk, IfErr, string_bytes};
+ghost use Rattle.vx_main.specs.Statuses.{status_of};
+ghost use Rattle.vx_main.specs.Runs.{Answers, HasNoAnswer};
+
+use crate::exec::{ExecutionCtx, execute};
+use crate::json::tree_of_bytes;
+use crate::top::column_text::column_text;
+use crate::top::status::Status;
+use std::alloc::Global;
+use vx_value::VortexError;
+
+/// The status that an error of a layer below is told by.
+fn status_of(error: VortexError) -> Status
+    ensures { result ≡ status_of error }
+{
+    match error {
+        VortexError::OutOfMemory => Status::Memory,
+        VortexError::IterationLimit { limit } => Status::TurnLimit {
+            limit,
+            turns: limit,
+        },
+        VortexError::OutOfBounds { .. } => Status::BadInput,
+        VortexError::InvalidArgument(_) => Status::BadInput,
+    }
+}
+
+/// The text of the column that the tree in the input is executed to, in at most so many turns.
+pub(crate) fn answer(alloc: Global, bytes: &[u8], limit: u64) -> Result<String, Status>
+    ensures ok { IfOk result (λ text. Answers bytes.now (string_bytes text)) }
+    ensures causes { IfErr result (HasNoAnswer bytes.now limit) }
+{
+    let array = tree_of_bytes(alloc, bytes).map_err(status_of)?;
+    let mut ctx = ExecutionCtx::new(alloc).with_limit(limit);
+    let column = execute(array, &mut ctx).map_err(status_of)?;
+    column_text(alloc, column.as_array()).map_err(status_of)
+}

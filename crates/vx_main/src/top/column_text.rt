@@ -1,0 +1,38 @@
+//! The text of a column. (own)
+
+ghost use Rattle.std.specs.Prelude.{◌≡◌, ◌⊎◌, IfOk, IfErr, string_bytes};
+ghost use Rattle.vx_tree.specs.Tree.{dtype, datum, id_of};
+ghost use Rattle.vx_tree.specs.Cells.{rows};
+ghost use Rattle.vx_main.specs.Output.{Shows, head_lines};
+
+use crate::exec::execute_scalar;
+use crate::json::push_row;
+use std::alloc::{AllocError, Global};
+use vx_tree::ArrayRef;
+use vx_value::{VortexError, VortexResult, type_text};
+
+/// The lines of the type and of the encoding.
+fn head_text(alloc: Global, array: &ArrayRef) -> Result<String, AllocError>
+    ensures { IfOk result (λ s. string_bytes s ≡ head_lines (dtype array.now) (id_of (datum array.now))) }
+{
+    let mut text = String::from_str(alloc, "type ")?;
+    text.push_str(type_text(alloc, array.dtype())?.as_str())?;
+    text.push_str("\nencoding ")?;
+    text.push_str(array.encoding_id().as_str())?;
+    text.push_str("\n")?;
+    Ok(text)
+}
+
+/// The lines of the type and of the encoding, and then a line for each row.
+pub(crate) fn column_text(alloc: Global, array: &ArrayRef) -> VortexResult<String>
+    ensures ok { IfOk result (λ s. Shows (dtype array.now) (id_of (datum array.now)) (rows array.now) (string_bytes s)) }
+    ensures err { IfErr result (λ e. e ≡ VortexError.OutOfMemory) }
+{
+    array.well();
+    let mut text = head_text(alloc, array)?;
+    for index in 0..array.len() {
+        push_row(&mut text, &execute_scalar(array, index)?)?;
+        text.push_str("\n")?;
+    }
+    Ok(text)
+}

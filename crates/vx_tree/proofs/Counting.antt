@@ -1,0 +1,38 @@
+-- A well-formed tree has a cell for each row.
+use Rattle.std.proofs.Common.{◌≡◌, ℕ, ◌-◌, ◌≤◌, List, [], ◌∷◌, length, take, drop, Option, Some, None, sym, ◌∙◌, subst, arith, length-drop}
+use Rattle.std.proofs.lemmas.List.{length-take, length-map}
+use Rattle.vx_value.specs.Types.{DataType}
+use Rattle.vx_value.specs.Values.{integer}
+use Rattle.vx_tree.specs.Tree.{Tree, Data, Slots, node, primitive, slice, no_slots, absent, slot, len}
+use Rattle.vx_tree.specs.Cells.{Cell, value, rows, slots_rows, node_cells, cells_at}
+use Rattle.vx_tree.specs.Well.{Shape, shape, shapes, IsNode, IsWell, AreWell}
+
+-- of each slot that holds a tree, as many cells as it has rows
+abbrev AreCounted : List (List Cell) → List (Option Shape) → Type 0
+AreCounted [] [] = Unit {0}
+AreCounted [] (s ∷ ss) = ⊥
+AreCounted (cs ∷ css) [] = ⊥
+AreCounted (cs ∷ css) (None ∷ ss) = AreCounted css ss
+AreCounted (cs ∷ css) (Some (shape ty m) ∷ ss) = (length cs ≡ m) × AreCounted css ss
+
+one_counted : (css : List (List Cell)) (ty : DataType) (m : ℕ) → AreCounted css (Some (shape ty m) ∷ []) → length (cells_at css 0) ≡ m
+one_counted [] ty m h = absurd h
+one_counted (cs ∷ css) ty m h = h.0
+
+cut_counted : (a b m : ℕ) (cs : List Cell) → length cs ≡ m → a ≤ b → b ≤ m → length (take (b - a) (drop a cs)) ≡ b - a
+cut_counted a b m cs e h k = simp (length-take, length-drop) (omega arith)
+
+-- a line for each encoding
+node_counted : (ty : DataType) (n : ℕ) (d : Data) (css : List (List Cell)) (ss : List (Option Shape)) → IsNode ty n d ss → AreCounted css ss → length (node_cells ty n d css) ≡ n
+node_counted ty n (primitive xs) css ss h k = length-map xs (λ z. value (integer z)) ∙ sym h.1
+node_counted ty n (slice a b) css ss h k =
+    cut_counted a b h.0 (cells_at css 0) (one_counted css ty h.0 (subst (AreCounted css) h.1 k)) h.2 h.3 ∙ sym h.4
+
+mutual
+  pub rows_counted : (t : Tree) → IsWell t → length (rows t) ≡ len t
+  rows_counted (node ty n d ss) w = node_counted ty n d (slots_rows ss) (shapes ss) w.0 (slots_counted ss w.1)
+
+  slots_counted : (ss : Slots) → AreWell ss → AreCounted (slots_rows ss) (shapes ss)
+  slots_counted no_slots w = tt
+  slots_counted (absent ss) w = slots_counted ss w
+  slots_counted (slot t ss) w = (rows_counted t w.0, slots_counted ss w.1)
