@@ -1,12 +1,12 @@
 -- The text of the rows so far.
-use Rattle.std.proofs.Common.{◌≡◌, ℕ, ◌+◌, ◌<◌, ◌≤◌, List, [], ◌∷◌, ◌++◌, length, zero, suc, add-one, subst, take, map, slice_get, Some, refl, sym, ◌∙◌, ap, append_assoc, arith, flat_map}
+use Rattle.std.proofs.Common.{◌≡◌, ℕ, ◌+◌, ◌≤◌, List, [], ◌∷◌, ◌++◌, length, zero, suc, add-one, subst, take, map, slice_get, Some, refl, sym, ◌∙◌, ap, append_assoc, arith, flat_map}
 use Rattle.std.proofs.lemmas.Grind.{common_steps, flat_map-append}
 use Rattle.vx_value.specs.Types.{DataType}
 use Rattle.vx_value.specs.Values.{Value}
 use Rattle.vx_value.specs.declared.id.Id.{Id}
 use Rattle.vx_tree.specs.Cells.{Cell, value}
 use Rattle.vx_main.specs.RowText.{row_text}
-use Rattle.vx_main.specs.Output.{Shows, head_lines, output, line}
+use Rattle.vx_main.specs.Output.{Shows, head_lines, line}
 
 -- before the first row stand the lines of the type and of the encoding
 pub shows_none : (ty : DataType) (id : Id) (text : List ℕ) → text ≡ head_lines ty id → Shows ty id [] text

@@ -1,5 +1,5 @@
 -- The command that the words are.
-use Rattle.std.specs.Prelude.{◌≡◌, ℕ, List, [], ◌∷◌, Bool, true, false, if◌then◌else◌, codes, bytes_eq, map, String, string_bytes, Option, Some, None}
+use Rattle.std.specs.Prelude.{ℕ, List, [], ◌∷◌, Bool, true, false, if◌then◌else◌, codes, bytes_eq, map, String, string_bytes, Option, Some, None}
 use Rattle.std.specs.declared.alloc.Global.{Global}
 use Rattle.vx_main.specs.declared.exec.context.TheConstants.{DEFAULT_TURNS}
 use Rattle.vx_main.specs.declared.top.words.Command.{Command}

@@ -5,8 +5,7 @@ use Rattle.vx_value.specs.Values.{Value}
 use Rattle.vx_value.specs.Text.{type_text}
 use Rattle.vx_value.specs.Ids.{id_text}
 use Rattle.vx_value.specs.declared.id.Id.{Id}
-use Rattle.vx_tree.specs.Tree.{Tree, dtype, datum, id_of}
-use Rattle.vx_tree.specs.Cells.{Cell, value, rows}
+use Rattle.vx_tree.specs.Cells.{Cell, value}
 use Rattle.vx_main.specs.RowText.{row_text}
 
 -- a line ends with a newline

@@ -1,5 +1,5 @@
 -- What a run owes, and why one has no answer.
-use Rattle.std.specs.Prelude.{◌≡◌, ℕ, ◌≤◌, ◌<◌, List, [], length, Option, Some, None, IfSome, ◌⊎◌, ⊤, Bool, true}
+use Rattle.std.specs.Prelude.{◌≡◌, ℕ, ◌≤◌, ◌<◌, List, length, Option, Some, None, IfSome, ◌⊎◌}
 use Rattle.std.specs.Io.KnownBytes.{Appends}
 use Rattle.vx_value.specs.Types.{DataType, primitive}
 use Rattle.vx_value.specs.declared.id.Id.{Id}

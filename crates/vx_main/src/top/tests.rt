@@ -8,20 +8,21 @@ const INPUT: &str =
 
 const OUTPUT: &str = "type i32\nencoding vortex.primitive\n3\n4\n5\n";
 
-fn words(alloc: Global, texts: &[&str]) -> Result<Vec<String>, Fail> {
+/// The words of a line.
+fn words(alloc: Global, line: &str) -> Result<Vec<String>, Fail> {
     let mut words = Vec::new(alloc);
-    for text in texts {
-        words.push(String::from_str(alloc, text)?)?;
+    for word in line.split_whitespace() {
+        words.push(String::from_str(alloc, word)?)?;
     }
     Ok(words)
 }
 
 /// How a run of the words on the text ends, and what it writes.
-fn run_on(alloc: Global, texts: &[&str], input: &str) -> Result<(Status, PlainSink), Fail> {
+fn run_on(alloc: Global, line: &str, input: &str) -> Result<(Status, PlainSink), Fail> {
     let mut sink = PlainSink::new(alloc);
     let status = run(
         alloc,
-        &words(alloc, texts)?,
+        &words(alloc, line)?,
         &mut PlainSource::new(input.as_bytes()),
         &mut sink,
         &mut VortexSession::empty(),
@@ -47,7 +48,7 @@ fn rows_of_inputs(rt: HostRuntime) -> Result<(), Fail> {
             "type i32\nencoding vortex.primitive\n7\n",
         ),
     ] {
-        let (status, sink) = run_on(alloc, &["run"], input)?;
+        let (status, sink) = run_on(alloc, "run", input)?;
         assert!(rt; status == Status::Done, "{input}");
         assert!(rt; sink.held() == output.as_bytes(), "{input}");
     }
@@ -73,7 +74,7 @@ fn inputs_that_spell_no_tree(rt: HostRuntime) -> Result<(), Fail> {
         "{\"enc\":\"slice\",\"start\":0,\"stop\":4,\"child\":{\"enc\":\"col\",\"type\":\"i32\",\"rows\":[1,2,3]}}",
         "{\"enc\":\"slice\",\"start\":0,\"stop\":1}",
     ] {
-        let (status, sink) = run_on(alloc, &["run"], input)?;
+        let (status, sink) = run_on(alloc, "run", input)?;
         assert!(rt;
             status == Status::BadInput && sink.held().is_empty(),
             "{input}"
@@ -85,22 +86,13 @@ fn inputs_that_spell_no_tree(rt: HostRuntime) -> Result<(), Fail> {
 #[test]
 fn words_that_are_no_command(rt: HostRuntime) -> Result<(), Fail> {
     let alloc = rt.alloc();
-    for texts in [
-        [].as_slice(),
-        ["run", "07"].as_slice(),
-        ["run", "7"].as_slice(),
-        ["Run"].as_slice(),
-        ["--help", "--version"].as_slice(),
-    ] {
-        let (status, sink) = run_on(alloc, texts, INPUT)?;
-        assert!(rt;
-            status == Status::Usage && sink.held().is_empty(),
-            "{texts:?}"
-        );
+    for line in ["", "run 07", "run 7", "run run", "Run", "--help --version"] {
+        let (status, sink) = run_on(alloc, line, INPUT)?;
+        assert!(rt; status == Status::Usage && sink.held().is_empty(), "{line}");
     }
-    let (status, sink) = run_on(alloc, &["--version"], INPUT)?;
+    let (status, sink) = run_on(alloc, "--version", INPUT)?;
     assert!(rt; status == Status::Done && sink.held() == VERSION.as_bytes());
-    let (status, sink) = run_on(alloc, &["--help"], INPUT)?;
+    let (status, sink) = run_on(alloc, "--help", INPUT)?;
     assert!(rt; status == Status::Done && sink.held().starts_with(b"usage: vx run"));
     Ok(())
 }
@@ -108,7 +100,7 @@ fn words_that_are_no_command(rt: HostRuntime) -> Result<(), Fail> {
 #[test]
 fn sources_in_pieces_and_with_faults(rt: HostRuntime) -> Result<(), Fail> {
     let alloc = rt.alloc();
-    let run_words = words(alloc, &["run"])?;
+    let run_words = words(alloc, "run")?;
     for most in [1, 3, 16] {
         let mut source = MemSource::new(INPUT.as_bytes().to_vec(alloc)?, most, Vec::new(alloc));
         let mut sink = PlainSink::new(alloc);
@@ -149,7 +141,7 @@ fn sinks_in_pieces_and_with_faults(rt: HostRuntime) -> Result<(), Fail> {
         let mut sink = MemSink::new(alloc, 4, [call].to_vec(alloc)?);
         let status = run(
             alloc,
-            &words(alloc, &["run"])?,
+            &words(alloc, "run")?,
             &mut PlainSource::new(INPUT.as_bytes()),
             &mut sink,
             &mut VortexSession::empty(),

@@ -1,6 +1,4 @@
 use Rattle.std.proofs.Common.{ap, arith, ◌∙◌, ◌++◌, ◌∷◌, [], string_bytes}
-use Rattle.std.proofs.lemmas.Grind.{common_steps}
-use Rattle.vx_tree.specs.Tree.{dtype, datum, id_of}
 use Rattle.vx_tree.specs.Cells.{rows}
 use Rattle.vx_main.proofs.Printing.{shows_none, shows_more, shows_all}
 use Rattle.vx_main.proofs.top.column_text.column_text.Goals as goal
