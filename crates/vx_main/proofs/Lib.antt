@@ -5,4 +5,5 @@ pub mod Stacking
 pub mod Taking
 pub mod Turning
 pub mod Slicing
+pub mod Repeating
 pub mod Printing

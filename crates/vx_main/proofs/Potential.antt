@@ -1,6 +1,6 @@
 -- The turns that are left: they are at most the cost, and fall where a slot is taken out and where it is put back.
 use Rattle.std.proofs.Common.{◌≡◌, ℕ, zero, suc, ◌+◌, ◌<◌, ◌≤◌, Bool, true, false, refl, ap, arith}
-use Rattle.vx_tree.specs.Tree.{Tree, Data, Slots, node, primitive, slice, no_slots, absent, slot}
+use Rattle.vx_tree.specs.Tree.{Tree, Data, Slots, node, constant, slice, bool, primitive, no_slots, absent, slot}
 use Rattle.vx_tree.specs.Slots.{set_slot, put, IsAbsentAt, IsHole}
 use Rattle.vx_tree.specs.Cost.{cost, base_cost, slot_cost, slots_cost, extra}
 use Rattle.vx_main.specs.Turns.{meets, slot_target, target_of, base_top, slot_top, slots_top, top}
@@ -10,16 +10,22 @@ use Rattle.vx_main.specs.declared.exec.step.SlotTarget.{SlotTarget}
 -- what the encodings' tables have in common
 
 base_positive : (d : Data) → 0 < base_top d
-base_positive (primitive xs) = omega arith
+base_positive (constant v) = omega arith
 base_positive (slice a b) = omega arith
+base_positive (bool bs) = omega arith
+base_positive (primitive p zs) = omega arith
 
 base_paid : (d : Data) → base_top d ≤ base_cost d
-base_paid (primitive xs) = omega arith
+base_paid (constant v) = omega arith
 base_paid (slice a b) = omega arith
+base_paid (bool bs) = omega arith
+base_paid (primitive p zs) = omega arith
 
 slot_paid : (d : Data) (c e : ℕ) → c + 1 ≤ slot_cost d c e
-slot_paid (primitive xs) c e = omega arith
+slot_paid (constant v) c e = omega arith
 slot_paid (slice a b) c e = omega arith
+slot_paid (bool bs) c e = omega arith
+slot_paid (primitive p zs) c e = omega arith
 
 -- whatever the encodings
 

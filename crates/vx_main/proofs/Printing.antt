@@ -1,12 +1,18 @@
 -- The text of the rows so far.
-use Rattle.std.proofs.Common.{◌≡◌, ℕ, ◌+◌, ◌≤◌, List, [], ◌∷◌, ◌++◌, length, zero, suc, add-one, subst, take, map, slice_get, Some, refl, sym, ◌∙◌, ap, append_assoc, arith, flat_map}
+use Rattle.std.proofs.Common.{◌≡◌, ℕ, ◌+◌, ◌≤◌, List, [], ◌∷◌, ◌++◌, length, zero, suc, add-one, subst, take, map, slice_get, Some, refl, sym, ◌∙◌, ap, append_assoc, arith, flat_map, inl, inr, replicate, true}
 use Rattle.std.proofs.lemmas.Grind.{common_steps, flat_map-append}
 use Rattle.vx_value.specs.Types.{DataType}
 use Rattle.vx_value.specs.Values.{Value}
 use Rattle.vx_value.specs.declared.id.Id.{Id}
-use Rattle.vx_tree.specs.Cells.{Cell, value}
+use Rattle.vx_tree.specs.Cells.{Cell, value, rows}
 use Rattle.vx_main.specs.RowText.{row_text}
-use Rattle.vx_main.specs.Output.{Shows, head_lines, line}
+use Rattle.std.proofs.lemmas.List.{length-replicate}
+use Rattle.vx_tree.specs.Tree.{Tree, node, constant, slice, bool, primitive, dtype, datum, id_of, is_columnar}
+use Rattle.vx_tree.specs.Well.{IsWell}
+use Rattle.vx_tree.specs.Keeps.{KeepsExactly}
+use Rattle.vx_main.specs.Output.{IsLawful, canonical_id, Shows, head_lines, line}
+use Rattle.vx_main.specs.Runs.{Answers}
+use Rattle.vx_main.specs.Spelled.{Spells}
 
 -- before the first row stand the lines of the type and of the encoding
 pub shows_none : (ty : DataType) (id : Id) (text : List ℕ) → text ≡ head_lines ty id → Shows ty id [] text
@@ -39,3 +45,22 @@ shows_more ty id cs i v text longer s e j = record {
 -- all rows are shown
 pub shows_all : (ty : DataType) (id : Id) (cs : List Cell) (i : ℕ) (text : List ℕ) → Shows ty id (take i cs) text → length cs ≤ i → Shows ty id cs text
 shows_all ty id cs i text s h = let e : take i cs ≡ cs = grind (arith, common_steps) in subst (λ l. Shows ty id l text) e s
+
+-- the encoding of a column is its type's, or that of a constant
+pub lawful_column : (t : Tree) → IsWell t → is_columnar (datum t) ≡ true → IsLawful (id_of (datum t)) (dtype t) (rows t)
+lawful_column (node ty n (constant v) ss) w h =
+    inr (refl, v.value, ap (λ m. replicate m (value v.value)) (sym (length-replicate n (value v.value))))
+lawful_column (node ty n (slice a b) ss) w h = absurd (cc)
+lawful_column (node ty n (bool bs) ss) w h = inl (sym (ap canonical_id w.0.0))
+lawful_column (node ty n (primitive p zs) ss) w h = inl (sym (ap canonical_id w.0.0))
+
+-- the column that a tree is executed to shows the answer for the bytes that spell the tree
+pub answers_of : (bytes text : List ℕ) (t u : Tree) → Spells bytes t → KeepsExactly t u
+    → Shows (dtype u) (id_of (datum u)) (rows u) text → IsLawful (id_of (datum u)) (dtype u) (rows u) → Answers bytes text
+answers_of bytes text t u s k shown lawful = record {
+  tree = t;
+  spelled = s;
+  encoding = id_of (datum u);
+  lawful = subst (λ ty. IsLawful (id_of (datum u)) ty (rows t)) (sym k.keeps.same_type) (subst (λ cs. IsLawful (id_of (datum u)) (dtype u) cs) (sym k.equal) lawful);
+  shown = subst (λ ty. Shows ty (id_of (datum u)) (rows t) text) (sym k.keeps.same_type) (subst (λ cs. Shows (dtype u) (id_of (datum u)) cs text) (sym k.equal) shown);
+}

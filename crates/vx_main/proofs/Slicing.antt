@@ -1,35 +1,45 @@
 -- A range of a column's rows.
-use Rattle.std.proofs.Common.{◌≡◌, ℕ, ℤ, ◌-◌, ◌≤◌, List, length, take, drop, map, sym, ◌∙◌, ap, subst, arith, length-drop}
-use Rattle.std.proofs.lemmas.List.{take-map, drop-map, length-take-le}
-use Rattle.vx_value.specs.Types.{i32}
-use Rattle.vx_value.specs.Values.{integer}
-use Rattle.vx_tree.specs.Tree.{Tree, node, primitive, slice, no_slots, absent, slot, dtype}
-use Rattle.vx_tree.specs.Cells.{Cell, value}
-use Rattle.vx_tree.specs.Keeps.{KeepsExactly}
+use Rattle.std.proofs.Common.{◌≡◌, ℕ, ℤ, Bool, ◌-◌, ◌≤◌, List, length, slice_range, map, refl, sym, ◌∙◌, ap, subst, arith, drop, length-drop}
+use Rattle.std.proofs.lemmas.List.{length-take-le}
+use Rattle.vx_value.specs.Types as type
+use Rattle.vx_value.specs.Types.{DataType}
+use Rattle.vx_value.specs.Values.{boolean, integer}
+use Rattle.vx_value.specs.declared.dtype.Nullability.TheVariants.{NonNullable}
+use Rattle.vx_value.specs.declared.dtype.PType.{PType}
+use Rattle.vx_tree.specs.Tree.{Tree, Data, node, slice, bool, primitive, no_slots, absent, slot, dtype}
+use Rattle.vx_tree.specs.Cells.{value, rows}
 use Rattle.vx_tree.proofs.Keeping.{exactly_of_rows}
+use Rattle.vx_tree.proofs.Parts.{map_part}
+use Rattle.vx_main.specs.Turns.{base_top}
 use Rattle.vx_main.specs.Steps.{IsDone}
 
--- a column of integers
-abbrev column : List ℤ → Tree
-column xs = node i32 (length xs) (primitive xs) (absent no_slots)
+-- a column, whichever its data
+abbrev pub column : DataType → ℕ → Data → Tree
+column ty n d = node ty n d (absent no_slots)
 
-sliced_rows : (a b : ℕ) (xs : List ℤ) (f : ℤ → Cell) → take (b - a) (drop a (map f xs)) ≡ map f (take (b - a) (drop a xs))
-sliced_rows a b xs f = ap (take (b - a)) (drop-map f a xs) ∙ take-map f (b - a) (drop a xs)
+-- a range of the rows of the column c
+abbrev part : ℕ → ℕ → Tree → Tree
+part a b c = node (dtype c) (b - a) (slice a b) (slot c no_slots)
 
-sliced_length : (a b : ℕ) (xs : List ℤ) → b ≤ length xs → length (take (b - a) (drop a xs)) ≡ b - a
-sliced_length a b xs h = length-take-le (b - a) (drop a xs) (omega (arith, length-drop a xs))
+length_part : {X : Type 0} (a b : ℕ) (xs : List X) → b ≤ length xs → length (slice_range xs a b) ≡ b - a
+length_part a b xs h = length-take-le (b - a) (drop a xs) (omega (arith, length-drop a xs))
 
-sliced_column : (a b : ℕ) (xs : List ℤ) → b ≤ length xs → IsDone (node i32 (b - a) (slice a b) (slot (column xs) no_slots)) (column (take (b - a) (drop a xs)))
-sliced_column a b xs h =
-    let n : b - a ≡ length (take (b - a) (drop a xs)) = sym (sliced_length a b xs h) in
-    record {
-      exactly = subst (λ k. KeepsExactly (node i32 (b - a) (slice a b) (slot (column xs) no_slots)) (node i32 k (primitive (take (b - a) (drop a xs))) (absent no_slots))) n
-          (exactly_of_rows i32 (b - a) (slice a b) (primitive (take (b - a) (drop a xs))) _ _ (sliced_rows a b xs (λ z. value (integer z))) (λ c. tt));
-      falls = omega arith;
-    }
+-- whatever the data: d of the column, and e of its range
+part_done : (a b : ℕ) (ty : DataType) (n k : ℕ) (d e : Data) → k ≡ b - a → slice_range (rows (column ty n d)) a b ≡ rows (column ty (b - a) e) → base_top e ≡ 1 → IsDone (part a b (column ty n d)) (column ty k e)
+part_done a b ty n k d e same range own =
+    subst (λ m. IsDone (part a b (column ty n d)) (column ty m e)) (sym same) (record {
+      exactly = exactly_of_rows ty (b - a) (slice a b) e _ _ range (λ c. tt);
+      falls = omega (arith, own);
+    })
 
--- the rows of a range of the column c, as the column u
-pub column_sliced : (a b : ℕ) (xs ys : List ℤ) (c u : Tree) → c ≡ column xs → b ≤ length xs → ys ≡ take (b - a) (drop a xs) → u ≡ column ys → IsDone (node (dtype c) (b - a) (slice a b) (slot c no_slots)) u
-column_sliced a b xs ys c u e h r s =
-    subst (λ x. IsDone (node (dtype x) (b - a) (slice a b) (slot x no_slots)) u) (sym e)
-    (subst (λ x. IsDone (node i32 (b - a) (slice a b) (slot (column xs) no_slots)) x) (sym (s ∙ ap column r)) (sliced_column a b xs h))
+pub bool_part : (a b : ℕ) (xs ys : List Bool) (c u : Tree) → c ≡ column (type.bool NonNullable) (length xs) (bool xs) → b ≤ length xs → ys ≡ slice_range xs a b → u ≡ column (type.bool NonNullable) (length ys) (bool ys) → IsDone (part a b c) u
+bool_part a b xs ys c u whole within range new =
+    subst (λ x. IsDone (part a b x) u) (sym whole)
+    (subst (λ x. IsDone (part a b (column (type.bool NonNullable) (length xs) (bool xs))) x) (sym new)
+    (part_done a b _ (length xs) (length ys) (bool xs) (bool ys) (ap length range ∙ length_part a b xs within) (map_part (λ x. value (boolean x)) xs a b ∙ ap (map (λ x. value (boolean x))) (sym range)) refl))
+
+pub primitive_part : (a b : ℕ) (p q : PType) (xs ys : List ℤ) (c u : Tree) → c ≡ column (type.primitive p NonNullable) (length xs) (primitive p xs) → b ≤ length xs → q ≡ p → ys ≡ slice_range xs a b → u ≡ column (type.primitive q NonNullable) (length ys) (primitive q ys) → IsDone (part a b c) u
+primitive_part a b p q xs ys c u whole within kind range new =
+    subst (λ x. IsDone (part a b x) u) (sym whole)
+    (subst (λ x. IsDone (part a b (column (type.primitive p NonNullable) (length xs) (primitive p xs))) x) (sym (new ∙ ap (λ k. column (type.primitive k NonNullable) (length ys) (primitive k ys)) kind))
+    (part_done a b _ (length xs) (length ys) (primitive p xs) (primitive p ys) (ap length range ∙ length_part a b xs within) (map_part (λ z. value (integer z)) xs a b ∙ ap (map (λ z. value (integer z))) (sym range)) refl))

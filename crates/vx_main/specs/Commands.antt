@@ -1,5 +1,5 @@
 -- The command that the words are.
-use Rattle.std.specs.Prelude.{ℕ, List, [], ◌∷◌, Bool, true, false, if◌then◌else◌, codes, bytes_eq, map, String, string_bytes, Option, Some, None}
+use Rattle.std.specs.Prelude.{ℕ, ◌+◌, ◌-◌, ◌*◌, ◌^◌, ◌==◌, ◌&&◌, nat_le, nat_lt, List, [], ◌∷◌, Bool, true, false, if◌then◌else◌, codes, bytes_eq, map, String, string_bytes, Option, Some, None, option_map}
 use Rattle.std.specs.declared.alloc.Global.{Global}
 use Rattle.vx_main.specs.declared.exec.context.TheConstants.{DEFAULT_TURNS}
 use Rattle.vx_main.specs.declared.top.words.Command.{Command}
@@ -8,12 +8,31 @@ use Rattle.vx_main.specs.declared.top.words.Command.TheVariants.{Run, Help, Vers
 abbrev pub texts : List (String Global) → List (List ℕ)
 texts words = map string_bytes words
 
--- each command is one word
+-- the number that the digits so far and these digits are, below 2^64
+abbrev pub read_on : ℕ → List ℕ → Option ℕ
+read_on n [] = Some n
+read_on n (c ∷ cs) = if nat_le 48 c && nat_le c 57 && nat_lt (n * 10 + (c - 48)) (2 ^ 64) then read_on (n * 10 + (c - 48)) cs else None
+
+-- decimal digits, with no 0 before another
+abbrev pub number_of : List ℕ → Option ℕ
+number_of [] = None
+number_of (c ∷ []) = read_on 0 (c ∷ [])
+number_of (c ∷ d ∷ cs) = if c == 48 then None else read_on 0 (c ∷ d ∷ cs)
+
+-- a command of one word
+abbrev pub word_command : List ℕ → Option Command
+word_command w =
+    if bytes_eq w (codes "run") then Some (Run DEFAULT_TURNS) else (if bytes_eq w (codes "--help") then Some Help else (if bytes_eq w (codes "--version") then Some Version else None))
+
+-- and one of a word and a number
+abbrev pub numbered_command : List ℕ → List ℕ → Option Command
+numbered_command w n = if bytes_eq w (codes "run") then option_map (λ limit. Run limit) (number_of n) else None
+
 abbrev pub command_of : List (List ℕ) → Option Command
 command_of [] = None
-command_of (w ∷ []) =
-    if bytes_eq w (codes "run") then Some (Run DEFAULT_TURNS) else (if bytes_eq w (codes "--help") then Some Help else (if bytes_eq w (codes "--version") then Some Version else None))
-command_of (w ∷ v ∷ ws) = None
+command_of (w ∷ []) = word_command w
+command_of (w ∷ n ∷ []) = numbered_command w n
+command_of (w ∷ n ∷ v ∷ ws) = None
 
 -- whether the command reads the input
 abbrev pub reads_tree : Option Command → Bool

@@ -8,6 +8,8 @@ pub mod Streams
 pub mod Keys
 pub mod Fields
 pub mod Refused
+pub mod SpelledTypes
+pub mod SpelledValues
 pub mod Spelled
 pub mod RowText
 pub mod Turns

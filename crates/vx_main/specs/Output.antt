@@ -1,10 +1,11 @@
 -- The text of a column.
-use Rattle.std.specs.Prelude.{◌≡◌, ℕ, List, [], ◌∷◌, ◌++◌, map, codes, flat_map}
-use Rattle.vx_value.specs.Types.{DataType}
+use Rattle.std.specs.Prelude.{◌≡◌, ℕ, List, [], ◌∷◌, ◌++◌, map, codes, flat_map, ◌⊎◌, length, replicate}
+use Rattle.vx_value.specs.Types.{DataType, bool, primitive}
 use Rattle.vx_value.specs.Values.{Value}
 use Rattle.vx_value.specs.Text.{type_text}
 use Rattle.vx_value.specs.Ids.{id_text}
 use Rattle.vx_value.specs.declared.id.Id.{Id}
+use Rattle.vx_value.specs.declared.id.Id.TheVariants as id
 use Rattle.vx_tree.specs.Cells.{Cell, value}
 use Rattle.vx_main.specs.RowText.{row_text}
 
@@ -25,3 +26,13 @@ pub record Shows (ty : DataType) (id : Id) (cells : List Cell) (text : List ℕ)
   pub values : List Value
   pub own : cells ≡ map value values
   pub printed : text ≡ output ty id values
+
+-- the canonical encoding of a type
+abbrev pub canonical_id : DataType → Id
+canonical_id (bool n) = id.Bool
+canonical_id (primitive p n) = id.Primitive
+
+-- a column of these cells may have the encoding: the canonical one of the type, or that of a constant where one value
+-- is in all rows
+abbrev pub IsLawful : Id → DataType → List Cell → Type 0
+IsLawful i ty cells = (i ≡ canonical_id ty) ⊎ ((i ≡ id.Constant) × (v : Value) × (cells ≡ replicate (length cells) (value v)))

@@ -1,14 +1,12 @@
 -- What a run owes, and why one has no answer.
 use Rattle.std.specs.Prelude.{◌≡◌, ℕ, ◌≤◌, ◌<◌, List, length, Option, Some, None, IfSome, ◌⊎◌}
 use Rattle.std.specs.Io.KnownBytes.{Appends}
-use Rattle.vx_value.specs.Types.{DataType, primitive}
 use Rattle.vx_value.specs.declared.id.Id.{Id}
-use Rattle.vx_value.specs.declared.id.Id.TheVariants as id
 use Rattle.vx_tree.specs.Tree.{Tree, dtype}
 use Rattle.vx_tree.specs.Cells.{rows}
 use Rattle.vx_tree.specs.Cost.{cost}
 use Rattle.vx_main.specs.Spelled.{Spells, SpellsNone}
-use Rattle.vx_main.specs.Output.{Shows}
+use Rattle.vx_main.specs.Output.{Shows, IsLawful}
 use Rattle.vx_main.specs.Streams.{AppendsPrefix}
 use Rattle.vx_main.specs.declared.stream.read.TheConstants.{INPUT_LIMIT}
 use Rattle.vx_main.specs.declared.top.words.Command.{Command}
@@ -17,15 +15,13 @@ use Rattle.vx_main.specs.declared.top.words.TheConstants.{HELP, VERSION}
 use Rattle.vx_main.specs.declared.top.status.Status.{Status}
 use Rattle.vx_main.specs.declared.top.status.Status.TheVariants.{BadInput, TurnLimit, Memory}
 
--- the canonical encoding of a type
-abbrev pub canonical_id : DataType → Id
-canonical_id (primitive p n) = id.Primitive
-
--- the bytes spell a tree, and the text is its type, its canonical encoding and its rows
+-- the bytes spell a tree, and the text is its type, a lawful encoding and its rows
 pub record Answers (bytes text : List ℕ) : Type 0 where
   pub tree : Tree
   pub spelled : Spells bytes tree
-  pub shown : Shows (dtype tree) (canonical_id (dtype tree)) (rows tree) text
+  pub encoding : Id
+  pub lawful : IsLawful encoding (dtype tree) (rows tree)
+  pub shown : Shows (dtype tree) encoding (rows tree) text
 
 -- the text that a command owes for the input, as far as the input is told
 abbrev pub Owes : Command → Option (List ℕ) → List ℕ → Type 0

@@ -1,26 +1,49 @@
 -- The tree that a JSON value spells.
-use Rattle.std.specs.Prelude.{◌≡◌, ℕ, ◌-◌, ℤ, ◌&&◌, ◌==◌, List, length, Bool, false, nat_le, if◌then◌else◌, Option, Some, None, option_map, option_and_then, codes, bytes_eq, IsUtf8}
+use Rattle.std.specs.Prelude.{◌≡◌, ℕ, ◌-◌, ℤ, ◌&&◌, ◌==◌, List, length, Bool, nat_le, if◌then◌else◌, Option, Some, None, option_map, option_and_then, codes, bytes_eq, IsUtf8}
 use Rattle.std.specs.Ordering.{nat_cmp, match_ordering}
 use Rattle.std.specs.Cmp.Lexicographic.{slice_cmp}
-use Rattle.serde_json.specs.Data.{Data, null, boolean, number, string, array, object, Members, no_members, member}
-use Rattle.serde_json.specs.Find.{get}
+use Rattle.serde_json.specs.Data.{Data, null, boolean, number, string, array, object, Items, Members, no_members, member}
+use Rattle.serde_json.specs.Find.{get, as_bool}
 use Rattle.serde_json.specs.Read.{read}
-use Rattle.vx_value.specs.Types.{i32}
-use Rattle.vx_tree.specs.Tree.{Tree, node, primitive, slice, no_slots, absent, slot, dtype, len}
-use Rattle.vx_main.specs.Fields.{member_count, text_at, number_at, items_at, rows_of}
+use Rattle.vx_value.specs.Types as type
+use Rattle.vx_value.specs.Types.{DataType}
+use Rattle.vx_value.specs.Values.{Value}
+use Rattle.vx_value.specs.declared.dtype.Nullability.TheVariants.{NonNullable}
+use Rattle.vx_value.specs.declared.dtype.PType.{PType}
+use Rattle.vx_tree.specs.Tree.{Tree, node, constant, slice, bool, primitive, no_slots, absent, slot, dtype, len}
+use Rattle.vx_main.specs.Fields.{member_count, text_at, number_at, items_at}
+use Rattle.vx_main.specs.SpelledTypes.{type_spelled}
+use Rattle.vx_main.specs.SpelledValues.{integer_spelled, value_spelled, all_read}
 
--- a text that is there, and is this one
-abbrev pub is_text : List ℕ → Option (List ℕ) → Bool
-is_text wanted None = false
-is_text wanted (Some text) = bytes_eq text wanted
+-- the type that the text under `type` names
+abbrev pub type_at : Data → Option DataType
+type_at d = option_and_then type_spelled (text_at (codes "type") d)
 
--- `{"enc":"col","type":"i32","rows":[..]}`: a column of integers
-abbrev pub column : List ℤ → Tree
-column zs = node i32 (length zs) (primitive zs) (absent no_slots)
+-- `{"enc":"col","type":T,"rows":[..]}` and `{"enc":"flat","type":T,"values":[..]}`: a column, a value for each row
+abbrev pub boolean_column : List Bool → Tree
+boolean_column bs = node (type.bool NonNullable) (length bs) (bool bs) (absent no_slots)
 
-abbrev pub column_of : Data → Option Tree
-column_of d =
-    if (member_count d == 3) && is_text (codes "i32") (text_at (codes "type") d) then option_map column (option_and_then rows_of (items_at (codes "rows") d)) else None
+abbrev pub integer_column : PType → List ℤ → Tree
+integer_column p zs = node (type.primitive p NonNullable) (length zs) (primitive p zs) (absent no_slots)
+
+abbrev pub column_of_items : DataType → Items → Option Tree
+column_of_items (type.bool n) ds = option_map boolean_column (all_read as_bool ds)
+column_of_items (type.primitive p n) ds = option_map (integer_column p) (all_read (integer_spelled p) ds)
+
+abbrev pub column_of : List ℕ → Data → Option Tree
+column_of key d =
+    if member_count d == 3 then option_and_then (λ ty. option_and_then (column_of_items ty) (items_at key d)) (type_at d) else None
+
+-- `{"enc":"constant","type":T,"value":v,"len":n}`: the value v, n times
+abbrev pub repeated : DataType → Value → ℕ → Tree
+repeated ty v n = node ty n (constant (record { of_type = ty; value = v })) no_slots
+
+abbrev pub value_at : DataType → Data → Option Value
+value_at ty d = option_and_then (value_spelled ty) (get (codes "value") d)
+
+abbrev pub constant_of : Data → Option Tree
+constant_of d =
+    if member_count d == 4 then option_and_then (λ ty. option_and_then (λ v. option_map (repeated ty v) (number_at (codes "len") d)) (value_at ty d)) (type_at d) else None
 
 -- `{"enc":"slice","start":a,"stop":b,"child":{..}}`: the rows a to b of the child, b exclusive
 abbrev pub sliced : Tree → ℕ → ℕ → Option Tree
@@ -33,9 +56,11 @@ slice_of d t =
 -- the tree of an object with this `enc`, from its fields and from the tree under each key: a line for each encoding
 abbrev pub node_of : Data → (List ℕ → Option Tree) → List ℕ → Option Tree
 node_of d child enc =
-    if bytes_eq enc (codes "col") then column_of d
+    if bytes_eq enc (codes "col") then column_of (codes "rows") d
+    else (if bytes_eq enc (codes "flat") then column_of (codes "values") d
+    else (if bytes_eq enc (codes "constant") then constant_of d
     else (if bytes_eq enc (codes "slice") then option_and_then (slice_of d) (child (codes "child"))
-    else None)
+    else None)))
 
 -- the tree that a value spells, and the one under a key
 abbrev mutual

@@ -1,6 +1,6 @@
 -- What slots are executed to, and the turns that a node in work has left.
 use Rattle.std.specs.Prelude.{ℕ, ◌+◌, Bool, true, false}
-use Rattle.vx_tree.specs.Tree.{Tree, Data, Slots, node, primitive, slice, no_slots, absent, slot, datum, is_canonical}
+use Rattle.vx_tree.specs.Tree.{Tree, Data, Slots, node, constant, slice, bool, primitive, no_slots, absent, slot, datum, is_canonical}
 use Rattle.vx_tree.specs.Cost.{cost}
 use Rattle.vx_main.specs.declared.exec.step.SlotTarget.{SlotTarget}
 use Rattle.vx_main.specs.declared.exec.step.SlotTarget.TheVariants.{Canonical}
@@ -14,16 +14,20 @@ meets g t = data_meets g (datum t)
 
 -- what a node's slots are executed to: a line for each encoding
 abbrev pub slot_target : Data → SlotTarget
-slot_target (primitive xs) = Canonical
+slot_target (constant v) = Canonical
 slot_target (slice a b) = Canonical
+slot_target (bool bs) = Canonical
+slot_target (primitive p zs) = Canonical
 
 abbrev pub target_of : Tree → SlotTarget
 target_of t = slot_target (datum t)
 
 -- the turns that a node takes itself, once its slots are done: a line for each encoding
 abbrev pub base_top : Data → ℕ
-base_top (primitive xs) = 1
+base_top (constant v) = 2
 base_top (slice a b) = 2
+base_top (bool bs) = 1
+base_top (primitive p zs) = 1
 
 -- a slot of that cost weighs it and a turn, and nothing once it is done
 abbrev pub slot_top : Bool → ℕ → ℕ

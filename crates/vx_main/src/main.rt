@@ -6,7 +6,6 @@ mod json;
 mod stream;
 mod top;
 
-use std::alloc::{AllocError, Global};
 use std::process::ExitCode;
 use std::{env, io};
 pub use stream::{
@@ -24,19 +23,22 @@ fn arguments(rt: &HostRuntime) -> io::Result<Vec<String>> {
     Ok(words)
 }
 
-fn main(rt: HostRuntime) -> ExitCode {
-    let Ok(words) = arguments(&rt) else {
-        return ExitCode::from(Status::Usage.code());
-    };
-    let mut source = StdinSource::new(rt.stdin());
-    let mut sink = StdoutSink::new(rt.stdout());
-    let status = run(
+/// Runs the words on the standard streams.
+fn run_words(rt: &HostRuntime, words: &Vec<String>) -> Status {
+    run(
         rt.alloc(),
-        &words,
-        &mut source,
-        &mut sink,
+        words,
+        &mut StdinSource::new(rt.stdin()),
+        &mut StdoutSink::new(rt.stdout()),
         &mut VortexSession::empty(),
-    );
+    )
+}
+
+fn main(rt: HostRuntime) -> ExitCode {
+    let status = match arguments(&rt) {
+        Ok(words) => run_words(&rt, &words),
+        Err(_) => Status::Usage,
+    };
     let text = status_text(status);
     if !text.is_empty() {
         let _ = rt.eprintln(text);

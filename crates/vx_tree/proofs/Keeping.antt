@@ -1,8 +1,8 @@
 -- `Keeps` is a preorder that is kept in a slot; `KeepsExactly` as well.
-use Rattle.std.proofs.Common.{◌≡◌, ℕ, zero, suc, ◌-◌, List, [], ◌∷◌, take, drop, map, refl, ◌∙◌, ap, subst}
+use Rattle.std.proofs.Common.{◌≡◌, ℕ, zero, suc, ◌-◌, List, [], ◌∷◌, take, drop, map, replicate, refl, ◌∙◌, ap, subst}
 use Rattle.vx_value.specs.Types.{DataType}
-use Rattle.vx_value.specs.Values.{integer}
-use Rattle.vx_tree.specs.Tree.{Tree, Data, Slots, node, primitive, slice, no_slots, absent, slot}
+use Rattle.vx_value.specs.Values.{boolean, integer}
+use Rattle.vx_tree.specs.Tree.{Tree, Data, Slots, node, constant, slice, bool, primitive, no_slots, absent, slot}
 use Rattle.vx_tree.specs.Cells.{Cell, value, fault, rows, slots_rows, node_cells, cells_at, AreClean, HasNoFault}
 use Rattle.vx_tree.specs.Slots.{set_slot, put}
 use Rattle.vx_tree.specs.Keeps.{CellKeeps, RowsKeep, Keeps, KeepsExactly}
@@ -68,8 +68,10 @@ drop_keep (suc k) (c ∷ cs) (d ∷ ds) h = drop_keep k cs ds h.1
 
 -- a node keeps what its slots keep: a line for each encoding
 pub node_mono : (ty : DataType) (n : ℕ) (d : Data) (css dss : List (List Cell)) → AllKeep css dss → RowsKeep (node_cells ty n d css) (node_cells ty n d dss)
-node_mono ty n (primitive xs) css dss h = rows_refl (map (λ z. value (integer z)) xs)
+node_mono ty n (constant v) css dss h = rows_refl (replicate n (value v.value))
 node_mono ty n (slice a b) css dss h = take_keep (b - a) _ _ (drop_keep a _ _ (at_keep css dss 0 h))
+node_mono ty n (bool bs) css dss h = rows_refl (map (λ b. value (boolean b)) bs)
+node_mono ty n (primitive p zs) css dss h = rows_refl (map (λ z. value (integer z)) zs)
 
 -- the laws, whatever the encodings
 

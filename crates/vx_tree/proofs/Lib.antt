@@ -4,3 +4,5 @@ pub mod Keeping
 pub mod Refusing
 pub mod Bounding
 pub mod Counting
+pub mod Parts
+pub mod Kinding

@@ -1,9 +1,14 @@
 -- A node, opened.
-use Rattle.std.proofs.Common.{◌≡◌, ℕ, ℤ, ◌-◌, ◌≤◌, List, length, get_or, Option, Some, sym, ◌∙◌, ap, subst}
-use Rattle.vx_value.specs.Types.{DataType, i32}
-use Rattle.vx_tree.specs.Tree.{Tree, Data, node, primitive, slice, no_slots, absent, slot, slots_of, dtype, len}
+use Rattle.std.proofs.Common.{◌≡◌, ℕ, ℤ, Bool, true, ◌-◌, ◌≤◌, List, length, get_or, Option, Some, sym, ◌∙◌, ap, subst}
+use Rattle.vx_value.specs.Types as type
+use Rattle.vx_value.specs.Types.{DataType, nullability_of}
+use Rattle.vx_value.specs.Typed.{Typed}
+use Rattle.vx_value.specs.IsOf.{is_of}
+use Rattle.vx_value.specs.declared.dtype.Nullability.TheVariants.{NonNullable}
+use Rattle.vx_value.specs.declared.dtype.PType.{PType}
+use Rattle.vx_tree.specs.Tree.{Tree, Data, node, constant, slice, bool, primitive, no_slots, absent, slot, slots_of, dtype, len}
 use Rattle.vx_tree.specs.Well.{Shape, shape, shape_of, shapes, IsNode}
-use Rattle.vx_tree.proofs.Opening.{one_slot, one_absent}
+use Rattle.vx_tree.proofs.Opening.{one_slot, one_absent, none_there}
 
 abbrev type_in : Shape → DataType
 type_in (shape ty n) = ty
@@ -12,11 +17,12 @@ abbrev len_in : Shape → ℕ
 len_in (shape ty n) = n
 
 module _ (ty : DataType) (k : ℕ) (d : Data) (items : List (Option Tree)) (t : Tree) (q : node ty k d (slots_of items) ≡ t) (w : IsNode ty k d (shapes (slots_of items))) where
-  pub kind_primitive : (xs : List ℤ) → d ≡ primitive xs → t ≡ node i32 (length xs) (primitive xs) (absent no_slots)
-  kind_primitive xs e =
-      let v = subst (λ x. IsNode ty k x (shapes (slots_of items))) e w in
-      let i = one_absent items v.2 in
-      sym q ∙ (λ j. node (v.0 j) (v.1 j) (e j) (slots_of (i j)))
+  pub kind_constant : (v : Typed) → d ≡ constant v → (t ≡ node v.of_type (len t) (constant v) no_slots) × (nullability_of v.of_type ≡ NonNullable) × (is_of v.of_type v.value ≡ true)
+  kind_constant v e =
+      let h = subst (λ x. IsNode ty k x (shapes (slots_of items))) e w in
+      let i = none_there items h.3 in
+      let r : t ≡ node v.of_type k (constant v) no_slots = sym q ∙ (λ j. node (h.0 j) k (e j) (slots_of (i j))) in
+      (r ∙ ap (λ m. node v.of_type m (constant v) no_slots) (sym (ap len r)), subst (λ x. nullability_of x ≡ NonNullable) h.0 h.1, subst (λ x. is_of x v.value ≡ true) h.0 h.2)
 
   pub kind_slice : (a b : ℕ) (z : Option Tree) (c : Tree) → d ≡ slice a b → z ≡ get_or items 0 z → z ≡ Some c → (t ≡ node (dtype c) (b - a) (slice a b) (slot c no_slots)) × (a ≤ b) × (b ≤ len c)
   kind_slice a b z c e g s =
@@ -26,3 +32,15 @@ module _ (ty : DataType) (k : ℕ) (d : Data) (items : List (Option Tree)) (t : 
       let f : o.0 ≡ c = cc in
       let m : shape_of c ≡ shape ty v.0 = ap shape_of (sym f) ∙ o.2 in
       (sym q ∙ (λ j. node (ap type_in (sym m) j) (v.4 j) (e j) (slots_of (o.1 j))) ∙ ap (λ x. node (dtype c) (b - a) (slice a b) (slot x no_slots)) f, v.2, subst (λ x. b ≤ x) (sym (ap len_in m)) v.3)
+
+  pub kind_bool : (bs : List Bool) → d ≡ bool bs → t ≡ node (type.bool NonNullable) (length bs) (bool bs) (absent no_slots)
+  kind_bool bs e =
+      let v = subst (λ x. IsNode ty k x (shapes (slots_of items))) e w in
+      let i = one_absent items v.2 in
+      sym q ∙ (λ j. node (v.0 j) (v.1 j) (e j) (slots_of (i j)))
+
+  pub kind_primitive : (p : PType) (zs : List ℤ) → d ≡ primitive p zs → t ≡ node (type.primitive p NonNullable) (length zs) (primitive p zs) (absent no_slots)
+  kind_primitive p zs e =
+      let v = subst (λ x. IsNode ty k x (shapes (slots_of items))) e w in
+      let i = one_absent items v.2 in
+      sym q ∙ (λ j. node (v.0 j) (v.1 j) (e j) (slots_of (i j)))

@@ -69,3 +69,8 @@ one_absent (None ∷ []) h = refl
 one_absent (None ∷ None ∷ xs) h = absurd (cc)
 one_absent (None ∷ Some t ∷ xs) h = absurd (cc)
 one_absent (Some t ∷ xs) h = absurd (cc)
+
+pub none_there : (xs : List (Option Tree)) → shapes (slots_of xs) ≡ [] → xs ≡ []
+none_there [] h = refl
+none_there (None ∷ xs) h = absurd (cc)
+none_there (Some t ∷ xs) h = absurd (cc)

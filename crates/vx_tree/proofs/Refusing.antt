@@ -1,13 +1,17 @@
 -- What is refused, and what isn't.
-use Rattle.std.proofs.Common.{◌≡◌, ◌≢◌, get_or, ℕ, ℤ, ◌-◌, ◌≤◌, List, [], ◌∷◌, length, Bool, true, false, nat_le, ◌&&◌, Option, Some, None, refl, sym, ◌∙◌, ap, subst, arith}
+use Rattle.std.proofs.Common.{◌≡◌, ◌≢◌, get_or, ℕ, ◌-◌, ◌≤◌, List, [], ◌∷◌, length, Bool, true, false, nat_le, ◌&&◌, Option, Some, None, refl, sym, ◌∙◌, ap, subst, arith}
 use Rattle.std.proofs.lemmas.Grind.{common_steps}
-use Rattle.vx_value.specs.Types.{DataType, i32}
+use Rattle.vx_value.specs.Types as type
+use Rattle.vx_value.specs.Types.{DataType, nullability_of, is_nullable, same_nullability_Decides}
+use Rattle.vx_value.specs.Typed.{Typed}
+use Rattle.vx_value.specs.declared.dtype.Nullability.{Nullability}
+use Rattle.vx_value.specs.declared.dtype.Nullability.TheVariants.{NonNullable, Nullable}
 use Rattle.vx_value.specs.declared.error.VortexError.{VortexError}
 use Rattle.vx_value.specs.declared.error.VortexError.TheVariants.{InvalidArgument}
 use Rattle.vx_value.specs.declared.error.ArgKind.TheVariants.{SlotCount}
-use Rattle.vx_tree.specs.Tree.{Tree, Data, primitive, slice, slots_of}
-use Rattle.vx_tree.specs.Well.{Shape, shape, shapes, IsNode}
-use Rattle.vx_tree.specs.Refusals.{refusal, primitive_refusal, slice_refusal, unless, first_of_both, no_validity}
+use Rattle.vx_tree.specs.Tree.{Tree, Data, constant, slice, bool, primitive, slots_of, dtype, len}
+use Rattle.vx_tree.specs.Well.{Shape, shape, shape_of, shapes, IsNode}
+use Rattle.vx_tree.specs.Refusals.{refusal, column_refusal, constant_refusal, slice_refusal, unless, first_of_both, no_validity}
 use Rattle.vx_value.specs.Types.{same_type_Decides}
 use Rattle.std.specs.Cmp.{unsigned_Decides, first_so, second_so}
 
@@ -41,12 +45,18 @@ true_le a b h = grind (arith, common_steps)
 
 -- the parts of a node that isn't refused meet its conditions
 
-primitive_kept : (ty : DataType) (n : ℕ) (xs : List ℤ) (ss : List (Option Shape)) → primitive_refusal ty n (length xs) ss ≡ None → IsNode ty n (primitive xs) ss
-primitive_kept ty n xs [] h = absurd (cc)
-primitive_kept ty n xs (s ∷ []) h =
+column_kept : (ty : DataType) (n : ℕ) (of_type : DataType) (k : ℕ) (ss : List (Option Shape)) → column_refusal ty n of_type k ss ≡ None → (ty ≡ of_type) × (n ≡ k) × (ss ≡ None ∷ [])
+column_kept ty n of_type k [] h = absurd (cc)
+column_kept ty n of_type k (s ∷ []) h =
     let later = second_none _ _ h in
-    ((same_type_Decides ty i32).0 (unless_none _ _ (first_none _ _ h)), (unsigned_Decides n (length xs)).0 (unless_none _ _ (second_none _ _ later)), ap (λ z. z ∷ []) (absent_none s (first_none _ _ later)))
-primitive_kept ty n xs (s ∷ r ∷ ss) h = absurd (cc)
+    ((same_type_Decides ty of_type).0 (unless_none _ _ (first_none _ _ h)), (unsigned_Decides n k).0 (unless_none _ _ (second_none _ _ later)), ap (λ z. z ∷ []) (absent_none s (first_none _ _ later)))
+column_kept ty n of_type k (s ∷ r ∷ ss) h = absurd (cc)
+
+constant_kept : (ty : DataType) (n : ℕ) (v : Typed) (ss : List (Option Shape)) → constant_refusal ty v ss ≡ None → IsNode ty n (constant v) ss
+constant_kept ty n v [] h =
+    let later = second_none _ _ h in
+    ((same_type_Decides ty v.of_type).0 (unless_none _ _ (first_none _ _ h)), (same_nullability_Decides (nullability_of ty) NonNullable).0 (unless_none _ _ (first_none _ _ later)), unless_none _ _ (second_none _ _ later), refl)
+constant_kept ty n v (s ∷ ss) h = absurd (cc)
 
 slice_kept : (ty : DataType) (n a b : ℕ) (ss : List (Option Shape)) → slice_refusal ty n a b ss ≡ None → IsNode ty n (slice a b) ss
 slice_kept ty n a b [] h = absurd (cc)
@@ -60,23 +70,32 @@ slice_kept ty n a b (None ∷ r ∷ ss) h = absurd (cc)
 slice_kept ty n a b (Some s ∷ r ∷ ss) h = absurd (cc)
 
 pub node_unless_refused : (ty : DataType) (n : ℕ) (d : Data) (ss : List (Option Shape)) → refusal ty n d ss ≡ None → IsNode ty n d ss
-node_unless_refused ty n (primitive xs) ss h = primitive_kept ty n xs ss h
+node_unless_refused ty n (constant v) ss h = constant_kept ty n v ss h
 node_unless_refused ty n (slice a b) ss h = slice_kept ty n a b ss h
+node_unless_refused ty n (bool bs) ss h = column_kept ty n (type.bool NonNullable) (length bs) ss h
+node_unless_refused ty n (primitive p zs) ss h = column_kept ty n (type.primitive p NonNullable) (length zs) ss h
 
 -- and the parts that meet them aren't refused
 
+column_taken : (ty : DataType) (n : ℕ) (of_type : DataType) (k : ℕ) (ss : List (Option Shape)) → (ty ≡ of_type) × (n ≡ k) × (ss ≡ None ∷ []) → column_refusal ty n of_type k ss ≡ None
+column_taken ty n of_type k ss h =
+    let e : column_refusal ty n of_type k (None ∷ []) ≡ None = both_none _ _ (none_unless _ _ ((same_type_Decides ty of_type).1 h.0)) (both_none None _ refl (none_unless _ _ ((unsigned_Decides n k).1 h.1))) in
+    subst (λ l. column_refusal ty n of_type k l ≡ None) (sym h.2) e
+
 pub refused_unless_node : (ty : DataType) (n : ℕ) (d : Data) (ss : List (Option Shape)) → IsNode ty n d ss → refusal ty n d ss ≡ None
-refused_unless_node ty n (primitive xs) ss h =
-    let e : primitive_refusal ty n (length xs) (None ∷ []) ≡ None = both_none _ _ (none_unless _ _ ((same_type_Decides ty i32).1 h.0)) (both_none None _ refl (none_unless _ _ ((unsigned_Decides n (length xs)).1 h.1))) in
-    subst (λ l. primitive_refusal ty n (length xs) l ≡ None) (sym h.2) e
+refused_unless_node ty n (constant v) ss h =
+    let e : constant_refusal ty v [] ≡ None = both_none _ _ (none_unless _ _ ((same_type_Decides ty v.of_type).1 h.0)) (both_none _ _ (none_unless _ _ ((same_nullability_Decides (nullability_of ty) NonNullable).1 h.1)) (none_unless _ _ h.2)) in
+    subst (λ l. constant_refusal ty v l ≡ None) (sym h.3) e
 refused_unless_node ty n (slice a b) ss h =
     let range : (nat_le a b && nat_le b h.0) ≡ true = ap (λ x. x && nat_le b h.0) (true_le a b h.2) ∙ true_le b h.0 h.3 in
     let e : slice_refusal ty n a b (Some (shape ty h.0) ∷ []) ≡ None = both_none _ _ (none_unless _ _ ((same_type_Decides ty ty).1 refl)) (both_none _ _ (none_unless _ _ ((unsigned_Decides n (b - a)).1 h.4)) (none_unless _ _ range)) in
     subst (λ l. slice_refusal ty n a b l ≡ None) (sym h.1) e
+refused_unless_node ty n (bool bs) ss h = column_taken ty n (type.bool NonNullable) (length bs) ss h
+refused_unless_node ty n (primitive p zs) ss h = column_taken ty n (type.primitive p NonNullable) (length zs) ss h
 
 -- what is asked of the slots, as the code asks
 
-pub slice_slot_count : (ty : DataType) (n a b : ℕ) (xs : List (Option Tree)) → length xs ≢ 1 → refusal ty n (slice a b) (shapes (slots_of xs)) ≡ Some (InvalidArgument SlotCount)
+pub slice_slot_count : (ty : DataType) (n a b : ℕ) (xs : List (Option Tree)) → length xs ≢ 1 → slice_refusal ty n a b (shapes (slots_of xs)) ≡ Some (InvalidArgument SlotCount)
 slice_slot_count ty n a b [] h = refl
 slice_slot_count ty n a b (None ∷ []) h = absurd (h refl)
 slice_slot_count ty n a b (Some t ∷ []) h = absurd (h refl)
@@ -85,16 +104,38 @@ slice_slot_count ty n a b (None ∷ Some u ∷ xs) h = refl
 slice_slot_count ty n a b (Some t ∷ None ∷ xs) h = refl
 slice_slot_count ty n a b (Some t ∷ Some u ∷ xs) h = refl
 
-pub primitive_slot_count : (ty : DataType) (n : ℕ) (ns : List ℤ) (xs : List (Option Tree)) → length xs ≢ 1 → refusal ty n (primitive ns) (shapes (slots_of xs)) ≡ Some (InvalidArgument SlotCount)
-primitive_slot_count ty n ns [] h = refl
-primitive_slot_count ty n ns (None ∷ []) h = absurd (h refl)
-primitive_slot_count ty n ns (Some t ∷ []) h = absurd (h refl)
-primitive_slot_count ty n ns (None ∷ None ∷ xs) h = refl
-primitive_slot_count ty n ns (None ∷ Some u ∷ xs) h = refl
-primitive_slot_count ty n ns (Some t ∷ None ∷ xs) h = refl
-primitive_slot_count ty n ns (Some t ∷ Some u ∷ xs) h = refl
+pub column_slot_count : (ty : DataType) (n : ℕ) (of_type : DataType) (k : ℕ) (xs : List (Option Tree)) → length xs ≢ 1 → column_refusal ty n of_type k (shapes (slots_of xs)) ≡ Some (InvalidArgument SlotCount)
+column_slot_count ty n of_type k [] h = refl
+column_slot_count ty n of_type k (None ∷ []) h = absurd (h refl)
+column_slot_count ty n of_type k (Some t ∷ []) h = absurd (h refl)
+column_slot_count ty n of_type k (None ∷ None ∷ xs) h = refl
+column_slot_count ty n of_type k (None ∷ Some u ∷ xs) h = refl
+column_slot_count ty n of_type k (Some t ∷ None ∷ xs) h = refl
+column_slot_count ty n of_type k (Some t ∷ Some u ∷ xs) h = refl
+
+pub constant_slot_count : (ty : DataType) (v : Typed) (xs : List (Option Tree)) → length xs ≢ 0 → constant_refusal ty v (shapes (slots_of xs)) ≡ Some (InvalidArgument SlotCount)
+constant_slot_count ty v [] h = absurd (h refl)
+constant_slot_count ty v (None ∷ xs) h = refl
+constant_slot_count ty v (Some t ∷ xs) h = refl
+
+pub no_slot : (xs : List (Option Tree)) → length xs ≡ 0 → xs ≡ []
+no_slot [] h = refl
+no_slot (x ∷ xs) h = absurd (omega arith)
 
 pub the_slot : (xs : List (Option Tree)) (s : Option Tree) → length xs ≡ 1 → s ≡ get_or xs 0 s → xs ≡ s ∷ []
 the_slot [] s h e = absurd (omega arith)
 the_slot (r ∷ []) s h e = ap (λ z. z ∷ []) (cc)
 the_slot (r ∷ q ∷ xs) s h e = absurd (omega arith)
+
+-- the parts that the constructors make
+
+pub slice_is_node : (t : Tree) (a b : ℕ) → a ≤ b → b ≤ len t → IsNode (dtype t) (b - a) (slice a b) (Some (shape_of t) ∷ [])
+slice_is_node t a b h k = (len t, refl, h, k, refl)
+
+pub never_null : (n : Nullability) → is_nullable n ≡ false → n ≡ NonNullable
+never_null NonNullable h = refl
+never_null Nullable h = absurd (cc)
+
+pub null_some : (n : Nullability) → is_nullable n ≡ true → n ≡ NonNullable → ⊥
+null_some NonNullable h e = absurd (cc)
+null_some Nullable h e = absurd (cc)

@@ -1,8 +1,8 @@
 -- What a tree means: a cell for each row.
-use Rattle.std.specs.Prelude.{ℕ, zero, suc, ◌-◌, List, [], ◌∷◌, take, drop, map}
+use Rattle.std.specs.Prelude.{ℕ, zero, suc, ◌-◌, List, [], ◌∷◌, take, drop, map, replicate}
 use Rattle.vx_value.specs.Types.{DataType}
-use Rattle.vx_value.specs.Values.{Value, integer}
-use Rattle.vx_tree.specs.Tree.{Tree, Data, Slots, node, primitive, slice, no_slots, absent, slot}
+use Rattle.vx_value.specs.Values.{Value, boolean, integer}
+use Rattle.vx_tree.specs.Tree.{Tree, Data, Slots, node, constant, slice, bool, primitive, no_slots, absent, slot}
 
 -- a value, or a fault
 pub data Cell : Type 0 where
@@ -17,8 +17,10 @@ cells_at (cs ∷ css) (suc k) = cells_at css k
 
 -- the cells of a node, from those of its slots: a line for each encoding
 abbrev pub node_cells : DataType → ℕ → Data → List (List Cell) → List Cell
-node_cells ty n (primitive xs) css = map (λ z. value (integer z)) xs
+node_cells ty n (constant v) css = replicate n (value v.value)
 node_cells ty n (slice a b) css = take (b - a) (drop a (cells_at css 0))
+node_cells ty n (bool bs) css = map (λ b. value (boolean b)) bs
+node_cells ty n (primitive p zs) css = map (λ z. value (integer z)) zs
 
 abbrev mutual
   pub rows : Tree → List Cell

@@ -1,11 +1,13 @@
 -- What bounds the turns of an execution.
 use Rattle.std.specs.Prelude.{ℕ, ◌+◌, ◌*◌, List, [], ◌∷◌, sum}
-use Rattle.vx_tree.specs.Tree.{Tree, Data, Slots, node, primitive, slice, no_slots, absent, slot}
+use Rattle.vx_tree.specs.Tree.{Tree, Data, Slots, node, constant, slice, bool, primitive, no_slots, absent, slot}
 
 -- how far a slice may have to be pushed down, less one: a line for each encoding
 abbrev pub node_extra : Data → List ℕ → ℕ
-node_extra (primitive xs) es = 0
+node_extra (constant v) es = 0
 node_extra (slice a b) es = sum es
+node_extra (bool bs) es = 0
+node_extra (primitive p zs) es = 0
 
 abbrev mutual
   pub extra : Tree → ℕ
@@ -21,12 +23,16 @@ reach t = 1 + extra t
 
 -- the turns that a node takes itself, and those for a slot of cost c and reach 1 + e: a line for each encoding
 abbrev pub base_cost : Data → ℕ
-base_cost (primitive xs) = 1
+base_cost (constant v) = 2
 base_cost (slice a b) = 2
+base_cost (bool bs) = 1
+base_cost (primitive p zs) = 1
 
 abbrev pub slot_cost : Data → ℕ → ℕ → ℕ
-slot_cost (primitive xs) c e = c + 1
+slot_cost (constant v) c e = c + 1
 slot_cost (slice a b) c e = c + 1 + 3 * e
+slot_cost (bool bs) c e = c + 1
+slot_cost (primitive p zs) c e = c + 1
 
 -- at most so many turns are taken for the tree
 abbrev mutual

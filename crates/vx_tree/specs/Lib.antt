@@ -5,6 +5,7 @@ pub use Rattle.vx_value.specs.IsOf
 pub use Rattle.vx_value.specs.Typed
 pub use Rattle.vx_value.specs.Ids
 pub mod Tree
+pub mod Natives
 pub mod TreeView
 pub mod Falls
 pub mod Cells

@@ -1,16 +1,20 @@
 -- What an array is: a tree of nodes. Each has a type, a length in rows, data of its encoding, and slots.
 use Rattle.std.specs.Prelude.{◌≡◌, ℕ, ℤ, ◌+◌, List, [], ◌∷◌, max, Option, Some, None, Bool, true, false, ◌⊎◌, refl}
-use Rattle.std.specs.Coded.{Coded, code_by, coded_ℕ, coded_ℤ, coded_list, coded×, coded⊎}
+use Rattle.std.specs.Coded.{Coded, code_by, coded_ℕ, coded_ℤ, coded_bool, coded_list, coded×, coded⊎}
 use Rattle.std.proofs.Common.{ap, inl, inr}
 use base.Stored.{Gv, gnil, gnum, gcons}
-use Rattle.vx_value.specs.Types.{DataType, coded_type}
+use Rattle.vx_value.specs.Types.{DataType, coded_type, ptype_number, ptype_at, ptype_back}
+use Rattle.vx_value.specs.Typed.{Typed, coded_typed}
+use Rattle.vx_value.specs.declared.dtype.PType.{PType}
 use Rattle.vx_value.specs.declared.id.Id.{Id}
 use Rattle.vx_value.specs.declared.id.Id.TheVariants as id
 
 -- the data of a node: its buffers as lists, and its numbers
 pub data Data : Type 0 where
-  primitive : List ℤ → Data
+  constant : Typed → Data
   slice : ℕ → ℕ → Data
+  bool : List Bool → Data
+  primitive : PType → List ℤ → Data
 
 mutual
   pub data Tree : Type 0 where
@@ -51,44 +55,73 @@ slots (node ty n d ss) = ss
 
 -- the id of an encoding
 abbrev pub id_of : Data → Id
-id_of (primitive xs) = id.Primitive
+id_of (constant v) = id.Constant
 id_of (slice a b) = id.Slice
+id_of (bool bs) = id.Bool
+id_of (primitive p zs) = id.Primitive
 
 -- which encoding a node has
-abbrev pub is_primitive : Data → Bool
-is_primitive (primitive xs) = true
-is_primitive (slice a b) = false
+abbrev pub is_constant : Data → Bool
+is_constant (constant v) = true
+is_constant (slice a b) = false
+is_constant (bool bs) = false
+is_constant (primitive p zs) = false
 
 abbrev pub is_slice : Data → Bool
-is_slice (primitive xs) = false
+is_slice (constant v) = false
 is_slice (slice a b) = true
+is_slice (bool bs) = false
+is_slice (primitive p zs) = false
+
+abbrev pub is_bool : Data → Bool
+is_bool (constant v) = false
+is_bool (slice a b) = false
+is_bool (bool bs) = true
+is_bool (primitive p zs) = false
+
+abbrev pub is_primitive : Data → Bool
+is_primitive (constant v) = false
+is_primitive (slice a b) = false
+is_primitive (bool bs) = false
+is_primitive (primitive p zs) = true
 
 -- the encodings that hold their rows themselves
 abbrev pub is_canonical : Data → Bool
-is_canonical (primitive xs) = true
+is_canonical (constant v) = false
 is_canonical (slice a b) = false
+is_canonical (bool bs) = true
+is_canonical (primitive p zs) = true
 
 -- the canonical encodings, and those that repeat one value
 abbrev pub is_columnar : Data → Bool
-is_columnar (primitive xs) = true
+is_columnar (constant v) = true
 is_columnar (slice a b) = false
+is_columnar (bool bs) = true
+is_columnar (primitive p zs) = true
 
 -- ---- the code of a tree: of node data, a line for each encoding in each of three definitions
 
-abbrev pub data_split : Data → List ℤ ⊎ (ℕ × ℕ)
-data_split (primitive xs) = inl xs
-data_split (slice a b) = inr (a, b)
+abbrev pub data_split : Data → Typed ⊎ ((ℕ × ℕ) ⊎ (List Bool ⊎ (ℕ × List ℤ)))
+data_split (constant v) = inl v
+data_split (slice a b) = inr (inl (a, b))
+data_split (bool bs) = inr (inr (inl bs))
+data_split (primitive p zs) = inr (inr (inr (ptype_number p, zs)))
 
-abbrev pub data_join : List ℤ ⊎ (ℕ × ℕ) → Data
-data_join (inl xs) = primitive xs
-data_join (inr p) = slice p.0 p.1
+abbrev pub data_join : Typed ⊎ ((ℕ × ℕ) ⊎ (List Bool ⊎ (ℕ × List ℤ))) → Data
+data_join (inl v) = constant v
+data_join (inr (inl p)) = slice p.0 p.1
+data_join (inr (inr (inl bs))) = bool bs
+data_join (inr (inr (inr p))) = primitive (ptype_at p.0) p.1
 
 pub data_join_split : (d : Data) → data_join (data_split d) ≡ d
-data_join_split (primitive xs) = refl
+data_join_split (constant v) = refl
 data_join_split (slice a b) = refl
+data_join_split (bool bs) = refl
+data_join_split (primitive p zs) = ap (λ q. primitive q zs) (ptype_back p)
 
 abbrev pub coded_data : Coded Data
-coded_data = code_by (List ℤ ⊎ (ℕ × ℕ)) (coded⊎ (coded_list coded_ℤ) (coded× coded_ℕ coded_ℕ)) data_split data_join data_join_split
+coded_data =
+    code_by (Typed ⊎ ((ℕ × ℕ) ⊎ (List Bool ⊎ (ℕ × List ℤ)))) (coded⊎ coded_typed (coded⊎ (coded× coded_ℕ coded_ℕ) (coded⊎ (coded_list coded_bool) (coded× coded_ℕ (coded_list coded_ℤ))))) data_split data_join data_join_split
 
 abbrev head : Gv → Gv
 head gnil = gnil

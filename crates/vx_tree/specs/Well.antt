@@ -1,7 +1,10 @@
 -- Which trees are well formed: the invariant of an `ArrayRef`.
-use Rattle.std.specs.Prelude.{◌≡◌, ℕ, ◌-◌, ◌≤◌, List, [], ◌∷◌, length, Option, Some, None}
-use Rattle.vx_value.specs.Types.{DataType, i32}
-use Rattle.vx_tree.specs.Tree.{Tree, Data, Slots, node, primitive, slice, no_slots, absent, slot, dtype, len}
+use Rattle.std.specs.Prelude.{◌≡◌, ℕ, ◌-◌, ◌≤◌, List, [], ◌∷◌, length, Option, Some, None, true}
+use Rattle.vx_value.specs.Types as type
+use Rattle.vx_value.specs.Types.{DataType, nullability_of}
+use Rattle.vx_value.specs.IsOf.{is_of}
+use Rattle.vx_value.specs.declared.dtype.Nullability.TheVariants.{NonNullable}
+use Rattle.vx_tree.specs.Tree.{Tree, Data, Slots, node, constant, slice, bool, primitive, no_slots, absent, slot, dtype, len}
 
 -- what a node's conditions see of a slot's tree: its type and its length
 pub data Shape : Type 0 where
@@ -15,11 +18,13 @@ shapes no_slots = []
 shapes (absent ss) = None ∷ shapes ss
 shapes (slot t ss) = Some (shape_of t) ∷ shapes ss
 
--- the conditions on a node, its slots' own apart: a line for each encoding. A column of integers has a slot for a
--- validity, which is absent where no row is null.
+-- the conditions on a node, its slots' own apart: a line for each encoding. A column has a slot for a validity, which is
+-- absent where no row is null.
 abbrev pub IsNode : DataType → ℕ → Data → List (Option Shape) → Type 0
-IsNode ty n (primitive xs) ss = (ty ≡ i32) × (n ≡ length xs) × (ss ≡ None ∷ [])
+IsNode ty n (constant v) ss = (ty ≡ v.of_type) × (nullability_of ty ≡ NonNullable) × (is_of ty v.value ≡ true) × (ss ≡ [])
 IsNode ty n (slice a b) ss = (m : ℕ) × (ss ≡ Some (shape ty m) ∷ []) × (a ≤ b) × (b ≤ m) × (n ≡ b - a)
+IsNode ty n (bool bs) ss = (ty ≡ type.bool NonNullable) × (n ≡ length bs) × (ss ≡ None ∷ [])
+IsNode ty n (primitive p zs) ss = (ty ≡ type.primitive p NonNullable) × (n ≡ length zs) × (ss ≡ None ∷ [])
 
 -- the same of a tree's root
 abbrev pub IsNodeOf : Tree → Type 0

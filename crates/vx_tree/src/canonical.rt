@@ -1,38 +1,75 @@
 //! Columns that hold their rows themselves.
 
-ghost use Rattle.std.specs.Prelude.{◌≡◌, is_ok, IfOk, IfErr};
+ghost use Rattle.std.specs.Prelude.{◌≡◌, ◌⊎◌, true, is_ok, IfOk, IfErr, OnOk};
+ghost use Rattle.vx_value.specs.Types.{nullability_of};
+ghost use Rattle.vx_value.specs.declared.dtype.Nullability.TheVariants.{NonNullable};
 ghost use Rattle.vx_value.specs.View.{type_of};
 ghost use Rattle.vx_tree.specs.Tree.{Tree, dtype, len, datum, is_canonical};
-ghost use Rattle.vx_tree.specs.Columns.{canonical_tree};
+ghost use Rattle.vx_tree.specs.Columns.{canonical_tree, empty_of};
 
 use crate::array::{ArrayRef, IntoArray};
+use crate::arrays::boolean::BoolArray;
 use crate::arrays::primitive::PrimitiveArray;
-use vx_value::DType;
+use crate::arrays::values::PrimitiveValues;
+use std::alloc::Global;
+use vx_mask::BitBuffer;
+use vx_value::{ArgKind, DType, VortexError, VortexResult};
 
 /// A column in the canonical encoding of its type.
 #[derive(Drop)]
 pub enum Canonical {
+    Bool(BoolArray),
     Primitive(PrimitiveArray),
 }
 
 impl Canonical {
+    /// The column of the type without rows. `InvalidArgument` with `BadType` exactly where the type is nullable.
+    #[tactic(auto, using(crate::proofs::Kinding::zero_in_range, crate::proofs::Kinding::only_nullable))]
+    pub fn empty(alloc: Global, dtype: &DType) -> VortexResult<Canonical>
+        ensures ok { IfOk result (λ c. canonical_tree c ≡ empty_of (type_of dtype.now)) }
+        ensures valid { OnOk result (nullability_of (type_of dtype.now) ≡ NonNullable) }
+        ensures refused { IfErr result (λ e. (e ≡ VortexError.OutOfMemory)
+            ⊎ ((e ≡ VortexError.InvalidArgument ArgKind.BadType) × (¬ (nullability_of (type_of dtype.now) ≡ NonNullable)))) }
+    {
+        let of_type = dtype.clone()?;
+        match dtype {
+            DType::Bool(_) => {
+                let bits = BitBuffer::repeat(alloc, false, 0)?;
+                Ok(Canonical::Bool(BoolArray::try_new(alloc, of_type, bits)?))
+            }
+            DType::Primitive(ptype, _) => {
+                let values = PrimitiveValues::repeat(alloc, *ptype, 0, 0)?;
+                match PrimitiveArray::try_new(alloc, of_type, values) {
+                    Ok(column) => Ok(Canonical::Primitive(column)),
+                    Err(e) => Err(e),
+                }
+            }
+        }
+    }
+
     /// The column of a tree, which is handed back where it isn't canonical. (own)
     pub fn try_from_array_ref(array: ArrayRef) -> Result<Canonical, ArrayRef>
         ensures which { is_ok result ≡ is_canonical (datum array) }
         ensures ok { IfOk result (λ c. canonical_tree c ≡ array) }
         ensures err { IfErr result (λ a. a ≡ array) }
     {
-        match PrimitiveArray::try_from_array_ref(array) {
-            Ok(column) => Ok(Canonical::Primitive(column)),
-            Err(array) => Err(array),
+        match BoolArray::try_from_array_ref(array) {
+            Ok(column) => Ok(Canonical::Bool(column)),
+            Err(array) => match PrimitiveArray::try_from_array_ref(array) {
+                Ok(column) => Ok(Canonical::Primitive(column)),
+                Err(array) => Err(array),
+            },
         }
     }
 
     /// The reference of the column.
+    #[tactic(auto, using(crate::proofs::Kinding::bool_canonical, crate::proofs::Kinding::primitive_canonical))]
     pub fn as_array(&self) -> &ArrayRef
-        ensures { result.now ≡ canonical_tree self.now }
+        ensures of { result.now ≡ canonical_tree self.now }
+        ensures canonical { is_canonical (datum (canonical_tree self.now)) ≡ true }
     {
         match self {
+            Canonical::Bool(column) => column.as_array(),
             Canonical::Primitive(column) => column.as_array(),
         }
     }
@@ -57,6 +94,7 @@ impl IntoArray for Canonical {
 
     fn into_array(self) -> ArrayRef {
         match self {
+            Canonical::Bool(column) => column.into_array(),
             Canonical::Primitive(column) => column.into_array(),
         }
     }

@@ -1,21 +1,37 @@
 //! Columns whose rows can be read without further work.
 
-ghost use Rattle.std.specs.Prelude.{◌≡◌, is_ok, IfOk, IfErr};
+ghost use Rattle.std.specs.Prelude.{◌≡◌, ◌⊎◌, true, is_ok, IfOk, IfErr, OnOk};
+ghost use Rattle.vx_value.specs.Types.{nullability_of};
+ghost use Rattle.vx_value.specs.declared.dtype.Nullability.TheVariants.{NonNullable};
 ghost use Rattle.vx_value.specs.View.{type_of};
-ghost use Rattle.vx_tree.specs.Tree.{Tree, dtype, len, datum, is_columnar};
+ghost use Rattle.vx_tree.specs.Tree.{Tree, dtype, len, datum, is_columnar, node, constant, no_slots};
 ghost use Rattle.vx_tree.specs.Columns.{columnar_tree};
 
 use crate::array::{ArrayRef, IntoArray};
+use crate::arrays::constant::ConstantArray;
 use crate::canonical::Canonical;
-use vx_value::DType;
+use std::alloc::Global;
+use vx_value::{ArgKind, DType, Scalar, VortexError, VortexResult};
 
-/// A canonical column.
+/// A canonical column, or one value for each row.
 #[derive(Drop)]
 pub enum Columnar {
     Canonical(Canonical),
+    Constant(ConstantArray),
 }
 
 impl Columnar {
+    /// The value so many times, without a row being made. `InvalidArgument` with `BadType` exactly where its type is
+    /// nullable.
+    pub fn constant(alloc: Global, scalar: Scalar, len: usize) -> VortexResult<Columnar>
+        ensures ok { IfOk result (λ c. columnar_tree c ≡ node scalar.of_type len (constant scalar) no_slots) }
+        ensures valid { OnOk result (nullability_of scalar.of_type ≡ NonNullable) }
+        ensures refused { IfErr result (λ e. (e ≡ VortexError.OutOfMemory)
+            ⊎ ((e ≡ VortexError.InvalidArgument ArgKind.BadType) × (¬ (nullability_of scalar.of_type ≡ NonNullable)))) }
+    {
+        Ok(Columnar::Constant(ConstantArray::new(alloc, scalar, len)?))
+    }
+
     /// The column of a tree, which is handed back where it is none. (own)
     pub fn try_from_array_ref(array: ArrayRef) -> Result<Columnar, ArrayRef>
         ensures which { is_ok result ≡ is_columnar (datum array) }
@@ -24,16 +40,22 @@ impl Columnar {
     {
         match Canonical::try_from_array_ref(array) {
             Ok(column) => Ok(Columnar::Canonical(column)),
-            Err(array) => Err(array),
+            Err(array) => match ConstantArray::try_from_array_ref(array) {
+                Ok(column) => Ok(Columnar::Constant(column)),
+                Err(array) => Err(array),
+            },
         }
     }
 
     /// The reference of the column.
+    #[tactic(auto, using(crate::proofs::Kinding::canonical_columnar, crate::proofs::Kinding::constant_columnar))]
     pub fn as_array(&self) -> &ArrayRef
-        ensures { result.now ≡ columnar_tree self.now }
+        ensures of { result.now ≡ columnar_tree self.now }
+        ensures columnar { is_columnar (datum (columnar_tree self.now)) ≡ true }
     {
         match self {
             Columnar::Canonical(column) => column.as_array(),
+            Columnar::Constant(column) => column.as_array(),
         }
     }
 
@@ -58,6 +80,7 @@ impl IntoArray for Columnar {
     fn into_array(self) -> ArrayRef {
         match self {
             Columnar::Canonical(column) => column.into_array(),
+            Columnar::Constant(column) => column.into_array(),
         }
     }
 }

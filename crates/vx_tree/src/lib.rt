@@ -14,8 +14,12 @@ pub use array::{
     Array, ArrayId, ArrayKind, ArrayParts, ArrayRef, ArraySlots, ArrayView, Encoded, Encoding,
     IntoArray, Node, VTable,
 };
+pub use arrays::boolean::{Bool, BoolArray, BoolData};
+pub use arrays::constant::{Constant, ConstantArray, ConstantData};
+pub use arrays::native::NativeInteger;
 pub use arrays::primitive::{Primitive, PrimitiveArray, PrimitiveData};
 pub use arrays::slice::{Slice, SliceArray, SliceData};
+pub use arrays::values::PrimitiveValues;
 pub use canonical::Canonical;
 pub use columnar::Columnar;
 pub use laws::{execution_bounds, keeping_laws, refused_exactly};

@@ -35,8 +35,10 @@ impl Matcher for AnyCanonical {
 
     fn matches(array: &ArrayRef) -> bool {
         match array.encoding() {
-            Encoding::Primitive(_) => true,
+            Encoding::Constant(_) => false,
             Encoding::Slice(_) => false,
+            Encoding::Bool(_) => true,
+            Encoding::Primitive(_) => true,
         }
     }
 }
@@ -50,8 +52,10 @@ impl Matcher for AnyColumnar {
 
     fn matches(array: &ArrayRef) -> bool {
         match array.encoding() {
-            Encoding::Primitive(_) => true,
+            Encoding::Constant(_) => true,
             Encoding::Slice(_) => false,
+            Encoding::Bool(_) => true,
+            Encoding::Primitive(_) => true,
         }
     }
 }

@@ -1,23 +1,38 @@
 use crate::{
-    AnyCanonical, AnyColumnar, Array, ArrayParts, ArrayRef, Canonical, Columnar, IntoArray,
-    Primitive, PrimitiveArray, PrimitiveData, Slice, SliceArray, SliceData,
+    AnyCanonical, AnyColumnar, Array, ArrayKind, ArrayParts, ArrayRef, BoolArray, Canonical,
+    Columnar, Constant, ConstantArray, ConstantData, IntoArray, Primitive, PrimitiveArray,
+    PrimitiveData, PrimitiveValues, Slice, SliceArray, SliceData,
 };
 use std::alloc::Global;
 use std::test::Fail;
-use vx_value::{ArgKind, DType, Id, Nullability, PType, VortexError, VortexResult};
+use vx_mask::{BitBuffer, Buffer};
+use vx_value::{
+    ArgKind, DType, Id, Nullability, PType, Scalar, ScalarValue, VortexError, VortexResult,
+};
 
 const I32: DType = DType::Primitive(PType::I32, Nullability::NonNullable);
 
 const NULLABLE: DType = DType::Primitive(PType::I32, Nullability::Nullable);
 
-fn column(alloc: Global, values: &[i32]) -> VortexResult<ArrayRef> {
-    Ok(PrimitiveArray::try_new(alloc, I32, values.to_vec(alloc)?)?.into_array())
+fn values(alloc: Global, items: &[i32]) -> VortexResult<PrimitiveValues> {
+    Ok(PrimitiveValues::I32(Buffer::from_vec(alloc, items.to_vec(alloc)?)?))
+}
+
+fn column(alloc: Global, items: &[i32]) -> VortexResult<ArrayRef> {
+    Ok(PrimitiveArray::try_new(alloc, I32, values(alloc, items)?)?.into_array())
 }
 
 fn one_slot(alloc: Global, child: Option<ArrayRef>) -> VortexResult<Vec<Option<ArrayRef>>> {
     let mut slots = Vec::new(alloc);
     slots.push(child)?;
     Ok(slots)
+}
+
+fn seven(nullability: Nullability) -> VortexResult<Scalar> {
+    Scalar::try_new(
+        DType::Primitive(PType::I32, nullability),
+        Some(ScalarValue::Integer(7)),
+    )
 }
 
 #[test]
@@ -47,7 +62,7 @@ fn slices_only_in_bounds(rt: HostRuntime) -> Result<(), Fail> {
 }
 
 #[test]
-fn parts_are_refused_in_order(rt: HostRuntime) -> Result<(), Fail> {
+fn parts_of_a_slice_are_refused_in_order(rt: HostRuntime) -> Result<(), Fail> {
     let alloc = rt.alloc();
     let array = column(alloc, &[10, 20, 30])?;
     for (dtype, len, slots, kind) in [
@@ -78,6 +93,13 @@ fn parts_are_refused_in_order(rt: HostRuntime) -> Result<(), Fail> {
             Err(e) => assert!(rt; e == VortexError::InvalidArgument(kind), "{kind:?}"),
         }
     }
+    Ok(())
+}
+
+#[test]
+fn parts_of_a_column_are_refused_in_order(rt: HostRuntime) -> Result<(), Fail> {
+    let alloc = rt.alloc();
+    let array = column(alloc, &[10, 20, 30])?;
     for (dtype, len, slots, kind) in [
         (NULLABLE, 9, Vec::new(alloc), ArgKind::SlotCount),
         (
@@ -95,7 +117,7 @@ fn parts_are_refused_in_order(rt: HostRuntime) -> Result<(), Fail> {
         (I32, 9, one_slot(alloc, None)?, ArgKind::NodeLen),
     ] {
         let payload = PrimitiveData {
-            values: [1, 2].to_vec(alloc)?,
+            values: values(alloc, &[1, 2])?,
         };
         let parts = ArrayParts::new(Primitive, dtype, len, payload, slots);
         match Array::try_from_parts(alloc, parts) {
@@ -103,14 +125,68 @@ fn parts_are_refused_in_order(rt: HostRuntime) -> Result<(), Fail> {
             Err(e) => assert!(rt; e == VortexError::InvalidArgument(kind), "{kind:?}"),
         }
     }
-    assert!(rt; PrimitiveArray::try_new(alloc, NULLABLE, Vec::new(alloc)).is_err());
+    Ok(())
+}
+
+#[test]
+fn constants_of_any_length(rt: HostRuntime) -> Result<(), Fail> {
+    let alloc = rt.alloc();
+    let array = ConstantArray::new(alloc, seven(Nullability::NonNullable)?, usize::MAX)?;
+    assert!(rt; array.len() == usize::MAX && array.as_array().encoding_id() == Id::Constant);
+    let array = array.into_array();
+    assert!(rt; array.is::<AnyColumnar>() && !array.is::<AnyCanonical>());
+    assert!(rt; array.is::<Constant>() && array.slots().is_empty());
+    assert!(rt; Columnar::constant(alloc, seven(Nullability::NonNullable)?, 0)?.len() == 0);
+    let refusal = VortexError::InvalidArgument(ArgKind::BadType);
+    match ConstantArray::new(alloc, seven(Nullability::Nullable)?, 1) {
+        Ok(_) => panic!(rt; "a nullable type"),
+        Err(e) => assert!(rt; e == refusal),
+    }
+    let payload = ConstantData {
+        scalar: seven(Nullability::NonNullable)?,
+    };
+    let parts = ArrayParts::new(
+        Constant,
+        DType::Bool(Nullability::NonNullable),
+        1,
+        payload,
+        Vec::new(alloc),
+    );
+    match Array::try_from_parts(alloc, parts) {
+        Ok(_) => panic!(rt; "another type"),
+        Err(e) => assert!(rt; e == VortexError::InvalidArgument(ArgKind::NodeType)),
+    }
+    Ok(())
+}
+
+#[test]
+fn columns_share_their_buffers(rt: HostRuntime) -> Result<(), Fail> {
+    let alloc = rt.alloc();
+    let all = values(alloc, &[7, -7, 9])?;
+    assert!(rt; all.len() == 3);
+    let part = all.slice(1..3)?;
+    assert!(rt; part.len() == 2 && part.wide_at(0) == -7 && part.ptype() == PType::I32);
+    let most = PrimitiveValues::repeat(alloc, PType::U64, 18446744073709551615, 3)?;
+    assert!(rt; most.len() == 3);
+    assert!(rt; most.wide_at(2) == 18446744073709551615);
+    let bits = BitBuffer::repeat(alloc, true, 3)?;
+    let bools = BoolArray::try_new(alloc, DType::Bool(Nullability::NonNullable), bits)?;
+    match bools.as_array().kind() {
+        ArrayKind::Bool(bits) => assert!(rt; bits.get(2) == Some(true)),
+        _ => panic!(rt; "a column of booleans"),
+    }
+    for dtype in [I32, DType::Bool(Nullability::NonNullable)] {
+        let empty = Canonical::empty(alloc, &dtype)?;
+        assert!(rt; empty.len() == 0 && *empty.dtype() == dtype);
+    }
+    assert!(rt; Canonical::empty(alloc, &NULLABLE).is_err());
     Ok(())
 }
 
 #[test]
 fn parts_come_back_where_not_shared(rt: HostRuntime) -> Result<(), Fail> {
     let alloc = rt.alloc();
-    let column = PrimitiveArray::try_new(alloc, I32, [7, -7].to_vec(alloc)?)?;
+    let column = PrimitiveArray::try_new(alloc, I32, values(alloc, &[7, -7])?)?;
     let shared = column.clone()?;
     let Err(column) = column.try_into_parts() else {
         panic!(rt; "a shared node");
@@ -125,6 +201,6 @@ fn parts_come_back_where_not_shared(rt: HostRuntime) -> Result<(), Fail> {
     let Ok(parts) = shared.try_into_parts() else {
         panic!(rt; "the only owner");
     };
-    assert!(rt; parts.payload.values.as_slice() == [7, -7].as_slice());
+    assert!(rt; parts.payload.values.len() == 2);
     Ok(())
 }

@@ -1,7 +1,8 @@
 -- Whether the parts of a column of so many rows can be counted.
 use Rattle.std.specs.Prelude.{ℕ}
-use Rattle.vx_value.specs.Types.{DataType, primitive}
+use Rattle.vx_value.specs.Types.{DataType, bool, primitive}
 
 -- a flat column's rows are its parts
 abbrev pub Fits : DataType → ℕ → Type 0
+Fits (bool n) rows = Unit {0}
 Fits (primitive p n) rows = Unit {0}

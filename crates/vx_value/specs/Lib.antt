@@ -3,6 +3,10 @@ pub mod Values
 pub mod View
 pub mod IsOf
 pub mod Typed
+pub mod Parts
+pub mod Order
+pub mod Writes
+pub mod OrderLaws
 pub mod Fits
 pub mod Text
 pub mod Ids

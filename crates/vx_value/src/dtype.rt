@@ -26,12 +26,20 @@ impl Nullability {
 /// The integers of a primitive column, by sign and width in bits.
 #[derive(Clone, Copy, Debug, PartialEq, Eq, Hash)]
 pub enum PType {
+    U8,
+    U16,
+    U32,
+    U64,
+    I8,
+    I16,
     I32,
+    I64,
 }
 
 /// What the rows of an array are.
 #[derive(Clone, Debug, PartialEq, Eq, Hash, Drop)]
 pub enum DType {
+    Bool(Nullability),
     Primitive(PType, Nullability),
 }
 
@@ -41,6 +49,7 @@ impl DType {
         ensures { result ≡ nullability_of (type_of self.now) }
     {
         match self {
+            DType::Bool(nullability) => *nullability,
             DType::Primitive(_, nullability) => *nullability,
         }
     }

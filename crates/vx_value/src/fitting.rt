@@ -11,6 +11,7 @@ pub fn fits(dtype: &DType, rows: usize) -> bool
     ensures { IsTrue result ↔ Fits (type_of dtype.now) rows }
 {
     match dtype {
+        DType::Bool(_) => true,
         DType::Primitive(_, _) => true,
     }
 }

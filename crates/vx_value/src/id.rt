@@ -6,8 +6,10 @@ ghost use Rattle.vx_value.specs.Ids.{id_text, IsNoId};
 /// The id of an encoding.
 #[derive(Clone, Copy, Debug, PartialEq, Eq, Hash)]
 pub enum Id {
-    Primitive,
+    Constant,
     Slice,
+    Bool,
+    Primitive,
 }
 
 impl Id {
@@ -16,8 +18,10 @@ impl Id {
         ensures { result.now ≡ id_text self }
     {
         match self {
-            Id::Primitive => "vortex.primitive",
+            Id::Constant => "vortex.constant",
             Id::Slice => "vortex.slice",
+            Id::Bool => "vortex.bool",
+            Id::Primitive => "vortex.primitive",
         }
     }
 
@@ -26,8 +30,10 @@ impl Id {
         ensures { MatchOption result (IsNoId text.now) (λ id. id_text id ≡ text.now) }
     {
         match text {
-            "vortex.primitive" => Some(Id::Primitive),
+            "vortex.constant" => Some(Id::Constant),
             "vortex.slice" => Some(Id::Slice),
+            "vortex.bool" => Some(Id::Bool),
+            "vortex.primitive" => Some(Id::Primitive),
             _ => None,
         }
     }

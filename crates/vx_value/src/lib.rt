@@ -1,6 +1,7 @@
 //! The types, scalars and errors of array trees.
 #![tactic(auto)]
 
+mod compare;
 mod dtype;
 mod error;
 mod fitting;

@@ -4,19 +4,22 @@ ghost use Rattle.std.specs.Prelude.{◌≡◌, ◌↔◌, IfOk, IfErr, IsErrOf, 
 ghost use Rattle.vx_value.specs.View.{type_of, value_of, cell_of};
 ghost use Rattle.vx_value.specs.Values.{Value};
 ghost use Rattle.vx_value.specs.IsOf.{is_of, in_range, is_null};
+ghost use Rattle.vx_value.specs.Parts.{boolean_in, integer_in};
 
 use crate::{ArgKind, DType, PType, VortexError, VortexResult};
+use std::alloc::AllocError;
 use std::marker::Model;
 
 /// A value that isn't null. Of which type it is, a `Scalar` says.
 #[derive(Clone, Copy, Debug, PartialEq, Eq, Hash)]
 pub enum ScalarValue {
+    Bool(bool),
     /// A whole number, of whichever integer type.
     Integer(i128),
 }
 
 /// A value of a type. Where the type is nullable, null is one.
-#[derive(Drop)]
+#[derive(Debug, Drop)]
 pub struct Scalar {
     dtype: DType,
     value: Option<ScalarValue>,
@@ -35,6 +38,17 @@ impl Model for Scalar {
     ghost view = { λ s. record { of_type = type_of s.dtype; value = cell_of s.value } };
 
     ghost invariant = { λ s. is_of (type_of s.dtype) (cell_of s.value) ≡ true };
+}
+
+impl Clone for Scalar {
+    ghost is_clone = { λ a b. b ≡ a };
+
+    fn clone(&self) -> Result<Scalar, AllocError> {
+        Ok(Scalar {
+            dtype: self.dtype.clone()?,
+            value: self.value,
+        })
+    }
 }
 
 impl Scalar {
@@ -71,6 +85,26 @@ impl Scalar {
         self.value
     }
 
+    /// The boolean, None where the value is null or a number.
+    pub fn as_bool(&self) -> Option<bool>
+        ensures { result ≡ boolean_in self.now.value }
+    {
+        match self.value {
+            Some(ScalarValue::Bool(boolean)) => Some(boolean),
+            Some(ScalarValue::Integer(_)) | None => None,
+        }
+    }
+
+    /// The number, None where the value is null or a boolean.
+    pub fn as_integer(&self) -> Option<i128>
+        ensures { result ≡ integer_in self.now.value }
+    {
+        match self.value {
+            Some(ScalarValue::Integer(number)) => Some(number),
+            Some(ScalarValue::Bool(_)) | None => None,
+        }
+    }
+
     /// Whether the value is null.
     pub fn is_null(&self) -> bool
         ensures { result ≡ is_null self.now.value }
@@ -84,7 +118,14 @@ fn in_range(ptype: PType, number: i128) -> bool
     ensures { result ≡ in_range ptype number }
 {
     match ptype {
+        PType::U8 => 0 <= number && number < 256,
+        PType::U16 => 0 <= number && number < 65536,
+        PType::U32 => 0 <= number && number < 4294967296,
+        PType::U64 => 0 <= number && number < 18446744073709551616,
+        PType::I8 => -128 <= number && number < 128,
+        PType::I16 => -32768 <= number && number < 32768,
         PType::I32 => -2147483648 <= number && number < 2147483648,
+        PType::I64 => -9223372036854775808 <= number && number < 9223372036854775808,
     }
 }
 
@@ -94,6 +135,9 @@ fn is_of(dtype: &DType, value: Option<ScalarValue>) -> bool
 {
     match (dtype, value) {
         (_, None) => dtype.is_nullable(),
+        (DType::Bool(_), Some(ScalarValue::Bool(_))) => true,
+        (DType::Bool(_), Some(ScalarValue::Integer(_))) => false,
+        (DType::Primitive(_, _), Some(ScalarValue::Bool(_))) => false,
         (DType::Primitive(ptype, _), Some(ScalarValue::Integer(number))) => {
             in_range(*ptype, number)
         }

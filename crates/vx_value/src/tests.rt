@@ -1,43 +1,127 @@
 use crate::{
-    ArgKind, DType, Id, Nullability, PType, Scalar, ScalarValue, VortexError, fits, type_text,
+    ArgKind, DType, Id, Nullability, PType, Scalar, ScalarValue, VortexError, VortexResult, fits,
+    type_text,
 };
+use std::hash::{DefaultHasher, Hash, Hasher};
 use std::test::Fail;
+
+const BOOL: DType = DType::Bool(Nullability::NonNullable);
 
 const I32: DType = DType::Primitive(PType::I32, Nullability::NonNullable);
 
+const NULLABLE_BOOL: DType = DType::Bool(Nullability::Nullable);
+
+const NULLABLE_I32: DType = DType::Primitive(PType::I32, Nullability::Nullable);
+
+fn integer(dtype: DType, number: i128) -> VortexResult<Scalar> {
+    Scalar::try_new(dtype, Some(ScalarValue::Integer(number)))
+}
+
+fn boolean(dtype: DType, boolean: bool) -> VortexResult<Scalar> {
+    Scalar::try_new(dtype, Some(ScalarValue::Bool(boolean)))
+}
+
+fn hash_of(scalar: &Scalar) -> u64 {
+    let mut state = DefaultHasher::new();
+    scalar.hash(&mut state);
+    state.finish()
+}
+
 #[test]
 fn type_texts(rt: HostRuntime) -> Result<(), Fail> {
-    let nullable = DType::Primitive(PType::I32, Nullability::Nullable);
-    assert_eq!(rt; type_text(rt.alloc(), &I32)?.as_str(), "i32");
-    assert_eq!(rt; type_text(rt.alloc(), &nullable)?.as_str(), "i32?");
-    assert!(rt; fits(&I32, usize::MAX));
-    assert!(rt; I32 != nullable);
+    assert_eq!(rt; type_text(rt.alloc(), &BOOL)?.as_str(), "bool");
+    assert_eq!(rt; type_text(rt.alloc(), &NULLABLE_BOOL)?.as_str(), "bool?");
+    assert_eq!(rt; type_text(rt.alloc(), &NULLABLE_I32)?.as_str(), "i32?");
+    assert!(rt; I32 != NULLABLE_I32);
+    assert!(rt; fits(&I32, usize::MAX) && fits(&NULLABLE_BOOL, usize::MAX));
     Ok(())
 }
 
 #[test]
-fn scalars_of_i32(rt: HostRuntime) -> Result<(), Fail> {
-    for (number, is_one) in [
-        (-2147483649, false),
-        (-2147483648, true),
-        (0, true),
-        (2147483647, true),
-        (2147483648, false),
+fn integer_types(rt: HostRuntime) -> Result<(), Fail> {
+    for (ptype, text, [below, least, greatest, above]) in [
+        (PType::U8, "u8", [-1, 0, 255, 256]),
+        (PType::U16, "u16", [-1, 0, 65535, 65536]),
+        (PType::U32, "u32", [-1, 0, 4294967295, 4294967296]),
+        (
+            PType::U64,
+            "u64",
+            [-1, 0, 18446744073709551615, 18446744073709551616],
+        ),
+        (PType::I8, "i8", [-129, -128, 127, 128]),
+        (PType::I16, "i16", [-32769, -32768, 32767, 32768]),
+        (
+            PType::I32,
+            "i32",
+            [-2147483649, -2147483648, 2147483647, 2147483648],
+        ),
+        (
+            PType::I64,
+            "i64",
+            [
+                -9223372036854775809,
+                -9223372036854775808,
+                9223372036854775807,
+                9223372036854775808,
+            ],
+        ),
     ] {
-        match Scalar::try_new(I32, Some(ScalarValue::Integer(number))) {
-            Ok(scalar) => {
-                assert!(rt; is_one, "{number}");
-                assert!(rt; scalar.value() == Some(ScalarValue::Integer(number)));
-            }
-            Err(e) => {
-                assert!(rt; !is_one, "{number}");
-                assert!(rt; e == VortexError::InvalidArgument(ArgKind::BadValue));
-            }
+        let dtype = DType::Primitive(ptype, Nullability::NonNullable);
+        assert_eq!(rt; type_text(rt.alloc(), &dtype)?.as_str(), text);
+        for number in [least, greatest] {
+            let scalar = integer(dtype.clone()?, number)?;
+            assert!(rt;
+                scalar.value() == Some(ScalarValue::Integer(number)),
+                "{number}"
+            );
+            assert!(rt; *scalar.dtype() == dtype, "{number}");
+        }
+        for number in [below, above] {
+            assert!(rt; integer(dtype.clone()?, number).is_err(), "{number}");
         }
     }
-    assert!(rt; Scalar::try_new(I32, None).is_err());
-    let nullable = DType::Primitive(PType::I32, Nullability::Nullable);
-    assert!(rt; Scalar::try_new(nullable, None)?.is_null());
+    Ok(())
+}
+
+#[test]
+fn values_of_another_kind(rt: HostRuntime) -> Result<(), Fail> {
+    let refused = VortexError::InvalidArgument(ArgKind::BadValue);
+    for scalar in [
+        boolean(I32, true),
+        integer(BOOL, 1),
+        Scalar::try_new(I32, None),
+        Scalar::try_new(BOOL, None),
+    ] {
+        match scalar {
+            Ok(_) => assert!(rt; false),
+            Err(e) => assert!(rt; e == refused),
+        }
+    }
+    let null = Scalar::try_new(NULLABLE_BOOL, None)?;
+    assert!(rt; null.is_null() && null.as_bool() == None && null.as_integer() == None);
+    let yes = boolean(NULLABLE_BOOL, true)?;
+    assert!(rt; !yes.is_null() && yes.as_bool() == Some(true) && yes.as_integer() == None);
+    let seven = integer(I32, 7)?;
+    assert!(rt; !seven.is_null() && seven.as_bool() == None && seven.as_integer() == Some(7));
+    Ok(())
+}
+
+#[test]
+fn scalars_in_order(rt: HostRuntime) -> Result<(), Fail> {
+    let null = Scalar::try_new(NULLABLE_I32, None)?;
+    let zero = integer(NULLABLE_I32, 0)?;
+    let one = integer(NULLABLE_I32, 1)?;
+    assert!(rt; null < zero && zero < one && null < one && one > integer(NULLABLE_I32, -1)?);
+    assert!(rt; boolean(BOOL, false)? < boolean(BOOL, true)?);
+    assert!(rt; one == integer(NULLABLE_I32, 1)? && one != zero && zero != null);
+    assert!(rt; null == Scalar::try_new(NULLABLE_I32, None)?);
+    assert!(rt; hash_of(&one) == hash_of(&integer(NULLABLE_I32, 1)?));
+    assert!(rt; hash_of(&one) != hash_of(&zero));
+    let unsigned = integer(DType::Primitive(PType::U8, Nullability::NonNullable), 1)?;
+    let signed = integer(DType::Primitive(PType::I8, Nullability::NonNullable), 1)?;
+    assert!(rt; unsigned != signed && unsigned.partial_cmp(&signed) == None);
+    assert!(rt; hash_of(&unsigned) != hash_of(&signed));
+    assert!(rt; integer(I32, 1)? != one && Scalar::try_new(NULLABLE_BOOL, None)? != null);
     Ok(())
 }
 
@@ -79,8 +163,16 @@ fn error_texts(rt: HostRuntime) -> Result<(), Fail> {
 
 #[test]
 fn ids(rt: HostRuntime) {
-    for id in [Id::Primitive, Id::Slice] {
-        assert!(rt; Id::parse(id.as_str()) == Some(id));
+    for (id, text) in [
+        (Id::Constant, "vortex.constant"),
+        (Id::Slice, "vortex.slice"),
+        (Id::Bool, "vortex.bool"),
+        (Id::Primitive, "vortex.primitive"),
+    ] {
+        assert_eq!(rt; id.as_str(), text);
+        assert!(rt; Id::parse(text) == Some(id), "{text}");
     }
-    assert!(rt; Id::parse("vortex.slices") == None);
+    for text in ["", "vortex", "vortex.slices", "Vortex.bool"] {
+        assert!(rt; Id::parse(text) == None, "{text}");
+    }
 }

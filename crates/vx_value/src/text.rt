@@ -20,6 +20,10 @@ fn push_type(text: &mut String, dtype: &DType) -> Result<(), AllocError>
     ensures { OnOk result (string_bytes text.new ≡ string_bytes text.old ++ type_text (type_of dtype.now)) }
 {
     match dtype {
+        DType::Bool(nullability) => {
+            text.push_str("bool")?;
+            text.push_str(mark(*nullability))
+        }
         DType::Primitive(ptype, nullability) => {
             text.push_str(ptype_text(*ptype))?;
             text.push_str(mark(*nullability))
@@ -31,7 +35,14 @@ fn ptype_text(ptype: PType) -> &'static str
     ensures { result.now ≡ ptype_text ptype }
 {
     match ptype {
+        PType::U8 => "u8",
+        PType::U16 => "u16",
+        PType::U32 => "u32",
+        PType::U64 => "u64",
+        PType::I8 => "i8",
+        PType::I16 => "i16",
         PType::I32 => "i32",
+        PType::I64 => "i64",
     }
 }
 

@@ -1,5 +1,6 @@
 //! Execution: trees into canonical columns, by turns over an explicit stack of suspended parents.
 
+mod canonicalize;
 mod context;
 mod probe;
 mod step;

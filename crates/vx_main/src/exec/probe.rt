@@ -36,10 +36,15 @@ fn scalar_at(array: &ArrayRef, index: usize) -> VortexResult<Scalar>
     ensures err { IfErr result (λ e. e ≡ VortexError.OutOfMemory) }
 {
     match array.kind() {
+        ArrayKind::Constant(scalar) => Ok(scalar.clone()?),
+        ArrayKind::Slice(child, start, _) => scalar_at(child, start + index),
+        ArrayKind::Bool(bits) => Scalar::try_new(
+            array.dtype().clone()?,
+            Some(ScalarValue::Bool(bits.value(index))),
+        ),
         ArrayKind::Primitive(values) => Scalar::try_new(
             array.dtype().clone()?,
-            Some(ScalarValue::Integer(i128::from(values[index]))),
+            Some(ScalarValue::Integer(values.wide_at(index))),
         ),
-        ArrayKind::Slice(child, start, _) => scalar_at(child, start + index),
     }
 }

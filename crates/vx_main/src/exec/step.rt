@@ -5,8 +5,9 @@ ghost use Rattle.vx_tree.specs.Tree.{dtype, len, datum, is_canonical, node, slic
 ghost use Rattle.vx_main.specs.Turns.{meets};
 ghost use Rattle.vx_main.specs.Steps.{IsStep, IsDone};
 
+use crate::exec::canonicalize::constant_canonicalize;
 use std::alloc::Global;
-use vx_tree::{AnyCanonical, ArrayKind, ArrayRef, IntoArray, PrimitiveArray};
+use vx_tree::{AnyCanonical, ArrayKind, ArrayRef, BoolArray, IntoArray, PrimitiveArray};
 use vx_value::{VortexError, VortexResult};
 
 /// What a slot is executed to. (own)
@@ -43,7 +44,10 @@ pub fn step(alloc: Global, array: &ArrayRef) -> VortexResult<ExecutionStep>
     ensures err { IfErr result (λ e. e ≡ VortexError.OutOfMemory) }
 {
     match array.kind() {
-        ArrayKind::Primitive(_) => unreachable!(),
+        ArrayKind::Constant(scalar) => {
+            let column = constant_canonicalize(alloc, scalar, array.len())?;
+            Ok(ExecutionStep::Done(column))
+        }
         ArrayKind::Slice(child, start, stop) => {
             if child.is::<AnyCanonical>() {
                 Ok(ExecutionStep::Done(slice_canonical(alloc, child, start, stop)?))
@@ -51,10 +55,13 @@ pub fn step(alloc: Global, array: &ArrayRef) -> VortexResult<ExecutionStep>
                 Ok(ExecutionStep::ExecuteSlot(0, SlotTarget::Canonical))
             }
         }
+        ArrayKind::Bool(_) => unreachable!(),
+        ArrayKind::Primitive(_) => unreachable!(),
     }
 }
 
-/// The rows of a canonical column from a start, inclusive, to a stop, exclusive, as a canonical column. (own)
+/// The rows of a canonical column from a start, inclusive, to a stop, exclusive, as a canonical column that shares the
+/// storage. (own)
 fn slice_canonical(
     alloc: Global,
     column: &ArrayRef,
@@ -67,11 +74,15 @@ fn slice_canonical(
     ensures err { IfErr result (λ e. e ≡ VortexError.OutOfMemory) }
 {
     match column.kind() {
-        ArrayKind::Primitive(values) => {
-            let kept = values[start..stop].to_vec(alloc)?;
-            let sliced = PrimitiveArray::try_new(alloc, column.dtype().clone()?, kept)?;
-            Ok(sliced.into_array())
-        }
+        ArrayKind::Constant(_) => unreachable!(),
         ArrayKind::Slice(_, _, _) => unreachable!(),
+        ArrayKind::Bool(bits) => {
+            let kept = bits.slice(start..stop)?;
+            Ok(BoolArray::try_new(alloc, column.dtype().clone()?, kept)?.into_array())
+        }
+        ArrayKind::Primitive(values) => {
+            let kept = values.slice(start..stop)?;
+            Ok(PrimitiveArray::try_new(alloc, column.dtype().clone()?, kept)?.into_array())
+        }
     }
 }

@@ -6,6 +6,8 @@ mod rows;
 #[cfg(test)]
 mod tests;
 mod tree;
+mod types;
+mod values;
 
 pub use rows::{push_row, row_text};
 pub use tree::{tree_of, tree_of_bytes};

@@ -7,12 +7,15 @@ use std::alloc::{AllocError, Global};
 use std::fmt::Write;
 use vx_value::{Scalar, ScalarValue, VortexResult};
 
-/// Appends the text of a row: `null`, or an integer in decimal. What is appended before want of memory stays. (own)
+/// Appends the text of a row: `null`, `true`, `false`, or an integer in decimal. What is appended before want of memory
+/// stays. (own)
 pub fn push_row(text: &mut String, scalar: &Scalar) -> Result<(), AllocError>
     ensures { OnOk result (string_bytes text.new ≡ string_bytes text.old ++ row_text scalar.now.value) }
 {
     match scalar.value() {
         None => text.push_str("null"),
+        Some(ScalarValue::Bool(true)) => text.push_str("true"),
+        Some(ScalarValue::Bool(false)) => text.push_str("false"),
         // An integer of its type fits 64 bits, and is written faster so.
         Some(ScalarValue::Integer(number)) => if number < 0 {
             write!(text, "{}", number as i64)

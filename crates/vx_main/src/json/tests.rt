@@ -1,6 +1,7 @@
 use crate::json::{row_text, tree_of_bytes};
 use std::alloc::Global;
 use std::test::Fail;
+use vx_tree::ArrayKind;
 use vx_value::{
     ArgKind, DType, Nullability, PType, Scalar, ScalarValue, VortexError, VortexResult,
 };
@@ -9,7 +10,7 @@ const CHILD: &str = r#"{"enc":"col","type":"i32","rows":[1,2,3]}"#;
 
 // A text, and how many rows its tree has, None where it spells no tree. A key that is given twice counts once, with its
 // last value.
-const TEXTS: [(&str, Option<usize>); 26] = [
+const TEXTS: [(&str, Option<usize>); 46] = [
     (r#"{"enc":"col","type":"i32","rows":[]}"#, Some(0)),
     (
         r#" { "rows" : [ 1 , -2 ] , "type" : "i32" , "enc" : "col" } "#,
@@ -44,6 +45,53 @@ const TEXTS: [(&str, Option<usize>); 26] = [
     (r#"{"enc":"slice","start":0,"stop":0,"child":[]}"#, None),
     (r#"{"enc":"slice""#, None),
     (r#"{"enc":"row","type":"i32","rows":[]}"#, None),
+    (
+        r#"{"enc":"flat","type":"u64","values":[18446744073709551615,0]}"#,
+        Some(2),
+    ),
+    (r#"{"enc":"flat","type":"i32","rows":[1]}"#, None),
+    (
+        r#"{"enc":"flat","type":"i32","values":[1],"rows":[1]}"#,
+        None,
+    ),
+    (r#"{"enc":"flat","values":[1]}"#, None),
+    (r#"{"enc":"flat","type":"i32?","values":[1]}"#, None),
+    (r#"{"enc":"flat","type":"i32","values":[-0]}"#, None),
+    (
+        r#"{"enc":"flat","type":"bool","values":[true,false,true]}"#,
+        Some(3),
+    ),
+    (r#"{"enc":"col","type":"bool","rows":[]}"#, Some(0)),
+    (r#"{"enc":"col","type":"bool","rows":[true,1]}"#, None),
+    (r#"{"enc":"col","type":"bool","rows":["true"]}"#, None),
+    (
+        r#"{"enc":"constant","type":"bool","value":true,"len":0}"#,
+        Some(0),
+    ),
+    (
+        r#"{"enc":"constant","type":"i8","value":-128,"len":18446744073709551615}"#,
+        Some(18446744073709551615),
+    ),
+    (
+        r#"{"enc":"constant","type":"i8","value":1,"len":18446744073709551616}"#,
+        None,
+    ),
+    (r#"{"enc":"constant","type":"i8","value":1,"len":-1}"#, None),
+    (
+        r#"{"enc":"constant","type":"i8","value":1,"len":1.0}"#,
+        None,
+    ),
+    (r#"{"enc":"constant","type":"i8","value":1}"#, None),
+    (r#"{"enc":"constant","type":"i8","len":1}"#, None),
+    (r#"{"enc":"constant","value":1,"len":1}"#, None),
+    (
+        r#"{"enc":"constant","type":"i8","value":1,"len":1,"rows":[1]}"#,
+        None,
+    ),
+    (
+        r#"{"enc":"constant","type":"i8","value":[1],"len":1}"#,
+        None,
+    ),
     (r#"{"type":"i32","rows":[]}"#, None),
     ("{}", None),
     ("5", None),
@@ -64,6 +112,36 @@ const SLICES: [(&str, Option<usize>); 10] = [
     (r#""start":0,"stop":2,"stop":1"#, Some(1)),
 ];
 
+// A type, one below its least number, the least, the greatest, and one above it.
+const BOUNDS: [(&str, &str, &str, &str, &str); 8] = [
+    ("u8", "-1", "0", "255", "256"),
+    ("u16", "-1", "0", "65535", "65536"),
+    ("u32", "-1", "0", "4294967295", "4294967296"),
+    (
+        "u64",
+        "-1",
+        "0",
+        "18446744073709551615",
+        "18446744073709551616",
+    ),
+    ("i8", "-129", "-128", "127", "128"),
+    ("i16", "-32769", "-32768", "32767", "32768"),
+    (
+        "i32",
+        "-2147483649",
+        "-2147483648",
+        "2147483647",
+        "2147483648",
+    ),
+    (
+        "i64",
+        "-9223372036854775809",
+        "-9223372036854775808",
+        "9223372036854775807",
+        "9223372036854775808",
+    ),
+];
+
 fn rows_of(alloc: Global, text: &str) -> VortexResult<Option<usize>> {
     match tree_of_bytes(alloc, text.as_bytes()) {
         Ok(tree) => Ok(Some(tree.len())),
@@ -82,6 +160,53 @@ fn texts_and_their_trees(rt: HostRuntime) -> Result<(), Fail> {
             r#"{{"enc":"slice",{keys},"child":{{"enc":"slice","start":1,"stop":2,"child":{CHILD}}}}}"#
         )?;
         assert!(rt; rows_of(rt.alloc(), &text)? == rows, "{text}");
+    }
+    Ok(())
+}
+
+// The text of the row of a constant, None where it spells no tree.
+fn printed(alloc: Global, dtype: &str, value: &str) -> VortexResult<Option<String>> {
+    let text = format!(in alloc;
+        r#"{{"enc":"constant","type":"{dtype}","value":{value},"len":1}}"#
+    )?;
+    match tree_of_bytes(alloc, text.as_bytes()) {
+        Ok(tree) => match tree.kind() {
+            ArrayKind::Constant(scalar) => Ok(Some(row_text(alloc, scalar)?)),
+            ArrayKind::Slice(_, _, _) | ArrayKind::Bool(_) | ArrayKind::Primitive(_) => Ok(None),
+        },
+        Err(VortexError::InvalidArgument(ArgKind::BadValue)) => Ok(None),
+        Err(e) => Err(e),
+    }
+}
+
+fn is_taken(alloc: Global, dtype: &str, value: &str) -> VortexResult<bool> {
+    let column = format!(in alloc; r#"{{"enc":"col","type":"{dtype}","rows":[{value}]}}"#)?;
+    Ok(rows_of(alloc, &column)? == Some(1))
+}
+
+#[test]
+fn values_of_each_type(rt: HostRuntime) -> Result<(), Fail> {
+    for (dtype, below, least, greatest, above) in BOUNDS {
+        for value in [least, greatest] {
+            let text = printed(rt.alloc(), dtype, value)?;
+            assert!(rt; text.as_deref() == Some(value), "{dtype} {value}");
+            assert!(rt; is_taken(rt.alloc(), dtype, value)?, "{dtype} {value}");
+        }
+        for value in [below, above, "true", "1.5", "null", r#""1""#] {
+            assert!(rt;
+                printed(rt.alloc(), dtype, value)?.is_none(),
+                "{dtype} {value}"
+            );
+            assert!(rt; !is_taken(rt.alloc(), dtype, value)?, "{dtype} {value}");
+        }
+    }
+    for value in ["true", "false"] {
+        let text = printed(rt.alloc(), "bool", value)?;
+        assert!(rt; text.as_deref() == Some(value), "{value}");
+    }
+    for value in ["0", "1", "null", r#""true""#] {
+        assert!(rt; printed(rt.alloc(), "bool", value)?.is_none(), "{value}");
+        assert!(rt; !is_taken(rt.alloc(), "bool", value)?, "{value}");
     }
     Ok(())
 }

@@ -1,35 +1,87 @@
 //! The tree that a JSON value spells.
 //!
 //! A tree is an object whose `enc` names the encoding. Each encoding has exactly its own keys:
-//! `{"enc":"col","type":"i32","rows":[1,-2]}` and `{"enc":"slice","start":0,"stop":1,"child":{..}}`.
+//! `{"enc":"col","type":"i32","rows":[1,-2]}`, `{"enc":"flat","type":"i32","values":[1,-2]}`,
+//! `{"enc":"constant","type":"bool","value":true,"len":3}` and `{"enc":"slice","start":0,"stop":1,"child":{..}}`.
 
-ghost use Rattle.std.specs.Prelude.{◌≡◌, ◌⊎◌, Some, None, IfOk, IfErr};
-ghost use Rattle.serde_json.specs.View.{view};
+ghost use Rattle.std.specs.Prelude.{◌≡◌, ◌⊎◌, Some, None, option_map, IfOk, IfErr, IfSome};
+ghost use Rattle.serde_json.specs.View.{view, items_view};
+ghost use Rattle.vx_value.specs.View.{type_of};
+ghost use Rattle.vx_value.specs.Types.{nullability_of};
+ghost use Rattle.vx_value.specs.declared.dtype.Nullability.TheVariants.{NonNullable};
 ghost use Rattle.vx_main.specs.Keys.{key_text};
 ghost use Rattle.vx_main.specs.Refused.{IsRefused};
-ghost use Rattle.vx_main.specs.Spelled.{tree_spelled, tree_at, column_of, slice_of, Spells, SpellsNone};
+ghost use Rattle.vx_main.specs.Spelled.{type_at, column_of_items, column_of, constant_of, slice_of, tree_spelled, tree_at, Spells, SpellsNone};
 
 use crate::json::BAD_VALUE;
-use crate::json::fields::{count, items, number, rows, text};
+use crate::json::fields::{count, items, number, text};
 use crate::json::key::Key;
+use crate::json::types::type_named;
+use crate::json::values::{booleans, integers, scalar};
 use serde_json::Value;
 use std::alloc::Global;
-use vx_tree::{ArrayRef, IntoArray, PrimitiveArray, SliceArray};
-use vx_value::{ArgKind, DType, Nullability, PType, VortexError, VortexResult};
+use vx_tree::{ArrayRef, BoolArray, ConstantArray, IntoArray, PrimitiveArray, SliceArray};
+use vx_value::{ArgKind, DType, Nullability, VortexError, VortexResult};
 
-/// A column of integers.
-fn column(alloc: Global, value: &Value) -> VortexResult<ArrayRef>
-    ensures ok { IfOk result (λ t. column_of (view value.now) ≡ Some t) }
-    ensures err { IfErr result (IsRefused (column_of (view value.now) ≡ None)) }
+/// The type that the text under `type` names.
+fn dtype_of(value: &Value) -> Option<DType>
+    ensures named { option_map type_of result ≡ type_at (view value.now) }
+    ensures never_null { IfSome result (λ t. nullability_of (type_of t) ≡ NonNullable) }
+{
+    type_named(text(value, "type")?)
+}
+
+/// The column of a list's values, without nulls.
+fn column_of_items(alloc: Global, dtype: DType, list: &Vec<Value>) -> VortexResult<ArrayRef>
+    ensures ok { IfOk result (λ t. column_of_items (type_of dtype) (items_view list.now.items) ≡ Some t) }
+    ensures err { IfErr result (IsRefused (column_of_items (type_of dtype) (items_view list.now.items) ≡ None)) }
+{
+    match dtype {
+        DType::Bool(_) => {
+            let dtype = DType::Bool(Nullability::NonNullable);
+            Ok(BoolArray::try_new(alloc, dtype, booleans(alloc, list)?)?.into_array())
+        }
+        DType::Primitive(ptype, _) => {
+            let dtype = DType::Primitive(ptype, Nullability::NonNullable);
+            let values = integers(alloc, ptype, list)?;
+            Ok(PrimitiveArray::try_new(alloc, dtype, values)?.into_array())
+        }
+    }
+}
+
+/// A column, a value for each row, in the list under a key.
+fn column(alloc: Global, value: &Value, key: &str) -> VortexResult<ArrayRef>
+    ensures ok { IfOk result (λ t. column_of key.now (view value.now) ≡ Some t) }
+    ensures err { IfErr result (IsRefused (column_of key.now (view value.now) ≡ None)) }
 {
     if count(value) != 3 {
         return Err(BAD_VALUE);
     }
-    let (Some("i32"), Some(list)) = (text(value, "type"), items(value, "rows")) else {
+    let (Some(dtype), Some(list)) = (dtype_of(value), items(value, key)) else {
         return Err(BAD_VALUE);
     };
-    let dtype = DType::Primitive(PType::I32, Nullability::NonNullable);
-    Ok(PrimitiveArray::try_new(alloc, dtype, rows(alloc, list)?)?.into_array())
+    column_of_items(alloc, dtype, list)
+}
+
+/// One value, for each row.
+fn constant(alloc: Global, value: &Value) -> VortexResult<ArrayRef>
+    ensures ok { IfOk result (λ t. constant_of (view value.now) ≡ Some t) }
+    ensures err { IfErr result (IsRefused (constant_of (view value.now) ≡ None)) }
+{
+    if count(value) != 4 {
+        return Err(BAD_VALUE);
+    }
+    let (Some(dtype), Some(spelled), Some(len)) = (
+        dtype_of(value),
+        value.get("value"),
+        number(value, "len"),
+    ) else {
+        return Err(BAD_VALUE);
+    };
+    let Some(scalar) = scalar(dtype, spelled) else {
+        return Err(BAD_VALUE);
+    };
+    Ok(ConstantArray::new(alloc, scalar, len as usize)?.into_array())
 }
 
 /// A range of the child's rows.
@@ -71,7 +123,9 @@ pub fn tree_of(alloc: Global, value: &Value) -> VortexResult<ArrayRef>
         × (tree_spelled (view value.now) ≡ None))) }
 {
     match text(value, "enc") {
-        Some("col") => column(alloc, value),
+        Some("col") => column(alloc, value, "rows"),
+        Some("flat") => column(alloc, value, "values"),
+        Some("constant") => constant(alloc, value),
         Some("slice") => match child(alloc, value, Key::Child) {
             Ok(child) => slice(alloc, value, child),
             Err(e) => Err(e),

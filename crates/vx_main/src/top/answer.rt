@@ -31,8 +31,17 @@ pub(crate) fn answer(alloc: Global, bytes: &[u8], limit: u64) -> Result<String, 
     ensures ok { IfOk result (λ text. Answers bytes.now (string_bytes text)) }
     ensures causes { IfErr result (HasNoAnswer bytes.now limit) }
 {
-    let array = tree_of_bytes(alloc, bytes).map_err(status_of)?;
+    let array = match tree_of_bytes(alloc, bytes) {
+        Ok(array) => array,
+        Err(error) => return Err(status_of(error)),
+    };
     let mut ctx = ExecutionCtx::new(alloc).with_limit(limit);
-    let column = execute(array, &mut ctx).map_err(status_of)?;
-    column_text(alloc, column.as_array()).map_err(status_of)
+    let column = match execute(array, &mut ctx) {
+        Ok(column) => column,
+        Err(error) => return Err(status_of(error)),
+    };
+    match column_text(alloc, column.as_array()) {
+        Ok(text) => Ok(text),
+        Err(error) => Err(status_of(error)),
+    }
 }

@@ -1,9 +1,9 @@
 //! The text of a column. (own)
 
-ghost use Rattle.std.specs.Prelude.{◌≡◌, ◌⊎◌, IfOk, IfErr, string_bytes};
-ghost use Rattle.vx_tree.specs.Tree.{dtype, datum, id_of};
+ghost use Rattle.std.specs.Prelude.{◌≡◌, true, IfOk, IfErr, OnOk, string_bytes};
+ghost use Rattle.vx_tree.specs.Tree.{dtype, datum, id_of, is_columnar};
 ghost use Rattle.vx_tree.specs.Cells.{rows};
-ghost use Rattle.vx_main.specs.Output.{Shows, head_lines};
+ghost use Rattle.vx_main.specs.Output.{Shows, IsLawful, head_lines};
 
 use crate::exec::execute_scalar;
 use crate::json::push_row;
@@ -24,12 +24,17 @@ fn head_text(alloc: Global, array: &ArrayRef) -> Result<String, AllocError>
 }
 
 /// The lines of the type and of the encoding, and then a line for each row.
+#[tactic(auto, using(crate::proofs::Printing::lawful_column))]
 pub(crate) fn column_text(alloc: Global, array: &ArrayRef) -> VortexResult<String>
+    requires { is_columnar (datum array.now) ≡ true }
     ensures ok { IfOk result (λ s. Shows (dtype array.now) (id_of (datum array.now)) (rows array.now) (string_bytes s)) }
+    ensures lawful { OnOk result (IsLawful (id_of (datum array.now)) (dtype array.now) (rows array.now)) }
     ensures err { IfErr result (λ e. e ≡ VortexError.OutOfMemory) }
 {
     array.well();
     let mut text = head_text(alloc, array)?;
+    // A row takes two bytes at least: a column that can't be held as text is refused at once.
+    text.reserve(array.len().saturating_mul(2))?;
     for index in 0..array.len() {
         push_row(&mut text, &execute_scalar(array, index)?)?;
         text.push_str("\n")?;

@@ -1,13 +1,13 @@
 //! The command that the words of a run are. (own)
 
 ghost use Rattle.std.specs.Prelude.{◌≡◌};
-ghost use Rattle.vx_main.specs.Commands.{texts, command_of};
+ghost use Rattle.vx_main.specs.Commands.{texts, command_of, word_command, numbered_command, number_of};
 
 use crate::exec::DEFAULT_TURNS;
 
 /// What `--help` prints.
 pub const HELP: &str =
-    "usage: vx run < TREE.json\n       vx --help\n       vx --version\n\nReads a tree as JSON on standard input, executes it to a column, and prints the\ntype, the encoding and one line for each row.\n\nstatus 0: done, 2: usage, 3: bad input, 5: turn limit, 9: out of memory,\n10: read fault, 11: write fault, 12: input too large\n";
+    "usage: vx run [TURNS] < TREE.json\n       vx --help\n       vx --version\n\nReads a tree as JSON on standard input, executes it to a column in at most so\nmany turns, 4194304 where none are given, and prints the type, the encoding and\none line for each row.\n\nstatus 0: done, 2: usage, 3: bad input, 5: turn limit, 9: out of memory,\n10: read fault, 11: write fault, 12: input too large\n";
 
 /// What `--version` prints.
 pub const VERSION: &str = "vx 0.1.0\n";
@@ -23,14 +23,29 @@ pub enum Command {
     Version,
 }
 
-/// The command, None where the words are none.
-pub(crate) fn read_command(words: &Vec<String>) -> Option<Command>
-    ensures { result ≡ command_of (texts words.now.items) }
+/// The number that decimal digits spell, None where a digit 0 leads another, a byte is no digit, or it isn't below 2^64.
+fn read_number(text: &[u8]) -> Option<u64>
+    ensures { result ≡ number_of text.now }
 {
-    if words.len() != 1 {
+    if text.is_empty() || text.len() > 1 && text[0] == b'0' {
         return None;
     }
-    let word = words[0].as_str();
+    let mut number = 0u64;
+    for byte in text {
+        if *byte < b'0' || *byte > b'9' {
+            return None;
+        }
+        number = number
+            .checked_mul(10)?
+            .checked_add(u64::from(*byte - b'0'))?;
+    }
+    Some(number)
+}
+
+/// The command of one word.
+fn read_word(word: &str) -> Option<Command>
+    ensures { result ≡ word_command word.now }
+{
     if word == "run" {
         Some(Command::Run {
             limit: DEFAULT_TURNS,
@@ -39,6 +54,32 @@ pub(crate) fn read_command(words: &Vec<String>) -> Option<Command>
         Some(Command::Help)
     } else if word == "--version" {
         Some(Command::Version)
+    } else {
+        None
+    }
+}
+
+/// The command of a word and a number.
+fn read_numbered(word: &str, number: &str) -> Option<Command>
+    ensures { result ≡ numbered_command word.now number.now }
+{
+    if word != "run" {
+        return None;
+    }
+    match read_number(number.as_bytes()) {
+        Some(limit) => Some(Command::Run { limit }),
+        None => None,
+    }
+}
+
+/// The command, None where the words are none.
+pub(crate) fn read_command(words: &Vec<String>) -> Option<Command>
+    ensures { result ≡ command_of (texts words.now.items) }
+{
+    if words.len() == 1 {
+        read_word(words[0].as_str())
+    } else if words.len() == 2 {
+        read_numbered(words[0].as_str(), words[1].as_str())
     } else {
         None
     }

@@ -45,8 +45,10 @@ impl ArrayRef {
         ensures { result ≡ id_of (datum self.now) }
     {
         match &self.node.encoding {
-            Encoding::Primitive(_) => Id::Primitive,
+            Encoding::Constant(_) => Id::Constant,
             Encoding::Slice(_) => Id::Slice,
+            Encoding::Bool(_) => Id::Bool,
+            Encoding::Primitive(_) => Id::Primitive,
         }
     }
 

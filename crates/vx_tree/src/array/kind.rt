@@ -4,13 +4,20 @@ ghost use Rattle.std.specs.Prelude.{◌≡◌};
 ghost use Rattle.vx_tree.specs.Kinds.{IsKindOf};
 
 use crate::array::{ArrayRef, Encoding, Node};
+use crate::arrays::values::PrimitiveValues;
+use vx_mask::BitBuffer;
+use vx_value::Scalar;
 
 /// The root of a tree, with its children by their roles. (own)
 pub enum ArrayKind<'a> {
-    /// A column of integers, its rows.
-    Primitive(&'a [i32]),
+    /// One value, for each row.
+    Constant(&'a Scalar),
     /// The rows from a start, inclusive, to a stop, exclusive, of a child.
     Slice(&'a ArrayRef, usize, usize),
+    /// A column of booleans, its rows.
+    Bool(&'a BitBuffer),
+    /// A column of integers, its rows.
+    Primitive(&'a PrimitiveValues),
 }
 
 impl ArrayRef {
@@ -20,13 +27,15 @@ impl ArrayRef {
     {
         let node: &Node = &self.node;
         match &node.encoding {
-            Encoding::Primitive(data) => ArrayKind::Primitive(&data.values),
+            Encoding::Constant(data) => ArrayKind::Constant(&data.scalar),
             Encoding::Slice(data) => {
                 let Some(child) = &node.slots[0] else {
                     unreachable!()
                 };
                 ArrayKind::Slice(child, data.range.start, data.range.end)
             }
+            Encoding::Bool(data) => ArrayKind::Bool(&data.bits),
+            Encoding::Primitive(data) => ArrayKind::Primitive(&data.values),
         }
     }
 }

@@ -5,6 +5,8 @@ ghost use Rattle.vx_tree.specs.Tree.{Tree, slots_of};
 ghost use Rattle.vx_tree.specs.TreeView.{data_of, tree_of};
 ghost use Rattle.vx_tree.specs.Well.{IsNodeOf, IsWell, AreWell};
 
+use crate::arrays::boolean::BoolData;
+use crate::arrays::constant::ConstantData;
 use crate::arrays::primitive::PrimitiveData;
 use crate::arrays::slice::SliceData;
 use std::alloc::{AllocError, Global};
@@ -18,8 +20,10 @@ pub type ArraySlots = Vec<Option<ArrayRef>>;
 /// The data of a node, by its encoding. (own: the original boxes a dynamic type)
 #[derive(Debug, Drop)]
 pub enum Encoding {
-    Primitive(PrimitiveData),
+    Constant(ConstantData),
     Slice(SliceData),
+    Bool(BoolData),
+    Primitive(PrimitiveData),
 }
 
 /// The parts of a node, whose slots may lack a child. (own)
@@ -77,8 +81,10 @@ impl Clone for Encoding {
 
     fn clone(&self) -> Result<Encoding, AllocError> {
         match self {
-            Encoding::Primitive(data) => Ok(Encoding::Primitive(data.clone()?)),
+            Encoding::Constant(data) => Ok(Encoding::Constant(data.clone()?)),
             Encoding::Slice(data) => Ok(Encoding::Slice(data.clone()?)),
+            Encoding::Bool(data) => Ok(Encoding::Bool(data.clone()?)),
+            Encoding::Primitive(data) => Ok(Encoding::Primitive(data.clone()?)),
         }
     }
 }

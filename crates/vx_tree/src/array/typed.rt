@@ -1,9 +1,9 @@
 //! A handle that knows its encoding.
 
-ghost use Rattle.std.specs.Prelude.{◌≡◌, ◌⊎◌, is_ok, IfOk, IfErr, OnOk, Some, None};
+ghost use Rattle.std.specs.Prelude.{◌≡◌, ◌⊎◌, is_ok, IfOk, IfErr, OnOk, Some, None, true};
 ghost use Rattle.vx_value.specs.View.{type_of};
 ghost use Rattle.vx_tree.specs.Tree.{Tree, dtype, len, datum, slots, slots_of, node};
-ghost use Rattle.vx_tree.specs.Well.{shapes};
+ghost use Rattle.vx_tree.specs.Well.{shapes, IsNode};
 ghost use Rattle.vx_tree.specs.Refusals.{refusal};
 
 use crate::array::{ArrayRef, ArrayView, Node, VTable};
@@ -84,6 +84,15 @@ impl<V: VTable> Array<V> {
         ensures refused { IfErr result (λ e. (e ≡ VortexError.OutOfMemory)
             ⊎ (refusal (type_of parts.dtype) parts.len (V.stands_for parts.payload) (shapes (slots_of parts.slots.items)) ≡ Some e)) }
     {
+        V::validate(&parts.dtype, parts.len, &parts.payload, &parts.slots)?;
+        Ok(Array::from_parts_unchecked(alloc, parts)?)
+    }
+
+    /// The node of these parts, which the caller knows to meet the conditions of its encoding.
+    pub fn from_parts_unchecked(alloc: Global, parts: ArrayParts<V>) -> Result<Array<V>, AllocError>
+        requires { IsNode (type_of parts.dtype) parts.len (V.stands_for parts.payload) (shapes (slots_of parts.slots.items)) }
+        ensures { IfOk result (λ a. a ≡ node (type_of parts.dtype) parts.len (V.stands_for parts.payload) (slots_of parts.slots.items)) }
+    {
         let ArrayParts {
             vtable: _,
             dtype,
@@ -91,7 +100,6 @@ impl<V: VTable> Array<V> {
             payload,
             slots,
         } = parts;
-        V::validate(&dtype, len, &payload, &slots)?;
         let node = Node {
             dtype,
             len,
@@ -162,7 +170,8 @@ impl<V: VTable> Array<V> {
 
     /// The reference of the node.
     pub fn as_array(&self) -> &ArrayRef
-        ensures { result.now ≡ self.now }
+        ensures of { result.now ≡ self.now }
+        ensures kind { V.is_kind (datum self.now) ≡ true }
     {
         &self.array
     }

@@ -1,4 +1,9 @@
-//! The encodings, one module each.
+//! The encodings, one module each, and the values of their columns.
 
+pub mod boolean;
+mod column;
+pub mod constant;
+pub mod native;
 pub mod primitive;
 pub mod slice;
+pub mod values;

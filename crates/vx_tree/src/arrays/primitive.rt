@@ -1,13 +1,17 @@
 //! Columns of integers.
 
-ghost use Rattle.std.specs.Prelude.{◌≡◌, ◌⊎◌, ◌==◌, length, IfOk, IfErr, OnOk, Some, None, true, refl};
+ghost use Rattle.std.specs.Prelude.{◌≡◌, ◌⊎◌, length, IfOk, IfErr, OnOk, true, refl};
 ghost use Rattle.vx_value.specs.View.{type_of};
-ghost use Rattle.vx_value.specs.Types.{i32, same_type};
-ghost use Rattle.vx_tree.specs.Tree.{primitive, is_primitive, node, absent, no_slots, datum};
+ghost use Rattle.vx_value.specs.Types as type;
+ghost use Rattle.vx_value.specs.declared.dtype.Nullability.TheVariants.{NonNullable};
+ghost use Rattle.vx_tree.specs.Natives.{values_of, ptype_of};
+ghost use Rattle.vx_tree.specs.Tree.{primitive, is_primitive, node, absent, no_slots};
 
 use crate::array::{Array, ArrayId, ArrayParts, ArrayRef, Encoded, Encoding, VTable};
+use crate::arrays::column::check_column;
+use crate::arrays::values::PrimitiveValues;
 use std::alloc::{AllocError, Global};
-use vx_value::{ArgKind, DType, Id, Nullability, PType, VortexError, VortexResult};
+use vx_value::{ArgKind, DType, Id, Nullability, VortexError, VortexResult};
 
 /// The tag of the encoding.
 #[derive(Clone, Copy, Debug)]
@@ -19,11 +23,11 @@ pub type PrimitiveArray = Array<Primitive>;
 /// The values, one for each row.
 #[derive(Debug, Drop)]
 pub struct PrimitiveData {
-    pub values: Vec<i32>,
+    pub values: PrimitiveValues,
 }
 
 impl Clone for PrimitiveData {
-    ghost is_clone = { λ a b. b.values.items ≡ a.values.items };
+    ghost is_clone = { λ a b. (ptype_of b.values ≡ ptype_of a.values) × (values_of b.values ≡ values_of a.values) };
 
     fn clone(&self) -> Result<PrimitiveData, AllocError> {
         Ok(PrimitiveData {
@@ -39,7 +43,7 @@ impl Encoded for Primitive {
 impl VTable for Primitive {
     ghost is_kind = { is_primitive };
 
-    ghost stands_for = { λ d. primitive d.values.items };
+    ghost stands_for = { λ d. primitive (ptype_of d.values) (values_of d.values) };
 
     fn id(&self) -> ArrayId {
         Id::Primitive
@@ -52,14 +56,18 @@ impl VTable for Primitive {
     fn project(encoding: &Encoding) -> Option<&PrimitiveData> {
         match encoding {
             Encoding::Primitive(data) => Some(data),
+            Encoding::Constant(_) => None,
             Encoding::Slice(_) => None,
+            Encoding::Bool(_) => None,
         }
     }
 
     fn into_data(encoding: Encoding) -> Option<PrimitiveData> {
         match encoding {
             Encoding::Primitive(data) => Some(data),
+            Encoding::Constant(_) => None,
             Encoding::Slice(_) => None,
+            Encoding::Bool(_) => None,
         }
     }
 
@@ -67,39 +75,31 @@ impl VTable for Primitive {
         Encoding::Primitive(payload)
     }
 
-    #[tactic(auto, using(crate::proofs::Refusing::primitive_slot_count, crate::proofs::Refusing::the_slot))]
     fn validate(
         dtype: &DType,
         len: usize,
         payload: &PrimitiveData,
         slots: &[Option<ArrayRef>],
     ) -> VortexResult<()> {
-        if slots.len() != 1 {
-            return Err(VortexError::InvalidArgument(ArgKind::SlotCount));
-        }
-        let validity = &slots[0];
-        if *dtype != DType::Primitive(PType::I32, Nullability::NonNullable) {
-            return Err(VortexError::InvalidArgument(ArgKind::BadType));
-        }
-        if validity.is_some() {
-            return Err(VortexError::InvalidArgument(ArgKind::SlotType { slot: 0 }));
-        }
-        if len != payload.values.len() {
-            return Err(VortexError::InvalidArgument(ArgKind::NodeLen));
-        }
-        Ok(())
+        let of_type = DType::Primitive(payload.values.ptype(), Nullability::NonNullable);
+        check_column(dtype, len, &of_type, payload.values.len(), slots)
     }
 
     ghost kind_of = { λ d. refl };
 }
 
 impl PrimitiveArray {
-    /// The column of these values. `InvalidArgument` with `BadType` exactly where the type isn't i32 without nulls.
-    pub fn try_new(alloc: Global, dtype: DType, values: Vec<i32>) -> VortexResult<PrimitiveArray>
-        ensures ok { IfOk result (λ a. a ≡ node i32 (length values.items) (primitive values.items) (absent no_slots)) }
-        ensures valid { OnOk result (type_of dtype ≡ i32) }
+    /// The column of these values. `InvalidArgument` with `BadType` exactly where the type isn't that of the values,
+    /// without nulls.
+    pub fn try_new(
+        alloc: Global,
+        dtype: DType,
+        values: PrimitiveValues,
+    ) -> VortexResult<PrimitiveArray>
+        ensures ok { IfOk result (λ a. a ≡ node (type.primitive (ptype_of values) NonNullable) (length (values_of values)) (primitive (ptype_of values) (values_of values)) (absent no_slots)) }
+        ensures valid { OnOk result (type_of dtype ≡ type.primitive (ptype_of values) NonNullable) }
         ensures refused { IfErr result (λ e. (e ≡ VortexError.OutOfMemory)
-            ⊎ ((e ≡ VortexError.InvalidArgument ArgKind.BadType) × (¬ (type_of dtype ≡ i32)))) }
+            ⊎ ((e ≡ VortexError.InvalidArgument ArgKind.BadType) × (¬ (type_of dtype ≡ type.primitive (ptype_of values) NonNullable)))) }
     {
         let mut slots = Vec::with_capacity(alloc, 1)?;
         slots.push(None)?;

@@ -51,6 +51,8 @@ impl VTable for Slice {
     fn project(encoding: &Encoding) -> Option<&SliceData> {
         match encoding {
             Encoding::Slice(data) => Some(data),
+            Encoding::Constant(_) => None,
+            Encoding::Bool(_) => None,
             Encoding::Primitive(_) => None,
         }
     }
@@ -58,6 +60,8 @@ impl VTable for Slice {
     fn into_data(encoding: Encoding) -> Option<SliceData> {
         match encoding {
             Encoding::Slice(data) => Some(data),
+            Encoding::Constant(_) => None,
+            Encoding::Bool(_) => None,
             Encoding::Primitive(_) => None,
         }
     }
@@ -106,6 +110,7 @@ fn check_range(start: usize, stop: usize, len: usize) -> VortexResult<()>
 
 impl SliceArray {
     /// The rows of a range of the child's.
+    #[tactic(auto, using(crate::proofs::Refusing::slice_is_node))]
     pub fn new(alloc: Global, child: ArrayRef, range: Range<usize>) -> VortexResult<SliceArray>
         requires { (range.start ≤ range.end) × (range.end ≤ len child) }
         ensures ok { IfOk result (λ a. a ≡ node (dtype child) (range.end - range.start) (slice range.start range.end) (slot child no_slots)) }
@@ -115,10 +120,14 @@ impl SliceArray {
         let len = range.end - range.start;
         let mut slots = Vec::with_capacity(alloc, 1)?;
         slots.push(Some(child))?;
-        Array::try_from_parts(
-            alloc,
-            ArrayParts::new(Slice, dtype, len, SliceData { range }, slots),
-        )
+        let parts = ArrayParts {
+            vtable: Slice,
+            dtype,
+            len,
+            payload: SliceData { range },
+            slots,
+        };
+        Ok(Array::from_parts_unchecked(alloc, parts)?)
     }
 
     /// The rows of a range of the child's. `OutOfBounds` exactly unless start <= end <= the child's length.

@@ -4,7 +4,7 @@ use Rattle.vx_main.proofs.Printing.{shows_none, shows_more, shows_all}
 use Rattle.vx_main.proofs.top.column_text.column_text.Goals as goal
 
 pub loop-index-init : goal.loop-index-init
-loop-index-init c = shows_none _ _ (string_bytes c.in_ok-text.text) c.in_ok-text.ensures
+loop-index-init c = shows_none _ _ (string_bytes c.reserve.new.self) (c.in_ok-reserve.ensures.bytes ∙ c.in_ok-text.ensures)
 
 pub loop-index-preserved : goal.loop-index-preserved
 loop-index-preserved c =

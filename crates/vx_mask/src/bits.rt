@@ -1,0 +1,157 @@
+//! Bits in words of 64, in shared storage, of which a bit buffer shows a range.
+
+ghost use Rattle.std.specs.Prelude.{◌≡◌, ◌*◌, ◌%◌, ◌<◌, ◌≤◌, ◌↔◌, ◌==◌, if◌then◌else◌, IsTrue, IfOk, Some, length, replicate, slice_range, slice_get, take, vec_len};
+ghost use Rattle.std.specs.Int.{bit_at};
+ghost use Rattle.vx_mask.specs.Bits.{bits_of};
+
+use std::alloc::{AllocError, Global};
+use std::fmt;
+use std::marker::Model;
+use std::ops::Range;
+use std::rc::Rc;
+
+/// Bits in shared storage, 64 in a word, the first one lowest. Clones and slices share the words,
+/// and each shows a range of their bits, which may begin and end within a word.
+#[derive(Drop)]
+pub struct BitBuffer {
+    words: Rc<Vec<u64>>,
+    start: usize,
+    len: usize,
+}
+
+impl Model for BitBuffer {
+    ghost use Rattle.std.specs.Prelude.{◌+◌, ◌*◌, ◌^◌, ◌<◌, ◌≤◌, Bool, List, take, drop, vec_len};
+    ghost use Rattle.vx_mask.specs.Bits.{bits_of};
+
+    ghost Value = { List Bool };
+
+    ghost view = { λ b. take b.len (drop b.start (bits_of b.words.value.items)) };
+
+    ghost invariant = { λ b. (b.start + b.len ≤ 64 * vec_len b.words.value) × (b.start + b.len < 2 ^ 64) };
+}
+
+/// Whether bit `place` of `word` is set, counted from the lowest one.
+#[inline]
+#[tactic(auto, using(std::proofs::lemmas::Nat::Bits::shr_and_one))]
+fn is_bit_set(word: u64, place: usize) -> bool
+    requires { place < 64 }
+    ensures { result ≡ (bit_at word place == 1) }
+{
+    (word >> place) & 1 == 1
+}
+
+/// A word whose 64 bits are all `bit`.
+fn filled_word(bit: bool) -> u64
+    ensures { result ≡ (if bit then u64.MAX else 0) }
+{
+    if bit { u64::MAX } else { 0 }
+}
+
+#[tactic(auto, using(crate::proofs::Places::length_part))]
+impl BitBuffer {
+    /// The first `len` bits of `words`. (own)
+    pub(crate) fn from_words(
+        alloc: Global,
+        words: Vec<u64>,
+        len: usize,
+    ) -> Result<BitBuffer, AllocError>
+        requires { len ≤ 64 * vec_len words }
+        ensures { IfOk result (λ b. b ≡ take len (bits_of words.items)) }
+    {
+        let words = Rc::new(alloc, words)?;
+        Ok(BitBuffer {
+            words,
+            start: 0,
+            len,
+        })
+    }
+
+    /// `len` times `bit`, in storage of its own. The error means that there is no memory for them.
+    /// (own)
+    #[tactic(auto, using(crate::proofs::Places::repeated))]
+    pub fn repeat(alloc: Global, bit: bool, len: usize) -> Result<BitBuffer, AllocError>
+        ensures { IfOk result (λ b. b ≡ replicate len bit) }
+    {
+        let words = vec![in alloc; filled_word(bit); len.div_ceil(64)]?;
+        BitBuffer::from_words(alloc, words, len)
+    }
+
+    /// How many bits the buffer shows.
+    #[inline]
+    pub fn len(&self) -> usize
+        ensures { result ≡ length self.now }
+    {
+        self.len
+    }
+
+    /// Whether the buffer shows no bit.
+    pub fn is_empty(&self) -> bool
+        ensures { IsTrue result ↔ (length self.now ≡ 0) }
+    {
+        self.len == 0
+    }
+
+    /// The bit at `index`, counted from the first one that the buffer shows, and `None` past the
+    /// last one. (own)
+    #[inline]
+    pub fn get(&self, index: usize) -> Option<bool>
+        ensures { result ≡ slice_get self.now index }
+    {
+        if index < self.len {
+            Some(self.value(index))
+        } else {
+            None
+        }
+    }
+
+    /// The bit at `index`, counted from the first one that the buffer shows.
+    #[inline]
+    #[tactic(auto, using(crate::proofs::Places::bit_within, crate::proofs::Places::length_part))]
+    pub fn value(&self, index: usize) -> bool
+        requires { index < length self.now }
+        ensures { slice_get self.now index ≡ Some result }
+    {
+        let place = self.start + index;
+        is_bit_set(self.words.as_ref()[place / 64], place % 64)
+    }
+
+    /// The bits at `range`, in the same storage: nothing is copied. The error means that the storage
+    /// can't be shared once more.
+    pub fn slice(&self, range: Range<usize>) -> Result<BitBuffer, AllocError>
+        requires order { range.start ≤ range.end }
+        requires bounds { range.end ≤ length self.now }
+        ensures { IfOk result (λ b. b ≡ slice_range self.now range.start range.end) }
+    {
+        let words = self.words.clone()?;
+        Ok(BitBuffer {
+            words,
+            start: self.start + range.start,
+            len: range.end - range.start,
+        })
+    }
+}
+
+/// Shares the storage. The error means that it can't be shared once more.
+impl Clone for BitBuffer {
+    ghost is_clone = { λ a b. b ≡ a };
+
+    fn clone(&self) -> Result<BitBuffer, AllocError> {
+        let words = self.words.clone()?;
+        Ok(BitBuffer {
+            words,
+            start: self.start,
+            len: self.len,
+        })
+    }
+}
+
+/// Prints the bits as a list of `bool`.
+impl fmt::Debug for BitBuffer {
+    fn fmt<W: fmt::Write>(&self, f: &mut fmt::Formatter<W>) -> fmt::Result {
+        let mut list = f.debug_list();
+        for index in 0..self.len() {
+            list.entry(&self.value(index));
+        }
+        list.finish()
+    }
+}

@@ -1,0 +1,12 @@
+//! Shared buffers of items and of bits, each seen as the list of what it shows.
+#![tactic(auto)]
+
+mod bits;
+mod buffer;
+mod builder;
+#[cfg(test)]
+mod tests;
+
+pub use bits::BitBuffer;
+pub use buffer::Buffer;
+pub use builder::BitBuilder;

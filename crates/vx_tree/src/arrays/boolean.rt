@@ -1,0 +1,111 @@
+//! Columns of booleans.
+
+ghost use Rattle.std.specs.Prelude.{◌≡◌, ◌⊎◌, length, IfOk, IfErr, OnOk, true, refl};
+ghost use Rattle.vx_value.specs.View.{type_of};
+ghost use Rattle.vx_value.specs.Types as type;
+ghost use Rattle.vx_value.specs.declared.dtype.Nullability.TheVariants.{NonNullable};
+ghost use Rattle.vx_tree.specs.Tree.{bool, is_bool, node, absent, no_slots};
+
+use crate::array::{Array, ArrayId, ArrayParts, ArrayRef, Encoded, Encoding, VTable};
+use crate::arrays::column::check_column;
+use std::alloc::{AllocError, Global};
+use vx_mask::BitBuffer;
+use vx_value::{ArgKind, DType, Id, Nullability, VortexError, VortexResult};
+
+/// The tag of the encoding.
+#[derive(Clone, Copy, Debug)]
+pub struct Bool;
+
+/// A column of booleans.
+pub type BoolArray = Array<Bool>;
+
+/// The values, a bit for each row.
+#[derive(Debug, Drop)]
+pub struct BoolData {
+    pub bits: BitBuffer,
+}
+
+impl Clone for BoolData {
+    ghost is_clone = { λ a b. b ≡ a };
+
+    fn clone(&self) -> Result<BoolData, AllocError> {
+        Ok(BoolData {
+            bits: self.bits.clone()?,
+        })
+    }
+}
+
+impl Encoded for Bool {
+    type TypedArrayData = BoolData;
+}
+
+impl VTable for Bool {
+    ghost is_kind = { is_bool };
+
+    ghost stands_for = { λ d. bool d.bits };
+
+    fn id(&self) -> ArrayId {
+        Id::Bool
+    }
+
+    fn tag() -> Bool {
+        Bool
+    }
+
+    fn project(encoding: &Encoding) -> Option<&BoolData> {
+        match encoding {
+            Encoding::Bool(data) => Some(data),
+            Encoding::Constant(_) => None,
+            Encoding::Slice(_) => None,
+            Encoding::Primitive(_) => None,
+        }
+    }
+
+    fn into_data(encoding: Encoding) -> Option<BoolData> {
+        match encoding {
+            Encoding::Bool(data) => Some(data),
+            Encoding::Constant(_) => None,
+            Encoding::Slice(_) => None,
+            Encoding::Primitive(_) => None,
+        }
+    }
+
+    fn wrap(payload: BoolData) -> Encoding {
+        Encoding::Bool(payload)
+    }
+
+    fn validate(
+        dtype: &DType,
+        len: usize,
+        payload: &BoolData,
+        slots: &[Option<ArrayRef>],
+    ) -> VortexResult<()> {
+        check_column(
+            dtype,
+            len,
+            &DType::Bool(Nullability::NonNullable),
+            payload.bits.len(),
+            slots,
+        )
+    }
+
+    ghost kind_of = { λ d. refl };
+}
+
+impl BoolArray {
+    /// The column of these values. `InvalidArgument` with `BadType` exactly where the type isn't `bool` without nulls.
+    pub fn try_new(alloc: Global, dtype: DType, bits: BitBuffer) -> VortexResult<BoolArray>
+        ensures ok { IfOk result (λ a. a ≡ node (type.bool NonNullable) (length bits) (bool bits) (absent no_slots)) }
+        ensures valid { OnOk result (type_of dtype ≡ type.bool NonNullable) }
+        ensures refused { IfErr result (λ e. (e ≡ VortexError.OutOfMemory)
+            ⊎ ((e ≡ VortexError.InvalidArgument ArgKind.BadType) × (¬ (type_of dtype ≡ type.bool NonNullable)))) }
+    {
+        let mut slots = Vec::with_capacity(alloc, 1)?;
+        slots.push(None)?;
+        let len = bits.len();
+        Array::try_from_parts(
+            alloc,
+            ArrayParts::new(Bool, dtype, len, BoolData { bits }, slots),
+        )
+    }
+}

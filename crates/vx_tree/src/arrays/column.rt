@@ -1,0 +1,39 @@
+//! What all canonical columns ask of their parts.
+
+ghost use Rattle.std.specs.Prelude.{◌≡◌, MatchResult, Some, None};
+ghost use Rattle.vx_value.specs.View.{type_of};
+ghost use Rattle.vx_tree.specs.Tree.{slots_of};
+ghost use Rattle.vx_tree.specs.Well.{shapes};
+ghost use Rattle.vx_tree.specs.Refusals.{column_refusal};
+
+use crate::array::ArrayRef;
+use vx_value::{ArgKind, DType, VortexError, VortexResult};
+
+/// Whether a node of this type, length and these slots is a column of so many values of a type.
+#[tactic(auto, using(crate::proofs::Refusing::column_slot_count, crate::proofs::Refusing::the_slot))]
+pub(crate) fn check_column(
+    dtype: &DType,
+    len: usize,
+    of_type: &DType,
+    values: usize,
+    slots: &[Option<ArrayRef>],
+) -> VortexResult<()>
+    ensures { MatchResult result
+        (λ _. column_refusal (type_of dtype.now) len (type_of of_type.now) values (shapes (slots_of slots.now)) ≡ None)
+        (λ e. column_refusal (type_of dtype.now) len (type_of of_type.now) values (shapes (slots_of slots.now)) ≡ Some e) }
+{
+    if slots.len() != 1 {
+        return Err(VortexError::InvalidArgument(ArgKind::SlotCount));
+    }
+    let validity = &slots[0];
+    if *dtype != *of_type {
+        return Err(VortexError::InvalidArgument(ArgKind::BadType));
+    }
+    if validity.is_some() {
+        return Err(VortexError::InvalidArgument(ArgKind::SlotType { slot: 0 }));
+    }
+    if len != values {
+        return Err(VortexError::InvalidArgument(ArgKind::NodeLen));
+    }
+    Ok(())
+}

@@ -1,0 +1,119 @@
+//! One value, for each row.
+
+ghost use Rattle.std.specs.Prelude.{◌≡◌, ◌⊎◌, IfOk, IfErr, OnOk, true, refl};
+ghost use Rattle.vx_value.specs.Types.{nullability_of};
+ghost use Rattle.vx_value.specs.declared.dtype.Nullability.TheVariants.{NonNullable};
+ghost use Rattle.vx_tree.specs.Tree.{constant, is_constant, node, no_slots};
+
+use crate::array::{Array, ArrayId, ArrayParts, ArrayRef, Encoded, Encoding, VTable};
+use std::alloc::{AllocError, Global};
+use vx_value::{ArgKind, DType, Id, Scalar, VortexError, VortexResult};
+
+/// The tag of the encoding.
+#[derive(Clone, Copy, Debug)]
+pub struct Constant;
+
+/// One value, for each of any number of rows.
+pub type ConstantArray = Array<Constant>;
+
+/// The value.
+#[derive(Debug, Drop)]
+pub struct ConstantData {
+    pub scalar: Scalar,
+}
+
+impl Clone for ConstantData {
+    ghost is_clone = { λ a b. b ≡ a };
+
+    fn clone(&self) -> Result<ConstantData, AllocError> {
+        Ok(ConstantData {
+            scalar: self.scalar.clone()?,
+        })
+    }
+}
+
+impl Encoded for Constant {
+    type TypedArrayData = ConstantData;
+}
+
+impl VTable for Constant {
+    ghost is_kind = { is_constant };
+
+    ghost stands_for = { λ d. constant d.scalar };
+
+    fn id(&self) -> ArrayId {
+        Id::Constant
+    }
+
+    fn tag() -> Constant {
+        Constant
+    }
+
+    fn project(encoding: &Encoding) -> Option<&ConstantData> {
+        match encoding {
+            Encoding::Constant(data) => Some(data),
+            Encoding::Slice(_) => None,
+            Encoding::Bool(_) => None,
+            Encoding::Primitive(_) => None,
+        }
+    }
+
+    fn into_data(encoding: Encoding) -> Option<ConstantData> {
+        match encoding {
+            Encoding::Constant(data) => Some(data),
+            Encoding::Slice(_) => None,
+            Encoding::Bool(_) => None,
+            Encoding::Primitive(_) => None,
+        }
+    }
+
+    fn wrap(payload: ConstantData) -> Encoding {
+        Encoding::Constant(payload)
+    }
+
+    #[tactic(auto, using(crate::proofs::Refusing::constant_slot_count, crate::proofs::Refusing::no_slot))]
+    fn validate(
+        dtype: &DType,
+        _len: usize,
+        payload: &ConstantData,
+        slots: &[Option<ArrayRef>],
+    ) -> VortexResult<()> {
+        if slots.len() != 0 {
+            return Err(VortexError::InvalidArgument(ArgKind::SlotCount));
+        }
+        if *dtype != *payload.scalar.dtype() {
+            return Err(VortexError::InvalidArgument(ArgKind::NodeType));
+        }
+        if dtype.is_nullable() {
+            return Err(VortexError::InvalidArgument(ArgKind::BadType));
+        }
+        Ok(())
+    }
+
+    ghost kind_of = { λ d. refl };
+}
+
+impl ConstantArray {
+    /// The value so many times, without a row being made. `InvalidArgument` with `BadType` exactly where its type is
+    /// nullable.
+    #[tactic(auto, using(crate::proofs::Refusing::never_null, crate::proofs::Refusing::null_some))]
+    pub fn new(alloc: Global, scalar: Scalar, len: usize) -> VortexResult<ConstantArray>
+        ensures ok { IfOk result (λ a. a ≡ node scalar.of_type len (constant scalar) no_slots) }
+        ensures valid { OnOk result (nullability_of scalar.of_type ≡ NonNullable) }
+        ensures refused { IfErr result (λ e. (e ≡ VortexError.OutOfMemory)
+            ⊎ ((e ≡ VortexError.InvalidArgument ArgKind.BadType) × (¬ (nullability_of scalar.of_type ≡ NonNullable)))) }
+    {
+        let dtype = scalar.dtype().clone()?;
+        if dtype.is_nullable() {
+            return Err(VortexError::InvalidArgument(ArgKind::BadType));
+        }
+        let parts = ArrayParts::new(
+            Constant,
+            dtype,
+            len,
+            ConstantData { scalar },
+            Vec::new(alloc),
+        );
+        Ok(Array::from_parts_unchecked(alloc, parts)?)
+    }
+}

@@ -1,0 +1,220 @@
+//! The eight integer types of the program as columns hold them.
+
+ghost use Rattle.std.specs.Prelude.{◌≡◌, ℤ, pos, map, Some, None, true, option_map, if◌then◌else◌};
+ghost use Rattle.vx_value.specs.IsOf.{in_range};
+ghost use Rattle.vx_value.specs.declared.dtype.PType.{PType as PTypeOf};
+ghost use Rattle.vx_value.specs.declared.dtype.PType.TheVariants as ptype;
+ghost use Rattle.vx_tree.specs.Natives.{values_of, ptype_of};
+
+use crate::arrays::values::PrimitiveValues;
+use num_traits::PrimInt;
+use vx_mask::Buffer;
+use vx_value::PType;
+
+/// An integer type that a column may hold. (own)
+pub trait NativeInteger: PrimInt {
+    // which of the eight it is
+    ghost kind: { PTypeOf };
+
+    /// Which of the eight it is.
+    fn ptype() -> PType
+        ensures { result ≡ kind };
+
+    /// The number as one of the type, None where it is out of its range.
+    fn from_wide(wide: i128) -> Option<Self>
+        ensures { option_map Self.value result ≡ (if in_range kind wide then Some wide else None) };
+
+    /// The number, whatever the type.
+    fn to_wide(self) -> i128
+        ensures wide { result ≡ Self.value self }
+        ensures ranged { in_range kind result ≡ true };
+
+    /// The values as those of a column.
+    fn wrap(values: Buffer<Self>) -> PrimitiveValues
+        ensures same_kind { ptype_of result ≡ kind }
+        ensures values { values_of result ≡ map Self.value values };
+}
+
+impl NativeInteger for u8 {
+    ghost kind = { ptype.U8 };
+
+    fn ptype() -> PType {
+        PType::U8
+    }
+
+    fn from_wide(wide: i128) -> Option<u8> {
+        u8::try_from(wide).ok()
+    }
+
+    fn to_wide(self) -> i128 {
+        i128::from(self)
+    }
+
+    fn wrap(values: Buffer<u8>) -> PrimitiveValues
+        ensures same_kind { ptype_of result ≡ ptype.U8 }
+        ensures values { values_of result ≡ map (λ n. pos n) values }
+    {
+        PrimitiveValues::U8(values)
+    }
+}
+
+impl NativeInteger for u16 {
+    ghost kind = { ptype.U16 };
+
+    fn ptype() -> PType {
+        PType::U16
+    }
+
+    fn from_wide(wide: i128) -> Option<u16> {
+        u16::try_from(wide).ok()
+    }
+
+    fn to_wide(self) -> i128 {
+        i128::from(self)
+    }
+
+    fn wrap(values: Buffer<u16>) -> PrimitiveValues
+        ensures same_kind { ptype_of result ≡ ptype.U16 }
+        ensures values { values_of result ≡ map (λ n. pos n) values }
+    {
+        PrimitiveValues::U16(values)
+    }
+}
+
+impl NativeInteger for u32 {
+    ghost kind = { ptype.U32 };
+
+    fn ptype() -> PType {
+        PType::U32
+    }
+
+    fn from_wide(wide: i128) -> Option<u32> {
+        u32::try_from(wide).ok()
+    }
+
+    fn to_wide(self) -> i128 {
+        i128::from(self)
+    }
+
+    fn wrap(values: Buffer<u32>) -> PrimitiveValues
+        ensures same_kind { ptype_of result ≡ ptype.U32 }
+        ensures values { values_of result ≡ map (λ n. pos n) values }
+    {
+        PrimitiveValues::U32(values)
+    }
+}
+
+impl NativeInteger for u64 {
+    ghost kind = { ptype.U64 };
+
+    fn ptype() -> PType {
+        PType::U64
+    }
+
+    fn from_wide(wide: i128) -> Option<u64> {
+        u64::try_from(wide).ok()
+    }
+
+    fn to_wide(self) -> i128 {
+        i128::from(self)
+    }
+
+    fn wrap(values: Buffer<u64>) -> PrimitiveValues
+        ensures same_kind { ptype_of result ≡ ptype.U64 }
+        ensures values { values_of result ≡ map (λ n. pos n) values }
+    {
+        PrimitiveValues::U64(values)
+    }
+}
+
+impl NativeInteger for i8 {
+    ghost kind = { ptype.I8 };
+
+    fn ptype() -> PType {
+        PType::I8
+    }
+
+    fn from_wide(wide: i128) -> Option<i8> {
+        i8::try_from(wide).ok()
+    }
+
+    fn to_wide(self) -> i128 {
+        i128::from(self)
+    }
+
+    fn wrap(values: Buffer<i8>) -> PrimitiveValues
+        ensures same_kind { ptype_of result ≡ ptype.I8 }
+        ensures values { values_of result ≡ map (λ n. n) values }
+    {
+        PrimitiveValues::I8(values)
+    }
+}
+
+impl NativeInteger for i16 {
+    ghost kind = { ptype.I16 };
+
+    fn ptype() -> PType {
+        PType::I16
+    }
+
+    fn from_wide(wide: i128) -> Option<i16> {
+        i16::try_from(wide).ok()
+    }
+
+    fn to_wide(self) -> i128 {
+        i128::from(self)
+    }
+
+    fn wrap(values: Buffer<i16>) -> PrimitiveValues
+        ensures same_kind { ptype_of result ≡ ptype.I16 }
+        ensures values { values_of result ≡ map (λ n. n) values }
+    {
+        PrimitiveValues::I16(values)
+    }
+}
+
+impl NativeInteger for i32 {
+    ghost kind = { ptype.I32 };
+
+    fn ptype() -> PType {
+        PType::I32
+    }
+
+    fn from_wide(wide: i128) -> Option<i32> {
+        i32::try_from(wide).ok()
+    }
+
+    fn to_wide(self) -> i128 {
+        i128::from(self)
+    }
+
+    fn wrap(values: Buffer<i32>) -> PrimitiveValues
+        ensures same_kind { ptype_of result ≡ ptype.I32 }
+        ensures values { values_of result ≡ map (λ n. n) values }
+    {
+        PrimitiveValues::I32(values)
+    }
+}
+
+impl NativeInteger for i64 {
+    ghost kind = { ptype.I64 };
+
+    fn ptype() -> PType {
+        PType::I64
+    }
+
+    fn from_wide(wide: i128) -> Option<i64> {
+        i64::try_from(wide).ok()
+    }
+
+    fn to_wide(self) -> i128 {
+        i128::from(self)
+    }
+
+    fn wrap(values: Buffer<i64>) -> PrimitiveValues
+        ensures same_kind { ptype_of result ≡ ptype.I64 }
+        ensures values { values_of result ≡ map (λ n. n) values }
+    {
+        PrimitiveValues::I64(values)
+    }
+}

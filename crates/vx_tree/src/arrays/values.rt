@@ -1,0 +1,172 @@
+//! The values of a column of integers.
+
+ghost use Rattle.std.specs.Prelude.{◌≡◌, ◌<◌, ◌≤◌, ℤ, map, length, IfOk, Some, true, slice_get, slice_range, replicate};
+ghost use Rattle.vx_value.specs.IsOf.{in_range};
+ghost use Rattle.vx_tree.specs.Natives.{values_of, ptype_of};
+
+use crate::arrays::native::NativeInteger;
+use std::alloc::{AllocError, Global};
+use std::ops::Range;
+use vx_mask::Buffer;
+use vx_value::PType;
+
+/// Integers of one of the eight types, in shared storage.
+#[derive(Debug, Drop)]
+pub enum PrimitiveValues {
+    U8(Buffer<u8>),
+    U16(Buffer<u16>),
+    U32(Buffer<u32>),
+    U64(Buffer<u64>),
+    I8(Buffer<i8>),
+    I16(Buffer<i16>),
+    I32(Buffer<i32>),
+    I64(Buffer<i64>),
+}
+
+// One expression over the buffer, for each of the eight types.
+macro_rules! by_type {
+    ($values:expr, |$buffer:ident| $body:expr) => {
+        match $values {
+            PrimitiveValues::U8($buffer) => $body,
+            PrimitiveValues::U16($buffer) => $body,
+            PrimitiveValues::U32($buffer) => $body,
+            PrimitiveValues::U64($buffer) => $body,
+            PrimitiveValues::I8($buffer) => $body,
+            PrimitiveValues::I16($buffer) => $body,
+            PrimitiveValues::I32($buffer) => $body,
+            PrimitiveValues::I64($buffer) => $body,
+        }
+    };
+}
+
+fn wide_at<T: NativeInteger>(buffer: &Buffer<T>, index: usize) -> i128
+    requires { index < length buffer.now }
+    ensures value { slice_get (map T.value buffer.now) index ≡ Some result }
+    ensures ranged { in_range T.kind result ≡ true }
+{
+    buffer.as_slice()[index].to_wide()
+}
+
+#[tactic(auto, using(crate::proofs::Parts::map_part))]
+fn part_of<T: NativeInteger>(
+    buffer: &Buffer<T>,
+    range: Range<usize>,
+) -> Result<PrimitiveValues, AllocError>
+    requires order { range.start ≤ range.end }
+    requires bounds { range.end ≤ length buffer.now }
+    ensures kind { IfOk result (λ part. ptype_of part ≡ T.kind) }
+    ensures values { IfOk result (λ part. values_of part ≡ slice_range (map T.value buffer.now) range.start range.end) }
+{
+    Ok(T::wrap(buffer.slice(range)?))
+}
+
+fn native_of<T: NativeInteger>(wide: i128) -> T
+    requires { in_range T.kind wide ≡ true }
+    ensures { T.value result ≡ wide }
+{
+    let Some(value) = T::from_wide(wide) else {
+        unreachable!()
+    };
+    value
+}
+
+fn copies_of<T: NativeInteger>(
+    alloc: Global,
+    wide: i128,
+    len: usize,
+) -> Result<PrimitiveValues, AllocError>
+    requires { in_range T.kind wide ≡ true }
+    ensures kind { IfOk result (λ copies. ptype_of copies ≡ T.kind) }
+    ensures values { IfOk result (λ copies. values_of copies ≡ replicate len wide) }
+{
+    let value: T = native_of(wide);
+    let mut values = Vec::with_capacity(alloc, len)?;
+    for done in 0..len {
+        values.push(value)?;
+    }
+    Ok(T::wrap(Buffer::from_vec(alloc, values)?))
+}
+
+impl PrimitiveValues {
+    /// How many there are.
+    pub fn len(&self) -> usize
+        ensures { result ≡ length (values_of self.now) }
+    {
+        by_type!(self, |buffer| buffer.len())
+    }
+
+    /// Of which type they are.
+    pub fn ptype(&self) -> PType
+        ensures { result ≡ ptype_of self.now }
+    {
+        match self {
+            PrimitiveValues::U8(_) => PType::U8,
+            PrimitiveValues::U16(_) => PType::U16,
+            PrimitiveValues::U32(_) => PType::U32,
+            PrimitiveValues::U64(_) => PType::U64,
+            PrimitiveValues::I8(_) => PType::I8,
+            PrimitiveValues::I16(_) => PType::I16,
+            PrimitiveValues::I32(_) => PType::I32,
+            PrimitiveValues::I64(_) => PType::I64,
+        }
+    }
+
+    /// The value at an index, counted from 0. (own)
+    pub fn wide_at(&self, index: usize) -> i128
+        requires { index < length (values_of self.now) }
+        ensures value { slice_get (values_of self.now) index ≡ Some result }
+        ensures ranged { in_range (ptype_of self.now) result ≡ true }
+    {
+        by_type!(self, |buffer| wide_at(buffer, index))
+    }
+
+    /// The values of a range, which share their storage with these.
+    pub fn slice(&self, range: Range<usize>) -> Result<PrimitiveValues, AllocError>
+        requires order { range.start ≤ range.end }
+        requires bounds { range.end ≤ length (values_of self.now) }
+        ensures kind { IfOk result (λ part. ptype_of part ≡ ptype_of self.now) }
+        ensures values { IfOk result (λ part. values_of part ≡ slice_range (values_of self.now) range.start range.end) }
+    {
+        by_type!(self, |buffer| part_of(buffer, range))
+    }
+
+    /// One number so many times, which takes one allocation. (own)
+    pub fn repeat(
+        alloc: Global,
+        ptype: PType,
+        wide: i128,
+        len: usize,
+    ) -> Result<PrimitiveValues, AllocError>
+        requires { in_range ptype wide ≡ true }
+        ensures kind { IfOk result (λ copies. ptype_of copies ≡ ptype) }
+        ensures values { IfOk result (λ copies. values_of copies ≡ replicate len wide) }
+    {
+        match ptype {
+            PType::U8 => copies_of::<u8>(alloc, wide, len),
+            PType::U16 => copies_of::<u16>(alloc, wide, len),
+            PType::U32 => copies_of::<u32>(alloc, wide, len),
+            PType::U64 => copies_of::<u64>(alloc, wide, len),
+            PType::I8 => copies_of::<i8>(alloc, wide, len),
+            PType::I16 => copies_of::<i16>(alloc, wide, len),
+            PType::I32 => copies_of::<i32>(alloc, wide, len),
+            PType::I64 => copies_of::<i64>(alloc, wide, len),
+        }
+    }
+}
+
+impl Clone for PrimitiveValues {
+    ghost is_clone = { λ a b. (ptype_of b ≡ ptype_of a) × (values_of b ≡ values_of a) };
+
+    fn clone(&self) -> Result<PrimitiveValues, AllocError> {
+        match self {
+            PrimitiveValues::U8(buffer) => Ok(PrimitiveValues::U8(buffer.clone()?)),
+            PrimitiveValues::U16(buffer) => Ok(PrimitiveValues::U16(buffer.clone()?)),
+            PrimitiveValues::U32(buffer) => Ok(PrimitiveValues::U32(buffer.clone()?)),
+            PrimitiveValues::U64(buffer) => Ok(PrimitiveValues::U64(buffer.clone()?)),
+            PrimitiveValues::I8(buffer) => Ok(PrimitiveValues::I8(buffer.clone()?)),
+            PrimitiveValues::I16(buffer) => Ok(PrimitiveValues::I16(buffer.clone()?)),
+            PrimitiveValues::I32(buffer) => Ok(PrimitiveValues::I32(buffer.clone()?)),
+            PrimitiveValues::I64(buffer) => Ok(PrimitiveValues::I64(buffer.clone()?)),
+        }
+    }
+}

@@ -1,0 +1,32 @@
+-- When two values with their types are the same, and which comes first.
+use Rattle.std.specs.Prelude.{Bool, Option, Some, None, ◌&&◌, if◌then◌else◌}
+use Rattle.std.specs.declared.cmp.Ordering.{Ordering}
+use Rattle.std.specs.declared.cmp.Ordering.TheVariants.{Less, Equal, Greater}
+use Rattle.std.specs.Ordering.{bool_cmp, int_cmp, is_eq}
+use Rattle.vx_value.specs.Types.{same_type}
+use Rattle.vx_value.specs.Values.{Value, null, boolean, integer}
+use Rattle.vx_value.specs.Typed.{Typed}
+
+-- null, then false, then true; numbers by size; no type has both booleans and numbers
+abbrev pub value_cmp : Value → Value → Ordering
+value_cmp null null = Equal
+value_cmp null (boolean b) = Less
+value_cmp null (integer z) = Less
+value_cmp (boolean a) null = Greater
+value_cmp (boolean a) (boolean b) = bool_cmp a b
+value_cmp (boolean a) (integer z) = Less
+value_cmp (integer y) null = Greater
+value_cmp (integer y) (boolean b) = Greater
+value_cmp (integer y) (integer z) = int_cmp y z
+
+-- neither comes first
+abbrev pub same_value : Value → Value → Bool
+same_value v w = is_eq (value_cmp v w)
+
+-- of one type, and of one value
+abbrev pub same_scalar : Typed → Typed → Bool
+same_scalar s t = same_type s.of_type t.of_type && same_value s.value t.value
+
+-- only values of one type are ordered
+abbrev pub scalar_cmp : Typed → Typed → Option Ordering
+scalar_cmp s t = if same_type s.of_type t.of_type then Some (value_cmp s.value t.value) else None

@@ -1,0 +1,105 @@
+-- The laws of equality and of the order of scalars.
+use Rattle.std.specs.Prelude.{◌≡◌, ℕ, ℤ, pos, Bool, true, false, Option, Some, None, ◌&&◌, if◌then◌else◌, option_map, refl}
+use Rattle.std.specs.Bool.{Decides}
+use Rattle.std.specs.Cmp.{IsEquivalence, IsTotalOrder, IsPartialOrder, decided, first_so, second_so, signed_Decides, nat_cmp_total, int_cmp_total, on_total, then_total, on_po, then_po, partial_order_from_total, tied_itself}
+use Rattle.std.specs.declared.cmp.Ordering.{Ordering}
+use Rattle.std.specs.declared.cmp.Ordering.TheVariants.{Less, Equal}
+use Rattle.std.specs.Ordering.{nat_cmp, int_cmp, is_eq, ordering_reverse, on, then_cmp, partial_ordering_then}
+use Rattle.std.proofs.Common.{ap, sym, ◌∙◌, subst}
+use Rattle.vx_value.specs.Types.{same_type, same_type_Decides}
+use Rattle.vx_value.specs.Values.{Value, null, boolean, integer}
+use Rattle.vx_value.specs.Typed.{Typed}
+use Rattle.vx_value.specs.Order.{value_cmp, same_value, same_scalar, scalar_cmp}
+
+-- ---- values: by kind, and then by size
+
+abbrev kind : Value → ℕ
+kind null = 0
+kind (boolean b) = 1
+kind (integer z) = 2
+
+abbrev size : Value → ℤ
+size null = pos 0
+size (boolean false) = pos 0
+size (boolean true) = pos 1
+size (integer z) = z
+
+abbrev by_kind_and_size : Value → Value → Ordering
+by_kind_and_size = then_cmp (on kind nat_cmp) (on size int_cmp)
+
+value_cmp_ranks : (v w : Value) → by_kind_and_size v w ≡ value_cmp v w
+value_cmp_ranks null null = refl
+value_cmp_ranks null (boolean b) = refl
+value_cmp_ranks null (integer z) = refl
+value_cmp_ranks (boolean a) null = refl
+value_cmp_ranks (boolean false) (boolean false) = refl
+value_cmp_ranks (boolean false) (boolean true) = refl
+value_cmp_ranks (boolean true) (boolean false) = refl
+value_cmp_ranks (boolean true) (boolean true) = refl
+value_cmp_ranks (boolean a) (integer z) = refl
+value_cmp_ranks (integer y) null = refl
+value_cmp_ranks (integer y) (boolean b) = refl
+value_cmp_ranks (integer y) (integer z) = refl
+
+pub value_cmp_total : IsTotalOrder value_cmp
+value_cmp_total =
+    subst IsTotalOrder (λ i v w. value_cmp_ranks v w i) (then_total (on_total kind nat_cmp_total) (on_total size int_cmp_total))
+
+-- what comes neither before nor after is the same
+value_alike : (v w : Value) → same_value v w ≡ true → v ≡ w
+value_alike null null h = refl
+value_alike null (boolean b) h = absurd (cc)
+value_alike null (integer z) h = absurd (cc)
+value_alike (boolean a) null h = absurd (cc)
+value_alike (boolean false) (boolean false) h = refl
+value_alike (boolean false) (boolean true) h = absurd (cc)
+value_alike (boolean true) (boolean false) h = absurd (cc)
+value_alike (boolean true) (boolean true) h = refl
+value_alike (boolean a) (integer z) h = absurd (cc)
+value_alike (integer y) null h = absurd (cc)
+value_alike (integer y) (boolean b) h = absurd (cc)
+value_alike (integer y) (integer z) h = ap integer ((signed_Decides y z).0 h)
+
+pub same_value_Decides : (v w : Value) → Decides (same_value v w) (v ≡ w)
+same_value_Decides v w =
+    (value_alike v w, λ e. ap is_eq (ap (value_cmp v) (sym e) ∙ tied_itself value_cmp_total v))
+
+-- ---- scalars: by type, and then by value
+
+pub same_scalar_Decides : (s t : Typed) → Decides (same_scalar s t) (s ≡ t)
+same_scalar_Decides s t =
+    let types = same_type_Decides s.of_type t.of_type in
+    let values = same_value_Decides s.value t.value in
+    (λ h i. record { of_type = types.0 (first_so _ _ h) i; value = values.0 (second_so _ _ h) i }, λ e i. types.1 (ap (λ u. u.of_type) e) i && values.1 (ap (λ u. u.value) e) i)
+
+-- values that are equal or don't compare
+abbrev level : {K : Type 0} → (K → K → Bool) → K → K → Option Ordering
+level E x y = if E x y then Some Equal else None
+
+level_flips : (b : Bool) → (if b then Some Equal else None) ≡ option_map ordering_reverse (if b then Some Equal else None)
+level_flips true = refl
+level_flips false = refl
+
+never_less : {A : Type 0} (b : Bool) → (if b then Some Equal else None) ≡ Some Less → A
+never_less true h = absurd (cc)
+never_less false h = absurd (cc)
+
+level_Decides : (b : Bool) → Decides b ((if b then Some Equal else None) ≡ Some Equal)
+level_Decides true = (λ h. refl, λ h. refl)
+level_Decides false = (λ h. absurd (cc), λ h. absurd (cc))
+
+level_order : {K : Type 0} {E : K → K → Bool} → IsEquivalence E → IsPartialOrder E (level E)
+level_order {K} {E} o = record {
+  antisymm = λ x y. ap (λ b. if b then Some Equal else None) (o.symm x y) ∙ level_flips (E y x);
+  trans = λ x y z h k. never_less (E x y) h;
+  matches_eq = λ x y. level_Decides (E x y);
+  congr = λ x y z e. ap (λ b. if b then Some Equal else None) (o.congr x y z e);
+}
+
+chosen : (b : Bool) (o : Ordering) → partial_ordering_then (if b then Some Equal else None) (Some o) ≡ (if b then Some o else None)
+chosen true o = refl
+chosen false o = refl
+
+pub scalar_cmp_order : IsPartialOrder same_scalar scalar_cmp
+scalar_cmp_order =
+    subst (IsPartialOrder same_scalar) (λ i s t. chosen (same_type s.of_type t.of_type) (value_cmp s.value t.value) i) (then_po (on_po (λ s. s.of_type) (level_order (decided same_type same_type_Decides))) (on_po (λ s. s.value) (partial_order_from_total value_cmp_total)))

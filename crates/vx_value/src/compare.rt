@@ -1,0 +1,95 @@
+//! Equality, hashes and the order of scalars, as in the original's `scalar` module.
+
+ghost use Rattle.std.specs.Prelude.{◌≡◌, ◌↔◌, IsTrue, IsSome, fold};
+ghost use Rattle.std.specs.Cmp.{decided, partial_equiv_from_equiv};
+ghost use Rattle.std.specs.Hash.{same_Alike};
+ghost use Rattle.vx_value.specs.Types.{same_type};
+ghost use Rattle.vx_value.specs.View.{type_of, cell_of};
+ghost use Rattle.vx_value.specs.Order.{value_cmp, same_value, same_scalar, scalar_cmp};
+ghost use Rattle.vx_value.specs.Writes.{scalar_writes};
+ghost use Rattle.vx_value.specs.OrderLaws.{same_scalar_Decides, scalar_cmp_order};
+
+use crate::{DType, Scalar, ScalarValue};
+use std::cmp::Ordering;
+use std::hash::{Hash, Hasher};
+
+/// Of one type and of one value. Null equals null of the same type.
+impl PartialEq for Scalar {
+    ghost eq = { same_scalar };
+
+    ghost laws = { partial_equiv_from_equiv (decided same_scalar same_scalar_Decides) };
+
+    #[tactic(auto, using(crate::proofs::Ordering::same_scalar_is))]
+    fn eq(&self, other: &Scalar) -> bool
+        ensures value { result ≡ same_scalar self.now other.now }
+        ensures equal { IsTrue result ↔ (self.now ≡ other.now) }
+    {
+        same_type(self.dtype(), other.dtype()) && same_value(self.value(), other.value())
+    }
+}
+
+impl Eq for Scalar {
+    ghost laws = { decided same_scalar same_scalar_Decides };
+}
+
+impl Hash for Scalar {
+    ghost hash_input = { scalar_writes };
+
+    ghost respects_eq = { (same_Alike scalar_writes same_scalar_Decides).fed };
+
+    fn hash<H: Hasher>(&self, state: &mut H) {
+        self.dtype().hash(state);
+        self.value().hash(state);
+    }
+}
+
+/// None where the types differ. Within a type null comes first, false before true, and numbers
+/// go by size.
+impl PartialOrd for Scalar {
+    ghost partial_cmp = { scalar_cmp };
+
+    ghost laws = { scalar_cmp_order };
+
+    #[tactic(auto, using(crate::proofs::Ordering::scalar_cmp_is_some, crate::proofs::Ordering::scalar_cmp_is_equal))]
+    fn partial_cmp(&self, other: &Scalar) -> Option<Ordering>
+        ensures value { result ≡ scalar_cmp self.now other.now }
+        ensures compared { IsSome result ↔ (self.now.of_type ≡ other.now.of_type) }
+        ensures equal { (result ≡ Some Ordering.Equal) ↔ (self.now ≡ other.now) }
+    {
+        if same_type(self.dtype(), other.dtype()) {
+            Some(value_order(self.value(), other.value()))
+        } else {
+            None
+        }
+    }
+}
+
+/// Whether the two types are the same, nullability included.
+fn same_type(left: &DType, right: &DType) -> bool
+    ensures { result ≡ same_type (type_of left.now) (type_of right.now) }
+{
+    left == right
+}
+
+/// Whether the two values are the same; None is null.
+fn same_value(left: Option<ScalarValue>, right: Option<ScalarValue>) -> bool
+    ensures { result ≡ same_value (cell_of left) (cell_of right) }
+{
+    left == right
+}
+
+/// Which value comes first, None being null. A boolean and a number, which no type has both of,
+/// have an order too, so that it is total.
+fn value_order(left: Option<ScalarValue>, right: Option<ScalarValue>) -> Ordering
+    ensures { result ≡ value_cmp (cell_of left) (cell_of right) }
+{
+    match (left, right) {
+        (None, None) => Ordering::Equal,
+        (None, Some(_)) => Ordering::Less,
+        (Some(_), None) => Ordering::Greater,
+        (Some(ScalarValue::Bool(a)), Some(ScalarValue::Bool(b))) => a.cmp(&b),
+        (Some(ScalarValue::Bool(_)), Some(ScalarValue::Integer(_))) => Ordering::Less,
+        (Some(ScalarValue::Integer(_)), Some(ScalarValue::Bool(_))) => Ordering::Greater,
+        (Some(ScalarValue::Integer(y)), Some(ScalarValue::Integer(z))) => y.cmp(&z),
+    }
+}
