@@ -3,6 +3,7 @@ pub mod Values
 pub mod View
 pub mod IsOf
 pub mod Typed
+pub mod Defaults
 pub mod Parts
 pub mod Order
 pub mod Writes

@@ -2,7 +2,9 @@
 
 ghost use Rattle.std.specs.Prelude.{◌≡◌, ◌↔◌, IfOk, IfErr, IsErrOf, OnOk, true, false, option_copied};
 ghost use Rattle.vx_value.specs.View.{type_of, value_of, cell_of};
-ghost use Rattle.vx_value.specs.Values.{Value};
+ghost use Rattle.vx_value.specs.Values.{Value, null};
+ghost use Rattle.vx_value.specs.Types.{nullability_of, is_nullable};
+ghost use Rattle.vx_value.specs.Defaults.{zero_of, default_of};
 ghost use Rattle.vx_value.specs.IsOf.{is_of, in_range, is_null};
 ghost use Rattle.vx_value.specs.Parts.{boolean_in, integer_in};
 
@@ -66,6 +68,40 @@ impl Scalar {
             Ok(Scalar { dtype, value })
         } else {
             Err(VortexError::InvalidArgument(ArgKind::BadValue))
+        }
+    }
+
+    /// The null of a type, which must be nullable.
+    pub fn null(dtype: DType) -> Scalar
+        requires { is_nullable (nullability_of (type_of dtype)) ≡ true }
+        ensures { result ≡ record { of_type = type_of dtype; value = null } }
+    {
+        Scalar { dtype, value: None }
+    }
+
+    /// The zero value of a type: `false`, or 0.
+    #[tactic(auto, using(crate::proofs::Defaulting::zero_typed))]
+    pub fn zero_value(dtype: DType) -> Scalar
+        ensures { result ≡ record { of_type = type_of dtype; value = zero_of (type_of dtype) } }
+    {
+        let value = match dtype {
+            DType::Bool(_) => ScalarValue::Bool(false),
+            DType::Primitive(_, _) => ScalarValue::Integer(0),
+        };
+        Scalar {
+            dtype,
+            value: Some(value),
+        }
+    }
+
+    /// The value of a type where none is given: null where the type is nullable, else its zero value.
+    pub fn default_value(dtype: DType) -> Scalar
+        ensures { result ≡ record { of_type = type_of dtype; value = default_of (type_of dtype) } }
+    {
+        if dtype.is_nullable() {
+            Scalar::null(dtype)
+        } else {
+            Scalar::zero_value(dtype)
         }
     }
 

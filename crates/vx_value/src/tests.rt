@@ -176,3 +176,18 @@ fn ids(rt: HostRuntime) {
         assert!(rt; Id::parse(text) == None, "{text}");
     }
 }
+
+#[test]
+fn defaults_of_types(rt: HostRuntime) -> Result<(), Fail> {
+    assert_eq!(rt;
+        Scalar::default_value(BOOL).value(),
+        Some(ScalarValue::Bool(false))
+    );
+    assert_eq!(rt;
+        Scalar::default_value(I32).value(),
+        Some(ScalarValue::Integer(0))
+    );
+    assert!(rt; Scalar::default_value(NULLABLE_I32) == Scalar::null(NULLABLE_I32));
+    assert_eq!(rt; Scalar::zero_value(NULLABLE_BOOL).as_bool(), Some(false));
+    Ok(())
+}
