@@ -4,6 +4,16 @@ pub mod Potential
 pub mod Stacking
 pub mod Taking
 pub mod Turning
+pub mod Waiting
+pub mod ColumnSteps
+pub mod Operating
+pub mod Rowwise
+pub mod Repeats
+pub mod Combining
+pub mod Reading
+pub mod Applying
+pub mod Faulting
+pub mod Probing
 pub mod Slicing
 pub mod Repeating
 pub mod Printing

@@ -1,13 +1,16 @@
 -- The text of the rows so far.
-use Rattle.std.proofs.Common.{◌≡◌, ℕ, ◌+◌, ◌≤◌, List, [], ◌∷◌, ◌++◌, length, zero, suc, add-one, subst, take, map, slice_get, Some, refl, sym, ◌∙◌, ap, append_assoc, arith, flat_map, inl, inr, replicate, true}
+use Rattle.std.proofs.Common.{◌≡◌, ◌⊎◌, ℕ, ◌+◌, ◌<◌, ◌≤◌, List, [], ◌∷◌, ◌++◌, length, zero, suc, add-one, subst, take, map, slice_get, Some, refl, sym, ◌∙◌, ap, append_assoc, arith, flat_map, inl, inr, replicate, true}
 use Rattle.std.proofs.lemmas.Grind.{common_steps, flat_map-append}
 use Rattle.vx_value.specs.Types.{DataType}
-use Rattle.vx_value.specs.Values.{Value}
+use Rattle.vx_value.specs.Values.{Value, boolean, integer}
+use Rattle.vx_value.specs.declared.error.VortexError.{VortexError}
+use Rattle.vx_value.specs.declared.error.VortexError.TheVariants.{OutOfMemory, Fault, OutOfBounds}
 use Rattle.vx_value.specs.declared.id.Id.{Id}
-use Rattle.vx_tree.specs.Cells.{Cell, value, rows}
+use Rattle.vx_value.specs.Cell.{Cell, value, fault}
+use Rattle.vx_tree.specs.Cells.{rows}
 use Rattle.vx_main.specs.RowText.{row_text}
 use Rattle.std.proofs.lemmas.List.{length-replicate}
-use Rattle.vx_tree.specs.Tree.{Tree, node, constant, slice, bool, primitive, dtype, datum, id_of, is_columnar}
+use Rattle.vx_tree.specs.Tree.{Tree, node, constant, slice, function, bool, primitive, dtype, len, datum, id_of, is_columnar}
 use Rattle.vx_tree.specs.Well.{IsWell}
 use Rattle.vx_tree.specs.Keeps.{KeepsExactly}
 use Rattle.vx_main.specs.Output.{IsLawful, canonical_id, Shows, head_lines, line}
@@ -46,11 +49,38 @@ shows_more ty id cs i v text longer s e j = record {
 pub shows_all : (ty : DataType) (id : Id) (cs : List Cell) (i : ℕ) (text : List ℕ) → Shows ty id (take i cs) text → length cs ≤ i → Shows ty id cs text
 shows_all ty id cs i text s h = let e : take i cs ≡ cs = grind (arith, common_steps) in subst (λ l. Shows ty id l text) e s
 
+-- no row of a column is a fault
+
+copies_whole : (n i : ℕ) (v : Value) → slice_get (replicate n (value v)) i ≡ Some fault → ⊥
+copies_whole zero i v h = absurd (cc)
+copies_whole (suc n) zero v h = absurd (cc)
+copies_whole (suc n) (suc i) v h = copies_whole n i v h
+
+items_whole : {A : Type 0} (f : A → Value) (xs : List A) (i : ℕ) → slice_get (map (λ x. value (f x)) xs) i ≡ Some fault → ⊥
+items_whole f [] i h = absurd (cc)
+items_whole f (x ∷ xs) zero h = absurd (cc)
+items_whole f (x ∷ xs) (suc i) h = items_whole f xs i h
+
+column_whole : (t : Tree) (i : ℕ) → is_columnar (datum t) ≡ true → slice_get (rows t) i ≡ Some fault → ⊥
+column_whole (node ty n (constant v) ss) i c h = copies_whole n i v.value h
+column_whole (node ty n (slice a b) ss) i c h = absurd (cc)
+column_whole (node ty n (function f) ss) i c h = absurd (cc)
+column_whole (node ty n (bool bs) ss) i c h = items_whole boolean bs i h
+column_whole (node ty n (primitive p zs) ss) i c h = items_whole integer zs i h
+
+-- so that a row that is there is read
+pub column_stopped : (t : Tree) (i : ℕ) (e : VortexError) → is_columnar (datum t) ≡ true → i < len t
+    → (e ≡ OutOfMemory) ⊎ ((e ≡ OutOfBounds i i (len t)) × (len t ≤ i)) ⊎ ((e ≡ Fault) × (slice_get (rows t) i ≡ Some fault)) → e ≡ OutOfMemory
+column_stopped t i e c lt (inl m) = m
+column_stopped t i e c lt (inr (inl b)) = absurd (omega (arith, b.1))
+column_stopped t i e c lt (inr (inr f)) = absurd (column_whole t i c f.1)
+
 -- the encoding of a column is its type's, or that of a constant
 pub lawful_column : (t : Tree) → IsWell t → is_columnar (datum t) ≡ true → IsLawful (id_of (datum t)) (dtype t) (rows t)
 lawful_column (node ty n (constant v) ss) w h =
     inr (refl, v.value, ap (λ m. replicate m (value v.value)) (sym (length-replicate n (value v.value))))
 lawful_column (node ty n (slice a b) ss) w h = absurd (cc)
+lawful_column (node ty n (function f) ss) w h = absurd (cc)
 lawful_column (node ty n (bool bs) ss) w h = inl (sym (ap canonical_id w.0.0))
 lawful_column (node ty n (primitive p zs) ss) w h = inl (sym (ap canonical_id w.0.0))
 

@@ -10,7 +10,8 @@ use Rattle.vx_value.specs.declared.dtype.Nullability.TheVariants.{NonNullable}
 use Rattle.vx_value.specs.declared.dtype.PType.{PType}
 use Rattle.vx_value.specs.declared.error.VortexError.{VortexError}
 use Rattle.vx_tree.specs.Tree.{Tree, Data, node, constant, bool, primitive, no_slots}
-use Rattle.vx_tree.specs.Cells.{Cell, value, rows}
+use Rattle.vx_value.specs.Cell.{Cell, value}
+use Rattle.vx_tree.specs.Cells.{rows}
 use Rattle.vx_tree.proofs.Keeping.{exactly_of_rows}
 use Rattle.vx_main.specs.Turns.{base_top}
 use Rattle.vx_main.specs.Steps.{IsDone}

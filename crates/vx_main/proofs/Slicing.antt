@@ -7,7 +7,8 @@ use Rattle.vx_value.specs.Values.{boolean, integer}
 use Rattle.vx_value.specs.declared.dtype.Nullability.TheVariants.{NonNullable}
 use Rattle.vx_value.specs.declared.dtype.PType.{PType}
 use Rattle.vx_tree.specs.Tree.{Tree, Data, node, slice, bool, primitive, no_slots, absent, slot, dtype}
-use Rattle.vx_tree.specs.Cells.{value, rows}
+use Rattle.vx_value.specs.Cell.{value}
+use Rattle.vx_tree.specs.Cells.{rows}
 use Rattle.vx_tree.proofs.Keeping.{exactly_of_rows}
 use Rattle.vx_tree.proofs.Parts.{map_part}
 use Rattle.vx_main.specs.Turns.{base_top}

@@ -7,11 +7,12 @@ use Rattle.vx_tree.specs.Slots.{put, IsHole, IsPresent, IsPresentAt}
 use Rattle.vx_tree.specs.Keeps.{KeepsExactly}
 use Rattle.vx_tree.specs.Cost.{cost}
 use Rattle.vx_tree.proofs.Keeping.{exactly_refl}
+use Rattle.vx_tree.proofs.Kinding.{canonical_columnar}
 use Rattle.vx_main.specs.Turns.{data_meets, meets, target_of, top}
 use Rattle.vx_main.specs.Frames.{filled, IsFrame, AreFrames, frames_top}
 use Rattle.vx_main.specs.Steps.{Awaits, AwaitsAt, IsDone, IsMove, is_awaited, is_reached}
 use Rattle.vx_main.specs.declared.exec.step.SlotTarget.{SlotTarget}
-use Rattle.vx_main.specs.declared.exec.step.SlotTarget.TheVariants.{Canonical}
+use Rattle.vx_main.specs.declared.exec.step.SlotTarget.TheVariants.{Canonical, Columnar}
 use Rattle.vx_main.specs.declared.exec.turn.Frame.{Frame}
 use Rattle.vx_main.proofs.Potential.{take_falls, put_falls, top_paid, top_positive}
 use Rattle.vx_main.proofs.Stacking.{filled_append, frames_top_append, frames_pop, frames_push, filled_exactly, frames_replace}
@@ -65,7 +66,7 @@ awaited_present i (node ty n d ss) h = at_slot _ i ss h
     at_slot g zero (absent ss) h = h
     at_slot g zero (slot s ss) h = tt
     at_slot g (suc i) (absent ss) h = at_slot g i ss h
-    at_slot g (suc i) (slot s ss) h = at_slot g i ss h
+    at_slot g (suc i) (slot s ss) h = at_slot g i ss h.1
 
 -- what a node is executed to
 
@@ -88,6 +89,7 @@ awaited_append fits (g ∷ h ∷ fs) f t = awaited_append fits (h ∷ fs) f t
 
 canonical_meets : (g : SlotTarget) (d : Data) → is_canonical d ≡ true → data_meets g d ≡ true
 canonical_meets Canonical d h = h
+canonical_meets Columnar d h = canonical_columnar d h
 
 either_true : (a b : Bool) → (a || b) ≡ true → (a ≡ true) ⊎ (b ≡ true)
 either_true true b h = inl refl

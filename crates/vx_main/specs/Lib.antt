@@ -1,5 +1,7 @@
 pub use Rattle.vx_tree.specs.Tree
+pub use Rattle.vx_value.specs.Cell
 pub use Rattle.vx_tree.specs.Cells
+pub use Rattle.vx_tree.specs.Calls
 pub use Rattle.vx_tree.specs.Keeps
 pub use Rattle.vx_tree.specs.Cost
 pub use Rattle.vx_tree.specs.Columns
@@ -8,6 +10,7 @@ pub mod Streams
 pub mod Keys
 pub mod Fields
 pub mod Refused
+pub mod SpelledFunctions
 pub mod SpelledTypes
 pub mod SpelledValues
 pub mod Spelled
@@ -15,6 +18,12 @@ pub mod RowText
 pub mod Turns
 pub mod Frames
 pub mod Steps
+pub mod Waiting
+pub mod Rows
+pub mod Arguments
+pub mod Repeated
+pub mod Applied
+pub mod Probed
 pub mod Budgets
 pub mod Commands
 pub mod Statuses

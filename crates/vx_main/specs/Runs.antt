@@ -3,7 +3,7 @@ use Rattle.std.specs.Prelude.{◌≡◌, ℕ, ◌≤◌, ◌<◌, List, length, 
 use Rattle.std.specs.Io.KnownBytes.{Appends}
 use Rattle.vx_value.specs.declared.id.Id.{Id}
 use Rattle.vx_tree.specs.Tree.{Tree, dtype}
-use Rattle.vx_tree.specs.Cells.{rows}
+use Rattle.vx_tree.specs.Cells.{rows, IsClean}
 use Rattle.vx_tree.specs.Cost.{cost}
 use Rattle.vx_main.specs.Spelled.{Spells, SpellsNone}
 use Rattle.vx_main.specs.Output.{Shows, IsLawful}
@@ -13,7 +13,7 @@ use Rattle.vx_main.specs.declared.top.words.Command.{Command}
 use Rattle.vx_main.specs.declared.top.words.Command.TheVariants.{Run, Help, Version}
 use Rattle.vx_main.specs.declared.top.words.TheConstants.{HELP, VERSION}
 use Rattle.vx_main.specs.declared.top.status.Status.{Status}
-use Rattle.vx_main.specs.declared.top.status.Status.TheVariants.{BadInput, TurnLimit, Memory}
+use Rattle.vx_main.specs.declared.top.status.Status.TheVariants.{BadInput, Fault, TurnLimit, Memory}
 
 -- the bytes spell a tree, and the text is its type, a lawful encoding and its rows
 pub record Answers (bytes text : List ℕ) : Type 0 where
@@ -43,13 +43,19 @@ pub record IsCostly (bytes : List ℕ) (turns : ℕ) : Type 0 where
   pub spelled : Spells bytes tree
   pub above : turns < cost tree
 
+-- the bytes spell a tree that has a fault in one of its nodes
+pub record IsFaulty (bytes : List ℕ) : Type 0 where
+  pub tree : Tree
+  pub spelled : Spells bytes tree
+  pub unclean : ¬ (IsClean tree)
+
 -- why an input that was read has no answer
 abbrev pub HasNoAnswer : List ℕ → ℕ → Status → Type 0
-HasNoAnswer bytes turns s = (s ≡ Memory) ⊎ ((s ≡ BadInput) × SpellsNone bytes) ⊎ ((s ≡ TurnLimit turns turns) × IsCostly bytes turns)
+HasNoAnswer bytes turns s = (s ≡ Memory) ⊎ ((s ≡ BadInput) × SpellsNone bytes) ⊎ ((s ≡ Fault) × IsFaulty bytes) ⊎ ((s ≡ TurnLimit turns turns) × IsCostly bytes turns)
 
 -- nothing in the input keeps the command from its answer
 abbrev pub Suffices : Command → Option (List ℕ) → Type 0
 Suffices (Run turns) None = ⊥
-Suffices (Run turns) (Some bytes) = (length bytes ≤ INPUT_LIMIT) × (t : Tree) × Spells bytes t × (cost t ≤ turns)
+Suffices (Run turns) (Some bytes) = (length bytes ≤ INPUT_LIMIT) × (t : Tree) × Spells bytes t × IsClean t × (cost t ≤ turns)
 Suffices Help input = Unit {0}
 Suffices Version input = Unit {0}

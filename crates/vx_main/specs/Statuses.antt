@@ -1,14 +1,16 @@
 -- The code and the text of each status, and which come before which.
 use Rattle.std.specs.Prelude.{ℕ, List, codes, Bool, true, false}
 use Rattle.vx_value.specs.declared.error.VortexError.{VortexError}
-use Rattle.vx_value.specs.declared.error.VortexError.TheVariants.{OutOfMemory, IterationLimit, OutOfBounds, InvalidArgument}
+use Rattle.vx_value.specs.declared.error.VortexError.TheVariants.{OutOfMemory, Fault, IterationLimit, OutOfBounds, InvalidArgument}
 use Rattle.vx_main.specs.declared.top.status.Status.{Status}
 use Rattle.vx_main.specs.declared.top.status.Status.TheVariants.{Done, Usage, BadInput, TurnLimit, Memory, ReadFault, WriteFault, TooLarge}
+use Rattle.vx_main.specs.declared.top.status.Status.TheVariants as status
 
 abbrev pub code_of : Status → ℕ
 code_of Done = 0
 code_of Usage = 2
 code_of BadInput = 3
+code_of status.Fault = 4
 code_of (TurnLimit limit turns) = 5
 code_of Memory = 9
 code_of ReadFault = 10
@@ -19,6 +21,7 @@ abbrev pub text_of : Status → List ℕ
 text_of Done = codes ""
 text_of Usage = codes "usage"
 text_of BadInput = codes "bad input"
+text_of status.Fault = codes "fault"
 text_of (TurnLimit limit turns) = codes "turn limit"
 text_of Memory = codes "out of memory"
 text_of ReadFault = codes "read fault"
@@ -30,6 +33,7 @@ abbrev pub has_no_input : Status → Bool
 has_no_input Done = false
 has_no_input Usage = false
 has_no_input BadInput = false
+has_no_input status.Fault = false
 has_no_input (TurnLimit limit turns) = false
 has_no_input Memory = true
 has_no_input ReadFault = true
@@ -41,6 +45,7 @@ abbrev pub has_no_tree : Status → Bool
 has_no_tree Done = false
 has_no_tree Usage = false
 has_no_tree BadInput = true
+has_no_tree status.Fault = false
 has_no_tree (TurnLimit limit turns) = false
 has_no_tree Memory = true
 has_no_tree ReadFault = true
@@ -50,6 +55,7 @@ has_no_tree (TooLarge bytes) = true
 -- the status that an error of a layer below is told by
 abbrev pub status_of : VortexError → Status
 status_of OutOfMemory = Memory
+status_of Fault = status.Fault
 status_of (IterationLimit limit) = TurnLimit limit limit
 status_of (OutOfBounds start stop len) = BadInput
 status_of (InvalidArgument kind) = BadInput

@@ -1,6 +1,9 @@
 -- What a step answers, and what a turn does.
 use Rattle.std.specs.Prelude.{◌≡◌, ◌⊎◌, ℕ, zero, suc, ◌+◌, ◌<◌, List, [], ◌∷◌, Bool, true, false, ◌||◌}
 use Rattle.vx_tree.specs.Tree.{Tree, Slots, node, no_slots, absent, slot, datum, is_canonical}
+use Rattle.vx_value.specs.declared.error.VortexError.{VortexError}
+use Rattle.vx_value.specs.declared.error.VortexError.TheVariants.{OutOfMemory, Fault}
+use Rattle.vx_tree.specs.Cells.{IsClean}
 use Rattle.vx_tree.specs.Keeps.{KeepsExactly}
 use Rattle.vx_main.specs.Turns.{meets, slot_target, target_of, top}
 use Rattle.vx_main.specs.Frames.{filled, AreFrames, frames_top}
@@ -11,16 +14,20 @@ use Rattle.vx_main.specs.declared.exec.turn.Frame.{Frame}
 use Rattle.vx_main.specs.declared.exec.turn.Turn.{Turn}
 use Rattle.vx_main.specs.declared.exec.turn.Turn.TheVariants.{Go, Return}
 
--- slot i holds a tree that isn't at its target
+-- slot i is the first whose tree isn't at its target
 abbrev pub AwaitsAt : SlotTarget → ℕ → Slots → Type 0
 AwaitsAt g i no_slots = ⊥
 AwaitsAt g zero (absent ss) = ⊥
 AwaitsAt g zero (slot t ss) = meets g t ≡ false
 AwaitsAt g (suc i) (absent ss) = AwaitsAt g i ss
-AwaitsAt g (suc i) (slot t ss) = AwaitsAt g i ss
+AwaitsAt g (suc i) (slot t ss) = (meets g t ≡ true) × AwaitsAt g i ss
 
 abbrev pub Awaits : ℕ → Tree → Type 0
 Awaits i (node ty n d ss) = AwaitsAt (slot_target d) i ss
+
+-- why a step, a turn or an execution of the tree has no answer: the memory, or a fault in one of its nodes
+abbrev pub IsStopped : Tree → VortexError → Type 0
+IsStopped t e = (e ≡ OutOfMemory) ⊎ ((e ≡ Fault) × (¬ (IsClean t)))
 
 -- u stands for t exactly, and has fewer turns left
 pub record IsDone (t u : Tree) : Type 0 where

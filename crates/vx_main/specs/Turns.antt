@@ -1,13 +1,14 @@
 -- What slots are executed to, and the turns that a node in work has left.
 use Rattle.std.specs.Prelude.{ℕ, ◌+◌, Bool, true, false}
-use Rattle.vx_tree.specs.Tree.{Tree, Data, Slots, node, constant, slice, bool, primitive, no_slots, absent, slot, datum, is_canonical}
+use Rattle.vx_tree.specs.Tree.{Tree, Data, Slots, node, constant, slice, function, bool, primitive, no_slots, absent, slot, datum, is_canonical, is_columnar}
 use Rattle.vx_tree.specs.Cost.{cost}
 use Rattle.vx_main.specs.declared.exec.step.SlotTarget.{SlotTarget}
-use Rattle.vx_main.specs.declared.exec.step.SlotTarget.TheVariants.{Canonical}
+use Rattle.vx_main.specs.declared.exec.step.SlotTarget.TheVariants.{Canonical, Columnar}
 
 -- whether a tree is what a slot is executed to
 abbrev pub data_meets : SlotTarget → Data → Bool
 data_meets Canonical d = is_canonical d
+data_meets Columnar d = is_columnar d
 
 abbrev pub meets : SlotTarget → Tree → Bool
 meets g t = data_meets g (datum t)
@@ -16,6 +17,7 @@ meets g t = data_meets g (datum t)
 abbrev pub slot_target : Data → SlotTarget
 slot_target (constant v) = Canonical
 slot_target (slice a b) = Canonical
+slot_target (function f) = Columnar
 slot_target (bool bs) = Canonical
 slot_target (primitive p zs) = Canonical
 
@@ -26,6 +28,7 @@ target_of t = slot_target (datum t)
 abbrev pub base_top : Data → ℕ
 base_top (constant v) = 2
 base_top (slice a b) = 2
+base_top (function f) = 3
 base_top (bool bs) = 1
 base_top (primitive p zs) = 1
 

@@ -1,6 +1,7 @@
 //! The program `vx`: a tree in, its rows out.
 #![tactic(auto)]
 
+mod column;
 mod exec;
 mod json;
 mod stream;

@@ -1,3 +1,6 @@
 pub mod Parts
 pub mod Places
 pub mod Pushes
+pub mod Words
+pub mod Operations
+pub mod Rows

@@ -34,7 +34,7 @@ all_same words n b within same =
     (λ i h. get_or-replicate n i b b h ∙ sym (same i h)))
 
 -- the word of 64 bits that are all b
-bit_of_word : (b : Bool) (i : ℕ) → i < 64 → (bit_at (cond b (2 ^ 64 - 1) 0) i == 1) ≡ b
+pub bit_of_word : (b : Bool) (i : ℕ) → i < 64 → (bit_at (cond b (2 ^ 64 - 1) 0) i == 1) ≡ b
 bit_of_word true i h = ap (λ x. x == 1) (bit_at_ones 64 i h)
 bit_of_word false i h = ap (λ x. x == 1) (bit_at-zero i)
 

@@ -46,10 +46,10 @@ same_bits us vs n e =
     (λ k h. get_or-map-range_with_len (bit_of us) 0 n k k false h (omega arith) ∙ e k h)
 
 -- a bit of the words before the last one, and one of the last word
-before : (ws tail : List ℕ) (p : ℕ) → p / 64 < length ws → bit_of (ws ++ tail) p ≡ bit_of ws p
+pub before : (ws tail : List ℕ) (p : ℕ) → p / 64 < length ws → bit_of (ws ++ tail) p ≡ bit_of ws p
 before ws tail p h = ap (λ w. bit_at w (p % 64) == 1) (get_or-append ws tail 0 (p / 64) h)
 
-in_last : (ws : List ℕ) (w p : ℕ) → p / 64 ≡ length ws → bit_of (ws ++ w ∷ []) p ≡ (bit_at w (p % 64) == 1)
+pub in_last : (ws : List ℕ) (w p : ℕ) → p / 64 ≡ length ws → bit_of (ws ++ w ∷ []) p ≡ (bit_at w (p % 64) == 1)
 in_last ws w p h =
     ap (λ x. bit_at x (p % 64) == 1) (ap (λ k. get_or (ws ++ w ∷ []) k 0) h ∙ get_or-append_seam ws w [] 0)
 

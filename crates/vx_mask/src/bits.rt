@@ -1,8 +1,9 @@
 //! Bits in words of 64, in shared storage, of which a bit buffer shows a range.
 
-ghost use Rattle.std.specs.Prelude.{◌≡◌, ◌*◌, ◌%◌, ◌<◌, ◌≤◌, ◌↔◌, ◌==◌, if◌then◌else◌, IsTrue, IfOk, Some, length, replicate, slice_range, slice_get, take, vec_len};
+ghost use Rattle.std.specs.Prelude.{◌≡◌, ◌+◌, ◌-◌, ◌*◌, ◌%◌, ◌<◌, ◌≤◌, ◌↔◌, ◌==◌, ℕ, if◌then◌else◌, nat_lt, IsTrue, IfOk, Some, length, replicate, slice_range, slice_get, take, vec_len};
 ghost use Rattle.std.specs.Int.{bit_at};
 ghost use Rattle.vx_mask.specs.Bits.{bits_of};
+ghost use Rattle.vx_mask.specs.Logic.{bit_row};
 
 use std::alloc::{AllocError, Global};
 use std::fmt;
@@ -41,10 +42,26 @@ fn is_bit_set(word: u64, place: usize) -> bool
 }
 
 /// A word whose 64 bits are all `bit`.
-fn filled_word(bit: bool) -> u64
+#[inline]
+pub(crate) fn filled_word(bit: bool) -> u64
     ensures { result ≡ (if bit then u64.MAX else 0) }
 {
     if bit { u64::MAX } else { 0 }
+}
+
+/// 64 bits of two words, from bit `by` of the lower one on.
+#[inline]
+#[tactic(auto, using(crate::proofs::Words::joined_bit))]
+fn joined(low: u64, high: u64, by: usize) -> u64
+    requires { by < 64 }
+    ensures { (i : ℕ) → i < 64
+        → bit_at result i ≡ (if nat_lt (by + i) 64 then bit_at low (by + i) else bit_at high (by + i - 64)) }
+{
+    if by == 0 {
+        low
+    } else {
+        (low >> by) | (high << (64 - by))
+    }
 }
 
 #[tactic(auto, using(crate::proofs::Places::length_part))]
@@ -113,6 +130,24 @@ impl BitBuffer {
     {
         let place = self.start + index;
         is_bit_set(self.words.as_ref()[place / 64], place % 64)
+    }
+
+    /// The 64 bits from `64 * k` on, the first one lowest. What stands past the last bit is left
+    /// open. (own)
+    #[inline]
+    pub fn word(&self, k: usize) -> u64
+        requires { 64 * k < length self.now }
+        ensures { (i : ℕ) → i < 64 → 64 * k + i < length self.now → (bit_at result i == 1) ≡ bit_row self.now (64 * k + i) }
+    {
+        let from = self.start + 64 * k;
+        let words = self.words.as_ref().as_slice();
+        let place = from / 64;
+        let high = if place + 1 < words.len() {
+            words[place + 1]
+        } else {
+            0
+        };
+        joined(words[place], high, from % 64)
     }
 
     /// The bits at `range`, in the same storage: nothing is copied. The error means that the storage

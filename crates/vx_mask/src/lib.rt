@@ -4,9 +4,11 @@
 mod bits;
 mod buffer;
 mod builder;
+mod logic;
 #[cfg(test)]
 mod tests;
 
 pub use bits::BitBuffer;
 pub use buffer::Buffer;
 pub use builder::BitBuilder;
+pub use logic::{BitEq, BitGt, BitGte, BitLt, BitLte, BitNotEq, BitOperation};

@@ -1,4 +1,4 @@
-use crate::{BitBuffer, BitBuilder, Buffer};
+use crate::{BitBuffer, BitBuilder, BitEq, BitGt, BitGte, BitLt, BitLte, BitNotEq, Buffer};
 use std::test::Fail;
 
 #[test]
@@ -66,4 +66,68 @@ fn more_bits_than_memory(rt: HostRuntime) {
     assert!(rt; BitBuffer::repeat(rt.alloc(), true, usize::MAX).is_err());
     assert!(rt; BitBuffer::repeat(rt.alloc(), false, usize::MAX).is_err());
     assert!(rt; BitBuilder::with_capacity(rt.alloc(), usize::MAX).is_err());
+}
+
+#[test]
+fn operations_on_bits_that_begin_within_a_word(rt: HostRuntime) -> Result<(), Fail> {
+    let alloc = rt.alloc();
+    let mut threes = BitBuilder::with_capacity(alloc, 200)?;
+    let mut fives = BitBuilder::with_capacity(alloc, 200)?;
+    for i in 0..200 {
+        threes.push(i % 3 == 0)?;
+        fives.push(i % 5 < 2)?;
+    }
+    let threes = threes.finish(alloc)?;
+    let fives = fives.finish(alloc)?;
+    assert!(rt; threes.len() == 200 && fives.len() == 200);
+    for len in [0, 1, 63, 64, 65, 130] {
+        assert!(rt; len <= 130);
+        let lhs = threes.slice(4..4 + len)?;
+        let rhs = fives.slice(61..61 + len)?;
+        assert!(rt; lhs.len() == len && rhs.len() == len);
+        let eq = lhs.zip::<BitEq>(alloc, &rhs)?;
+        let not_eq = lhs.zip::<BitNotEq>(alloc, &rhs)?;
+        let lt = lhs.zip::<BitLt>(alloc, &rhs)?;
+        let lte = lhs.zip::<BitLte>(alloc, &rhs)?;
+        let gt = lhs.zip::<BitGt>(alloc, &rhs)?;
+        let gte = lhs.zip::<BitGte>(alloc, &rhs)?;
+        for i in 0..len {
+            let a = (i + 4) % 3 == 0;
+            let b = (i + 61) % 5 < 2;
+            assert!(rt; eq.get(i) == Some(a == b), "{i} of {len}");
+            assert!(rt; not_eq.get(i) == Some(a != b), "{i} of {len}");
+            assert!(rt; lt.get(i) == Some(a < b), "{i} of {len}");
+            assert!(rt; lte.get(i) == Some(a <= b), "{i} of {len}");
+            assert!(rt; gt.get(i) == Some(a > b), "{i} of {len}");
+            assert!(rt; gte.get(i) == Some(a >= b), "{i} of {len}");
+        }
+        assert!(rt; eq.len() == len && eq.get(len).is_none());
+    }
+    Ok(())
+}
+
+#[test]
+fn operations_with_one_bit(rt: HostRuntime) -> Result<(), Fail> {
+    let alloc = rt.alloc();
+    let mut builder = BitBuilder::with_capacity(alloc, 200)?;
+    for i in 0..200 {
+        builder.push(i % 3 == 0)?;
+    }
+    let threes = builder.finish(alloc)?;
+    assert!(rt; threes.len() == 200);
+    for len in [0, 1, 63, 64, 65, 130] {
+        assert!(rt; len <= 130);
+        let bits = threes.slice(5..5 + len)?;
+        let others = bits.negate(alloc)?;
+        let lt = bits.zip_bit::<BitLt>(alloc, true)?;
+        let gte = bits.zip_bit::<BitGte>(alloc, false)?;
+        for i in 0..len {
+            let a = (i + 5) % 3 == 0;
+            assert!(rt; others.get(i) == Some(!a), "{i} of {len}");
+            assert!(rt; lt.get(i) == Some(a < true), "{i} of {len}");
+            assert!(rt; gte.get(i) == Some(a >= false), "{i} of {len}");
+        }
+        assert!(rt; others.len() == len && others.get(len).is_none());
+    }
+    Ok(())
 }

@@ -1,10 +1,13 @@
 -- A well-formed tree has a cell for each row.
 use Rattle.std.proofs.Common.{◌≡◌, ℕ, ◌-◌, ◌≤◌, List, [], ◌∷◌, length, take, drop, Option, Some, None, sym, ◌∙◌, subst, arith, length-drop}
 use Rattle.std.proofs.lemmas.List.{length-take, length-map, length-replicate}
+use Rattle.std.proofs.lemmas.List.FromFn.{length-map-range_with_len}
 use Rattle.vx_value.specs.Types.{DataType}
 use Rattle.vx_value.specs.Values.{boolean, integer}
-use Rattle.vx_tree.specs.Tree.{Tree, Data, Slots, node, constant, slice, bool, primitive, no_slots, absent, slot, len}
-use Rattle.vx_tree.specs.Cells.{Cell, value, rows, slots_rows, node_cells, cells_at}
+use Rattle.vx_tree.specs.Tree.{Tree, Data, Slots, node, constant, slice, function, bool, primitive, no_slots, absent, slot, len}
+use Rattle.vx_value.specs.Cell.{Cell, value}
+use Rattle.vx_fn.specs.Apply.{apply}
+use Rattle.vx_tree.specs.Cells.{row_at, rows, slots_rows, node_cells, cells_at}
 use Rattle.vx_tree.specs.Well.{Shape, shape, shapes, IsNode, IsWell, AreWell}
 
 -- of each slot that holds a tree, as many cells as it has rows
@@ -27,6 +30,7 @@ node_counted : (ty : DataType) (n : ℕ) (d : Data) (css : List (List Cell)) (ss
 node_counted ty n (constant v) css ss h k = length-replicate n (value v.value)
 node_counted ty n (slice a b) css ss h k =
     cut_counted a b h.0 (cells_at css 0) (one_counted css ty h.0 (subst (AreCounted css) h.1 k)) h.2 h.3 ∙ sym h.4
+node_counted ty n (function f) css ss h k = length-map-range_with_len (λ i. apply f ty (row_at css i)) 0 n
 node_counted ty n (bool bs) css ss h k = length-map bs (λ b. value (boolean b)) ∙ sym h.1
 node_counted ty n (primitive p zs) css ss h k = length-map zs (λ z. value (integer z)) ∙ sym h.1
 

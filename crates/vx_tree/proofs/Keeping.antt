@@ -1,9 +1,12 @@
 -- `Keeps` is a preorder that is kept in a slot; `KeepsExactly` as well.
-use Rattle.std.proofs.Common.{◌≡◌, ℕ, zero, suc, ◌-◌, List, [], ◌∷◌, take, drop, map, replicate, refl, ◌∙◌, ap, subst}
+use Rattle.std.proofs.Common.{◌≡◌, ℕ, zero, suc, ◌-◌, List, [], ◌∷◌, take, drop, map, replicate, get_or, refl, ◌∙◌, ap, subst}
+use Rattle.std.specs.List.{range_with_len}
 use Rattle.vx_value.specs.Types.{DataType}
-use Rattle.vx_value.specs.Values.{boolean, integer}
-use Rattle.vx_tree.specs.Tree.{Tree, Data, Slots, node, constant, slice, bool, primitive, no_slots, absent, slot}
-use Rattle.vx_tree.specs.Cells.{Cell, value, fault, rows, slots_rows, node_cells, cells_at, AreClean, HasNoFault}
+use Rattle.vx_value.specs.Values.{Value, boolean, integer}
+use Rattle.vx_tree.specs.Tree.{Tree, Data, Slots, node, constant, slice, function, bool, primitive, no_slots, absent, slot}
+use Rattle.vx_value.specs.Cell.{Cell, value, fault}
+use Rattle.vx_fn.specs.Apply.{on_values, value_of}
+use Rattle.vx_tree.specs.Cells.{row_at, rows, slots_rows, node_cells, cells_at, AreClean, HasNoFault}
 use Rattle.vx_tree.specs.Slots.{set_slot, put}
 use Rattle.vx_tree.specs.Keeps.{CellKeeps, RowsKeep, Keeps, KeepsExactly}
 
@@ -66,10 +69,37 @@ drop_keep (suc k) [] (d ∷ ds) h = absurd h
 drop_keep (suc k) (c ∷ cs) [] h = absurd h
 drop_keep (suc k) (c ∷ cs) (d ∷ ds) h = drop_keep k cs ds h.1
 
+cell_keep : (i : ℕ) (cs ds : List Cell) → RowsKeep cs ds → CellKeeps (get_or cs i fault) (get_or ds i fault)
+cell_keep i [] [] h = tt
+cell_keep i [] (d ∷ ds) h = absurd h
+cell_keep i (c ∷ cs) [] h = absurd h
+cell_keep zero (c ∷ cs) (d ∷ ds) h = h.0
+cell_keep (suc i) (c ∷ cs) (d ∷ ds) h = cell_keep i cs ds h.1
+
+row_keep : (i : ℕ) (css dss : List (List Cell)) → AllKeep css dss → RowsKeep (row_at css i) (row_at dss i)
+row_keep i [] [] h = tt
+row_keep i [] (d ∷ ds) h = absurd h
+row_keep i (c ∷ cs) [] h = absurd h
+row_keep i (c ∷ cs) (d ∷ ds) h = (cell_keep i c d h.0, row_keep i cs ds h.1)
+
+-- whatever the function
+values_keep : (f : List Value → Cell) (cs ds : List Cell) → RowsKeep cs ds → CellKeeps (on_values f cs) (on_values f ds)
+values_keep f [] [] h = cell_refl (f [])
+values_keep f [] (d ∷ ds) h = absurd h
+values_keep f (c ∷ cs) [] h = absurd h
+values_keep f (value v ∷ cs) (d ∷ ds) h = rw h.0 (values_keep (λ vs. f (v ∷ vs)) cs ds h.1)
+values_keep f (fault ∷ cs) (d ∷ ds) h = tt
+
+map_keep : (f g : ℕ → Cell) (is : List ℕ) → ((i : ℕ) → CellKeeps (f i) (g i)) → RowsKeep (map f is) (map g is)
+map_keep f g [] h = tt
+map_keep f g (i ∷ is) h = (h i, map_keep f g is h)
+
 -- a node keeps what its slots keep: a line for each encoding
 pub node_mono : (ty : DataType) (n : ℕ) (d : Data) (css dss : List (List Cell)) → AllKeep css dss → RowsKeep (node_cells ty n d css) (node_cells ty n d dss)
 node_mono ty n (constant v) css dss h = rows_refl (replicate n (value v.value))
 node_mono ty n (slice a b) css dss h = take_keep (b - a) _ _ (drop_keep a _ _ (at_keep css dss 0 h))
+node_mono ty n (function f) css dss h =
+    map_keep _ _ (range_with_len 0 n) (λ i. values_keep (value_of f ty) _ _ (row_keep i css dss h))
 node_mono ty n (bool bs) css dss h = rows_refl (map (λ b. value (boolean b)) bs)
 node_mono ty n (primitive p zs) css dss h = rows_refl (map (λ z. value (integer z)) zs)
 

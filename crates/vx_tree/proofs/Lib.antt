@@ -1,6 +1,8 @@
 pub mod Opening
 pub mod Opened
 pub mod Keeping
+pub mod Ordering
+pub mod Calling
 pub mod Refusing
 pub mod Bounding
 pub mod Counting

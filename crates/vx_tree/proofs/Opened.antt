@@ -6,7 +6,8 @@ use Rattle.vx_value.specs.Typed.{Typed}
 use Rattle.vx_value.specs.IsOf.{is_of}
 use Rattle.vx_value.specs.declared.dtype.Nullability.TheVariants.{NonNullable}
 use Rattle.vx_value.specs.declared.dtype.PType.{PType}
-use Rattle.vx_tree.specs.Tree.{Tree, Data, node, constant, slice, bool, primitive, no_slots, absent, slot, slots_of, dtype, len}
+use Rattle.vx_fn.specs.declared.function.ScalarFnRef.{ScalarFnRef}
+use Rattle.vx_tree.specs.Tree.{Tree, Data, node, constant, slice, function, bool, primitive, no_slots, absent, slot, slots_of, dtype, len}
 use Rattle.vx_tree.specs.Well.{Shape, shape, shape_of, shapes, IsNode}
 use Rattle.vx_tree.proofs.Opening.{one_slot, one_absent, none_there}
 
@@ -15,6 +16,11 @@ type_in (shape ty n) = ty
 
 abbrev len_in : Shape → ℕ
 len_in (shape ty n) = n
+
+-- the slots, as a reference shows them
+pub shown_slots : (t : Tree) (f : ScalarFnRef) (items now : List (Option Tree)) → now ≡ items → (t ≡ node (dtype t) (len t) (function f) (slots_of items)) × IsNode (dtype t) (len t) (function f) (shapes (slots_of items)) → (t ≡ node (dtype t) (len t) (function f) (slots_of now)) × IsNode (dtype t) (len t) (function f) (shapes (slots_of now))
+shown_slots t f items now e h =
+    subst (λ x. (t ≡ node (dtype t) (len t) (function f) (slots_of x)) × IsNode (dtype t) (len t) (function f) (shapes (slots_of x))) (sym e) h
 
 module _ (ty : DataType) (k : ℕ) (d : Data) (items : List (Option Tree)) (t : Tree) (q : node ty k d (slots_of items) ≡ t) (w : IsNode ty k d (shapes (slots_of items))) where
   pub kind_constant : (v : Typed) → d ≡ constant v → (t ≡ node v.of_type (len t) (constant v) no_slots) × (nullability_of v.of_type ≡ NonNullable) × (is_of v.of_type v.value ≡ true)
@@ -44,3 +50,9 @@ module _ (ty : DataType) (k : ℕ) (d : Data) (items : List (Option Tree)) (t : 
       let v = subst (λ x. IsNode ty k x (shapes (slots_of items))) e w in
       let i = one_absent items v.2 in
       sym q ∙ (λ j. node (v.0 j) (v.1 j) (e j) (slots_of (i j)))
+
+  pub kind_function : (f : ScalarFnRef) → d ≡ function f → (t ≡ node (dtype t) (len t) (function f) (slots_of items)) × IsNode (dtype t) (len t) (function f) (shapes (slots_of items))
+  kind_function f e =
+      let same = shapes (slots_of items) in
+      let typed = subst (λ x. IsNode x k (function f) same) (ap dtype q) (subst (λ x. IsNode ty k x same) e w) in
+      (sym q ∙ (λ j. node (ap dtype q j) (ap len q j) (e j) (slots_of items)), subst (λ x. IsNode (dtype t) x (function f) same) (ap len q) typed)

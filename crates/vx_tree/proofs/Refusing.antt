@@ -1,17 +1,25 @@
 -- What is refused, and what isn't.
-use Rattle.std.proofs.Common.{◌≡◌, ◌≢◌, get_or, ℕ, ◌-◌, ◌≤◌, List, [], ◌∷◌, length, Bool, true, false, nat_le, ◌&&◌, Option, Some, None, refl, sym, ◌∙◌, ap, subst, arith}
+use Rattle.std.proofs.Common.{◌≡◌, ◌≢◌, get_or, ℕ, ◌-◌, ◌≤◌, List, [], ◌∷◌, length, map, Bool, true, false, nat_le, ◌&&◌, Option, Some, None, refl, sym, ◌∙◌, ap, subst, arith}
 use Rattle.std.proofs.lemmas.Grind.{common_steps}
+use Rattle.std.proofs.lemmas.List.{length-map}
+use Rattle.std.specs.Prelude.{◌==◌}
 use Rattle.vx_value.specs.Types as type
-use Rattle.vx_value.specs.Types.{DataType, nullability_of, is_nullable, same_nullability_Decides}
+use Rattle.vx_value.specs.Types.{DataType, same_type, nullability_of, is_nullable, same_nullability_Decides}
 use Rattle.vx_value.specs.Typed.{Typed}
 use Rattle.vx_value.specs.declared.dtype.Nullability.{Nullability}
 use Rattle.vx_value.specs.declared.dtype.Nullability.TheVariants.{NonNullable, Nullable}
 use Rattle.vx_value.specs.declared.error.VortexError.{VortexError}
 use Rattle.vx_value.specs.declared.error.VortexError.TheVariants.{InvalidArgument}
-use Rattle.vx_value.specs.declared.error.ArgKind.TheVariants.{SlotCount}
-use Rattle.vx_tree.specs.Tree.{Tree, Data, constant, slice, bool, primitive, slots_of, dtype, len}
+use Rattle.vx_value.specs.declared.error.ArgKind.TheVariants.{SlotCount, FnSlotMissing, NodeType}
+use Rattle.vx_value.specs.declared.id.Id.{Id}
+use Rattle.vx_value.specs.Ids.{same_id, same_id_Decides}
+use Rattle.vx_fn.specs.Functions.{arity, function_id}
+use Rattle.vx_fn.specs.ReturnTypes.{return_type}
+use Rattle.vx_fn.specs.declared.function.ScalarFnRef.{ScalarFnRef}
+use Rattle.vx_tree.proofs.Calling.{arity_of_row, shapes_of_types, present_types, types_back, long_types, result_none}
+use Rattle.vx_tree.specs.Tree.{Tree, Data, constant, slice, function, bool, primitive, id_of, slots_of, dtype, len}
 use Rattle.vx_tree.specs.Well.{Shape, shape, shape_of, shapes, IsNode}
-use Rattle.vx_tree.specs.Refusals.{refusal, column_refusal, constant_refusal, slice_refusal, unless, first_of_both, no_validity}
+use Rattle.vx_tree.specs.Refusals.{refusal, column_refusal, constant_refusal, slice_refusal, function_refusal, slots_refusal, types_refusal, lengths_refusal, result_refusal, arity_refusal, all_present, types_in, unless, first_of_both, no_validity}
 use Rattle.vx_value.specs.Types.{same_type_Decides}
 use Rattle.std.specs.Cmp.{unsigned_Decides, first_so, second_so}
 
@@ -69,11 +77,23 @@ slice_kept ty n a b (Some (shape s m) ∷ []) h =
 slice_kept ty n a b (None ∷ r ∷ ss) h = absurd (cc)
 slice_kept ty n a b (Some s ∷ r ∷ ss) h = absurd (cc)
 
-pub node_unless_refused : (ty : DataType) (n : ℕ) (d : Data) (ss : List (Option Shape)) → refusal ty n d ss ≡ None → IsNode ty n d ss
-node_unless_refused ty n (constant v) ss h = constant_kept ty n v ss h
-node_unless_refused ty n (slice a b) ss h = slice_kept ty n a b ss h
-node_unless_refused ty n (bool bs) ss h = column_kept ty n (type.bool NonNullable) (length bs) ss h
-node_unless_refused ty n (primitive p zs) ss h = column_kept ty n (type.primitive p NonNullable) (length zs) ss h
+function_kept : (i : Id) (ty : DataType) (n : ℕ) (f : ScalarFnRef) (ss : List (Option Shape)) → function_refusal i ty n f ss ≡ None → IsNode ty n (function f) ss
+function_kept i ty n f ss h =
+    let later : first_of_both (types_refusal i ty f ss) (lengths_refusal n ss) ≡ None = second_none (slots_refusal f ss) _ h in
+    let slots : slots_refusal f ss ≡ None = first_none (slots_refusal f ss) (first_of_both (types_refusal i ty f ss) (lengths_refusal n ss)) h in
+    let types : types_refusal i ty f ss ≡ None = first_none (types_refusal i ty f ss) (lengths_refusal n ss) later in
+    let lengths : lengths_refusal n ss ≡ None = second_none (types_refusal i ty f ss) (lengths_refusal n ss) later in
+    let present : unless (all_present ss) (InvalidArgument FnSlotMissing) ≡ None = first_none _ (arity_refusal f (length ss)) slots in
+    let result : result_refusal ty (return_type f (types_in ss)) ≡ None =
+    second_none (unless (same_id i (function_id f)) (InvalidArgument NodeType)) _ types in
+    (types_in ss, shapes_of_types n ss (unless_none _ _ present) (unless_none _ _ lengths), result_none ty (return_type f (types_in ss)) result)
+
+pub node_unless_refused : (i : Id) (ty : DataType) (n : ℕ) (d : Data) (ss : List (Option Shape)) → refusal i ty n d ss ≡ None → IsNode ty n d ss
+node_unless_refused i ty n (constant v) ss h = constant_kept ty n v ss h
+node_unless_refused i ty n (slice a b) ss h = slice_kept ty n a b ss h
+node_unless_refused i ty n (function f) ss h = function_kept i ty n f ss h
+node_unless_refused i ty n (bool bs) ss h = column_kept ty n (type.bool NonNullable) (length bs) ss h
+node_unless_refused i ty n (primitive p zs) ss h = column_kept ty n (type.primitive p NonNullable) (length zs) ss h
 
 -- and the parts that meet them aren't refused
 
@@ -82,7 +102,19 @@ column_taken ty n of_type k ss h =
     let e : column_refusal ty n of_type k (None ∷ []) ≡ None = both_none _ _ (none_unless _ _ ((same_type_Decides ty of_type).1 h.0)) (both_none None _ refl (none_unless _ _ ((unsigned_Decides n k).1 h.1))) in
     subst (λ l. column_refusal ty n of_type k l ≡ None) (sym h.2) e
 
-pub refused_unless_node : (ty : DataType) (n : ℕ) (d : Data) (ss : List (Option Shape)) → IsNode ty n d ss → refusal ty n d ss ≡ None
+function_taken : (ty : DataType) (n : ℕ) (f : ScalarFnRef) (ss : List (Option Shape)) → IsNode ty n (function f) ss → function_refusal (function_id f) ty n f ss ≡ None
+function_taken ty n f ss h =
+    let tys = h.0 in
+    let made = map (λ s. Some (shape s n)) tys in
+    let count : (length made == arity f) ≡ true = (unsigned_Decides (length made) (arity f)).1 (length-map tys (λ s. Some (shape s n)) ∙ arity_of_row f tys ty h.2) in
+    let result : result_refusal ty (return_type f (types_in made)) ≡ None =
+    ap (λ us. result_refusal ty (return_type f us)) (types_back n tys) ∙ ap (result_refusal ty) h.2 ∙ none_unless _ _ ((same_type_Decides ty ty).1 refl) in
+    let slots : slots_refusal f made ≡ None = both_none _ _ (none_unless _ _ (present_types n tys)) (none_unless _ _ count) in
+    let types : types_refusal (function_id f) ty f made ≡ None = both_none _ _ (none_unless _ _ ((same_id_Decides (function_id f) (function_id f)).1 refl)) result in
+    let e : function_refusal (function_id f) ty n f made ≡ None = both_none (slots_refusal f made) _ slots (both_none (types_refusal (function_id f) ty f made) _ types (none_unless _ _ (long_types n tys))) in
+    subst (λ l. function_refusal (function_id f) ty n f l ≡ None) (sym h.1) e
+
+pub refused_unless_node : (ty : DataType) (n : ℕ) (d : Data) (ss : List (Option Shape)) → IsNode ty n d ss → refusal (id_of d) ty n d ss ≡ None
 refused_unless_node ty n (constant v) ss h =
     let e : constant_refusal ty v [] ≡ None = both_none _ _ (none_unless _ _ ((same_type_Decides ty v.of_type).1 h.0)) (both_none _ _ (none_unless _ _ ((same_nullability_Decides (nullability_of ty) NonNullable).1 h.1)) (none_unless _ _ h.2)) in
     subst (λ l. constant_refusal ty v l ≡ None) (sym h.3) e
@@ -90,8 +122,12 @@ refused_unless_node ty n (slice a b) ss h =
     let range : (nat_le a b && nat_le b h.0) ≡ true = ap (λ x. x && nat_le b h.0) (true_le a b h.2) ∙ true_le b h.0 h.3 in
     let e : slice_refusal ty n a b (Some (shape ty h.0) ∷ []) ≡ None = both_none _ _ (none_unless _ _ ((same_type_Decides ty ty).1 refl)) (both_none _ _ (none_unless _ _ ((unsigned_Decides n (b - a)).1 h.4)) (none_unless _ _ range)) in
     subst (λ l. slice_refusal ty n a b l ≡ None) (sym h.1) e
+refused_unless_node ty n (function f) ss h = function_taken ty n f ss h
 refused_unless_node ty n (bool bs) ss h = column_taken ty n (type.bool NonNullable) (length bs) ss h
 refused_unless_node ty n (primitive p zs) ss h = column_taken ty n (type.primitive p NonNullable) (length zs) ss h
+
+true_is_false : true ≡ false → ⊥
+true_is_false h = absurd (cc)
 
 -- what is asked of the slots, as the code asks
 
@@ -126,6 +162,16 @@ pub the_slot : (xs : List (Option Tree)) (s : Option Tree) → length xs ≡ 1 �
 the_slot [] s h e = absurd (omega arith)
 the_slot (r ∷ []) s h e = ap (λ z. z ∷ []) (cc)
 the_slot (r ∷ q ∷ xs) s h e = absurd (omega arith)
+
+-- a type, as the code compares it
+pub of_that_type : (s t : DataType) → same_type s t ≡ true → s ≡ t
+of_that_type s t h = (same_type_Decides s t).0 h
+
+pub of_another_type : (s t : DataType) → same_type s t ≡ false → ¬ (s ≡ t)
+of_another_type s t h e = absurd (true_is_false (sym ((same_type_Decides s t).1 e) ∙ h))
+
+pub no_slots_there : (xs : List (Option Tree)) → xs ≡ None ∷ [] → shapes (slots_of xs) ≡ None ∷ []
+no_slots_there xs h = ap (λ ys. shapes (slots_of ys)) h
 
 -- the parts that the constructors make
 

@@ -1,13 +1,11 @@
 -- What a tree means: a cell for each row.
-use Rattle.std.specs.Prelude.{ℕ, zero, suc, ◌-◌, List, [], ◌∷◌, take, drop, map, replicate}
+use Rattle.std.specs.Prelude.{ℕ, zero, suc, ◌-◌, List, [], ◌∷◌, take, drop, map, replicate, slice_index_or}
+use Rattle.std.specs.List.{range_with_len}
 use Rattle.vx_value.specs.Types.{DataType}
-use Rattle.vx_value.specs.Values.{Value, boolean, integer}
-use Rattle.vx_tree.specs.Tree.{Tree, Data, Slots, node, constant, slice, bool, primitive, no_slots, absent, slot}
-
--- a value, or a fault
-pub data Cell : Type 0 where
-  value : Value → Cell
-  fault : Cell
+use Rattle.vx_value.specs.Values.{boolean, integer}
+use Rattle.vx_value.specs.Cell.{Cell, value, fault}
+use Rattle.vx_fn.specs.Apply.{apply}
+use Rattle.vx_tree.specs.Tree.{Tree, Data, Slots, node, constant, slice, function, bool, primitive, no_slots, absent, slot}
 
 -- the cells of slot k; of an absent one, none
 abbrev pub cells_at : List (List Cell) → ℕ → List Cell
@@ -15,10 +13,15 @@ cells_at [] k = []
 cells_at (cs ∷ css) zero = cs
 cells_at (cs ∷ css) (suc k) = cells_at css k
 
+-- row i of each slot; a fault where it has none
+abbrev pub row_at : List (List Cell) → ℕ → List Cell
+row_at css i = map (λ cs. slice_index_or cs i fault) css
+
 -- the cells of a node, from those of its slots: a line for each encoding
 abbrev pub node_cells : DataType → ℕ → Data → List (List Cell) → List Cell
 node_cells ty n (constant v) css = replicate n (value v.value)
 node_cells ty n (slice a b) css = take (b - a) (drop a (cells_at css 0))
+node_cells ty n (function f) css = map (λ i. apply f ty (row_at css i)) (range_with_len 0 n)
 node_cells ty n (bool bs) css = map (λ b. value (boolean b)) bs
 node_cells ty n (primitive p zs) css = map (λ z. value (integer z)) zs
 

@@ -1,11 +1,17 @@
 -- What bounds the turns of an execution.
 use Rattle.std.specs.Prelude.{ℕ, ◌+◌, ◌*◌, List, [], ◌∷◌, sum}
-use Rattle.vx_tree.specs.Tree.{Tree, Data, Slots, node, constant, slice, bool, primitive, no_slots, absent, slot}
+use Rattle.vx_tree.specs.Tree.{Tree, Data, Slots, node, constant, slice, function, bool, primitive, no_slots, absent, slot}
+
+-- the reach of each slot, added up
+abbrev pub all_reached : List ℕ → ℕ
+all_reached [] = 0
+all_reached (e ∷ es) = 1 + e + all_reached es
 
 -- how far a slice may have to be pushed down, less one: a line for each encoding
 abbrev pub node_extra : Data → List ℕ → ℕ
 node_extra (constant v) es = 0
 node_extra (slice a b) es = sum es
+node_extra (function f) es = all_reached es
 node_extra (bool bs) es = 0
 node_extra (primitive p zs) es = 0
 
@@ -25,12 +31,14 @@ reach t = 1 + extra t
 abbrev pub base_cost : Data → ℕ
 base_cost (constant v) = 2
 base_cost (slice a b) = 2
+base_cost (function f) = 3
 base_cost (bool bs) = 1
 base_cost (primitive p zs) = 1
 
 abbrev pub slot_cost : Data → ℕ → ℕ → ℕ
 slot_cost (constant v) c e = c + 1
 slot_cost (slice a b) c e = c + 1 + 3 * e
+slot_cost (function f) c e = c + 1
 slot_cost (bool bs) c e = c + 1
 slot_cost (primitive p zs) c e = c + 1
 
@@ -43,3 +51,9 @@ abbrev mutual
   slots_cost d no_slots = 0
   slots_cost d (absent ss) = slots_cost d ss
   slots_cost d (slot t ss) = slot_cost d (cost t) (extra t) + slots_cost d ss
+
+-- a number for each tree in the slots, added up
+abbrev pub slots_sum : (Tree → ℕ) → Slots → ℕ
+slots_sum number no_slots = 0
+slots_sum number (absent ss) = slots_sum number ss
+slots_sum number (slot t ss) = number t + slots_sum number ss

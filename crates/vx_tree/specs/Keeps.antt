@@ -1,7 +1,8 @@
 -- When one tree may stand for another.
 use Rattle.std.specs.Prelude.{◌≡◌, List, [], ◌∷◌}
 use Rattle.vx_tree.specs.Tree.{Tree, dtype, len}
-use Rattle.vx_tree.specs.Cells.{Cell, value, fault, rows, IsClean}
+use Rattle.vx_value.specs.Cell.{Cell, value, fault}
+use Rattle.vx_tree.specs.Cells.{rows, IsClean}
 
 -- where the first has a value, the second has it too
 abbrev pub CellKeeps : Cell → Cell → Type 0

@@ -7,8 +7,13 @@ use Rattle.vx_value.specs.Typed.{Typed}
 use Rattle.vx_value.specs.declared.dtype.Nullability.TheVariants.{NonNullable}
 use Rattle.vx_value.specs.declared.error.VortexError.{VortexError}
 use Rattle.vx_value.specs.declared.error.VortexError.TheVariants.{InvalidArgument, OutOfBounds}
-use Rattle.vx_value.specs.declared.error.ArgKind.TheVariants.{SlotCount, SlotMissing, SlotType, NodeType, NodeLen, BadType, BadValue}
-use Rattle.vx_tree.specs.Tree.{Data, constant, slice, bool, primitive}
+use Rattle.vx_value.specs.declared.error.ArgKind.TheVariants.{SlotCount, SlotMissing, SlotType, Arity, ChildLen, FnSlotMissing, NoRow, NodeType, NodeLen, BadType, BadValue}
+use Rattle.vx_value.specs.Ids.{same_id}
+use Rattle.vx_value.specs.declared.id.Id.{Id}
+use Rattle.vx_fn.specs.Functions.{arity, function_id}
+use Rattle.vx_fn.specs.ReturnTypes.{return_type}
+use Rattle.vx_fn.specs.declared.function.ScalarFnRef.{ScalarFnRef}
+use Rattle.vx_tree.specs.Tree.{Tree, Data, constant, slice, function, bool, primitive, dtype, len}
 use Rattle.vx_tree.specs.Well.{Shape, shape}
 
 -- no tree may be in the slot of a column without nulls
@@ -45,9 +50,63 @@ slice_refusal ty n a b (Some (shape s m) ∷ []) =
     first_of_both (unless (same_type ty s) (InvalidArgument NodeType)) (first_of_both (unless (n == b - a) (InvalidArgument NodeLen)) (unless (nat_le a b && nat_le b m) (OutOfBounds a b m)))
 slice_refusal ty n a b (s ∷ r ∷ ss) = Some (InvalidArgument SlotCount)
 
--- why no node of these parts is made, None where one is: a line for each encoding
-abbrev pub refusal : DataType → ℕ → Data → List (Option Shape) → Option VortexError
-refusal ty n (constant v) ss = constant_refusal ty v ss
-refusal ty n (slice a b) ss = slice_refusal ty n a b ss
-refusal ty n (bool bs) ss = column_refusal ty n (type.bool NonNullable) (length bs) ss
-refusal ty n (primitive p zs) ss = column_refusal ty n (type.primitive p NonNullable) (length zs) ss
+-- each slot holds a tree; the types of those that do; and whether these have so many rows
+abbrev pub all_present : List (Option Shape) → Bool
+all_present [] = true
+all_present (None ∷ ss) = false
+all_present (Some s ∷ ss) = all_present ss
+
+abbrev pub types_in : List (Option Shape) → List DataType
+types_in [] = []
+types_in (None ∷ ss) = types_in ss
+types_in (Some (shape s m) ∷ ss) = s ∷ types_in ss
+
+-- one slot: its type, whether it holds a tree, and whether that has so many rows
+abbrev pub type_in : Option Tree → List DataType
+type_in None = []
+type_in (Some t) = dtype t ∷ []
+
+abbrev pub is_present : Option Tree → Bool
+is_present None = false
+is_present (Some t) = true
+
+abbrev pub is_long : ℕ → Option Tree → Bool
+is_long n None = true
+is_long n (Some t) = len t == n
+
+abbrev pub all_long : ℕ → List (Option Shape) → Bool
+all_long n [] = true
+all_long n (None ∷ ss) = all_long n ss
+all_long n (Some (shape s m) ∷ ss) = (m == n) && all_long n ss
+
+-- of so many arguments
+abbrev pub arity_refusal : ScalarFnRef → ℕ → Option VortexError
+arity_refusal f k = unless (k == arity f) (InvalidArgument (Arity (arity f) k))
+
+-- where the function gives no type, or another one
+abbrev pub result_refusal : DataType → Option DataType → Option VortexError
+result_refusal ty None = Some (InvalidArgument NoRow)
+result_refusal ty (Some s) = unless (same_type ty s) (InvalidArgument NodeType)
+
+-- of a function: its slots, its types where the node is to go by the id, and its lengths
+abbrev pub slots_refusal : ScalarFnRef → List (Option Shape) → Option VortexError
+slots_refusal f ss = first_of_both (unless (all_present ss) (InvalidArgument FnSlotMissing)) (arity_refusal f (length ss))
+
+abbrev pub types_refusal : Id → DataType → ScalarFnRef → List (Option Shape) → Option VortexError
+types_refusal i ty f ss =
+    first_of_both (unless (same_id i (function_id f)) (InvalidArgument NodeType)) (result_refusal ty (return_type f (types_in ss)))
+
+abbrev pub lengths_refusal : ℕ → List (Option Shape) → Option VortexError
+lengths_refusal n ss = unless (all_long n ss) (InvalidArgument ChildLen)
+
+abbrev pub function_refusal : Id → DataType → ℕ → ScalarFnRef → List (Option Shape) → Option VortexError
+function_refusal i ty n f ss =
+    first_of_both (slots_refusal f ss) (first_of_both (types_refusal i ty f ss) (lengths_refusal n ss))
+
+-- why no node of these parts is made under the id of its tag, None where one is: a line for each encoding
+abbrev pub refusal : Id → DataType → ℕ → Data → List (Option Shape) → Option VortexError
+refusal i ty n (constant v) ss = constant_refusal ty v ss
+refusal i ty n (slice a b) ss = slice_refusal ty n a b ss
+refusal i ty n (function f) ss = function_refusal i ty n f ss
+refusal i ty n (bool bs) ss = column_refusal ty n (type.bool NonNullable) (length bs) ss
+refusal i ty n (primitive p zs) ss = column_refusal ty n (type.primitive p NonNullable) (length zs) ss

@@ -8,11 +8,14 @@ use Rattle.vx_value.specs.Typed.{Typed, coded_typed}
 use Rattle.vx_value.specs.declared.dtype.PType.{PType}
 use Rattle.vx_value.specs.declared.id.Id.{Id}
 use Rattle.vx_value.specs.declared.id.Id.TheVariants as id
+use Rattle.vx_fn.specs.Functions.{function_id, coded_function}
+use Rattle.vx_fn.specs.declared.function.ScalarFnRef.{ScalarFnRef}
 
 -- the data of a node: its buffers as lists, and its numbers
 pub data Data : Type 0 where
   constant : Typed → Data
   slice : ℕ → ℕ → Data
+  function : ScalarFnRef → Data
   bool : List Bool → Data
   primitive : PType → List ℤ → Data
 
@@ -30,6 +33,11 @@ abbrev pub slots_of : List (Option Tree) → Slots
 slots_of [] = no_slots
 slots_of (None ∷ ss) = absent (slots_of ss)
 slots_of (Some t ∷ ss) = slot t (slots_of ss)
+
+-- slots that each hold a tree
+abbrev pub filled_slots : List Tree → Slots
+filled_slots [] = no_slots
+filled_slots (t ∷ ts) = slot t (filled_slots ts)
 
 abbrev mutual
   pub height : Tree → ℕ
@@ -57,6 +65,7 @@ slots (node ty n d ss) = ss
 abbrev pub id_of : Data → Id
 id_of (constant v) = id.Constant
 id_of (slice a b) = id.Slice
+id_of (function f) = function_id f
 id_of (bool bs) = id.Bool
 id_of (primitive p zs) = id.Primitive
 
@@ -64,24 +73,35 @@ id_of (primitive p zs) = id.Primitive
 abbrev pub is_constant : Data → Bool
 is_constant (constant v) = true
 is_constant (slice a b) = false
+is_constant (function f) = false
 is_constant (bool bs) = false
 is_constant (primitive p zs) = false
 
 abbrev pub is_slice : Data → Bool
 is_slice (constant v) = false
 is_slice (slice a b) = true
+is_slice (function f) = false
 is_slice (bool bs) = false
 is_slice (primitive p zs) = false
+
+abbrev pub is_function : Data → Bool
+is_function (constant v) = false
+is_function (slice a b) = false
+is_function (function f) = true
+is_function (bool bs) = false
+is_function (primitive p zs) = false
 
 abbrev pub is_bool : Data → Bool
 is_bool (constant v) = false
 is_bool (slice a b) = false
+is_bool (function f) = false
 is_bool (bool bs) = true
 is_bool (primitive p zs) = false
 
 abbrev pub is_primitive : Data → Bool
 is_primitive (constant v) = false
 is_primitive (slice a b) = false
+is_primitive (function f) = false
 is_primitive (bool bs) = false
 is_primitive (primitive p zs) = true
 
@@ -89,6 +109,7 @@ is_primitive (primitive p zs) = true
 abbrev pub is_canonical : Data → Bool
 is_canonical (constant v) = false
 is_canonical (slice a b) = false
+is_canonical (function f) = false
 is_canonical (bool bs) = true
 is_canonical (primitive p zs) = true
 
@@ -96,32 +117,36 @@ is_canonical (primitive p zs) = true
 abbrev pub is_columnar : Data → Bool
 is_columnar (constant v) = true
 is_columnar (slice a b) = false
+is_columnar (function f) = false
 is_columnar (bool bs) = true
 is_columnar (primitive p zs) = true
 
 -- ---- the code of a tree: of node data, a line for each encoding in each of three definitions
 
-abbrev pub data_split : Data → Typed ⊎ ((ℕ × ℕ) ⊎ (List Bool ⊎ (ℕ × List ℤ)))
+abbrev pub data_split : Data → Typed ⊎ ((ℕ × ℕ) ⊎ (ScalarFnRef ⊎ (List Bool ⊎ (ℕ × List ℤ))))
 data_split (constant v) = inl v
 data_split (slice a b) = inr (inl (a, b))
-data_split (bool bs) = inr (inr (inl bs))
-data_split (primitive p zs) = inr (inr (inr (ptype_number p, zs)))
+data_split (function f) = inr (inr (inl f))
+data_split (bool bs) = inr (inr (inr (inl bs)))
+data_split (primitive p zs) = inr (inr (inr (inr (ptype_number p, zs))))
 
-abbrev pub data_join : Typed ⊎ ((ℕ × ℕ) ⊎ (List Bool ⊎ (ℕ × List ℤ))) → Data
+abbrev pub data_join : Typed ⊎ ((ℕ × ℕ) ⊎ (ScalarFnRef ⊎ (List Bool ⊎ (ℕ × List ℤ)))) → Data
 data_join (inl v) = constant v
 data_join (inr (inl p)) = slice p.0 p.1
-data_join (inr (inr (inl bs))) = bool bs
-data_join (inr (inr (inr p))) = primitive (ptype_at p.0) p.1
+data_join (inr (inr (inl f))) = function f
+data_join (inr (inr (inr (inl bs)))) = bool bs
+data_join (inr (inr (inr (inr p)))) = primitive (ptype_at p.0) p.1
 
 pub data_join_split : (d : Data) → data_join (data_split d) ≡ d
 data_join_split (constant v) = refl
 data_join_split (slice a b) = refl
+data_join_split (function f) = refl
 data_join_split (bool bs) = refl
 data_join_split (primitive p zs) = ap (λ q. primitive q zs) (ptype_back p)
 
 abbrev pub coded_data : Coded Data
 coded_data =
-    code_by (Typed ⊎ ((ℕ × ℕ) ⊎ (List Bool ⊎ (ℕ × List ℤ)))) (coded⊎ coded_typed (coded⊎ (coded× coded_ℕ coded_ℕ) (coded⊎ (coded_list coded_bool) (coded× coded_ℕ (coded_list coded_ℤ))))) data_split data_join data_join_split
+    code_by (Typed ⊎ ((ℕ × ℕ) ⊎ (ScalarFnRef ⊎ (List Bool ⊎ (ℕ × List ℤ))))) (coded⊎ coded_typed (coded⊎ (coded× coded_ℕ coded_ℕ) (coded⊎ coded_function (coded⊎ (coded_list coded_bool) (coded× coded_ℕ (coded_list coded_ℤ)))))) data_split data_join data_join_split
 
 abbrev head : Gv → Gv
 head gnil = gnil

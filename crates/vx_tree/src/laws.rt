@@ -2,16 +2,17 @@
 
 ghost use Rattle.std.specs.Prelude.{◌≡◌, ◌↔◌, ◌+◌, ◌*◌, ◌<◌, ◌≤◌, ℕ, List, Option, None};
 ghost use Rattle.vx_value.specs.Types.{DataType};
-ghost use Rattle.vx_tree.specs.Tree.{Tree, Data, node, slice, slot, no_slots};
+ghost use Rattle.vx_tree.specs.Tree.{Tree, Slots, Data, id_of, node, slice, function, slot, no_slots};
 ghost use Rattle.vx_tree.specs.Well.{Shape, IsNode};
 ghost use Rattle.vx_tree.specs.Refusals.{refusal};
 ghost use Rattle.vx_tree.specs.Slots.{put};
 ghost use Rattle.vx_tree.specs.Keeps.{Keeps, KeepsExactly};
-ghost use Rattle.vx_tree.specs.Cost.{cost, reach};
+ghost use Rattle.vx_tree.specs.Cost.{cost, reach, slots_sum};
+ghost use Rattle.vx_fn.specs.declared.function.ScalarFnRef.{ScalarFnRef as ScalarFnOf};
 
-/// A node's parts are refused exactly where they break its conditions.
+/// A node's parts are refused exactly where they break its conditions, its tag being its own.
 pub fn refused_exactly()
-    ensures { (ty : DataType) (n : ℕ) (d : Data) (ss : List (Option Shape)) → (refusal ty n d ss ≡ None) ↔ IsNode ty n d ss }
+    ensures { (ty : DataType) (n : ℕ) (d : Data) (ss : List (Option Shape)) → (refusal (id_of d) ty n d ss ≡ None) ↔ IsNode ty n d ss }
 {}
 
 /// To keep a tree is a preorder, and is kept in a slot; to keep it exactly as well.
@@ -27,5 +28,7 @@ pub fn keeping_laws()
 pub fn execution_bounds()
     ensures slices { (ty : DataType) (n a b : ℕ) (c : Tree) → cost (node ty n (slice a b) (slot c no_slots)) ≡ cost c + 3 * reach c }
     ensures slice_reach { (ty : DataType) (n a b : ℕ) (c : Tree) → reach (node ty n (slice a b) (slot c no_slots)) ≡ reach c }
+    ensures functions { (ty : DataType) (n : ℕ) (f : ScalarFnOf) (ss : Slots) → cost (node ty n (function f) ss) ≡ 3 + slots_sum (λ c. 1 + cost c) ss }
+    ensures function_reach { (ty : DataType) (n : ℕ) (f : ScalarFnOf) (ss : Slots) → reach (node ty n (function f) ss) ≡ 1 + slots_sum reach ss }
     ensures positive { (t : Tree) → 0 < cost t }
 {}

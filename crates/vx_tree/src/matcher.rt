@@ -1,7 +1,7 @@
 //! Tests on the root of a tree.
 
 ghost use Rattle.std.specs.Prelude.{◌≡◌, Bool, true};
-ghost use Rattle.vx_tree.specs.Tree.{Tree, datum, is_canonical, is_columnar};
+ghost use Rattle.vx_tree.specs.Tree.{Tree, datum, is_canonical, is_columnar, is_function};
 
 use crate::array::{ArrayRef, Encoding, VTable};
 
@@ -37,6 +37,7 @@ impl Matcher for AnyCanonical {
         match array.encoding() {
             Encoding::Constant(_) => false,
             Encoding::Slice(_) => false,
+            Encoding::ScalarFn(_) => false,
             Encoding::Bool(_) => true,
             Encoding::Primitive(_) => true,
         }
@@ -54,8 +55,27 @@ impl Matcher for AnyColumnar {
         match array.encoding() {
             Encoding::Constant(_) => true,
             Encoding::Slice(_) => false,
+            Encoding::ScalarFn(_) => false,
             Encoding::Bool(_) => true,
             Encoding::Primitive(_) => true,
+        }
+    }
+}
+
+/// Trees of a function.
+#[derive(Clone, Copy, Debug)]
+pub struct AnyScalarFn;
+
+impl Matcher for AnyScalarFn {
+    ghost fits = { λ t. is_function (datum t) };
+
+    fn matches(array: &ArrayRef) -> bool {
+        match array.encoding() {
+            Encoding::Constant(_) => false,
+            Encoding::Slice(_) => false,
+            Encoding::ScalarFn(_) => true,
+            Encoding::Bool(_) => false,
+            Encoding::Primitive(_) => false,
         }
     }
 }

@@ -1,5 +1,6 @@
 pub mod Types
 pub mod Values
+pub mod Cell
 pub mod View
 pub mod IsOf
 pub mod Typed

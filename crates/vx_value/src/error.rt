@@ -18,6 +18,21 @@ pub enum ArgKind {
     /// A slot's tree is of a type that its encoding doesn't take there.
     #[error("slot type")]
     SlotType { slot: usize },
+    /// A function is given another number of arguments than it takes.
+    #[error("ScalarFnArray requires {want} children, got {got}")]
+    Arity { want: usize, got: usize },
+    /// The arguments of a function are of another length, in rows, than its node.
+    #[error("ScalarFnArray must have children equal to the array length")]
+    ChildLen,
+    /// An argument of a function has no tree.
+    #[error("ScalarFnArray requires every child slot to be present")]
+    FnSlotMissing,
+    /// No argument tells how many rows there are.
+    #[error("ScalarFnArray length cannot be inferred without children")]
+    NoChildren,
+    /// No function of this name takes arguments of these types.
+    #[error("no row")]
+    NoRow,
     /// The node's type isn't the one that its parts give.
     #[error("node type")]
     NodeType,
@@ -43,6 +58,9 @@ pub enum VortexError {
     IterationLimit {
         limit: u64,
     },
+    /// A row has no value, as a sum that its type doesn't have.
+    #[error("fault")]
+    Fault,
     /// The rows `start..stop` aren't rows of a tree of `len` rows. Of one row both ends are its index.
     #[error("OutOfBounds: {start}..{stop} of length {len}")]
     OutOfBounds {

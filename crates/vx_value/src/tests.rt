@@ -138,6 +138,7 @@ fn error_texts(rt: HostRuntime) -> Result<(), Fail> {
             VortexError::IterationLimit { limit: 4 },
             "Exceeded maximum execution iterations (4) while executing array",
         ),
+        (VortexError::Fault, "fault"),
         (range, "OutOfBounds: 2..1 of length 3"),
         (
             VortexError::InvalidArgument(ArgKind::SlotCount),
@@ -151,6 +152,23 @@ fn error_texts(rt: HostRuntime) -> Result<(), Fail> {
             VortexError::InvalidArgument(ArgKind::SlotType { slot: 0 }),
             "slot type",
         ),
+        (
+            VortexError::InvalidArgument(ArgKind::Arity { want: 2, got: 1 }),
+            "ScalarFnArray requires 2 children, got 1",
+        ),
+        (
+            VortexError::InvalidArgument(ArgKind::ChildLen),
+            "ScalarFnArray must have children equal to the array length",
+        ),
+        (
+            VortexError::InvalidArgument(ArgKind::FnSlotMissing),
+            "ScalarFnArray requires every child slot to be present",
+        ),
+        (
+            VortexError::InvalidArgument(ArgKind::NoChildren),
+            "ScalarFnArray length cannot be inferred without children",
+        ),
+        (VortexError::InvalidArgument(ArgKind::NoRow), "no row"),
         (VortexError::InvalidArgument(ArgKind::NodeType), "node type"),
         (VortexError::InvalidArgument(ArgKind::NodeLen), "node len"),
         (VortexError::InvalidArgument(ArgKind::BadType), "bad type"),
@@ -166,6 +184,8 @@ fn ids(rt: HostRuntime) {
     for (id, text) in [
         (Id::Constant, "vortex.constant"),
         (Id::Slice, "vortex.slice"),
+        (Id::Binary, "vortex.binary"),
+        (Id::Not, "vortex.not"),
         (Id::Bool, "vortex.bool"),
         (Id::Primitive, "vortex.primitive"),
     ] {

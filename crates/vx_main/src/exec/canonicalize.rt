@@ -1,6 +1,6 @@
 //! Constants, written out as columns.
 
-ghost use Rattle.std.specs.Prelude.{◌≡◌, ◌⊎◌, IfOk, IfErr, OnOk, true, replicate};
+ghost use Rattle.std.specs.Prelude.{◌≡◌, IfOk, IfErr, true, replicate};
 ghost use Rattle.vx_value.specs.Types as type;
 ghost use Rattle.vx_value.specs.Types.{nullability_of};
 ghost use Rattle.vx_value.specs.IsOf.{in_range};
@@ -11,28 +11,11 @@ ghost use Rattle.vx_main.specs.Steps.{IsDone};
 use std::alloc::Global;
 use vx_mask::BitBuffer;
 use vx_tree::{ArrayRef, BoolArray, IntoArray, PrimitiveArray, PrimitiveValues};
-use vx_value::{
-    ArgKind, DType, Nullability, PType, Scalar, ScalarValue, VortexError, VortexResult,
-};
+use vx_value::{DType, Nullability, PType, Scalar, ScalarValue, VortexError, VortexResult};
 
-/// The canonical column of a value so many times. The rows take one allocation, which is asked for before any is written.
-///
-/// `InvalidArgument` with `BadType` exactly where the type is nullable.
-#[tactic(auto, using(vx_tree::proofs::Refusing::never_null, vx_tree::proofs::Refusing::null_some))]
+/// The canonical column of a value that is never null, so many times. The rows take one allocation, which is asked for
+/// before any is written. The only error is `OutOfMemory`.
 pub fn constant_canonicalize(alloc: Global, scalar: &Scalar, len: usize) -> VortexResult<ArrayRef>
-    ensures ok { IfOk result (λ u. IsDone (node scalar.now.of_type len (constant scalar.now) no_slots) u) }
-    ensures valid { OnOk result (nullability_of scalar.now.of_type ≡ NonNullable) }
-    ensures refused { IfErr result (λ e. (e ≡ VortexError.OutOfMemory)
-        ⊎ ((e ≡ VortexError.InvalidArgument ArgKind.BadType) × (¬ (nullability_of scalar.now.of_type ≡ NonNullable)))) }
-{
-    if scalar.dtype().is_nullable() {
-        return Err(VortexError::InvalidArgument(ArgKind::BadType));
-    }
-    repeat_scalar(alloc, scalar, len)
-}
-
-/// The column of a value that is never null, so many times. The only error is `OutOfMemory`. (own)
-fn repeat_scalar(alloc: Global, scalar: &Scalar, len: usize) -> VortexResult<ArrayRef>
     requires { nullability_of scalar.now.of_type ≡ NonNullable }
     ensures ok { IfOk result (λ u. IsDone (node scalar.now.of_type len (constant scalar.now) no_slots) u) }
     ensures err { IfErr result (λ e. e ≡ VortexError.OutOfMemory) }

@@ -5,6 +5,7 @@ ghost use Rattle.vx_tree.specs.Tree.{datum, is_canonical};
 ghost use Rattle.vx_tree.specs.Keeps.{KeepsExactly};
 ghost use Rattle.vx_tree.specs.Cost.{cost};
 ghost use Rattle.vx_tree.specs.Columns.{columnar_tree};
+ghost use Rattle.vx_main.specs.Steps.{IsStopped};
 
 use crate::exec::turn::{Frame, Turn, take_turn};
 use std::alloc::Global;
@@ -67,7 +68,8 @@ impl ExecutionCtx {
 
 /// Executes the tree until its root passes the test or is canonical. Each call begins its turns at 0.
 ///
-/// `IterationLimit` where the turns stand at the limit and the tree isn't done.
+/// `IterationLimit` where the turns stand at the limit and the tree isn't done, `Fault` only where a row of the tree, or of a
+/// part of it, has no value.
 pub fn execute_until<M: Matcher>(array: ArrayRef, ctx: &mut ExecutionCtx) -> VortexResult<ArrayRef>
     ensures ok { IfOk result
         (λ u. KeepsExactly array u × ((M.fits u ≡ true) ⊎ (is_canonical (datum u) ≡ true))) }
@@ -75,7 +77,7 @@ pub fn execute_until<M: Matcher>(array: ArrayRef, ctx: &mut ExecutionCtx) -> Vor
     ensures limit { (l : ℕ) → result ≡ Err (VortexError.IterationLimit l)
         → (l ≡ ctx.old.limit) × (ctx.new.turns ≡ l) × (l < cost array) }
     ensures err { IfErr result
-        (λ e. (e ≡ VortexError.OutOfMemory) ⊎ (e ≡ VortexError.IterationLimit ctx.old.limit)) }
+        (λ e. (e ≡ VortexError.IterationLimit ctx.old.limit) ⊎ IsStopped array e) }
     ensures kept { ctx.new.limit ≡ ctx.old.limit }
 {
     let mut frames: Vec<Frame> = Vec::new(ctx.alloc);
@@ -83,9 +85,10 @@ pub fn execute_until<M: Matcher>(array: ArrayRef, ctx: &mut ExecutionCtx) -> Vor
     ctx.turns = 0;
     while ctx.turns < ctx.limit {
         ctx.turns += 1;
-        match take_turn::<M>(ctx.alloc, &mut frames, current)? {
-            Turn::Go(next) => current = next,
-            Turn::Return(done) => return Ok(done),
+        match take_turn::<M>(ctx.alloc, &mut frames, current) {
+            Ok(Turn::Go(next)) => current = next,
+            Ok(Turn::Return(done)) => return Ok(done),
+            Err(e) => return Err(e),
         }
     }
     Err(VortexError::IterationLimit { limit: ctx.limit })
@@ -93,18 +96,22 @@ pub fn execute_until<M: Matcher>(array: ArrayRef, ctx: &mut ExecutionCtx) -> Vor
 
 /// Executes the tree to a column. Its type and its length, in rows, are the tree's.
 ///
-/// `IterationLimit` where the turns stand at the limit and the tree isn't done.
+/// `IterationLimit` where the turns stand at the limit and the tree isn't done, `Fault` only where a row of the tree, or of a
+/// part of it, has no value.
 pub fn execute(array: ArrayRef, ctx: &mut ExecutionCtx) -> VortexResult<Columnar>
     ensures ok { IfOk result (λ c. KeepsExactly array (columnar_tree c)) }
     ensures bound { OnOk result (ctx.new.turns ≤ cost array) }
     ensures limit { (l : ℕ) → result ≡ Err (VortexError.IterationLimit l)
         → (l ≡ ctx.old.limit) × (ctx.new.turns ≡ l) × (l < cost array) }
     ensures err { IfErr result
-        (λ e. (e ≡ VortexError.OutOfMemory) ⊎ (e ≡ VortexError.IterationLimit ctx.old.limit)) }
+        (λ e. (e ≡ VortexError.IterationLimit ctx.old.limit) ⊎ IsStopped array e) }
     ensures kept { ctx.new.limit ≡ ctx.old.limit }
 {
-    match Columnar::try_from_array_ref(execute_until::<AnyColumnar>(array, ctx)?) {
-        Ok(column) => Ok(column),
-        Err(_) => unreachable!(),
+    match execute_until::<AnyColumnar>(array, ctx) {
+        Ok(done) => match Columnar::try_from_array_ref(done) {
+            Ok(column) => Ok(column),
+            Err(_) => unreachable!(),
+        },
+        Err(e) => Err(e),
     }
 }

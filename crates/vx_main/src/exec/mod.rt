@@ -2,6 +2,7 @@
 
 mod canonicalize;
 mod context;
+mod function;
 mod probe;
 mod step;
 mod suspended;

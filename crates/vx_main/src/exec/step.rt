@@ -3,11 +3,14 @@
 ghost use Rattle.std.specs.Prelude.{◌≡◌, ◌-◌, ◌≤◌, IfOk, IfErr, true, false};
 ghost use Rattle.vx_tree.specs.Tree.{dtype, len, datum, is_canonical, node, slice, slot, no_slots};
 ghost use Rattle.vx_main.specs.Turns.{meets};
-ghost use Rattle.vx_main.specs.Steps.{IsStep, IsDone};
+ghost use Rattle.vx_main.specs.Steps.{IsStep, IsDone, IsStopped};
 
 use crate::exec::canonicalize::constant_canonicalize;
+use crate::exec::function::apply_or_wait;
 use std::alloc::Global;
-use vx_tree::{AnyCanonical, ArrayKind, ArrayRef, BoolArray, IntoArray, PrimitiveArray};
+use vx_tree::{
+    AnyCanonical, AnyColumnar, ArrayKind, ArrayRef, BoolArray, IntoArray, PrimitiveArray,
+};
 use vx_value::{VortexError, VortexResult};
 
 /// What a slot is executed to. (own)
@@ -15,6 +18,8 @@ use vx_value::{VortexError, VortexResult};
 pub enum SlotTarget {
     /// The canonical column of its type.
     Canonical,
+    /// That, or one value for each row.
+    Columnar,
 }
 
 impl SlotTarget {
@@ -24,6 +29,7 @@ impl SlotTarget {
     {
         match self {
             SlotTarget::Canonical => array.is::<AnyCanonical>(),
+            SlotTarget::Columnar => array.is::<AnyColumnar>(),
         }
     }
 }
@@ -37,11 +43,11 @@ pub enum ExecutionStep {
     Done(ArrayRef),
 }
 
-/// One step of a node that isn't canonical. The only error is `OutOfMemory`.
+/// One step of a node that isn't canonical. `Fault` only where a row of the node, or of one of its slots, has no value.
 pub fn step(alloc: Global, array: &ArrayRef) -> VortexResult<ExecutionStep>
     requires { is_canonical (datum array.now) ≡ false }
     ensures ok { IfOk result (λ s. IsStep array.now s) }
-    ensures err { IfErr result (λ e. e ≡ VortexError.OutOfMemory) }
+    ensures err { IfErr result (IsStopped array.now) }
 {
     match array.kind() {
         ArrayKind::Constant(scalar) => {
@@ -55,6 +61,7 @@ pub fn step(alloc: Global, array: &ArrayRef) -> VortexResult<ExecutionStep>
                 Ok(ExecutionStep::ExecuteSlot(0, SlotTarget::Canonical))
             }
         }
+        ArrayKind::ScalarFn(function, slots) => apply_or_wait(alloc, array, function, slots),
         ArrayKind::Bool(_) => unreachable!(),
         ArrayKind::Primitive(_) => unreachable!(),
     }
@@ -76,6 +83,7 @@ fn slice_canonical(
     match column.kind() {
         ArrayKind::Constant(_) => unreachable!(),
         ArrayKind::Slice(_, _, _) => unreachable!(),
+        ArrayKind::ScalarFn(_, _) => unreachable!(),
         ArrayKind::Bool(bits) => {
             let kept = bits.slice(start..stop)?;
             Ok(BoolArray::try_new(alloc, column.dtype().clone()?, kept)?.into_array())

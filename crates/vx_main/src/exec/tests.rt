@@ -1,10 +1,11 @@
 use crate::exec::{ExecutionCtx, execute, execute_scalar, execute_until};
 use std::alloc::Global;
 use std::test::Fail;
+use vx_fn::{Operator, ScalarFnRef};
 use vx_mask::{BitBuffer, BitBuilder, Buffer};
 use vx_tree::{
     AnyCanonical, ArrayKind, ArrayRef, BoolArray, Columnar, ConstantArray, IntoArray,
-    PrimitiveArray, PrimitiveValues, SliceArray,
+    PrimitiveArray, PrimitiveValues, ScalarFnArray, SliceArray,
 };
 use vx_value::{DType, Id, Nullability, PType, Scalar, ScalarValue, VortexError, VortexResult};
 
@@ -35,6 +36,7 @@ fn is_column(array: &ArrayRef, values: &[i32]) -> bool {
         ArrayKind::Primitive(_) => false,
         ArrayKind::Constant(_) => false,
         ArrayKind::Slice(_, _, _) => false,
+        ArrayKind::ScalarFn(_, _) => false,
         ArrayKind::Bool(_) => false,
     }
 }
@@ -126,7 +128,7 @@ fn a_constant_too_long_is_out_of_memory(rt: HostRuntime) -> Result<(), Fail> {
     let alloc = rt.alloc();
     let endless = sevens(alloc, usize::MAX)?;
     let array = SliceArray::try_new(alloc, endless, 5..8)?.into_array();
-    assert!(rt; execute_scalar(&array, 2)?.value() == Some(ScalarValue::Integer(7)));
+    assert!(rt; execute_scalar(alloc, &array, 2)?.value() == Some(ScalarValue::Integer(7)));
     let mut ctx = ExecutionCtx::new(alloc);
     match execute(array, &mut ctx) {
         Ok(_) => panic!(rt; "room for every row"),
@@ -151,6 +153,7 @@ fn is_bits(array: &ArrayRef, values: &[bool]) -> bool {
         ArrayKind::Primitive(_) => false,
         ArrayKind::Constant(_) => false,
         ArrayKind::Slice(_, _, _) => false,
+        ArrayKind::ScalarFn(_, _) => false,
     }
 }
 
@@ -163,9 +166,9 @@ fn bools_are_sliced_across_words(rt: HostRuntime) -> Result<(), Fail> {
         bits.push(index % 3 == 0)?;
     }
     let whole = bools(alloc, bits.finish(alloc)?)?;
-    assert!(rt; execute_scalar(&whole, 129)?.value() == Some(ScalarValue::Bool(true)));
+    assert!(rt; execute_scalar(alloc, &whole, 129)?.value() == Some(ScalarValue::Bool(true)));
     let part = SliceArray::try_new(alloc, whole, 61..70)?.into_array();
-    assert!(rt; execute_scalar(&part, 0)?.value() == Some(ScalarValue::Bool(false)));
+    assert!(rt; execute_scalar(alloc, &part, 0)?.value() == Some(ScalarValue::Bool(false)));
     let mut ctx = ExecutionCtx::new(alloc);
     let column = execute(part, &mut ctx)?;
     let kept = [false, false, true, false, false, true, false, false, true];
@@ -180,7 +183,7 @@ fn the_largest_u64_is_read(rt: HostRuntime) -> Result<(), Fail> {
     let values = Buffer::from_vec(alloc, [0, u64::MAX].to_vec(alloc)?)?;
     let dtype = DType::Primitive(PType::U64, Nullability::NonNullable);
     let array = PrimitiveArray::try_new(alloc, dtype, PrimitiveValues::U64(values))?.into_array();
-    let largest = execute_scalar(&array, 1)?;
+    let largest = execute_scalar(alloc, &array, 1)?;
     assert!(rt; largest.value() == Some(ScalarValue::Integer(18446744073709551615)));
     assert!(rt; *largest.dtype() == *array.dtype());
     Ok(())
@@ -188,10 +191,11 @@ fn the_largest_u64_is_read(rt: HostRuntime) -> Result<(), Fail> {
 
 #[test]
 fn rows_of_nested_slices(rt: HostRuntime) -> Result<(), Fail> {
-    let array = nested(rt.alloc())?;
-    assert!(rt; execute_scalar(&array, 0)?.value() == Some(ScalarValue::Integer(3)));
-    assert!(rt; execute_scalar(&array, 2)?.value() == Some(ScalarValue::Integer(5)));
-    match execute_scalar(&array, 3) {
+    let alloc = rt.alloc();
+    let array = nested(alloc)?;
+    assert!(rt; execute_scalar(alloc, &array, 0)?.value() == Some(ScalarValue::Integer(3)));
+    assert!(rt; execute_scalar(alloc, &array, 2)?.value() == Some(ScalarValue::Integer(5)));
+    match execute_scalar(alloc, &array, 3) {
         Ok(_) => panic!(rt; "row 3 of three"),
         Err(e) => assert!(rt;
             e == VortexError::OutOfBounds {
@@ -218,10 +222,67 @@ fn a_shared_child_stays(rt: HostRuntime) -> Result<(), Fail> {
             assert_eq!(rt; child.len(), 10);
         }
         ArrayKind::Constant(_) => panic!(rt; "the shared slice was replaced"),
+        ArrayKind::ScalarFn(_, _) => panic!(rt; "the shared slice was replaced"),
         ArrayKind::Bool(_) => panic!(rt; "the shared slice was replaced"),
         ArrayKind::Primitive(_) => panic!(rt; "the shared slice was replaced"),
     }
     let whole = execute(shared, &mut ctx)?;
     assert!(rt; is_column(whole.as_array(), &[2, 3, 4, 5, 6, 7]));
+    Ok(())
+}
+
+/// An operator of two columns.
+fn operation(
+    alloc: Global,
+    operator: Operator,
+    lhs: &[i32],
+    rhs: &[i32],
+) -> VortexResult<ArrayRef> {
+    let children = vec![in alloc; column(alloc, lhs)?, column(alloc, rhs)?]?;
+    Ok(ScalarFnArray::try_new(alloc, ScalarFnRef::Binary(operator), children)?.into_array())
+}
+
+/// A row of the tree and the same row of the column that it executes to.
+#[test]
+fn rows_of_a_sum(rt: HostRuntime) -> Result<(), Fail> {
+    let alloc = rt.alloc();
+    let array = operation(alloc, Operator::Add, &[1, 2, 3], &[10, 20, -30])?;
+    let mut ctx = ExecutionCtx::new(alloc);
+    let whole = execute(array.clone()?, &mut ctx)?;
+    assert!(rt; is_column(whole.as_array(), &[11, 22, -27]));
+    for index in 0..3 {
+        let row = execute_scalar(alloc, &array, index)?;
+        let executed = execute_scalar(alloc, whole.as_array(), index)?;
+        assert!(rt; row.value() == executed.value() && *row.dtype() == I32);
+    }
+    assert!(rt; execute_scalar(alloc, &array, 2)?.value() == Some(ScalarValue::Integer(-27)));
+    Ok(())
+}
+
+/// 7 by 2, 7 by 0 and -7 by 2: the second row has no value.
+#[test]
+fn a_row_that_faults_beside_others(rt: HostRuntime) -> Result<(), Fail> {
+    let alloc = rt.alloc();
+    let array = operation(alloc, Operator::Div, &[7, 7, -7], &[2, 0, 2])?;
+    assert!(rt; execute_scalar(alloc, &array, 0)?.value() == Some(ScalarValue::Integer(3)));
+    assert!(rt; execute_scalar(alloc, &array, 2)?.value() == Some(ScalarValue::Integer(-3)));
+    match execute_scalar(alloc, &array, 1) {
+        Ok(_) => panic!(rt; "7 by 0"),
+        Err(e) => assert!(rt; e == VortexError::Fault),
+    }
+    match execute_scalar(alloc, &array, 3) {
+        Ok(_) => panic!(rt; "row 3 of three"),
+        Err(e) => assert!(rt;
+            e == VortexError::OutOfBounds {
+                start: 3,
+                stop: 3,
+                len: 3
+            }
+        ),
+    }
+    match execute(array, &mut ExecutionCtx::new(alloc)) {
+        Ok(_) => panic!(rt; "7 by 0"),
+        Err(e) => assert!(rt; e == VortexError::Fault),
+    }
     Ok(())
 }

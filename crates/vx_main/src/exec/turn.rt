@@ -2,14 +2,14 @@
 
 ghost use Rattle.std.specs.Prelude.{◌≡◌, IfOk, IfErr, false};
 ghost use Rattle.vx_tree.specs.Tree.{datum, is_canonical};
-ghost use Rattle.vx_main.specs.Frames.{AreFrames};
-ghost use Rattle.vx_main.specs.Steps.{is_reached, IsMove, IsTurned};
+ghost use Rattle.vx_main.specs.Frames.{filled, AreFrames};
+ghost use Rattle.vx_main.specs.Steps.{is_reached, IsMove, IsTurned, IsStopped};
 
 use crate::exec::step::{ExecutionStep, SlotTarget, step};
 use crate::exec::suspended::{Suspended, take_slot};
 use std::alloc::Global;
 use vx_tree::{AnyCanonical, ArrayRef, Matcher};
-use vx_value::{VortexError, VortexResult};
+use vx_value::VortexResult;
 
 /// A suspended parent, with what its empty slot is executed to. (own)
 #[derive(Drop)]
@@ -48,11 +48,11 @@ fn advance(alloc: Global, frames: &mut Vec<Frame>, current: ArrayRef) -> VortexR
     requires frames { AreFrames frames.old.items current }
     requires open { is_canonical (datum current) ≡ false }
     ensures ok { IfOk result (λ u. IsMove frames.old.items current frames.new.items u) }
-    ensures err { IfErr result (λ e. e ≡ VortexError.OutOfMemory) }
+    ensures err { IfErr result (IsStopped (filled frames.old.items current)) }
 {
-    match step(alloc, &current)? {
-        ExecutionStep::Done(next) => Ok(next),
-        ExecutionStep::ExecuteSlot(slot, target) => {
+    match step(alloc, &current) {
+        Ok(ExecutionStep::Done(next)) => Ok(next),
+        Ok(ExecutionStep::ExecuteSlot(slot, target)) => {
             let (parent, child) = take_slot(alloc, current, slot)?;
             frames.push(Frame {
                 parent,
@@ -61,10 +61,12 @@ fn advance(alloc: Global, frames: &mut Vec<Frame>, current: ArrayRef) -> VortexR
             })?;
             Ok(child)
         }
+        Err(e) => Err(e),
     }
 }
 
-/// One turn. The frames stand with the outermost first. The only error is `OutOfMemory`. (own)
+/// One turn. The frames stand with the outermost first. `Fault` only where a row of the whole, or of a part of it, has no
+/// value. (own)
 pub fn take_turn<M: Matcher>(
     alloc: Global,
     frames: &mut Vec<Frame>,
@@ -72,7 +74,7 @@ pub fn take_turn<M: Matcher>(
 ) -> VortexResult<Turn>
     requires { AreFrames frames.old.items current }
     ensures ok { IfOk result (λ r. IsTurned M.fits frames.old.items current frames.new.items r) }
-    ensures err { IfErr result (λ e. e ≡ VortexError.OutOfMemory) }
+    ensures err { IfErr result (IsStopped (filled frames.old.items current)) }
 {
     if is_reached::<M>(frames, &current) {
         match frames.pop() {
@@ -86,6 +88,9 @@ pub fn take_turn<M: Matcher>(
             None => Ok(Turn::Return(current)),
         }
     } else {
-        Ok(Turn::Go(advance(alloc, frames, current)?))
+        match advance(alloc, frames, current) {
+            Ok(next) => Ok(Turn::Go(next)),
+            Err(e) => Err(e),
+        }
     }
 }

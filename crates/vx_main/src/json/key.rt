@@ -7,6 +7,7 @@ ghost use Rattle.vx_main.specs.Keys.{key_text};
 #[derive(Clone, Copy)]
 pub(crate) enum Key {
     Child,
+    Args,
 }
 
 impl Key {
@@ -16,6 +17,7 @@ impl Key {
     {
         match self {
             Key::Child => "child",
+            Key::Args => "args",
         }
     }
 }

@@ -1,6 +1,7 @@
 //! Trees from JSON, and the text of a row.
 
 mod fields;
+mod functions;
 mod key;
 mod rows;
 #[cfg(test)]

@@ -1,9 +1,10 @@
 use crate::json::{row_text, tree_of_bytes};
 use std::alloc::Global;
 use std::test::Fail;
+use vx_fn::{Operator, ScalarFnRef};
 use vx_tree::ArrayKind;
 use vx_value::{
-    ArgKind, DType, Nullability, PType, Scalar, ScalarValue, VortexError, VortexResult,
+    ArgKind, DType, Id, Nullability, PType, Scalar, ScalarValue, VortexError, VortexResult,
 };
 
 const CHILD: &str = r#"{"enc":"col","type":"i32","rows":[1,2,3]}"#;
@@ -142,6 +143,81 @@ const BOUNDS: [(&str, &str, &str, &str, &str); 8] = [
     ),
 ];
 
+// A function's name, the type and the rows of its first argument, those of its second, and how many rows the tree has.
+const PAIRS: [(&str, &str, &str, &str, &str, Option<usize>); 9] = [
+    ("add", "i32", "1,2", "i32", "3,4", Some(2)),
+    ("add", "i32", "", "i32", "", Some(0)),
+    ("eq", "bool", "true", "bool", "false", Some(1)),
+    ("add", "i32", "1,2,3", "i32", "3,4", None),
+    ("add", "i32", "1,2", "i32", "3,4,5", None),
+    ("add", "bool", "true", "bool", "false", None),
+    ("add", "u8", "1", "i8", "1", None),
+    ("not", "bool", "true", "bool", "false", None),
+    ("plus", "i32", "1", "i32", "2", None),
+];
+
+// Keys of a function of other trees, or of none, and how many rows its tree has.
+const FUNCTIONS: [(&str, Option<usize>); 14] = [
+    (
+        r#""fn":"not","args":[{"enc":"col","type":"bool","rows":[true,false]}]"#,
+        Some(2),
+    ),
+    (
+        r#""fn":"not","args":[{"enc":"col","type":"i32","rows":[1]}]"#,
+        None,
+    ),
+    (
+        r#""fn":"add","args":[{"enc":"col","type":"i32","rows":[1]}]"#,
+        None,
+    ),
+    (
+        r#""fn":"add","args":[{"enc":"col","type":"i32","rows":[]},{"enc":"col","type":"i32","rows":[]},{"enc":"col","type":"i32","rows":[]}]"#,
+        None,
+    ),
+    (r#""fn":"not""#, None),
+    (r#""fn":"not","args":[]"#, None),
+    (
+        r#""fn":"not","args":{"enc":"col","type":"bool","rows":[]}"#,
+        None,
+    ),
+    (
+        r#""fn":"not","child":[{"enc":"col","type":"bool","rows":[]}]"#,
+        None,
+    ),
+    (
+        r#""fn":"eq","args":[{"enc":"col","type":"i32","rows":[]},{"enc":"col","type":"i32"}]"#,
+        None,
+    ),
+    (r#""fn":"not","args":[null]"#, None),
+    (
+        r#""fn":"not","args":[{"enc":"col","type":"bool","rows":[true]}],"len":1"#,
+        None,
+    ),
+    (r#""args":[{"enc":"col","type":"bool","rows":[]}]"#, None),
+    (
+        r#""fn":["not"],"args":[{"enc":"col","type":"bool","rows":[]}]"#,
+        None,
+    ),
+    (
+        r#""fn":"not","args":[{"enc":"fn","fn":"lt","args":[{"enc":"slice","start":1,"stop":3,"child":{"enc":"col","type":"i32","rows":[1,2,3]}},{"enc":"constant","type":"i32","value":3,"len":2}]}]"#,
+        Some(2),
+    ),
+];
+
+// The functions of two arguments.
+const OPERATORS: [(&str, Operator); 10] = [
+    ("add", Operator::Add),
+    ("sub", Operator::Sub),
+    ("mul", Operator::Mul),
+    ("div", Operator::Div),
+    ("eq", Operator::Eq),
+    ("not_eq", Operator::NotEq),
+    ("lt", Operator::Lt),
+    ("lte", Operator::Lte),
+    ("gt", Operator::Gt),
+    ("gte", Operator::Gte),
+];
+
 fn rows_of(alloc: Global, text: &str) -> VortexResult<Option<usize>> {
     match tree_of_bytes(alloc, text.as_bytes()) {
         Ok(tree) => Ok(Some(tree.len())),
@@ -172,7 +248,8 @@ fn printed(alloc: Global, dtype: &str, value: &str) -> VortexResult<Option<Strin
     match tree_of_bytes(alloc, text.as_bytes()) {
         Ok(tree) => match tree.kind() {
             ArrayKind::Constant(scalar) => Ok(Some(row_text(alloc, scalar)?)),
-            ArrayKind::Slice(_, _, _) | ArrayKind::Bool(_) | ArrayKind::Primitive(_) => Ok(None),
+            ArrayKind::Slice(_, _, _) | ArrayKind::ScalarFn(_, _) => Ok(None),
+            ArrayKind::Bool(_) | ArrayKind::Primitive(_) => Ok(None),
         },
         Err(VortexError::InvalidArgument(ArgKind::BadValue)) => Ok(None),
         Err(e) => Err(e),
@@ -222,6 +299,46 @@ fn row_texts(rt: HostRuntime) -> Result<(), Fail> {
         let dtype = DType::Primitive(PType::I32, Nullability::Nullable);
         let scalar = Scalar::try_new(dtype, value)?;
         assert_eq!(rt; row_text(rt.alloc(), &scalar)?.as_str(), text);
+    }
+    Ok(())
+}
+
+#[test]
+fn functions_and_their_arguments(rt: HostRuntime) -> Result<(), Fail> {
+    for (name, first, rows, second, others, len) in PAIRS {
+        let text = format!(in rt.alloc();
+            r#"{{"enc":"fn","fn":"{name}","args":[{{"enc":"col","type":"{first}","rows":[{rows}]}},{{"enc":"col","type":"{second}","rows":[{others}]}}]}}"#
+        )?;
+        assert!(rt; rows_of(rt.alloc(), &text)? == len, "{text}");
+    }
+    for (keys, len) in FUNCTIONS {
+        let text = format!(in rt.alloc(); r#"{{"enc":"fn",{keys}}}"#)?;
+        assert!(rt; rows_of(rt.alloc(), &text)? == len, "{text}");
+    }
+    Ok(())
+}
+
+// The operator of the function with this name, of a constant and a column in this order; None where the tree is another.
+fn operator_of(alloc: Global, name: &str) -> VortexResult<Option<Operator>> {
+    let text = format!(in alloc;
+        r#"{{"enc":"fn","fn":"{name}","args":[{{"enc":"constant","type":"i32","value":1,"len":3}},{CHILD}]}}"#
+    )?;
+    let tree = tree_of_bytes(alloc, text.as_bytes())?;
+    match tree.kind() {
+        ArrayKind::ScalarFn(ScalarFnRef::Binary(operator), [Some(first), Some(second)]) => {
+            let ordered = first.encoding_id() == Id::Constant
+                && second.encoding_id() == Id::Primitive;
+            Ok(ordered.then_some(*operator))
+        }
+        ArrayKind::ScalarFn(_, _) | ArrayKind::Constant(_) => Ok(None),
+        ArrayKind::Slice(_, _, _) | ArrayKind::Bool(_) | ArrayKind::Primitive(_) => Ok(None),
+    }
+}
+
+#[test]
+fn operators_by_name(rt: HostRuntime) -> Result<(), Fail> {
+    for (name, operator) in OPERATORS {
+        assert!(rt; operator_of(rt.alloc(), name)? == Some(operator), "{name}");
     }
     Ok(())
 }

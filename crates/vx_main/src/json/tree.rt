@@ -2,7 +2,8 @@
 //!
 //! A tree is an object whose `enc` names the encoding. Each encoding has exactly its own keys:
 //! `{"enc":"col","type":"i32","rows":[1,-2]}`, `{"enc":"flat","type":"i32","values":[1,-2]}`,
-//! `{"enc":"constant","type":"bool","value":true,"len":3}` and `{"enc":"slice","start":0,"stop":1,"child":{..}}`.
+//! `{"enc":"constant","type":"bool","value":true,"len":3}`, `{"enc":"slice","start":0,"stop":1,"child":{..}}` and
+//! `{"enc":"fn","fn":"add","args":[{..},{..}]}`.
 
 ghost use Rattle.std.specs.Prelude.{◌≡◌, ◌⊎◌, Some, None, option_map, IfOk, IfErr, IfSome};
 ghost use Rattle.serde_json.specs.View.{view, items_view};
@@ -11,16 +12,20 @@ ghost use Rattle.vx_value.specs.Types.{nullability_of};
 ghost use Rattle.vx_value.specs.declared.dtype.Nullability.TheVariants.{NonNullable};
 ghost use Rattle.vx_main.specs.Keys.{key_text};
 ghost use Rattle.vx_main.specs.Refused.{IsRefused};
-ghost use Rattle.vx_main.specs.Spelled.{type_at, column_of_items, column_of, constant_of, slice_of, tree_spelled, tree_at, Spells, SpellsNone};
+ghost use Rattle.vx_main.specs.Spelled.{type_at, column_of_items, column_of, constant_of, slice_of, function_at, applied, function_of, tree_spelled, trees_spelled, tree_at, trees_at, Spells, SpellsNone};
 
 use crate::json::BAD_VALUE;
 use crate::json::fields::{count, items, number, text};
+use crate::json::functions::function_named;
 use crate::json::key::Key;
 use crate::json::types::type_named;
 use crate::json::values::{booleans, integers, scalar};
 use serde_json::Value;
 use std::alloc::Global;
-use vx_tree::{ArrayRef, BoolArray, ConstantArray, IntoArray, PrimitiveArray, SliceArray};
+use vx_fn::ScalarFnRef;
+use vx_tree::{
+    ArrayRef, BoolArray, ConstantArray, IntoArray, PrimitiveArray, ScalarFnArray, SliceArray,
+};
 use vx_value::{ArgKind, DType, Nullability, VortexError, VortexResult};
 
 /// The type that the text under `type` names.
@@ -101,6 +106,64 @@ fn slice(alloc: Global, value: &Value, child: ArrayRef) -> VortexResult<ArrayRef
     Ok(SliceArray::new(alloc, child, start as usize..stop as usize)?.into_array())
 }
 
+/// The function that the text under `fn` names.
+fn function_at(value: &Value) -> Option<ScalarFnRef>
+    ensures { result ≡ function_at (view value.now) }
+{
+    function_named(text(value, "fn")?)
+}
+
+/// The function of the trees, where it takes them.
+fn applied(alloc: Global, scalar_fn: ScalarFnRef, children: Vec<ArrayRef>) -> VortexResult<ArrayRef>
+    ensures ok { IfOk result (λ t. applied children.items scalar_fn ≡ Some t) }
+    ensures err { IfErr result (IsRefused (applied children.items scalar_fn ≡ None)) }
+{
+    match ScalarFnArray::try_new(alloc, scalar_fn, children) {
+        Ok(node) => Ok(node.into_array()),
+        Err(VortexError::OutOfMemory) => Err(VortexError::OutOfMemory),
+        Err(_) => Err(BAD_VALUE),
+    }
+}
+
+/// A function of trees, row by row.
+fn function(alloc: Global, value: &Value, children: Vec<ArrayRef>) -> VortexResult<ArrayRef>
+    ensures ok { IfOk result (λ t. function_of (view value.now) children.items ≡ Some t) }
+    ensures err { IfErr result (IsRefused (function_of (view value.now) children.items ≡ None)) }
+{
+    match (count(value), function_at(value)) {
+        (3, Some(scalar_fn)) => applied(alloc, scalar_fn, children),
+        _ => Err(BAD_VALUE),
+    }
+}
+
+/// The trees that the values of a list spell.
+#[cycle(tree_of)]
+fn trees_of(alloc: Global, list: &Vec<Value>) -> VortexResult<Vec<ArrayRef>>
+    ensures ok { IfOk result (λ v. trees_spelled (items_view list.now.items) ≡ Some v.items) }
+    ensures err { IfErr result (IsRefused (trees_spelled (items_view list.now.items) ≡ None)) }
+{
+    let mut trees = Vec::with_capacity(alloc, list.len())?;
+    for value in list {
+        match tree_of(alloc, value) {
+            Ok(tree) => trees.push(tree)?,
+            Err(e) => return Err(e),
+        }
+    }
+    Ok(trees)
+}
+
+/// The trees in the list under a key.
+#[cycle(tree_of)]
+fn children(alloc: Global, value: &Value, key: Key) -> VortexResult<Vec<ArrayRef>>
+    ensures ok { IfOk result (λ v. trees_at (key_text key) (view value.now) ≡ Some v.items) }
+    ensures err { IfErr result (IsRefused (trees_at (key_text key) (view value.now) ≡ None)) }
+{
+    match items(value, key.text()) {
+        Some(list) => trees_of(alloc, list),
+        None => Err(BAD_VALUE),
+    }
+}
+
 /// The tree under a key.
 #[cycle(tree_of)]
 fn child(alloc: Global, value: &Value, key: Key) -> VortexResult<ArrayRef>
@@ -128,6 +191,10 @@ pub fn tree_of(alloc: Global, value: &Value) -> VortexResult<ArrayRef>
         Some("constant") => constant(alloc, value),
         Some("slice") => match child(alloc, value, Key::Child) {
             Ok(child) => slice(alloc, value, child),
+            Err(e) => Err(e),
+        },
+        Some("fn") => match children(alloc, value, Key::Args) {
+            Ok(children) => function(alloc, value, children),
             Err(e) => Err(e),
         },
         _ => Err(BAD_VALUE),

@@ -17,6 +17,7 @@ fn status_of(error: VortexError) -> Status
 {
     match error {
         VortexError::OutOfMemory => Status::Memory,
+        VortexError::Fault => Status::Fault,
         VortexError::IterationLimit { limit } => Status::TurnLimit {
             limit,
             turns: limit,

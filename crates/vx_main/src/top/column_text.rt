@@ -1,7 +1,8 @@
 //! The text of a column. (own)
 
-ghost use Rattle.std.specs.Prelude.{◌≡◌, true, IfOk, IfErr, OnOk, string_bytes};
-ghost use Rattle.vx_tree.specs.Tree.{dtype, datum, id_of, is_columnar};
+ghost use Rattle.std.specs.Prelude.{◌≡◌, ◌<◌, Some, slice_get, true, IfOk, IfErr, OnOk, string_bytes};
+ghost use Rattle.vx_value.specs.Cell.{value};
+ghost use Rattle.vx_tree.specs.Tree.{dtype, len, datum, id_of, is_columnar};
 ghost use Rattle.vx_tree.specs.Cells.{rows};
 ghost use Rattle.vx_main.specs.Output.{Shows, IsLawful, head_lines};
 
@@ -9,7 +10,7 @@ use crate::exec::execute_scalar;
 use crate::json::push_row;
 use std::alloc::{AllocError, Global};
 use vx_tree::ArrayRef;
-use vx_value::{VortexError, VortexResult, type_text};
+use vx_value::{Scalar, VortexError, VortexResult, type_text};
 
 /// The lines of the type and of the encoding.
 fn head_text(alloc: Global, array: &ArrayRef) -> Result<String, AllocError>
@@ -21,6 +22,19 @@ fn head_text(alloc: Global, array: &ArrayRef) -> Result<String, AllocError>
     text.push_str(array.encoding_id().as_str())?;
     text.push_str("\n")?;
     Ok(text)
+}
+
+/// The value of a row of a column, counted from 0.
+fn row_of(alloc: Global, array: &ArrayRef, index: usize) -> VortexResult<Scalar>
+    requires column { is_columnar (datum array.now) ≡ true }
+    requires within { index < len array.now }
+    ensures ok { IfOk result (λ s. slice_get (rows array.now) index ≡ Some (value s.value)) }
+    ensures err { IfErr result (λ e. e ≡ VortexError.OutOfMemory) }
+{
+    match execute_scalar(alloc, array, index) {
+        Ok(scalar) => Ok(scalar),
+        Err(e) => Err(e),
+    }
 }
 
 /// The lines of the type and of the encoding, and then a line for each row.
@@ -36,7 +50,7 @@ pub(crate) fn column_text(alloc: Global, array: &ArrayRef) -> VortexResult<Strin
     // A row takes two bytes at least: a column that can't be held as text is refused at once.
     text.reserve(array.len().saturating_mul(2))?;
     for index in 0..array.len() {
-        push_row(&mut text, &execute_scalar(array, index)?)?;
+        push_row(&mut text, &row_of(alloc, array, index)?)?;
         text.push_str("\n")?;
     }
     Ok(text)

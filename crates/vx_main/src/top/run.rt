@@ -7,7 +7,7 @@ ghost use Rattle.vx_main.specs.Streams.{TakesSome, AppendsPrefix};
 ghost use Rattle.vx_main.specs.Spelled.{SpellsNone};
 ghost use Rattle.vx_main.specs.Commands.{texts, command_of, reads_tree};
 ghost use Rattle.vx_main.specs.Statuses.{has_no_input, has_no_tree};
-ghost use Rattle.vx_main.specs.Runs.{Writes, WritesPrefix, IsCostly, Suffices};
+ghost use Rattle.vx_main.specs.Runs.{Writes, WritesPrefix, IsFaulty, IsCostly, Suffices};
 ghost use Rattle.vx_main.specs.declared.top.words.Command.{Command as CommandOf};
 
 use crate::stream::{INPUT_LIMIT, ReadError, Sink, Source, read_all, write_all};
@@ -42,6 +42,8 @@ pub fn run<S: Source, K: Sink>(
         → (reads_tree (command_of (texts words.now.items)) ≡ true) × (INPUT_LIMIT < n) × TakesSome (S.left source.old) (S.left source.new) n }
     ensures bad_input { result ≡ Status.BadInput
         → (reads_tree (command_of (texts words.now.items)) ≡ true) × IfSome (S.left source.old) (λ bytes. (length bytes ≤ INPUT_LIMIT) × SpellsNone bytes) }
+    ensures fault { result ≡ Status.Fault
+        → (reads_tree (command_of (texts words.now.items)) ≡ true) × IfSome (S.left source.old) IsFaulty }
     ensures turn_limit { (limit turns : ℕ) → result ≡ Status.TurnLimit limit turns
         → (command_of (texts words.now.items) ≡ Some (Command.Run limit)) × (turns ≡ limit) × IfSome (S.left source.old) (λ bytes. IsCostly bytes limit) }
     ensures write_fault { (c : CommandOf) → command_of (texts words.now.items) ≡ Some c → result ≡ Status.WriteFault

@@ -12,6 +12,8 @@ pub enum Status {
     Usage,
     /// The input spells no tree.
     BadInput,
+    /// A row of the tree, or of a part of it, has no value.
+    Fault,
     /// The turns stood at the limit.
     TurnLimit { limit: u64, turns: u64 },
     /// The allocator refused.
@@ -33,6 +35,7 @@ impl Status {
             Status::Done => 0,
             Status::Usage => 2,
             Status::BadInput => 3,
+            Status::Fault => 4,
             Status::TurnLimit { .. } => 5,
             Status::Memory => 9,
             Status::ReadFault => 10,
@@ -50,6 +53,7 @@ pub fn status_text(status: Status) -> &'static str
         Status::Done => "",
         Status::Usage => "usage",
         Status::BadInput => "bad input",
+        Status::Fault => "fault",
         Status::TurnLimit { .. } => "turn limit",
         Status::Memory => "out of memory",
         Status::ReadFault => "read fault",

@@ -1,8 +1,9 @@
 //! What an untyped reference tells of its tree.
 
-ghost use Rattle.std.specs.Prelude.{◌≡◌, ◌==◌, is_some, IfSome, length};
+ghost use Rattle.std.specs.Prelude.{◌≡◌, ◌==◌, is_some, IfSome, length, option_map, slice_get};
 ghost use Rattle.vx_value.specs.View.{type_of};
 ghost use Rattle.vx_tree.specs.Tree.{dtype, len, datum, slots, slots_of, id_of};
+ghost use Rattle.vx_tree.specs.Names.{slot_names};
 ghost use Rattle.vx_tree.specs.TreeView.{data_of};
 ghost use Rattle.vx_tree.specs.Cells.{rows};
 ghost use Rattle.vx_tree.specs.Well.{IsWell};
@@ -40,13 +41,14 @@ impl ArrayRef {
         &self.node.encoding
     }
 
-    /// The id of the root's encoding.
+    /// The id of the root's encoding: of a function's node, the function's.
     pub fn encoding_id(&self) -> Id
         ensures { result ≡ id_of (datum self.now) }
     {
         match &self.node.encoding {
             Encoding::Constant(_) => Id::Constant,
             Encoding::Slice(_) => Id::Slice,
+            Encoding::ScalarFn(data) => data.scalar_fn.id(),
             Encoding::Bool(_) => Id::Bool,
             Encoding::Primitive(_) => Id::Primitive,
         }
@@ -57,6 +59,21 @@ impl ArrayRef {
         ensures { slots_of result.now ≡ slots self.now }
     {
         &self.node.slots
+    }
+
+    /// What a slot of the root is called, counted from 0: `child` of a slice, `validity` of a column, and of a function what
+    /// its argument is. None where the encoding has no such slot.
+    pub fn slot_name(&self, index: usize) -> Option<&'static str>
+        ensures { option_map (λ s. s.now) result ≡ slice_get (slot_names (datum self.now)) index }
+    {
+        match (&self.node.encoding, index) {
+            (Encoding::Slice(_), 0) => Some("child"),
+            (Encoding::Bool(_), 0) => Some("validity"),
+            (Encoding::Primitive(_), 0) => Some("validity"),
+            (Encoding::ScalarFn(data), _) => data.scalar_fn.child_name(index),
+            (Encoding::Constant(_), _) => None,
+            (Encoding::Slice(_) | Encoding::Bool(_) | Encoding::Primitive(_), _) => None,
+        }
     }
 
     /// What is known of each tree: it is well formed, and has a cell for each row. (own)

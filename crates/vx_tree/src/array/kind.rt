@@ -5,6 +5,7 @@ ghost use Rattle.vx_tree.specs.Kinds.{IsKindOf};
 
 use crate::array::{ArrayRef, Encoding, Node};
 use crate::arrays::values::PrimitiveValues;
+use vx_fn::ScalarFnRef;
 use vx_mask::BitBuffer;
 use vx_value::Scalar;
 
@@ -14,6 +15,8 @@ pub enum ArrayKind<'a> {
     Constant(&'a Scalar),
     /// The rows from a start, inclusive, to a stop, exclusive, of a child.
     Slice(&'a ArrayRef, usize, usize),
+    /// A function, row by row, of the trees in these slots, each of which holds one.
+    ScalarFn(&'a ScalarFnRef, &'a [Option<ArrayRef>]),
     /// A column of booleans, its rows.
     Bool(&'a BitBuffer),
     /// A column of integers, its rows.
@@ -34,6 +37,7 @@ impl ArrayRef {
                 };
                 ArrayKind::Slice(child, data.range.start, data.range.end)
             }
+            Encoding::ScalarFn(data) => ArrayKind::ScalarFn(&data.scalar_fn, &node.slots),
             Encoding::Bool(data) => ArrayKind::Bool(&data.bits),
             Encoding::Primitive(data) => ArrayKind::Primitive(&data.values),
         }

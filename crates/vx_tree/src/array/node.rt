@@ -8,6 +8,7 @@ ghost use Rattle.vx_tree.specs.Well.{IsNodeOf, IsWell, AreWell};
 use crate::arrays::boolean::BoolData;
 use crate::arrays::constant::ConstantData;
 use crate::arrays::primitive::PrimitiveData;
+use crate::arrays::scalar_fn::ScalarFnData;
 use crate::arrays::slice::SliceData;
 use std::alloc::{AllocError, Global};
 use std::marker::Model;
@@ -22,6 +23,7 @@ pub type ArraySlots = Vec<Option<ArrayRef>>;
 pub enum Encoding {
     Constant(ConstantData),
     Slice(SliceData),
+    ScalarFn(ScalarFnData),
     Bool(BoolData),
     Primitive(PrimitiveData),
 }
@@ -83,6 +85,7 @@ impl Clone for Encoding {
         match self {
             Encoding::Constant(data) => Ok(Encoding::Constant(data.clone()?)),
             Encoding::Slice(data) => Ok(Encoding::Slice(data.clone()?)),
+            Encoding::ScalarFn(data) => Ok(Encoding::ScalarFn(data.clone()?)),
             Encoding::Bool(data) => Ok(Encoding::Bool(data.clone()?)),
             Encoding::Primitive(data) => Ok(Encoding::Primitive(data.clone()?)),
         }

@@ -2,7 +2,7 @@
 
 ghost use Rattle.std.specs.Prelude.{◌≡◌, ◌⊎◌, is_ok, IfOk, IfErr, OnOk, Some, None, true};
 ghost use Rattle.vx_value.specs.View.{type_of};
-ghost use Rattle.vx_tree.specs.Tree.{Tree, dtype, len, datum, slots, slots_of, node};
+ghost use Rattle.vx_tree.specs.Tree.{Tree, dtype, len, datum, slots, slots_of, node, id_of};
 ghost use Rattle.vx_tree.specs.Well.{shapes, IsNode};
 ghost use Rattle.vx_tree.specs.Refusals.{refusal};
 
@@ -80,11 +80,11 @@ impl<V: VTable> Array<V> {
     #[tactic(auto, using(crate::proofs::Refusing::node_unless_refused))]
     pub fn try_from_parts(alloc: Global, parts: ArrayParts<V>) -> VortexResult<Array<V>>
         ensures ok { IfOk result (λ a. a ≡ node (type_of parts.dtype) parts.len (V.stands_for parts.payload) (slots_of parts.slots.items)) }
-        ensures valid { OnOk result (refusal (type_of parts.dtype) parts.len (V.stands_for parts.payload) (shapes (slots_of parts.slots.items)) ≡ None) }
+        ensures valid { OnOk result (refusal (V.named parts.vtable) (type_of parts.dtype) parts.len (V.stands_for parts.payload) (shapes (slots_of parts.slots.items)) ≡ None) }
         ensures refused { IfErr result (λ e. (e ≡ VortexError.OutOfMemory)
-            ⊎ (refusal (type_of parts.dtype) parts.len (V.stands_for parts.payload) (shapes (slots_of parts.slots.items)) ≡ Some e)) }
+            ⊎ (refusal (V.named parts.vtable) (type_of parts.dtype) parts.len (V.stands_for parts.payload) (shapes (slots_of parts.slots.items)) ≡ Some e)) }
     {
-        V::validate(&parts.dtype, parts.len, &parts.payload, &parts.slots)?;
+        parts.vtable.validate(alloc, &parts.dtype, parts.len, &parts.payload, &parts.slots)?;
         Ok(Array::from_parts_unchecked(alloc, parts)?)
     }
 
@@ -130,6 +130,7 @@ impl<V: VTable> Array<V> {
 
     /// The parts of the node, or the handle where the node is shared.
     pub fn try_into_parts(self) -> Result<ArrayParts<V>, Array<V>>
+        ensures named { IfOk result (λ p. V.named p.vtable ≡ id_of (datum self)) }
         ensures ok { IfOk result (λ p. node (type_of p.dtype) p.len (V.stands_for p.payload) (slots_of p.slots.items) ≡ self) }
         ensures err { IfErr result (λ a. a ≡ self) }
     {
@@ -147,7 +148,7 @@ impl<V: VTable> Array<V> {
                     unreachable!()
                 };
                 Ok(ArrayParts {
-                    vtable: V::tag(),
+                    vtable: V::tag(&payload),
                     dtype,
                     len,
                     payload,

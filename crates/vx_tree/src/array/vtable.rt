@@ -1,13 +1,16 @@
 //! What the code generic over an encoding knows of it.
 
-ghost use Rattle.std.specs.Prelude.{◌≡◌, is_some, IfSome, MatchResult, Some, None, Bool, true};
+ghost use Rattle.std.specs.Prelude.{◌≡◌, ◌⊎◌, is_some, IfSome, IfErr, OnOk, Some, None, Bool, true};
 ghost use Rattle.vx_value.specs.View.{type_of};
+ghost use Rattle.vx_value.specs.declared.id.Id.{Id as ArrayIdOf};
+ghost use Rattle.vx_value.specs.declared.error.VortexError.TheVariants.{OutOfMemory};
 ghost use Rattle.vx_tree.specs.Tree.{Data, slots_of, id_of};
 ghost use Rattle.vx_tree.specs.TreeView.{data_of};
 ghost use Rattle.vx_tree.specs.Well.{shapes};
 ghost use Rattle.vx_tree.specs.Refusals.{refusal};
 
 use crate::array::{ArrayRef, Encoding};
+use std::alloc::Global;
 use vx_value::{DType, Id, VortexResult};
 
 /// The id of an encoding, as the original names it.
@@ -25,12 +28,16 @@ pub trait VTable: Encoded + Drop + Sized {
 
     ghost stands_for: { Self.TypedArrayData → Data };
 
-    /// The id of the encoding.
-    fn id(&self) -> ArrayId
-        ensures { (d : Self.TypedArrayData) → id_of (stands_for d) ≡ result };
+    // the id that a tag names
+    ghost named: { Self → ArrayIdOf };
 
-    /// The tag itself. (own)
-    fn tag() -> Self;
+    /// The id of the encoding, or of the function that the tag names.
+    fn id(&self) -> ArrayId
+        ensures { result ≡ named self.now };
+
+    /// The tag of some node data. (own)
+    fn tag(payload: &Self::TypedArrayData) -> Self
+        ensures { named result ≡ id_of (stands_for payload.now) };
 
     /// The node data, where it is of the encoding. (own)
     fn project(encoding: &Encoding) -> Option<&Self::TypedArrayData>
@@ -49,16 +56,19 @@ pub trait VTable: Encoded + Drop + Sized {
     /// Whether a node of these parts may be made.
     ///
     /// It refuses by the first condition that fails: `InvalidArgument` with `SlotCount`, `SlotMissing`, then `BadType`,
-    /// `SlotType` or `NodeType`, then `NodeLen`, and last `OutOfBounds`.
+    /// `SlotType` or `NodeType`, then `NodeLen`, and last `OutOfBounds`. Of a function it is `FnSlotMissing`, `Arity`, then
+    /// `NodeType` where the tag is another function's, `NoRow`, `NodeType`, and last `ChildLen`.
     fn validate(
+        &self,
+        alloc: Global,
         dtype: &DType,
         len: usize,
         payload: &Self::TypedArrayData,
         slots: &[Option<ArrayRef>],
     ) -> VortexResult<()>
-        ensures { MatchResult result
-            (λ _. refusal (type_of dtype.now) len (stands_for payload.now) (shapes (slots_of slots.now)) ≡ None)
-            (λ e. refusal (type_of dtype.now) len (stands_for payload.now) (shapes (slots_of slots.now)) ≡ Some e) };
+        ensures valid { OnOk result (refusal (named self.now) (type_of dtype.now) len (stands_for payload.now) (shapes (slots_of slots.now)) ≡ None) }
+        ensures refused { IfErr result (λ e. (e ≡ OutOfMemory)
+            ⊎ (refusal (named self.now) (type_of dtype.now) len (stands_for payload.now) (shapes (slots_of slots.now)) ≡ Some e)) };
 
     // what it stands for is of the encoding
     ghost kind_of: { (d : Self.TypedArrayData) → is_kind (stands_for d) ≡ true };

@@ -4,6 +4,7 @@ ghost use Rattle.std.specs.Prelude.{◌≡◌, ◌⊎◌, length, IfOk, IfErr, O
 ghost use Rattle.vx_value.specs.View.{type_of};
 ghost use Rattle.vx_value.specs.Types as type;
 ghost use Rattle.vx_value.specs.declared.dtype.Nullability.TheVariants.{NonNullable};
+ghost use Rattle.vx_value.specs.declared.id.Id.TheVariants as id;
 ghost use Rattle.vx_tree.specs.Tree.{bool, is_bool, node, absent, no_slots};
 
 use crate::array::{Array, ArrayId, ArrayParts, ArrayRef, Encoded, Encoding, VTable};
@@ -42,13 +43,15 @@ impl Encoded for Bool {
 impl VTable for Bool {
     ghost is_kind = { is_bool };
 
+    ghost named = { λ _. id.Bool };
+
     ghost stands_for = { λ d. bool d.bits };
 
     fn id(&self) -> ArrayId {
         Id::Bool
     }
 
-    fn tag() -> Bool {
+    fn tag(_payload: &BoolData) -> Bool {
         Bool
     }
 
@@ -57,6 +60,7 @@ impl VTable for Bool {
             Encoding::Bool(data) => Some(data),
             Encoding::Constant(_) => None,
             Encoding::Slice(_) => None,
+            Encoding::ScalarFn(_) => None,
             Encoding::Primitive(_) => None,
         }
     }
@@ -66,6 +70,7 @@ impl VTable for Bool {
             Encoding::Bool(data) => Some(data),
             Encoding::Constant(_) => None,
             Encoding::Slice(_) => None,
+            Encoding::ScalarFn(_) => None,
             Encoding::Primitive(_) => None,
         }
     }
@@ -75,6 +80,8 @@ impl VTable for Bool {
     }
 
     fn validate(
+        &self,
+        _alloc: Global,
         dtype: &DType,
         len: usize,
         payload: &BoolData,

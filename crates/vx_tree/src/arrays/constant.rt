@@ -3,6 +3,7 @@
 ghost use Rattle.std.specs.Prelude.{◌≡◌, ◌⊎◌, IfOk, IfErr, OnOk, true, refl};
 ghost use Rattle.vx_value.specs.Types.{nullability_of};
 ghost use Rattle.vx_value.specs.declared.dtype.Nullability.TheVariants.{NonNullable};
+ghost use Rattle.vx_value.specs.declared.id.Id.TheVariants as id;
 ghost use Rattle.vx_tree.specs.Tree.{constant, is_constant, node, no_slots};
 
 use crate::array::{Array, ArrayId, ArrayParts, ArrayRef, Encoded, Encoding, VTable};
@@ -39,13 +40,15 @@ impl Encoded for Constant {
 impl VTable for Constant {
     ghost is_kind = { is_constant };
 
+    ghost named = { λ _. id.Constant };
+
     ghost stands_for = { λ d. constant d.scalar };
 
     fn id(&self) -> ArrayId {
         Id::Constant
     }
 
-    fn tag() -> Constant {
+    fn tag(_payload: &ConstantData) -> Constant {
         Constant
     }
 
@@ -53,6 +56,7 @@ impl VTable for Constant {
         match encoding {
             Encoding::Constant(data) => Some(data),
             Encoding::Slice(_) => None,
+            Encoding::ScalarFn(_) => None,
             Encoding::Bool(_) => None,
             Encoding::Primitive(_) => None,
         }
@@ -62,6 +66,7 @@ impl VTable for Constant {
         match encoding {
             Encoding::Constant(data) => Some(data),
             Encoding::Slice(_) => None,
+            Encoding::ScalarFn(_) => None,
             Encoding::Bool(_) => None,
             Encoding::Primitive(_) => None,
         }
@@ -73,6 +78,8 @@ impl VTable for Constant {
 
     #[tactic(auto, using(crate::proofs::Refusing::constant_slot_count, crate::proofs::Refusing::no_slot))]
     fn validate(
+        &self,
+        _alloc: Global,
         dtype: &DType,
         _len: usize,
         payload: &ConstantData,

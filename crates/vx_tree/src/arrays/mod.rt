@@ -5,5 +5,6 @@ mod column;
 pub mod constant;
 pub mod native;
 pub mod primitive;
+pub mod scalar_fn;
 pub mod slice;
 pub mod values;

@@ -1,6 +1,6 @@
 //! The eight integer types of the program as columns hold them.
 
-ghost use Rattle.std.specs.Prelude.{◌≡◌, ℤ, pos, map, Some, None, true, option_map, if◌then◌else◌};
+ghost use Rattle.std.specs.Prelude.{◌≡◌, ◌↔◌, ℤ, pos, map, Some, None, true, option_map, if◌then◌else◌};
 ghost use Rattle.vx_value.specs.IsOf.{in_range};
 ghost use Rattle.vx_value.specs.declared.dtype.PType.{PType as PTypeOf};
 ghost use Rattle.vx_value.specs.declared.dtype.PType.TheVariants as ptype;
@@ -33,9 +33,17 @@ pub trait NativeInteger: PrimInt {
     fn wrap(values: Buffer<Self>) -> PrimitiveValues
         ensures same_kind { ptype_of result ≡ kind }
         ensures values { values_of result ≡ map Self.value values };
+
+    // a clone is the number itself
+    ghost clones_same: { (x y : Self) → Self.is_clone x y → y ≡ x };
+
+    // the type has the integers of its range
+    ghost fits_kind: { (z : ℤ) → Self.fits z ↔ (in_range kind z ≡ true) };
 }
 
 impl NativeInteger for u8 {
+    ghost use Rattle.vx_tree.specs.Ranges.{unsigned_range};
+
     ghost kind = { ptype.U8 };
 
     fn ptype() -> PType {
@@ -46,6 +54,7 @@ impl NativeInteger for u8 {
         u8::try_from(wide).ok()
     }
 
+    #[inline]
     fn to_wide(self) -> i128 {
         i128::from(self)
     }
@@ -56,9 +65,15 @@ impl NativeInteger for u8 {
     {
         PrimitiveValues::U8(values)
     }
+
+    ghost clones_same = { λ x y e. e };
+
+    ghost fits_kind = { unsigned_range 8 };
 }
 
 impl NativeInteger for u16 {
+    ghost use Rattle.vx_tree.specs.Ranges.{unsigned_range};
+
     ghost kind = { ptype.U16 };
 
     fn ptype() -> PType {
@@ -69,6 +84,7 @@ impl NativeInteger for u16 {
         u16::try_from(wide).ok()
     }
 
+    #[inline]
     fn to_wide(self) -> i128 {
         i128::from(self)
     }
@@ -79,9 +95,15 @@ impl NativeInteger for u16 {
     {
         PrimitiveValues::U16(values)
     }
+
+    ghost clones_same = { λ x y e. e };
+
+    ghost fits_kind = { unsigned_range 16 };
 }
 
 impl NativeInteger for u32 {
+    ghost use Rattle.vx_tree.specs.Ranges.{unsigned_range};
+
     ghost kind = { ptype.U32 };
 
     fn ptype() -> PType {
@@ -92,6 +114,7 @@ impl NativeInteger for u32 {
         u32::try_from(wide).ok()
     }
 
+    #[inline]
     fn to_wide(self) -> i128 {
         i128::from(self)
     }
@@ -102,9 +125,15 @@ impl NativeInteger for u32 {
     {
         PrimitiveValues::U32(values)
     }
+
+    ghost clones_same = { λ x y e. e };
+
+    ghost fits_kind = { unsigned_range 32 };
 }
 
 impl NativeInteger for u64 {
+    ghost use Rattle.vx_tree.specs.Ranges.{unsigned_range};
+
     ghost kind = { ptype.U64 };
 
     fn ptype() -> PType {
@@ -115,6 +144,7 @@ impl NativeInteger for u64 {
         u64::try_from(wide).ok()
     }
 
+    #[inline]
     fn to_wide(self) -> i128 {
         i128::from(self)
     }
@@ -125,9 +155,15 @@ impl NativeInteger for u64 {
     {
         PrimitiveValues::U64(values)
     }
+
+    ghost clones_same = { λ x y e. e };
+
+    ghost fits_kind = { unsigned_range 64 };
 }
 
 impl NativeInteger for i8 {
+    ghost use Rattle.vx_tree.specs.Ranges.{signed_range_8};
+
     ghost kind = { ptype.I8 };
 
     fn ptype() -> PType {
@@ -138,6 +174,7 @@ impl NativeInteger for i8 {
         i8::try_from(wide).ok()
     }
 
+    #[inline]
     fn to_wide(self) -> i128 {
         i128::from(self)
     }
@@ -148,9 +185,15 @@ impl NativeInteger for i8 {
     {
         PrimitiveValues::I8(values)
     }
+
+    ghost clones_same = { λ x y e. e };
+
+    ghost fits_kind = { signed_range_8 };
 }
 
 impl NativeInteger for i16 {
+    ghost use Rattle.vx_tree.specs.Ranges.{signed_range_16};
+
     ghost kind = { ptype.I16 };
 
     fn ptype() -> PType {
@@ -161,6 +204,7 @@ impl NativeInteger for i16 {
         i16::try_from(wide).ok()
     }
 
+    #[inline]
     fn to_wide(self) -> i128 {
         i128::from(self)
     }
@@ -171,9 +215,15 @@ impl NativeInteger for i16 {
     {
         PrimitiveValues::I16(values)
     }
+
+    ghost clones_same = { λ x y e. e };
+
+    ghost fits_kind = { signed_range_16 };
 }
 
 impl NativeInteger for i32 {
+    ghost use Rattle.vx_tree.specs.Ranges.{signed_range_32};
+
     ghost kind = { ptype.I32 };
 
     fn ptype() -> PType {
@@ -184,6 +234,7 @@ impl NativeInteger for i32 {
         i32::try_from(wide).ok()
     }
 
+    #[inline]
     fn to_wide(self) -> i128 {
         i128::from(self)
     }
@@ -194,9 +245,15 @@ impl NativeInteger for i32 {
     {
         PrimitiveValues::I32(values)
     }
+
+    ghost clones_same = { λ x y e. e };
+
+    ghost fits_kind = { signed_range_32 };
 }
 
 impl NativeInteger for i64 {
+    ghost use Rattle.vx_tree.specs.Ranges.{signed_range_64};
+
     ghost kind = { ptype.I64 };
 
     fn ptype() -> PType {
@@ -207,6 +264,7 @@ impl NativeInteger for i64 {
         i64::try_from(wide).ok()
     }
 
+    #[inline]
     fn to_wide(self) -> i128 {
         i128::from(self)
     }
@@ -217,4 +275,8 @@ impl NativeInteger for i64 {
     {
         PrimitiveValues::I64(values)
     }
+
+    ghost clones_same = { λ x y e. e };
+
+    ghost fits_kind = { signed_range_64 };
 }

@@ -5,6 +5,7 @@ ghost use Rattle.vx_value.specs.View.{type_of};
 ghost use Rattle.vx_value.specs.Types as type;
 ghost use Rattle.vx_value.specs.declared.dtype.Nullability.TheVariants.{NonNullable};
 ghost use Rattle.vx_tree.specs.Natives.{values_of, ptype_of};
+ghost use Rattle.vx_value.specs.declared.id.Id.TheVariants as id;
 ghost use Rattle.vx_tree.specs.Tree.{primitive, is_primitive, node, absent, no_slots};
 
 use crate::array::{Array, ArrayId, ArrayParts, ArrayRef, Encoded, Encoding, VTable};
@@ -43,13 +44,15 @@ impl Encoded for Primitive {
 impl VTable for Primitive {
     ghost is_kind = { is_primitive };
 
+    ghost named = { λ _. id.Primitive };
+
     ghost stands_for = { λ d. primitive (ptype_of d.values) (values_of d.values) };
 
     fn id(&self) -> ArrayId {
         Id::Primitive
     }
 
-    fn tag() -> Primitive {
+    fn tag(_payload: &PrimitiveData) -> Primitive {
         Primitive
     }
 
@@ -58,6 +61,7 @@ impl VTable for Primitive {
             Encoding::Primitive(data) => Some(data),
             Encoding::Constant(_) => None,
             Encoding::Slice(_) => None,
+            Encoding::ScalarFn(_) => None,
             Encoding::Bool(_) => None,
         }
     }
@@ -67,6 +71,7 @@ impl VTable for Primitive {
             Encoding::Primitive(data) => Some(data),
             Encoding::Constant(_) => None,
             Encoding::Slice(_) => None,
+            Encoding::ScalarFn(_) => None,
             Encoding::Bool(_) => None,
         }
     }
@@ -76,6 +81,8 @@ impl VTable for Primitive {
     }
 
     fn validate(
+        &self,
+        _alloc: Global,
         dtype: &DType,
         len: usize,
         payload: &PrimitiveData,
@@ -91,6 +98,7 @@ impl VTable for Primitive {
 impl PrimitiveArray {
     /// The column of these values. `InvalidArgument` with `BadType` exactly where the type isn't that of the values,
     /// without nulls.
+    #[tactic(auto, using(crate::proofs::Refusing::of_that_type, crate::proofs::Refusing::of_another_type, crate::proofs::Refusing::no_slots_there))]
     pub fn try_new(
         alloc: Global,
         dtype: DType,
@@ -101,12 +109,19 @@ impl PrimitiveArray {
         ensures refused { IfErr result (λ e. (e ≡ VortexError.OutOfMemory)
             ⊎ ((e ≡ VortexError.InvalidArgument ArgKind.BadType) × (¬ (type_of dtype ≡ type.primitive (ptype_of values) NonNullable)))) }
     {
+        if dtype != DType::Primitive(values.ptype(), Nullability::NonNullable) {
+            return Err(VortexError::InvalidArgument(ArgKind::BadType));
+        }
         let mut slots = Vec::with_capacity(alloc, 1)?;
         slots.push(None)?;
         let len = values.len();
-        Array::try_from_parts(
-            alloc,
-            ArrayParts::new(Primitive, dtype, len, PrimitiveData { values }, slots),
-        )
+        let parts = ArrayParts {
+            vtable: Primitive,
+            dtype,
+            len,
+            payload: PrimitiveData { values },
+            slots,
+        };
+        Ok(Array::from_parts_unchecked(alloc, parts)?)
     }
 }

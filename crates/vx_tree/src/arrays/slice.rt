@@ -1,6 +1,7 @@
 //! A range of another array's rows.
 
 ghost use Rattle.std.specs.Prelude.{◌≡◌, ◌⊎◌, ◌-◌, ◌≤◌, IfOk, IfErr, OnOk, Some, None, true, refl};
+ghost use Rattle.vx_value.specs.declared.id.Id.TheVariants as id;
 ghost use Rattle.vx_tree.specs.Tree.{Tree, dtype, len, slice, is_slice, node, slot, no_slots};
 
 use crate::array::{Array, ArrayId, ArrayParts, ArrayRef, Encoded, Encoding, VTable};
@@ -38,13 +39,15 @@ impl Encoded for Slice {
 impl VTable for Slice {
     ghost is_kind = { is_slice };
 
+    ghost named = { λ _. id.Slice };
+
     ghost stands_for = { λ d. slice d.range.start d.range.end };
 
     fn id(&self) -> ArrayId {
         Id::Slice
     }
 
-    fn tag() -> Slice {
+    fn tag(_payload: &SliceData) -> Slice {
         Slice
     }
 
@@ -52,6 +55,7 @@ impl VTable for Slice {
         match encoding {
             Encoding::Slice(data) => Some(data),
             Encoding::Constant(_) => None,
+            Encoding::ScalarFn(_) => None,
             Encoding::Bool(_) => None,
             Encoding::Primitive(_) => None,
         }
@@ -61,6 +65,7 @@ impl VTable for Slice {
         match encoding {
             Encoding::Slice(data) => Some(data),
             Encoding::Constant(_) => None,
+            Encoding::ScalarFn(_) => None,
             Encoding::Bool(_) => None,
             Encoding::Primitive(_) => None,
         }
@@ -72,6 +77,8 @@ impl VTable for Slice {
 
     #[tactic(auto, using(crate::proofs::Refusing::slice_slot_count, crate::proofs::Refusing::the_slot))]
     fn validate(
+        &self,
+        _alloc: Global,
         dtype: &DType,
         len: usize,
         payload: &SliceData,

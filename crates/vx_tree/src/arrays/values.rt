@@ -47,6 +47,13 @@ fn wide_at<T: NativeInteger>(buffer: &Buffer<T>, index: usize) -> i128
     buffer.as_slice()[index].to_wide()
 }
 
+fn shared<T: NativeInteger>(buffer: &Buffer<T>) -> Result<PrimitiveValues, AllocError>
+    ensures kind { IfOk result (λ copy. ptype_of copy ≡ T.kind) }
+    ensures values { IfOk result (λ copy. values_of copy ≡ map T.value buffer.now) }
+{
+    Ok(T::wrap(buffer.clone()?))
+}
+
 #[tactic(auto, using(crate::proofs::Parts::map_part))]
 fn part_of<T: NativeInteger>(
     buffer: &Buffer<T>,
@@ -60,7 +67,8 @@ fn part_of<T: NativeInteger>(
     Ok(T::wrap(buffer.slice(range)?))
 }
 
-fn native_of<T: NativeInteger>(wide: i128) -> T
+/// The number as one of a type that has it. (own)
+pub fn native_of<T: NativeInteger>(wide: i128) -> T
     requires { in_range T.kind wide ≡ true }
     ensures { T.value result ≡ wide }
 {
@@ -80,10 +88,7 @@ fn copies_of<T: NativeInteger>(
     ensures values { IfOk result (λ copies. values_of copies ≡ replicate len wide) }
 {
     let value: T = native_of(wide);
-    let mut values = Vec::with_capacity(alloc, len)?;
-    for done in 0..len {
-        values.push(value)?;
-    }
+    let values = vec![in alloc; value; len]?;
     Ok(T::wrap(Buffer::from_vec(alloc, values)?))
 }
 
@@ -158,15 +163,6 @@ impl Clone for PrimitiveValues {
     ghost is_clone = { λ a b. (ptype_of b ≡ ptype_of a) × (values_of b ≡ values_of a) };
 
     fn clone(&self) -> Result<PrimitiveValues, AllocError> {
-        match self {
-            PrimitiveValues::U8(buffer) => Ok(PrimitiveValues::U8(buffer.clone()?)),
-            PrimitiveValues::U16(buffer) => Ok(PrimitiveValues::U16(buffer.clone()?)),
-            PrimitiveValues::U32(buffer) => Ok(PrimitiveValues::U32(buffer.clone()?)),
-            PrimitiveValues::U64(buffer) => Ok(PrimitiveValues::U64(buffer.clone()?)),
-            PrimitiveValues::I8(buffer) => Ok(PrimitiveValues::I8(buffer.clone()?)),
-            PrimitiveValues::I16(buffer) => Ok(PrimitiveValues::I16(buffer.clone()?)),
-            PrimitiveValues::I32(buffer) => Ok(PrimitiveValues::I32(buffer.clone()?)),
-            PrimitiveValues::I64(buffer) => Ok(PrimitiveValues::I64(buffer.clone()?)),
-        }
+        by_type!(self, |buffer| shared(buffer))
     }
 }

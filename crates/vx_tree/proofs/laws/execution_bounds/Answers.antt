@@ -1,5 +1,11 @@
-use Rattle.vx_tree.proofs.Bounding.{cost_positive}
+use Rattle.vx_tree.proofs.Bounding.{cost_positive, function_cost, function_reach}
 use Rattle.vx_tree.proofs.laws.execution_bounds.Goals as goal
 
 pub returns-clause-positive : goal.returns-clause-positive
 returns-clause-positive c = cost_positive
+
+pub returns-clause-functions : goal.returns-clause-functions
+returns-clause-functions c = function_cost
+
+pub returns-clause-function_reach : goal.returns-clause-function_reach
+returns-clause-function_reach c = function_reach

@@ -1,18 +1,24 @@
 use Rattle.std.proofs.Common.{subst}
 use Rattle.vx_main.specs.Steps.{IsStep}
 use Rattle.vx_main.proofs.Turning.{move_done, move_push, awaited_present}
+use Rattle.vx_main.proofs.Faulting.{stopped_inside}
 use Rattle.vx_main.proofs.exec.turn.advance.Goals as goal
 
 pub take_slot-requires : goal.take_slot-requires
 take_slot-requires c =
-    awaited_present c.in-ExecuteSlot.slot c.args.current (subst (λ s. IsStep c.args.current s) c.in-ExecuteSlot.is c.in_ok-next.ensures.ok).0
+    awaited_present c.in-Ok-ExecuteSlot.slot c.args.current (subst (λ s. IsStep c.args.current s) c.in-Ok-ExecuteSlot.field-0-is c.in-Ok-ExecuteSlot.ensures.ok).0
 
-pub returns-in-Done-clause-ok : goal.returns-in-Done-clause-ok
-returns-in-Done-clause-ok c =
-    move_done c.args.frames.now.items c.args.current c.in-Done.next c.requires.frames (subst (λ s. IsStep c.args.current s) c.in-Done.is c.in_ok-next.ensures.ok)
+pub returns-in-Ok-Done-clause-ok : goal.returns-in-Ok-Done-clause-ok
+returns-in-Ok-Done-clause-ok c =
+    move_done c.args.frames.now.items c.args.current c.in-Ok-Done.next c.requires.frames (subst (λ s. IsStep c.args.current s) c.in-Ok-Done.field-0-is c.in-Ok-Done.ensures.ok)
 
-pub returns-in_ok-push-in-ExecuteSlot-clause-ok : goal.returns-in_ok-push-in-ExecuteSlot-clause-ok
-returns-in_ok-push-in-ExecuteSlot-clause-ok c =
-    let taken = c.in_ok-parent-in-ExecuteSlot in
-    let asked = subst (λ s. IsStep c.args.current s) c.in-ExecuteSlot.is c.in_ok-next.ensures.ok in
-    move_push c.args.frames.now.items c.push.new.self.items c.in-ExecuteSlot.slot c.args.current taken.parent taken.child c.in-ExecuteSlot.target taken.ensures.0 taken.ensures.1 taken.ensures.2 asked.0 asked.1 c.requires.frames c.in_ok-push-in-ExecuteSlot.ensures.items
+pub returns-in_ok-push-in-Ok-ExecuteSlot-clause-ok : goal.returns-in_ok-push-in-Ok-ExecuteSlot-clause-ok
+returns-in_ok-push-in-Ok-ExecuteSlot-clause-ok c =
+    let taken = c.in_ok-parent-in-Ok-ExecuteSlot in
+    let asked = c.in-Ok-ExecuteSlot in
+    let answer = subst (λ s. IsStep c.args.current s) asked.field-0-is asked.ensures.ok in
+    move_push c.args.frames.now.items c.push.new.self.items asked.slot c.args.current taken.parent taken.child asked.target taken.ensures.0 taken.ensures.1 taken.ensures.2 answer.0 answer.1 c.requires.frames c.in_ok-push-in-Ok-ExecuteSlot.ensures.items
+
+pub returns-in-Err-clause-err : goal.returns-in-Err-clause-err
+returns-in-Err-clause-err c =
+    stopped_inside c.args.frames.now.items c.args.current c.in-Err.e c.requires.frames c.in-Err.ensures.err

@@ -4,7 +4,7 @@ use Rattle.vx_tree.specs.Natives.{values_of, ptype_of}
 use Rattle.vx_tree.specs.declared.array.node.Node.{Node}
 use Rattle.vx_tree.specs.Well.{IsWell}
 use Rattle.vx_tree.specs.TreeView.{data_of, tree_of}
-use Rattle.vx_tree.proofs.Opened.{kind_constant, kind_slice, kind_bool, kind_primitive}
+use Rattle.vx_tree.proofs.Opened.{shown_slots, kind_constant, kind_slice, kind_function, kind_bool, kind_primitive}
 use Rattle.vx_tree.proofs.array.node.ArrayRef.kind.Goals as goal
 
 pub returns-in-Constant : goal.returns-in-Constant
@@ -18,6 +18,13 @@ returns-in-Some c =
     let n = c.deref-node.result.now in
     let w = subst (λ (x : Node). IsWell (tree_of x)) (sym c.deref-node.ensures) c.self.invariant in
     kind_slice (type_of n.dtype) n.len (data_of n.encoding) n.slots.items c.args.self.now (ap tree_of c.deref-node.ensures ∙ c.self.view_is) w.0 c.in-Slice.data.range.start c.in-Slice.data.range.end c.index.result.now c.in-Some.child (ap data_of c.in-Slice.is) c.index.ensures c.in-Some.is
+
+pub returns-in-ScalarFn : goal.returns-in-ScalarFn
+returns-in-ScalarFn c =
+    let n = c.deref-node.result.now in
+    let w = subst (λ (x : Node). IsWell (tree_of x)) (sym c.deref-node.ensures) c.self.invariant in
+    let same = shown_slots c.args.self.now c.in-ScalarFn.data.scalar_fn n.slots.items c.deref.result.now c.deref.ensures.value in
+    same (kind_function (type_of n.dtype) n.len (data_of n.encoding) n.slots.items c.args.self.now (ap tree_of c.deref-node.ensures ∙ c.self.view_is) w.0 c.in-ScalarFn.data.scalar_fn (ap data_of c.in-ScalarFn.is))
 
 pub returns-in-Bool : goal.returns-in-Bool
 returns-in-Bool c =

@@ -7,7 +7,7 @@ use Rattle.vx_value.specs.View.{type_of}
 use Rattle.vx_value.specs.declared.dtype.Nullability.TheVariants.{NonNullable}
 use Rattle.vx_tree.specs.Tree.{node, primitive, absent, no_slots}
 use Rattle.vx_main.proofs.Repeating.{bool_copies, integer_copies}
-use Rattle.vx_main.proofs.exec.canonicalize.repeat_scalar.Goals as goal
+use Rattle.vx_main.proofs.exec.canonicalize.constant_canonicalize.Goals as goal
 
 pub returns-in-Bool-Some-Bool-clause-ok : goal.returns-in-Bool-Some-Bool-clause-ok
 returns-in-Bool-Some-Bool-clause-ok c =

@@ -1,0 +1,62 @@
+-- A number that no i128 is, is of no type.
+use Rattle.std.proofs.Common.{◌≡◌, zero, suc, of_z, to_z, Bool, true, false, if◌then◌else◌, arith, refl, ap, ◌∙◌, sym}
+use Rattle.std.specs.Prelude.{ℤ, pos, negsuc, FitsSigned, int_div, Option, Some, None, MatchOption}
+use Rattle.std.specs.Option.{SomeIff}
+use Rattle.std.specs.Int.{w128, CanDivide}
+use Rattle.std.specs.Ordering.{int_cmp, is_eq}
+use Rattle.std.proofs.lemmas.Bool.Decides.{nat_tests}
+use Rattle.std.proofs.lemmas.Int.{to_z-of_z}
+use Rattle.vx_value.specs.Cell.{Cell, fault}
+use Rattle.vx_value.specs.IsOf.{in_range}
+use Rattle.vx_value.specs.declared.dtype.PType.{PType}
+use Rattle.vx_value.specs.declared.dtype.PType.TheVariants.{U8, U16, U32, U64, I8, I16, I32, I64}
+use Rattle.vx_fn.specs.Apply.{number, quotient}
+
+-- what a type has, an i128 is
+pub range_fits : (p : PType) (z : ℤ) → in_range p z ≡ true → FitsSigned w128 z
+range_fits U8 (pos n) e = record { sfits = grind (arith, nat_tests) }
+range_fits U8 (negsuc n) e = absurd (cc)
+range_fits U16 (pos n) e = record { sfits = grind (arith, nat_tests) }
+range_fits U16 (negsuc n) e = absurd (cc)
+range_fits U32 (pos n) e = record { sfits = grind (arith, nat_tests) }
+range_fits U32 (negsuc n) e = absurd (cc)
+range_fits U64 (pos n) e = record { sfits = grind (arith, nat_tests) }
+range_fits U64 (negsuc n) e = absurd (cc)
+range_fits I8 (pos n) e = record { sfits = grind (arith, nat_tests) }
+range_fits I8 (negsuc n) e = record { sfits = grind (arith, nat_tests) }
+range_fits I16 (pos n) e = record { sfits = grind (arith, nat_tests) }
+range_fits I16 (negsuc n) e = record { sfits = grind (arith, nat_tests) }
+range_fits I32 (pos n) e = record { sfits = grind (arith, nat_tests) }
+range_fits I32 (negsuc n) e = record { sfits = grind (arith, nat_tests) }
+range_fits I64 (pos n) e = record { sfits = grind (arith, nat_tests) }
+range_fits I64 (negsuc n) e = record { sfits = grind (arith, nat_tests) }
+
+none_where : (b : Bool) (c : Cell) → (b ≡ true → ⊥) → (if b then c else fault) ≡ fault
+none_where true c h = absurd (h refl)
+none_where false c h = refl
+
+-- so a number that no i128 is, no type has
+pub number_unfit : (p : PType) (z : ℤ) → ¬ FitsSigned w128 z → number p z ≡ fault
+number_unfit p z h = none_where (in_range p z) _ (λ e. h (range_fits p z e))
+
+-- where an i128 is taken only if there is one
+pub by_fit : (p : PType) (z : ℤ) (r : Option ℤ) → SomeIff r (FitsSigned w128 z) z → MatchOption r (number p z ≡ fault) (λ y. number p z ≡ number p y)
+by_fit p z None h = number_unfit p z h
+by_fit p z (Some y) h = ap (number p) (sym h.1)
+
+not_zero : (y : ℤ) → (of_z w128 y ≡ 0 → ⊥) → is_eq (int_cmp y (pos 0)) ≡ false
+not_zero (pos zero) h = absurd (h refl)
+not_zero (pos (suc n)) h = grind (arith, nat_tests)
+not_zero (negsuc n) h = refl
+
+by_other : (p : PType) (x y : ℤ) → (of_z w128 y ≡ 0 → ⊥) → quotient p x y ≡ number p (int_div x y)
+by_other p x y h = ap (λ b. if b then fault else number p (int_div x y)) (not_zero y h)
+
+-- where the divisor isn't 0, an i128 is taken only if there is one
+of_quotient : (p : PType) (x y : ℤ) (r : Option ℤ) → (of_z w128 y ≡ 0 → ⊥) → SomeIff r (CanDivide w128 x y) (int_div x y) → MatchOption r (quotient p x y ≡ fault) (λ z. quotient p x y ≡ number p z)
+of_quotient p x y None h k = by_other p x y h ∙ number_unfit p (int_div x y) (λ f. k (omega (arith, h), f))
+of_quotient p x y (Some z) h k = by_other p x y h ∙ ap (number p) (sym k.1)
+
+-- the same, of numbers that were passed
+pub by_quotient : (p : PType) (x y : ℤ) (r : Option ℤ) → FitsSigned w128 x → FitsSigned w128 y → (of_z w128 y ≡ 0 → ⊥) → SomeIff r (CanDivide w128 (to_z w128 (of_z w128 x)) (to_z w128 (of_z w128 y))) (int_div (to_z w128 (of_z w128 x)) (to_z w128 (of_z w128 y))) → MatchOption r (quotient p x y ≡ fault) (λ z. quotient p x y ≡ number p z)
+by_quotient p x y r f g h k = of_quotient p x y r h (simp (to_z-of_z, f, g) at k)

@@ -1,0 +1,7 @@
+pub use Rattle.vx_value.specs.Types
+pub use Rattle.vx_value.specs.Values
+pub use Rattle.vx_value.specs.Cell
+pub use Rattle.vx_value.specs.Typed
+pub mod Functions
+pub mod ReturnTypes
+pub mod Apply

@@ -1,0 +1,150 @@
+//! The value of a function's row.
+
+ghost use Rattle.std.specs.Prelude.{◌≡◌, map, IfOk, IfErr, IsSome, Some, None, MatchOption, ◌∷◌, [], true};
+ghost use Rattle.vx_value.specs.Types.{DataType, bool, primitive, same_type};
+ghost use Rattle.vx_value.specs.Values.{boolean};
+ghost use Rattle.vx_value.specs.Cell.{value, fault};
+ghost use Rattle.vx_value.specs.Order.{value_cmp};
+ghost use Rattle.vx_fn.specs.ReturnTypes.{return_type, binary_type, negated_type};
+ghost use Rattle.vx_fn.specs.Apply.{apply, calculated, compared, holds, negated, number, operated, quotient};
+
+use crate::function::{Operator, ScalarFnRef};
+use std::cmp::Ordering;
+use vx_value::{DType, Nullability, PType, Scalar, ScalarValue, VortexError, VortexResult};
+
+/// The value that a function gives on these arguments, which are of types that it takes. It takes no memory.
+///
+/// `Fault` exactly where it gives none: where the result isn't of its type, and where a divisor is 0. (own)
+pub fn apply_row(function: &ScalarFnRef, arguments: &[Scalar]) -> VortexResult<Scalar>
+    requires { IsSome (return_type function.now (map (λ s. s.of_type) arguments.now)) }
+    ensures typed { IfOk result (λ s. return_type function.now (map (λ s. s.of_type) arguments.now) ≡ Some s.of_type) }
+    ensures ok { IfOk result (λ s. apply function.now s.of_type (map (λ a. value a.value) arguments.now) ≡ value s.value) }
+    ensures fault { IfErr result (λ e. (e ≡ VortexError.Fault) × ((t : DataType)
+        → return_type function.now (map (λ s. s.of_type) arguments.now) ≡ Some t
+        → apply function.now t (map (λ a. value a.value) arguments.now) ≡ fault)) }
+{
+    match (function, arguments) {
+        (ScalarFnRef::Binary(operator), [lhs, rhs]) => operate(*operator, lhs, rhs),
+        (ScalarFnRef::Not, [argument]) => negate(argument),
+        _ => Err(VortexError::Fault),
+    }
+}
+
+/// The value that an operator gives on two arguments, which are of types that it takes.
+fn operate(operator: Operator, lhs: &Scalar, rhs: &Scalar) -> VortexResult<Scalar>
+    requires { IsSome (binary_type operator (lhs.now.of_type ∷ rhs.now.of_type ∷ [])) }
+    ensures typed { IfOk result (λ s. binary_type operator (lhs.now.of_type ∷ rhs.now.of_type ∷ []) ≡ Some s.of_type) }
+    ensures ok { IfOk result (λ s. operated operator s.of_type lhs.now.value rhs.now.value ≡ value s.value) }
+    ensures fault { IfErr result (λ e. (e ≡ VortexError.Fault) × ((t : DataType)
+        → binary_type operator (lhs.now.of_type ∷ rhs.now.of_type ∷ []) ≡ Some t
+        → operated operator t lhs.now.value rhs.now.value ≡ fault)) }
+{
+    if operator.is_comparison() {
+        compare(operator, lhs, rhs)
+    } else {
+        match (lhs.dtype(), lhs.as_integer(), rhs.as_integer()) {
+            (DType::Primitive(ptype, _), Some(x), Some(y)) => calculate(operator, *ptype, x, y),
+            _ => Err(VortexError::Fault),
+        }
+    }
+}
+
+/// Whether a comparison holds of two values of one type.
+fn compare(operator: Operator, lhs: &Scalar, rhs: &Scalar) -> VortexResult<Scalar>
+    requires { same_type lhs.now.of_type rhs.now.of_type ≡ true }
+    ensures { result ≡ Ok (record {
+      of_type = bool Nullability.NonNullable;
+      value = boolean (holds operator (value_cmp lhs.now.value rhs.now.value));
+    }) }
+{
+    match lhs.partial_cmp(rhs) {
+        Some(ordering) => truth(holds(operator, ordering)),
+        None => Err(VortexError::Fault),
+    }
+}
+
+/// The other boolean, of an argument of a type that is negated.
+fn negate(argument: &Scalar) -> VortexResult<Scalar>
+    requires { IsSome (negated_type argument.now.of_type) }
+    ensures ok { IfOk result (λ s. (negated_type argument.now.of_type ≡ Some s.of_type)
+        × (negated argument.now.value ≡ value s.value)) }
+    ensures fault { IfErr result (λ e. (e ≡ VortexError.Fault) × (negated argument.now.value ≡ fault)) }
+{
+    match argument.as_bool() {
+        Some(value) => truth(!value),
+        None => Err(VortexError::Fault),
+    }
+}
+
+/// A boolean, of the type that can't be null.
+fn truth(value: bool) -> VortexResult<Scalar>
+    ensures { result ≡ Ok (record { of_type = bool Nullability.NonNullable; value = boolean value }) }
+{
+    Scalar::try_new(
+        DType::Bool(Nullability::NonNullable),
+        Some(ScalarValue::Bool(value)),
+    )
+}
+
+/// Whether a comparison holds of two values, by which comes first.
+fn holds(operator: Operator, ordering: Ordering) -> bool
+    ensures { result ≡ holds operator ordering }
+{
+    match operator {
+        Operator::Eq => ordering.is_eq(),
+        Operator::NotEq => ordering.is_ne(),
+        Operator::Gt => ordering.is_gt(),
+        Operator::Gte => ordering.is_ge(),
+        Operator::Lt => ordering.is_lt(),
+        Operator::Lte => ordering.is_le(),
+        Operator::Add | Operator::Sub | Operator::Mul | Operator::Div => false,
+    }
+}
+
+/// What an operator gives on two numbers, of their type.
+fn calculate(operator: Operator, ptype: PType, x: i128, y: i128) -> VortexResult<Scalar>
+    ensures ok { IfOk result (λ s. (s.of_type ≡ primitive ptype Nullability.NonNullable)
+        × (calculated operator ptype x y ≡ value s.value)) }
+    ensures fault { IfErr result (λ e. (e ≡ VortexError.Fault) × (calculated operator ptype x y ≡ fault)) }
+{
+    match exactly(operator, x, y) {
+        Some(z) => number(ptype, z),
+        None => Err(VortexError::Fault),
+    }
+}
+
+/// The number as a value of the type.
+fn number(ptype: PType, z: i128) -> VortexResult<Scalar>
+    ensures ok { IfOk result (λ s. (s.of_type ≡ primitive ptype Nullability.NonNullable)
+        × (number ptype z ≡ value s.value)) }
+    ensures fault { IfErr result (λ e. (e ≡ VortexError.Fault) × (number ptype z ≡ fault)) }
+{
+    match Scalar::try_new(
+        DType::Primitive(ptype, Nullability::NonNullable),
+        Some(ScalarValue::Integer(z)),
+    ) {
+        Ok(scalar) => Ok(scalar),
+        Err(_) => Err(VortexError::Fault),
+    }
+}
+
+/// What an operator gives on two numbers, None where no type has it.
+fn exactly(operator: Operator, x: i128, y: i128) -> Option<i128>
+    ensures { (p : PType) → MatchOption result (calculated operator p x y ≡ fault) (λ z. calculated operator p x y ≡ number p z) }
+{
+    match operator {
+        Operator::Add => x.checked_add(y),
+        Operator::Sub => x.checked_sub(y),
+        Operator::Mul => x.checked_mul(y),
+        Operator::Div => quotient(x, y),
+        Operator::Eq | Operator::NotEq => None,
+        Operator::Gt | Operator::Gte | Operator::Lt | Operator::Lte => None,
+    }
+}
+
+/// The first by the second, toward zero, None where no type has it.
+fn quotient(x: i128, y: i128) -> Option<i128>
+    ensures { (p : PType) → MatchOption result (quotient p x y ≡ fault) (λ z. quotient p x y ≡ number p z) }
+{
+    if y == 0 { None } else { x.checked_div(y) }
+}

@@ -1,0 +1,70 @@
+//! The type of a function's result.
+
+ghost use Rattle.std.specs.Prelude.{◌≡◌, ◌⊎◌, map, IfOk, IfErr, Some, None, option_map, ◌∷◌, []};
+ghost use Rattle.vx_value.specs.View.{type_of};
+ghost use Rattle.vx_fn.specs.ReturnTypes.{return_type, binary_type, operator_type};
+
+use crate::function::{Operator, ScalarFnRef};
+use vx_value::{ArgKind, DType, Nullability, VortexError, VortexResult};
+
+impl ScalarFnRef {
+    /// The type of the result, by the types of the arguments.
+    ///
+    /// Two booleans, and two integers of one type, compare to a boolean; two integers of one type are added, subtracted,
+    /// multiplied and divided to that type; a boolean is negated. Null is among the values of none of these types.
+    /// `InvalidArgument` with `NoRow` exactly where the function takes no such arguments.
+    pub fn return_dtype(&self, arguments: &[DType]) -> VortexResult<DType>
+        ensures ok { IfOk result (λ t. return_type self.now (map type_of arguments.now) ≡ Some (type_of t)) }
+        ensures refused { IfErr result (λ e. (e ≡ VortexError.InvalidArgument ArgKind.NoRow)
+            × (return_type self.now (map type_of arguments.now) ≡ None)) }
+    {
+        match type_in_row(self, arguments) {
+            Some(dtype) => Ok(dtype),
+            None => Err(VortexError::InvalidArgument(ArgKind::NoRow)),
+        }
+    }
+}
+
+/// The type of a function's result, None where it takes no such arguments.
+fn type_in_row(function: &ScalarFnRef, arguments: &[DType]) -> Option<DType>
+    ensures { option_map type_of result ≡ return_type function.now (map type_of arguments.now) }
+{
+    match (function, arguments) {
+        (ScalarFnRef::Binary(operator), [lhs, rhs]) => binary_type(*operator, lhs, rhs),
+        (ScalarFnRef::Not, [DType::Bool(Nullability::NonNullable)]) => {
+            Some(DType::Bool(Nullability::NonNullable))
+        }
+        _ => None,
+    }
+}
+
+/// The type of an operator's result, None where it takes no such arguments.
+#[tactic(auto, using(crate::proofs::Typing::of_one_type))]
+fn binary_type(operator: Operator, lhs: &DType, rhs: &DType) -> Option<DType>
+    ensures { option_map type_of result ≡ binary_type operator (type_of lhs.now ∷ type_of rhs.now ∷ []) }
+{
+    if *lhs == *rhs {
+        operator_type(operator, lhs)
+    } else {
+        None
+    }
+}
+
+/// The type of an operator's result on two arguments of one type, None where it takes none of that type.
+fn operator_type(operator: Operator, dtype: &DType) -> Option<DType>
+    ensures { option_map type_of result ≡ operator_type operator (type_of dtype.now) }
+{
+    match dtype {
+        DType::Bool(Nullability::NonNullable) => if operator.is_comparison() {
+            Some(DType::Bool(Nullability::NonNullable))
+        } else {
+            None
+        },
+        DType::Primitive(ptype, Nullability::NonNullable) => if operator.is_comparison() {
+            Some(DType::Bool(Nullability::NonNullable))
+        } else {
+            Some(DType::Primitive(*ptype, Nullability::NonNullable))
+        },
+        DType::Bool(Nullability::Nullable) | DType::Primitive(_, Nullability::Nullable) => None,
+    }
+}

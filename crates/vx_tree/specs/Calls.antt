@@ -1,0 +1,39 @@
+-- The node of a function over trees, and why none is made: how many, of which lengths, of which types, in this order.
+use Rattle.std.specs.Prelude.{ℕ, List, [], ◌∷◌, length, map, Bool, true, ◌==◌, ◌&&◌, Option, Some, None, option_map}
+use Rattle.vx_value.specs.Types.{DataType}
+use Rattle.vx_value.specs.declared.error.VortexError.{VortexError}
+use Rattle.vx_value.specs.declared.error.VortexError.TheVariants.{InvalidArgument}
+use Rattle.vx_value.specs.declared.error.ArgKind.TheVariants.{ChildLen, NoChildren, NoRow}
+use Rattle.vx_fn.specs.ReturnTypes.{return_type}
+use Rattle.vx_fn.specs.declared.function.ScalarFnRef.{ScalarFnRef}
+use Rattle.vx_tree.specs.Tree.{Tree, node, function, filled_slots, dtype, len}
+use Rattle.vx_tree.specs.Refusals.{first_of_both, unless, arity_refusal}
+
+-- each has so many rows
+abbrev pub all_of_len : ℕ → List Tree → Bool
+all_of_len n [] = true
+all_of_len n (t ∷ ts) = (len t == n) && all_of_len n ts
+
+-- where the function takes no such arguments
+abbrev pub row_refusal : Option DataType → Option VortexError
+row_refusal None = Some (InvalidArgument NoRow)
+row_refusal (Some ty) = None
+
+-- for so many rows
+abbrev pub call_refusal : ScalarFnRef → List Tree → ℕ → Option VortexError
+call_refusal f ts n =
+    first_of_both (arity_refusal f (length ts)) (first_of_both (unless (all_of_len n ts) (InvalidArgument ChildLen)) (row_refusal (return_type f (map dtype ts))))
+
+-- for as many rows as the first argument has
+abbrev pub inferred_refusal : ScalarFnRef → List Tree → Option VortexError
+inferred_refusal f [] = Some (InvalidArgument NoChildren)
+inferred_refusal f (t ∷ ts) = call_refusal f (t ∷ ts) (len t)
+
+-- the node, None where the function takes no such arguments
+abbrev pub called : ScalarFnRef → List Tree → ℕ → Option Tree
+called f ts n = option_map (λ ty. node ty n (function f) (filled_slots ts)) (return_type f (map dtype ts))
+
+-- the node with the first argument's length
+abbrev pub inferred : ScalarFnRef → List Tree → Option Tree
+inferred f [] = None
+inferred f (t ∷ ts) = called f (t ∷ ts) (len t)

@@ -1,0 +1,327 @@
+//! A function of other arrays, row by row.
+
+ghost use Rattle.std.specs.Prelude.{◌≡◌, ◌⊎◌, ◌++◌, map, IfOk, IfErr, OnOk, Some, None, true, false, refl};
+ghost use Rattle.vx_value.specs.View.{type_of};
+ghost use Rattle.vx_tree.specs.Tree.{function, is_function, slots_of, filled_slots};
+ghost use Rattle.vx_tree.specs.Well.{shapes};
+ghost use Rattle.vx_tree.specs.Refusals.{arity_refusal, slots_refusal, types_refusal, lengths_refusal, result_refusal, all_present, all_long, types_in, is_present, is_long, type_in};
+ghost use Rattle.vx_tree.specs.Calls.{call_refusal, inferred_refusal, called, inferred};
+ghost use Rattle.vx_fn.specs.ReturnTypes.{return_type};
+
+use crate::array::{Array, ArrayId, ArrayParts, ArrayRef, Encoded, Encoding, VTable};
+use std::alloc::{AllocError, Global};
+use vx_fn::{Arity, ScalarFnRef};
+use vx_value::{ArgKind, DType, VortexError, VortexResult};
+
+/// The tag of a function's nodes, by the function's id.
+#[derive(Clone, Copy, Debug)]
+pub struct ScalarFn {
+    pub id: ArrayId,
+}
+
+/// A function of the slots' rows, row by row, put off.
+pub type ScalarFnArray = Array<ScalarFn>;
+
+/// The function.
+#[derive(Debug, Drop)]
+pub struct ScalarFnData {
+    pub scalar_fn: ScalarFnRef,
+}
+
+impl ScalarFnData {
+    /// The function of the node.
+    pub fn scalar_fn(&self) -> &ScalarFnRef
+        ensures { result.now ≡ self.now.scalar_fn }
+    {
+        &self.scalar_fn
+    }
+}
+
+impl Clone for ScalarFnData {
+    ghost is_clone = { λ a b. b ≡ a };
+
+    fn clone(&self) -> Result<ScalarFnData, AllocError> {
+        Ok(ScalarFnData {
+            scalar_fn: self.scalar_fn,
+        })
+    }
+}
+
+impl Encoded for ScalarFn {
+    type TypedArrayData = ScalarFnData;
+}
+
+impl VTable for ScalarFn {
+    ghost is_kind = { is_function };
+
+    ghost named = { λ tag. tag.id };
+
+    ghost stands_for = { λ d. function d.scalar_fn };
+
+    fn id(&self) -> ArrayId {
+        self.id
+    }
+
+    fn tag(payload: &ScalarFnData) -> ScalarFn {
+        ScalarFn {
+            id: payload.scalar_fn.id(),
+        }
+    }
+
+    fn project(encoding: &Encoding) -> Option<&ScalarFnData> {
+        match encoding {
+            Encoding::ScalarFn(data) => Some(data),
+            Encoding::Constant(_) => None,
+            Encoding::Slice(_) => None,
+            Encoding::Bool(_) => None,
+            Encoding::Primitive(_) => None,
+        }
+    }
+
+    fn into_data(encoding: Encoding) -> Option<ScalarFnData> {
+        match encoding {
+            Encoding::ScalarFn(data) => Some(data),
+            Encoding::Constant(_) => None,
+            Encoding::Slice(_) => None,
+            Encoding::Bool(_) => None,
+            Encoding::Primitive(_) => None,
+        }
+    }
+
+    fn wrap(payload: ScalarFnData) -> Encoding {
+        Encoding::ScalarFn(payload)
+    }
+
+    #[tactic(auto, using(crate::proofs::Ordering::first_refused, crate::proofs::Ordering::later_refused, crate::proofs::Ordering::none_refused))]
+    fn validate(
+        &self,
+        alloc: Global,
+        dtype: &DType,
+        len: usize,
+        payload: &ScalarFnData,
+        slots: &[Option<ArrayRef>],
+    ) -> VortexResult<()> {
+        match check_slots(&payload.scalar_fn, slots) {
+            Ok(()) => {}
+            Err(e) => return Err(e),
+        }
+        match check_types(alloc, self.id, &payload.scalar_fn, dtype, slots) {
+            Ok(()) => {}
+            Err(e) => return Err(e),
+        }
+        check_lengths(len, slots)
+    }
+
+    ghost kind_of = { λ d. refl };
+}
+
+/// Whether the slots are those of a function: each holds a tree, and there are as many as it takes.
+#[tactic(auto, using(crate::proofs::Calling::slots_missing, crate::proofs::Calling::slots_there, crate::proofs::Calling::count_slots))]
+fn check_slots(function: &ScalarFnRef, slots: &[Option<ArrayRef>]) -> VortexResult<()>
+    ensures valid { OnOk result (slots_refusal function.now (shapes (slots_of slots.now)) ≡ None) }
+    ensures refused { IfErr result (λ e. slots_refusal function.now (shapes (slots_of slots.now)) ≡ Some e) }
+{
+    if !are_present(slots) {
+        return Err(VortexError::InvalidArgument(ArgKind::FnSlotMissing));
+    }
+    check_arity(function, slots.len())
+}
+
+/// Whether each slot holds a tree.
+fn are_present(slots: &[Option<ArrayRef>]) -> bool
+    ensures { result ≡ all_present (shapes (slots_of slots.now)) }
+{
+    for slot in slots {
+        if !is_present(slot) {
+            return false;
+        }
+    }
+    true
+}
+
+/// Whether the trees in the slots have so many rows.
+fn check_lengths(len: usize, slots: &[Option<ArrayRef>]) -> VortexResult<()>
+    ensures valid { OnOk result (lengths_refusal len (shapes (slots_of slots.now)) ≡ None) }
+    ensures refused { IfErr result (λ e. lengths_refusal len (shapes (slots_of slots.now)) ≡ Some e) }
+{
+    if are_long(len, slots) {
+        Ok(())
+    } else {
+        Err(VortexError::InvalidArgument(ArgKind::ChildLen))
+    }
+}
+
+/// Whether each tree in the slots has so many rows.
+fn are_long(len: usize, slots: &[Option<ArrayRef>]) -> bool
+    ensures { result ≡ all_long len (shapes (slots_of slots.now)) }
+{
+    for slot in slots {
+        if !has_length(slot, len) {
+            return false;
+        }
+    }
+    true
+}
+
+/// Whether a slot holds a tree.
+fn is_present(slot: &Option<ArrayRef>) -> bool
+    ensures { result ≡ is_present slot.now }
+{
+    match slot {
+        Some(_) => true,
+        None => false,
+    }
+}
+
+/// Whether the tree of a slot, where it holds one, has so many rows.
+fn has_length(slot: &Option<ArrayRef>, len: usize) -> bool
+    ensures { result ≡ is_long len slot.now }
+{
+    match slot {
+        Some(child) => child.len() == len,
+        None => true,
+    }
+}
+
+/// Whether a function takes so many arguments.
+fn check_arity(function: &ScalarFnRef, count: usize) -> VortexResult<()>
+    ensures valid { OnOk result (arity_refusal function.now count ≡ None) }
+    ensures refused { IfErr result (λ e. arity_refusal function.now count ≡ Some e) }
+{
+    let Arity::Exact(want) = function.arity();
+    if count == want {
+        Ok(())
+    } else {
+        Err(VortexError::InvalidArgument(ArgKind::Arity { want, got: count }))
+    }
+}
+
+/// The types of the trees in the slots.
+fn types_of(alloc: Global, slots: &[Option<ArrayRef>]) -> Result<Vec<DType>, AllocError>
+    ensures { IfOk result (λ types. map type_of types.items ≡ types_in (shapes (slots_of slots.now))) }
+{
+    let mut types = Vec::with_capacity(alloc, slots.len())?;
+    for slot in slots {
+        push_type(&mut types, slot)?;
+    }
+    Ok(types)
+}
+
+/// Adds the type of the tree in a slot, where it holds one.
+fn push_type(types: &mut Vec<DType>, slot: &Option<ArrayRef>) -> Result<(), AllocError>
+    ensures { OnOk result (map type_of types.new.items ≡ map type_of types.old.items ++ type_in slot.now) }
+{
+    match slot {
+        Some(child) => Ok(types.push(child.dtype().clone()?)?),
+        None => Ok(()),
+    }
+}
+
+/// Whether the tag is the function's, and the function of these slots gives the type.
+#[tactic(auto, using(crate::proofs::Ordering::first_refused, crate::proofs::Ordering::later_refused, crate::proofs::Ordering::none_refused))]
+fn check_types(
+    alloc: Global,
+    tag: ArrayId,
+    function: &ScalarFnRef,
+    dtype: &DType,
+    slots: &[Option<ArrayRef>],
+) -> VortexResult<()>
+    ensures valid { OnOk result (types_refusal tag (type_of dtype.now) function.now (shapes (slots_of slots.now)) ≡ None) }
+    ensures refused { IfErr result (λ e. (e ≡ VortexError.OutOfMemory)
+        ⊎ (types_refusal tag (type_of dtype.now) function.now (shapes (slots_of slots.now)) ≡ Some e)) }
+{
+    if tag != function.id() {
+        return Err(VortexError::InvalidArgument(ArgKind::NodeType));
+    }
+    let types = types_of(alloc, slots)?;
+    check_result(function, dtype, types.as_slice())
+}
+
+/// Whether a function of arguments of these types gives the type.
+fn check_result(function: &ScalarFnRef, dtype: &DType, types: &[DType]) -> VortexResult<()>
+    ensures valid { OnOk result (result_refusal (type_of dtype.now) (return_type function.now (map type_of types.now)) ≡ None) }
+    ensures refused { IfErr result (λ e. result_refusal (type_of dtype.now) (return_type function.now (map type_of types.now)) ≡ Some e) }
+{
+    match function.return_dtype(types) {
+        Ok(result) => if *dtype == result {
+            Ok(())
+        } else {
+            Err(VortexError::InvalidArgument(ArgKind::NodeType))
+        },
+        Err(e) => Err(e),
+    }
+}
+
+/// The trees, each in a slot.
+#[tactic(auto, using(crate::proofs::Calling::filled_more))]
+fn fill_slots(alloc: Global, children: Vec<ArrayRef>) -> Result<Vec<Option<ArrayRef>>, AllocError>
+    ensures { IfOk result (λ slots. slots_of slots.items ≡ filled_slots children.items) }
+{
+    let mut slots = Vec::with_capacity(alloc, children.len())?;
+    for child in children {
+        slots.push(Some(child))?;
+    }
+    Ok(slots)
+}
+
+impl ScalarFnArray {
+    /// The function of these trees, with as many rows as the first one has.
+    ///
+    /// It refuses by the first condition that fails: `InvalidArgument` with `NoChildren`, and then as `try_new_with_len`.
+    pub fn try_new(
+        alloc: Global,
+        scalar_fn: ScalarFnRef,
+        children: Vec<ArrayRef>,
+    ) -> VortexResult<ScalarFnArray>
+        ensures ok { IfOk result (λ a. inferred scalar_fn children.items ≡ Some a) }
+        ensures valid { OnOk result (inferred_refusal scalar_fn children.items ≡ None) }
+        ensures refused { IfErr result (λ e. (e ≡ VortexError.OutOfMemory)
+            ⊎ (inferred_refusal scalar_fn children.items ≡ Some e)) }
+    {
+        if children.is_empty() {
+            return Err(VortexError::InvalidArgument(ArgKind::NoChildren));
+        }
+        let len = children[0].len();
+        ScalarFnArray::try_new_with_len(alloc, scalar_fn, children, len)
+    }
+
+    /// The function of these trees, for so many rows.
+    ///
+    /// It refuses by the first condition that fails: `InvalidArgument` with `Arity` where the function takes another number
+    /// of arguments, `ChildLen` where a tree has another length, and `NoRow` where the function takes no such types.
+    #[tactic(auto, using(crate::proofs::Calling::call_count_refused, crate::proofs::Calling::call_lengths_refused, crate::proofs::Calling::call_row_refused, crate::proofs::Calling::call_taken, crate::proofs::Calling::call_made, crate::proofs::Calling::call_is_node))]
+    pub fn try_new_with_len(
+        alloc: Global,
+        scalar_fn: ScalarFnRef,
+        children: Vec<ArrayRef>,
+        len: usize,
+    ) -> VortexResult<ScalarFnArray>
+        ensures ok { IfOk result (λ a. called scalar_fn children.items len ≡ Some a) }
+        ensures valid { OnOk result (call_refusal scalar_fn children.items len ≡ None) }
+        ensures refused { IfErr result (λ e. (e ≡ VortexError.OutOfMemory)
+            ⊎ (call_refusal scalar_fn children.items len ≡ Some e)) }
+    {
+        match check_arity(&scalar_fn, children.len()) {
+            Ok(()) => {}
+            Err(e) => return Err(e),
+        }
+        let slots = fill_slots(alloc, children)?;
+        match check_lengths(len, slots.as_slice()) {
+            Ok(()) => {}
+            Err(e) => return Err(e),
+        }
+        let types = types_of(alloc, slots.as_slice())?;
+        let dtype = match scalar_fn.return_dtype(types.as_slice()) {
+            Ok(dtype) => dtype,
+            Err(e) => return Err(e),
+        };
+        let parts = ArrayParts {
+            vtable: ScalarFn { id: scalar_fn.id() },
+            dtype,
+            len,
+            payload: ScalarFnData { scalar_fn },
+            slots,
+        };
+        Ok(Array::from_parts_unchecked(alloc, parts)?)
+    }
+}
