@@ -8,14 +8,15 @@ use Rattle.vx_value.specs.declared.error.VortexError.TheVariants.{OutOfMemory, F
 use Rattle.vx_value.specs.declared.id.Id.{Id}
 use Rattle.vx_value.specs.Cell.{Cell, value, fault}
 use Rattle.vx_tree.specs.Cells.{rows}
-use Rattle.vx_main.specs.RowText.{row_text}
+use Rattle.vx_json.specs.RowText.{row_text}
 use Rattle.std.proofs.lemmas.List.{length-replicate}
 use Rattle.vx_tree.specs.Tree.{Tree, node, constant, slice, function, bool, primitive, dtype, len, datum, id_of, is_columnar}
 use Rattle.vx_tree.specs.Well.{IsWell}
 use Rattle.vx_tree.specs.Keeps.{KeepsExactly}
 use Rattle.vx_main.specs.Output.{IsLawful, canonical_id, Shows, head_lines, line}
-use Rattle.vx_main.specs.Runs.{Answers}
-use Rattle.vx_main.specs.Spelled.{Spells}
+use Rattle.vx_exec.specs.Moves.{IsExecuted}
+use Rattle.vx_main.specs.Runs.{Answers, is_column}
+use Rattle.vx_json.specs.Spelled.{Spells}
 
 -- before the first row stand the lines of the type and of the encoding
 pub shows_none : (ty : DataType) (id : Id) (text : List ℕ) → text ≡ head_lines ty id → Shows ty id [] text
@@ -85,12 +86,16 @@ lawful_column (node ty n (bool bs) ss) w h = inl (sym (ap canonical_id w.0.0))
 lawful_column (node ty n (primitive p zs) ss) w h = inl (sym (ap canonical_id w.0.0))
 
 -- the column that a tree is executed to shows the answer for the bytes that spell the tree
-pub answers_of : (bytes text : List ℕ) (t u : Tree) → Spells bytes t → KeepsExactly t u
-    → Shows (dtype u) (id_of (datum u)) (rows u) text → IsLawful (id_of (datum u)) (dtype u) (rows u) → Answers bytes text
-answers_of bytes text t u s k shown lawful = record {
+pub answers_of : (bytes text : List ℕ) (limit turns : ℕ) (t u : Tree) → Spells bytes t → KeepsExactly t u → IsExecuted is_column t turns u → (1 ≤ turns) × (turns ≤ limit) → (is_column t ≡ true → u ≡ t)
+    → Shows (dtype u) (id_of (datum u)) (rows u) text → IsLawful (id_of (datum u)) (dtype u) (rows u) → Answers bytes limit text
+answers_of bytes text limit turns t u s k executed within as_it_is shown lawful = record {
   tree = t;
   spelled = s;
-  encoding = id_of (datum u);
+  column = u;
+  turns = turns;
+  executed = executed;
+  within = within;
+  as_it_is = as_it_is;
   lawful = subst (λ ty. IsLawful (id_of (datum u)) ty (rows t)) (sym k.keeps.same_type) (subst (λ cs. IsLawful (id_of (datum u)) (dtype u) cs) (sym k.equal) lawful);
   shown = subst (λ ty. Shows ty (id_of (datum u)) (rows t) text) (sym k.keeps.same_type) (subst (λ cs. Shows (dtype u) (id_of (datum u)) cs text) (sym k.equal) shown);
 }

@@ -1,7 +1,7 @@
 -- The command that the words are.
 use Rattle.std.specs.Prelude.{ℕ, ◌+◌, ◌-◌, ◌*◌, ◌^◌, ◌==◌, ◌&&◌, nat_le, nat_lt, List, [], ◌∷◌, Bool, true, false, if◌then◌else◌, codes, bytes_eq, map, String, string_bytes, Option, Some, None, option_map}
 use Rattle.std.specs.declared.alloc.Global.{Global}
-use Rattle.vx_main.specs.declared.exec.context.TheConstants.{DEFAULT_TURNS}
+use Rattle.vx_exec.specs.Limits.{default_turns}
 use Rattle.vx_main.specs.declared.top.words.Command.{Command}
 use Rattle.vx_main.specs.declared.top.words.Command.TheVariants.{Run, Help, Version}
 
@@ -22,7 +22,7 @@ number_of (c ∷ d ∷ cs) = if c == 48 then None else read_on 0 (c ∷ d ∷ cs
 -- a command of one word
 abbrev pub word_command : List ℕ → Option Command
 word_command w =
-    if bytes_eq w (codes "run") then Some (Run DEFAULT_TURNS) else (if bytes_eq w (codes "--help") then Some Help else (if bytes_eq w (codes "--version") then Some Version else None))
+    if bytes_eq w (codes "run") then Some (Run default_turns) else (if bytes_eq w (codes "--help") then Some Help else (if bytes_eq w (codes "--version") then Some Version else None))
 
 -- and one of a word and a number
 abbrev pub numbered_command : List ℕ → List ℕ → Option Command

@@ -7,7 +7,7 @@ use Rattle.vx_value.specs.Ids.{id_text}
 use Rattle.vx_value.specs.declared.id.Id.{Id}
 use Rattle.vx_value.specs.declared.id.Id.TheVariants as id
 use Rattle.vx_value.specs.Cell.{Cell, value}
-use Rattle.vx_main.specs.RowText.{row_text}
+use Rattle.vx_json.specs.RowText.{row_text}
 
 -- a line ends with a newline
 abbrev pub line : List ℕ → List ℕ

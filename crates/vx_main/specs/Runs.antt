@@ -1,31 +1,40 @@
 -- What a run owes, and why one has no answer.
-use Rattle.std.specs.Prelude.{◌≡◌, ℕ, ◌≤◌, ◌<◌, List, length, Option, Some, None, IfSome, ◌⊎◌}
+use Rattle.std.specs.Prelude.{◌≡◌, ℕ, ◌≤◌, ◌<◌, List, length, Bool, true, Option, Some, None, IfSome, ◌⊎◌}
 use Rattle.std.specs.Io.KnownBytes.{Appends}
-use Rattle.vx_value.specs.declared.id.Id.{Id}
-use Rattle.vx_tree.specs.Tree.{Tree, dtype}
+use Rattle.vx_tree.specs.Tree.{Tree, dtype, datum, id_of, is_columnar}
 use Rattle.vx_tree.specs.Cells.{rows, IsClean}
 use Rattle.vx_tree.specs.Cost.{cost}
-use Rattle.vx_main.specs.Spelled.{Spells, SpellsNone}
+use Rattle.vx_json.specs.Spelled.{Spells, SpellsNone}
+use Rattle.vx_exec.specs.Moves.{IsExecuted, GoesOn}
+use Rattle.vx_main.specs.Limits.{input_limit}
 use Rattle.vx_main.specs.Output.{Shows, IsLawful}
 use Rattle.vx_main.specs.Streams.{AppendsPrefix}
-use Rattle.vx_main.specs.declared.stream.read.TheConstants.{INPUT_LIMIT}
 use Rattle.vx_main.specs.declared.top.words.Command.{Command}
 use Rattle.vx_main.specs.declared.top.words.Command.TheVariants.{Run, Help, Version}
 use Rattle.vx_main.specs.declared.top.words.TheConstants.{HELP, VERSION}
 use Rattle.vx_main.specs.declared.top.status.Status.{Status}
 use Rattle.vx_main.specs.declared.top.status.Status.TheVariants.{BadInput, Fault, TurnLimit, Memory}
 
--- the bytes spell a tree, and the text is its type, a lawful encoding and its rows
-pub record Answers (bytes text : List ℕ) : Type 0 where
+-- what a tree is executed to: a column
+abbrev pub is_column : Tree → Bool
+is_column t = is_columnar (datum t)
+
+-- the bytes spell a tree, which is executed to a column in at most so many turns; the text is the tree's type, the column's
+-- encoding, which is a lawful one, and the tree's rows
+pub record Answers (bytes : List ℕ) (limit : ℕ) (text : List ℕ) : Type 0 where
   pub tree : Tree
   pub spelled : Spells bytes tree
-  pub encoding : Id
-  pub lawful : IsLawful encoding (dtype tree) (rows tree)
-  pub shown : Shows (dtype tree) encoding (rows tree) text
+  pub column : Tree
+  pub turns : ℕ
+  pub executed : IsExecuted is_column tree turns column
+  pub within : (1 ≤ turns) × (turns ≤ limit)
+  pub as_it_is : is_column tree ≡ true → column ≡ tree
+  pub lawful : IsLawful (id_of (datum column)) (dtype tree) (rows tree)
+  pub shown : Shows (dtype tree) (id_of (datum column)) (rows tree) text
 
 -- the text that a command owes for the input, as far as the input is told
 abbrev pub Owes : Command → Option (List ℕ) → List ℕ → Type 0
-Owes (Run turns) input text = IfSome input (λ bytes. Answers bytes text)
+Owes (Run limit) input text = IfSome input (λ bytes. Answers bytes limit text)
 Owes Help input text = text ≡ HELP.now
 Owes Version input text = text ≡ VERSION.now
 
@@ -37,11 +46,12 @@ Writes c input old new = (text : List ℕ) × Owes c input text × Appends old n
 abbrev pub WritesPrefix : Command → Option (List ℕ) → Option (List ℕ) → Option (List ℕ) → Type 0
 WritesPrefix c input old new = (text : List ℕ) × Owes c input text × AppendsPrefix old new text
 
--- the bytes spell a tree whose cost is above the limit
-pub record IsCostly (bytes : List ℕ) (turns : ℕ) : Type 0 where
+-- the bytes spell a tree whose cost is above the limit, and whose execution goes on after so many turns
+pub record IsCostly (bytes : List ℕ) (limit : ℕ) : Type 0 where
   pub tree : Tree
   pub spelled : Spells bytes tree
-  pub above : turns < cost tree
+  pub above : limit < cost tree
+  pub going_on : GoesOn is_column tree limit
 
 -- the bytes spell a tree that has a fault in one of its nodes
 pub record IsFaulty (bytes : List ℕ) : Type 0 where
@@ -55,7 +65,7 @@ HasNoAnswer bytes turns s = (s ≡ Memory) ⊎ ((s ≡ BadInput) × SpellsNone b
 
 -- nothing in the input keeps the command from its answer
 abbrev pub Suffices : Command → Option (List ℕ) → Type 0
-Suffices (Run turns) None = ⊥
-Suffices (Run turns) (Some bytes) = (length bytes ≤ INPUT_LIMIT) × (t : Tree) × Spells bytes t × IsClean t × (cost t ≤ turns)
+Suffices (Run limit) None = ⊥
+Suffices (Run limit) (Some bytes) = (length bytes ≤ input_limit) × (t : Tree) × Spells bytes t × IsClean t × (cost t ≤ limit)
 Suffices Help input = Unit {0}
 Suffices Version input = Unit {0}

@@ -1,10 +1,14 @@
 //! The program `vx`: a tree in, its rows out.
 #![tactic(auto)]
 
-mod column;
-mod exec;
-mod json;
+ghost use Rattle.std.specs.Prelude.{◌≡◌, ◌↔◌, None, drop};
+ghost use Rattle.std.specs.Io.{error_kind};
+ghost use Rattle.vx_main.specs.Commands.{texts, command_of};
+ghost use Rattle.std.specs.declared.io.ErrorKind.TheVariants as failure;
+
 mod stream;
+#[cfg(test)]
+mod tests;
 mod top;
 
 use std::process::ExitCode;
@@ -15,17 +19,41 @@ pub use stream::{
 };
 pub use top::{Command, HELP, Status, VERSION, VortexSession, run, status_text};
 
-/// The words after the program's name.
-fn arguments(rt: &HostRuntime) -> io::Result<Vec<String>> {
-    let mut words = Vec::new(rt.alloc());
-    for word in env::args(rt)?.skip(1) {
-        words.push(word)?;
+/// Reads the arguments of the process, the first of which is the program's name.
+fn read_arguments(rt: &HostRuntime) -> io::Result<Vec<String>> {
+    let mut arguments = Vec::new(rt.alloc());
+    for argument in env::args(rt)? {
+        arguments.push(argument)?;
     }
-    Ok(words)
+    Ok(arguments)
 }
 
-/// Runs the words on the standard streams.
-fn run_words(rt: &HostRuntime, words: &Vec<String>) -> Status {
+/// Returns the words after the program's name.
+fn words_of(mut arguments: Vec<String>) -> Vec<String>
+    ensures { result.items ≡ drop 1 arguments.items }
+{
+    if !arguments.is_empty() {
+        let _name = arguments.remove(0);
+    }
+    arguments
+}
+
+/// Returns the status for arguments that can't be read: want of memory, or else words that are no command.
+fn status_of(error: &io::Error) -> Status
+    ensures memory { error_kind error.now ≡ failure.OutOfMemory → result ≡ Status.Memory }
+    ensures usage { ¬ (error_kind error.now ≡ failure.OutOfMemory) → result ≡ Status.Usage }
+{
+    if error.kind() == io::ErrorKind::OutOfMemory {
+        Status::Memory
+    } else {
+        Status::Usage
+    }
+}
+
+/// Runs `words` on the standard streams.
+fn run_words(rt: &HostRuntime, words: &Vec<String>) -> Status
+    ensures usage { (result ≡ Status.Usage) ↔ (command_of (texts words.now.items) ≡ None) }
+{
     run(
         rt.alloc(),
         words,
@@ -36,9 +64,9 @@ fn run_words(rt: &HostRuntime, words: &Vec<String>) -> Status {
 }
 
 fn main(rt: HostRuntime) -> ExitCode {
-    let status = match arguments(&rt) {
-        Ok(words) => run_words(&rt, &words),
-        Err(_) => Status::Usage,
+    let status = match read_arguments(&rt) {
+        Ok(arguments) => run_words(&rt, &words_of(arguments)),
+        Err(error) => status_of(&error),
     };
     let text = status_text(status);
     if !text.is_empty() {

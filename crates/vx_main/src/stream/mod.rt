@@ -4,8 +4,6 @@ mod mem;
 mod plain;
 mod read;
 mod system;
-#[cfg(test)]
-mod tests;
 mod traits;
 mod write;
 

@@ -1,6 +1,7 @@
 //! Reading a source to its end.
 
-ghost use Rattle.std.specs.Prelude.{◌≡◌, ◌≤◌, ◌<◌, ℕ, List, length, Some, IsErr, IfOk, IsErrOf};
+ghost use Rattle.std.specs.Prelude.{◌≡◌, ◌≢◌, ◌≤◌, ◌<◌, ℕ, List, length, Some, Err, IsErr, IfOk, IsErrOf};
+ghost use Rattle.vx_main.specs.Limits.{input_limit};
 ghost use Rattle.vx_main.specs.Causes.{Rose};
 ghost use Rattle.vx_main.specs.Streams.{TakesAll, TakesSome};
 
@@ -46,16 +47,17 @@ impl From<Failed> for ReadError {
 /// All the bytes of a source, read to its end. (own)
 pub fn read_all<S: Source>(alloc: Global, source: &mut S) -> Result<Vec<u8>, ReadError>
     ensures all { IfOk result (λ bytes. TakesAll (S.left source.old) (S.left source.new) bytes.items) }
-    ensures fits { IfOk result (λ bytes. length bytes.items ≤ INPUT_LIMIT) }
+    ensures fits { IfOk result (λ bytes. length bytes.items ≤ input_limit) }
 
     // Each error has its cause, but for memory that is refused.
     ensures too_large { (n : ℕ) → IsErrOf result (ReadError.TooLarge n)
-        → (INPUT_LIMIT < n) × TakesSome (S.left source.old) (S.left source.new) n }
+        → (input_limit < n) × TakesSome (S.left source.old) (S.left source.new) n }
     ensures too_large_comes { (bytes : List ℕ) → S.left source.old ≡ Some bytes
-        → INPUT_LIMIT < length bytes → IsErr result }
+        → input_limit < length bytes → IsErr result }
     ensures failed { IsErrOf result ReadError.Failed → Rose (S.faults source.old) (S.faults source.new) }
 
     ensures later { S.faults source.old ≤ S.faults source.new }
+    ensures kept { result ≢ Err ReadError.Failed → S.faults source.new ≡ S.faults source.old }
 {
     let mut bytes = Vec::new(alloc);
     let mut room = [0u8; PIECE];

@@ -4,14 +4,14 @@ ghost use Rattle.std.specs.Prelude.{◌≡◌, IfOk, IfErr, string_bytes};
 ghost use Rattle.vx_main.specs.Statuses.{status_of};
 ghost use Rattle.vx_main.specs.Runs.{Answers, HasNoAnswer};
 
-use crate::exec::{ExecutionCtx, execute};
-use crate::json::tree_of_bytes;
+use vx_exec::{ExecutionCtx, execute};
+use vx_json::tree_of_bytes;
 use crate::top::column_text::column_text;
 use crate::top::status::Status;
 use std::alloc::Global;
 use vx_value::VortexError;
 
-/// The status that an error of a layer below is told by.
+/// The status for an error of a layer below.
 fn status_of(error: VortexError) -> Status
     ensures { result ≡ status_of error }
 {
@@ -27,9 +27,9 @@ fn status_of(error: VortexError) -> Status
     }
 }
 
-/// The text of the column that the tree in the input is executed to, in at most so many turns.
+/// Executes the tree in `bytes` to a column, in at most `limit` turns, and returns the column's text.
 pub(crate) fn answer(alloc: Global, bytes: &[u8], limit: u64) -> Result<String, Status>
-    ensures ok { IfOk result (λ text. Answers bytes.now (string_bytes text)) }
+    ensures ok { IfOk result (λ text. Answers bytes.now limit (string_bytes text)) }
     ensures causes { IfErr result (HasNoAnswer bytes.now limit) }
 {
     let array = match tree_of_bytes(alloc, bytes) {

@@ -5,8 +5,6 @@ mod column_text;
 mod run;
 mod session;
 mod status;
-#[cfg(test)]
-mod tests;
 mod words;
 
 pub use run::run;

@@ -2,25 +2,25 @@
 
 ghost use Rattle.std.specs.Prelude.{◌≡◌, ◌≢◌, ◌≤◌, ◌<◌, ◌↔◌, ◌⊎◌, ℕ, Some, None, true, false, [], length, IfSome};
 ghost use Rattle.std.specs.Io.KnownBytes.{Appends};
+ghost use Rattle.vx_json.specs.Spelled.{SpellsNone};
+ghost use Rattle.vx_main.specs.Limits.{input_limit};
 ghost use Rattle.vx_main.specs.Causes.{Rose};
 ghost use Rattle.vx_main.specs.Streams.{TakesSome, AppendsPrefix};
-ghost use Rattle.vx_main.specs.Spelled.{SpellsNone};
 ghost use Rattle.vx_main.specs.Commands.{texts, command_of, reads_tree};
 ghost use Rattle.vx_main.specs.Statuses.{has_no_input, has_no_tree};
 ghost use Rattle.vx_main.specs.Runs.{Writes, WritesPrefix, IsFaulty, IsCostly, Suffices};
 ghost use Rattle.vx_main.specs.declared.top.words.Command.{Command as CommandOf};
 
-use crate::stream::{INPUT_LIMIT, ReadError, Sink, Source, read_all, write_all};
+use crate::stream::{ReadError, Sink, Source, read_all, write_all};
 use crate::top::answer::answer;
 use crate::top::session::VortexSession;
 use crate::top::status::Status;
 use crate::top::words::{Command, HELP, VERSION, read_command};
 use std::alloc::Global;
 
-/// Carries out the command that the words are: reads the tree in the source, executes it to a column and writes the
-/// column's text into the sink.
+/// Runs the command in `words`: reads the tree in `source`, executes it to a column and writes the column's text into `sink`.
 ///
-/// The text is made whole before the first write. What the sink says of faults is in its own count, as the source's.
+/// The text is complete before the first write. `source` and `sink` count their own faults.
 pub fn run<S: Source, K: Sink>(
     alloc: Global,
     words: &Vec<String>,
@@ -28,7 +28,8 @@ pub fn run<S: Source, K: Sink>(
     sink: &mut K,
     session: &mut VortexSession,
 ) -> Status
-    // What is done: the input spells a tree, and the sink has its type, its encoding and its rows.
+    // What is done: the input spells a tree, which is executed within the turns of the command, and the sink has its type, the
+    // encoding of its column and its rows.
     ensures headline { (c : CommandOf) → command_of (texts words.now.items) ≡ Some c → result ≡ Status.Done
         → Writes c (S.left source.old) (K.held sink.old) (K.held sink.new) }
     ensures read_whole { reads_tree (command_of (texts words.now.items)) ≡ true → result ≡ Status.Done
@@ -39,26 +40,29 @@ pub fn run<S: Source, K: Sink>(
     ensures read_fault { result ≡ Status.ReadFault
         → (reads_tree (command_of (texts words.now.items)) ≡ true) × Rose (S.faults source.old) (S.faults source.new) }
     ensures too_large { (n : ℕ) → result ≡ Status.TooLarge n
-        → (reads_tree (command_of (texts words.now.items)) ≡ true) × (INPUT_LIMIT < n) × TakesSome (S.left source.old) (S.left source.new) n }
+        → (reads_tree (command_of (texts words.now.items)) ≡ true) × (input_limit < n) × TakesSome (S.left source.old) (S.left source.new) n }
     ensures bad_input { result ≡ Status.BadInput
-        → (reads_tree (command_of (texts words.now.items)) ≡ true) × IfSome (S.left source.old) (λ bytes. (length bytes ≤ INPUT_LIMIT) × SpellsNone bytes) }
+        → (reads_tree (command_of (texts words.now.items)) ≡ true) × IfSome (S.left source.old) (λ bytes. (length bytes ≤ input_limit) × SpellsNone bytes) }
     ensures fault { result ≡ Status.Fault
         → (reads_tree (command_of (texts words.now.items)) ≡ true) × IfSome (S.left source.old) IsFaulty }
     ensures turn_limit { (limit turns : ℕ) → result ≡ Status.TurnLimit limit turns
         → (command_of (texts words.now.items) ≡ Some (Command.Run limit)) × (turns ≡ limit) × IfSome (S.left source.old) (λ bytes. IsCostly bytes limit) }
     ensures write_fault { (c : CommandOf) → command_of (texts words.now.items) ≡ Some c → result ≡ Status.WriteFault
         → Rose (K.faults sink.old) (K.faults sink.new) × WritesPrefix c (S.left source.old) (K.held sink.old) (K.held sink.new) }
+    ensures memory { result ≡ Status.Memory → reads_tree (command_of (texts words.now.items)) ≡ true }
 
     // And each cause has its status, unless one that comes before it.
     ensures too_large_comes { reads_tree (command_of (texts words.now.items)) ≡ true
-        → IfSome (S.left source.old) (λ bytes. INPUT_LIMIT < length bytes → has_no_input result ≡ true) }
+        → IfSome (S.left source.old) (λ bytes. input_limit < length bytes → has_no_input result ≡ true) }
     ensures bad_input_comes { reads_tree (command_of (texts words.now.items)) ≡ true
         → IfSome (S.left source.old) (λ bytes. SpellsNone bytes → has_no_tree result ≡ true) }
     ensures complete { (c : CommandOf) → command_of (texts words.now.items) ≡ Some c → Suffices c (S.left source.old)
         → ¬ (Rose (S.faults source.old) (S.faults source.new)) → ¬ (Rose (K.faults sink.old) (K.faults sink.new))
         → (result ≡ Status.Done) ⊎ (result ≡ Status.Memory) }
 
-    // What stays as it was.
+    // What stays as it was: so the first read or write that fails ends the run.
+    ensures source_kept { result ≢ Status.ReadFault → S.faults source.new ≡ S.faults source.old }
+    ensures sink_kept { result ≢ Status.WriteFault → K.faults sink.new ≡ K.faults sink.old }
     ensures unwritten { result ≢ Status.Done → result ≢ Status.WriteFault → sink.new ≡ sink.old }
     ensures unread { reads_tree (command_of (texts words.now.items)) ≡ false → source.new ≡ source.old }
     ensures source_later { S.faults source.old ≤ S.faults source.new }
@@ -85,13 +89,14 @@ pub fn run<S: Source, K: Sink>(
     }
 }
 
-/// Writes the whole text, which takes no memory.
+/// Writes the whole of `text`, which takes no memory.
 fn finish<K: Sink>(sink: &mut K, text: &[u8]) -> Status
     ensures done { result ≡ Status.Done → Appends (K.held sink.old) (K.held sink.new) text.now }
     ensures fault { result ≡ Status.WriteFault
         → Rose (K.faults sink.old) (K.faults sink.new) × AppendsPrefix (K.held sink.old) (K.held sink.new) text.now }
     ensures ends { (result ≡ Status.Done) ⊎ (result ≡ Status.WriteFault) }
     ensures later { K.faults sink.old ≤ K.faults sink.new }
+    ensures kept { result ≢ Status.WriteFault → K.faults sink.new ≡ K.faults sink.old }
 {
     match write_all(sink, text) {
         Ok(()) => Status::Done,

@@ -3,7 +3,7 @@
 ghost use Rattle.std.specs.Prelude.{◌≡◌};
 ghost use Rattle.vx_main.specs.Commands.{texts, command_of, word_command, numbered_command, number_of};
 
-use crate::exec::DEFAULT_TURNS;
+use vx_exec::DEFAULT_TURNS;
 
 /// What `--help` prints.
 pub const HELP: &str =

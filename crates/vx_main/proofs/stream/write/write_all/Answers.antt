@@ -1,4 +1,4 @@
-use Rattle.std.proofs.Common.{arith, length-take, length-drop}
+use Rattle.std.proofs.Common.{◌∙◌, arith, length-take, length-drop}
 use Rattle.std.proofs.lemmas.List.{take_rest}
 use Rattle.vx_main.proofs.StreamSteps.{appends_more}
 use Rattle.vx_main.proofs.stream.write.write_all.Goals as goal
@@ -10,5 +10,5 @@ loop-done-preserved g c =
     record {
       within = omega arith;
       put = appends_more _ _ _ c.args.bytes.now c.loop-done.done c.in_ok-done.field-0 c.loop-done.invariant.put taken;
-      later = omega (arith, c.in_ok-done.ensures.cause.later);
+      kept = c.in_ok-done.ensures.cause.kept ∙ c.loop-done.invariant.kept;
     }

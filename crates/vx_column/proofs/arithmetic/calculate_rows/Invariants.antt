@@ -1,0 +1,11 @@
+use Rattle.std.proofs.Common.{◌≡◌, ◌≤◌, map, vec_len, vec_capacity}
+use Rattle.vx_value.specs.Values.{integer}
+use Rattle.vx_value.specs.Cell.{value}
+use Rattle.vx_column.specs.Rows.{calculated_rows}
+use Rattle.vx_column.proofs.arithmetic.calculate_rows.Given as goal
+
+abbrev pub invariant-loop-index : goal.invariant-loop-index
+invariant-loop-index g l =
+    (vec_len l.numbers ≡ l.index) × (l.len ≤ vec_capacity l.numbers)
+    × (map (λ x. value (integer (g.T.Number.value x))) l.numbers.items
+    ≡ calculated_rows g.O.Arithmetic.operator g.T.NativeInteger.kind (g.L.Operand.number l.lhs) (g.R.Operand.number l.rhs) l.index)

@@ -1,0 +1,11 @@
+pub use Rattle.vx_value.specs.Cell
+pub use Rattle.vx_fn.specs.Apply
+pub use Rattle.vx_tree.specs.Tree
+pub use Rattle.vx_tree.specs.Cells
+pub use Rattle.vx_tree.specs.Keeps
+pub use Rattle.vx_tree.specs.Columns
+pub mod Rows
+pub mod Arguments
+pub mod Repeated
+pub mod Applied
+pub mod Probed

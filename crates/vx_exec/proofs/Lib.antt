@@ -1,0 +1,4 @@
+pub mod Stacking
+pub mod Turning
+pub mod Faulting
+pub mod Potential

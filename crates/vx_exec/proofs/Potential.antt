@@ -1,0 +1,73 @@
+-- The turns that are left: they are at most the cost, and fall where a slot is taken out and where it is put back.
+use Rattle.std.proofs.Common.{◌≡◌, ℕ, zero, suc, ◌+◌, ◌<◌, ◌≤◌, Bool, true, false, refl, ap, arith}
+use Rattle.vx_tree.specs.Tree.{Tree, Data, Slots, node, constant, slice, function, bool, primitive, no_slots, absent, slot}
+use Rattle.vx_tree.specs.Slots.{set_slot, put, IsAbsentAt, IsHole}
+use Rattle.vx_tree.specs.Cost.{cost, base_cost, slot_cost, slots_cost, extra}
+use Rattle.vx_step.specs.Turns.{meets, slot_target, target_of, base_top, slot_top, slots_top, top}
+use Rattle.vx_step.specs.Steps.{Awaits, AwaitsAt}
+use Rattle.vx_step.specs.declared.steps.SlotTarget.{SlotTarget}
+
+-- what the encodings' tables have in common
+
+base_positive : (d : Data) → 0 < base_top d
+base_positive (constant v) = omega arith
+base_positive (slice a b) = omega arith
+base_positive (function f) = omega arith
+base_positive (bool bs) = omega arith
+base_positive (primitive p zs) = omega arith
+
+base_paid : (d : Data) → base_top d ≤ base_cost d
+base_paid (constant v) = omega arith
+base_paid (slice a b) = omega arith
+base_paid (function f) = omega arith
+base_paid (bool bs) = omega arith
+base_paid (primitive p zs) = omega arith
+
+slot_paid : (d : Data) (c e : ℕ) → c + 1 ≤ slot_cost d c e
+slot_paid (constant v) c e = omega arith
+slot_paid (slice a b) c e = omega arith
+slot_paid (function f) c e = omega arith
+slot_paid (bool bs) c e = omega arith
+slot_paid (primitive p zs) c e = omega arith
+
+-- whatever the encodings
+
+slot_bound : (done : Bool) (c : ℕ) → slot_top done c ≤ c + 1
+slot_bound true c = omega arith
+slot_bound false c = omega arith
+
+slots_paid : (d : Data) (ss : Slots) → slots_top d ss ≤ slots_cost d ss
+slots_paid d no_slots = omega arith
+slots_paid d (absent ss) = slots_paid d ss
+slots_paid d (slot t ss) =
+    omega (arith, slots_paid d ss, slot_bound (meets (slot_target d) t) (cost t), slot_paid d (cost t) (extra t))
+
+pub top_paid : (t : Tree) → top t ≤ cost t
+top_paid (node ty n d ss) = omega (arith, base_paid d, slots_paid d ss)
+
+pub top_positive : (t : Tree) → 0 < top t
+top_positive (node ty n d ss) = omega (arith, base_positive d)
+
+put_top : (d : Data) (i : ℕ) (c : Tree) (ss : Slots) → IsAbsentAt i ss → slots_top d (set_slot i c ss) ≡ slot_top (meets (slot_target d) c) (cost c) + slots_top d ss
+put_top d i c no_slots h = absurd h
+put_top d zero c (absent ss) h = refl
+put_top d zero c (slot s ss) h = absurd h
+put_top d (suc i) c (absent ss) h = put_top d i c ss h
+put_top d (suc i) c (slot s ss) h = omega (arith, put_top d i c ss h)
+
+awaited_put : (g : SlotTarget) (i : ℕ) (c : Tree) (ss : Slots) → IsAbsentAt i ss → AwaitsAt g i (set_slot i c ss) → meets g c ≡ false
+awaited_put g i c no_slots h w = absurd h
+awaited_put g zero c (absent ss) h w = w
+awaited_put g zero c (slot s ss) h w = absurd h
+awaited_put g (suc i) c (absent ss) h w = awaited_put g i c ss h w
+awaited_put g (suc i) c (slot s ss) h w = awaited_put g i c ss h w.1
+
+pub take_falls : (i : ℕ) (c p : Tree) → IsHole i p → Awaits i (put i c p) → top p + top c < top (put i c p)
+take_falls i c (node ty n d ss) h w =
+    let weighs : slot_top (meets (slot_target d) c) (cost c) ≡ cost c + 1 = ap (λ b. slot_top b (cost c)) (awaited_put (slot_target d) i c ss h w) in
+    omega (arith, put_top d i c ss h, top_paid c, weighs)
+
+pub put_falls : (i : ℕ) (c p : Tree) → IsHole i p → meets (target_of p) c ≡ true → top (put i c p) < top p + top c
+put_falls i c (node ty n d ss) h m =
+    let done : slot_top (meets (slot_target d) c) (cost c) ≡ 0 = ap (λ b. slot_top b (cost c)) m in
+    omega (arith, put_top d i c ss h, top_positive c, done)

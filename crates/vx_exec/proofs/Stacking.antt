@@ -1,0 +1,65 @@
+-- The stack of frames: what a push and a pop at its inner end make of it, and a node replaced under it.
+use Rattle.std.proofs.Common.{◌≡◌, ℕ, zero, suc, ◌+◌, List, [], ◌∷◌, ◌++◌, Some, None, refl, sym, ap, subst, arith}
+use Rattle.vx_tree.specs.Tree.{Tree, Slots, node, no_slots, absent, slot}
+use Rattle.vx_tree.specs.Well.{IsNode, IsNodeOf, shape_of, shapes}
+use Rattle.vx_tree.specs.Slots.{set_slot, put}
+use Rattle.vx_tree.specs.Keeps.{KeepsExactly}
+use Rattle.vx_tree.proofs.Keeping.{put_exactly}
+use Rattle.vx_step.specs.Turns.{top}
+use Rattle.vx_exec.specs.Frames.{filled, IsFrame, AreFrames, frames_top}
+use Rattle.vx_exec.specs.declared.turn.Frame.{Frame}
+
+pub filled_append : (fs : List Frame) (f : Frame) (t : Tree) → filled (fs ++ f ∷ []) t ≡ filled fs (put f.slot t f.parent)
+filled_append [] f t = refl
+filled_append (g ∷ fs) f t = ap (λ x. put g.slot x g.parent) (filled_append fs f t)
+
+pub frames_top_append : (fs : List Frame) (f : Frame) → frames_top (fs ++ f ∷ []) ≡ frames_top fs + top f.parent
+frames_top_append [] f = omega arith
+frames_top_append (g ∷ fs) f = omega (arith, frames_top_append fs f)
+
+pub frames_pop : (fs : List Frame) (f : Frame) (t : Tree) → AreFrames (fs ++ f ∷ []) t → AreFrames fs (put f.slot t f.parent) × IsFrame f t
+frames_pop [] f t h = (tt, h.0)
+frames_pop (g ∷ fs) f t h =
+    let r = frames_pop fs f t h.1 in ((subst (λ x. IsFrame g x) (filled_append fs f t) h.0, r.0), r.1)
+
+pub frame_popped : (fs gs : List Frame) (f : Frame) (t : Tree) → fs ≡ gs ++ f ∷ [] → AreFrames fs t → IsFrame f t
+frame_popped fs gs f t e h = (frames_pop gs f t (subst (λ x. AreFrames x t) e h)).1
+
+pub frames_push : (fs : List Frame) (f : Frame) (t : Tree) → AreFrames fs (put f.slot t f.parent) → IsFrame f t → AreFrames (fs ++ f ∷ []) t
+frames_push [] f t h k = (k, tt)
+frames_push (g ∷ fs) f t h k =
+    (subst (λ x. IsFrame g x) (sym (filled_append fs f t)) h.0, frames_push fs f t h.1 k)
+
+pub filled_exactly : (fs : List Frame) (t u : Tree) → KeepsExactly t u → KeepsExactly (filled fs t) (filled fs u)
+filled_exactly [] t u h = h
+filled_exactly (f ∷ fs) t u h = put_exactly f.slot _ _ f.parent (filled_exactly fs t u h)
+
+-- a node of the same type and length may take a node's place
+
+put_shape : (i : ℕ) (t u p : Tree) → shape_of (put i t p) ≡ shape_of (put i u p)
+put_shape i t u (node ty n d ss) = refl
+
+filled_shape : (fs : List Frame) (t u : Tree) → shape_of t ≡ shape_of u → shape_of (filled fs t) ≡ shape_of (filled fs u)
+filled_shape [] t u h = h
+filled_shape (f ∷ fs) t u h = put_shape f.slot (filled fs t) (filled fs u) f.parent
+
+put_shapes : (i : ℕ) (t u : Tree) (ss : Slots) → shape_of t ≡ shape_of u → shapes (set_slot i t ss) ≡ shapes (set_slot i u ss)
+put_shapes i t u no_slots h = refl
+put_shapes zero t u (absent ss) h = ap (λ s. Some s ∷ shapes ss) h
+put_shapes zero t u (slot s ss) h = ap (λ s. Some s ∷ shapes ss) h
+put_shapes (suc i) t u (absent ss) h = ap (λ l. None ∷ l) (put_shapes i t u ss h)
+put_shapes (suc i) t u (slot s ss) h = ap (λ l. Some (shape_of s) ∷ l) (put_shapes i t u ss h)
+
+put_fits : (i : ℕ) (t u p : Tree) → shape_of t ≡ shape_of u → IsNodeOf (put i t p) → IsNodeOf (put i u p)
+put_fits i t u (node ty n d ss) h w = subst (λ l. IsNode ty n d l) (put_shapes i t u ss h) w
+
+pub frames_replace : (fs : List Frame) (t u : Tree) → shape_of t ≡ shape_of u → AreFrames fs t → AreFrames fs u
+frames_replace [] t u h w = tt
+frames_replace (f ∷ fs) t u h w = (
+  record {
+    hole = w.0.hole;
+    fits = put_fits f.slot (filled fs t) (filled fs u) f.parent (filled_shape fs t u h) w.0.fits;
+    target = w.0.target;
+  },
+  frames_replace fs t u h w.1,
+)

@@ -1,0 +1,133 @@
+//! The loop of turns.
+
+ghost use Rattle.std.specs.Prelude.{◌≡◌, ◌⊎◌, ◌≤◌, ◌<◌, ℕ, IfOk, IfErr, OnOk, Err, true};
+ghost use Rattle.vx_tree.specs.Tree.{datum, is_canonical, is_columnar};
+ghost use Rattle.vx_tree.specs.Keeps.{KeepsExactly};
+ghost use Rattle.vx_tree.specs.Cost.{cost};
+ghost use Rattle.vx_tree.specs.Columns.{columnar_tree};
+ghost use Rattle.vx_step.specs.Steps.{IsStopped};
+ghost use Rattle.vx_exec.specs.Moves.{IsExecuted, GoesOn};
+ghost use Rattle.vx_exec.specs.Limits.{default_turns};
+
+use crate::turn::{Frame, Turn, take_turn};
+use std::alloc::Global;
+use std::marker::Model;
+use vx_tree::{AnyColumnar, ArrayRef, Columnar, Matcher};
+use vx_value::{VortexError, VortexResult};
+
+/// The turns that an execution may take if no other limit is set.
+pub const DEFAULT_TURNS: u64 = 4_194_304;
+
+/// The context of an execution: an allocator, the limit of turns, and the turns that the last call took.
+#[derive(Drop)]
+pub struct ExecutionCtx {
+    alloc: Global,
+    limit: u64,
+    turns: u64,
+}
+
+impl Model for ExecutionCtx {
+    ghost use Rattle.vx_exec.specs.Budgets.{Budget};
+
+    ghost Value = { Budget };
+
+    ghost view = { λ c. record { limit = c.limit; turns = c.turns } };
+}
+
+impl ExecutionCtx {
+    /// Creates a context with the limit `DEFAULT_TURNS`.
+    pub fn new(alloc: Global) -> Self
+        ensures { result ≡ record { limit = default_turns; turns = 0 } }
+    {
+        ExecutionCtx {
+            alloc,
+            limit: DEFAULT_TURNS,
+            turns: 0,
+        }
+    }
+
+    /// Sets the limit, in turns. (own)
+    pub fn with_limit(self, limit: u64) -> Self
+        ensures { result ≡ record { limit = limit; turns = self.turns } }
+    {
+        ExecutionCtx { limit, ..self }
+    }
+
+    /// Returns the limit, in turns. (own)
+    pub fn limit(&self) -> u64
+        ensures { result ≡ self.now.limit }
+    {
+        self.limit
+    }
+
+    /// Returns the turns that the last call took. (own)
+    pub fn turns(&self) -> u64
+        ensures { result ≡ self.now.turns }
+    {
+        self.turns
+    }
+}
+
+/// Executes `array` until its root matches `M` or is canonical. A root that does already is returned as it is. Each call
+/// counts its turns from 0.
+///
+/// # Errors
+///
+/// `IterationLimit` if as many turns as the limit were taken and the root isn't executed; `Fault` only if a row of `array`, or
+/// of a node in it, has no value; `OutOfMemory`.
+#[tactic(auto, using(crate::proofs::Turning::loop_moves, crate::proofs::Turning::executed, crate::proofs::Turning::reached_root, crate::proofs::Turning::takes_a_turn, crate::proofs::Turning::as_it_is))]
+pub fn execute_until<M: Matcher>(array: ArrayRef, ctx: &mut ExecutionCtx) -> VortexResult<ArrayRef>
+    ensures ok { IfOk result
+        (λ u. KeepsExactly array u × ((M.fits u ≡ true) ⊎ (is_canonical (datum u) ≡ true))) }
+    ensures executed { IfOk result (IsExecuted M.fits array ctx.new.turns) }
+    ensures as_it_is { M.fits array ≡ true → IfOk result (λ u. u ≡ array) }
+    ensures bound { OnOk result (ctx.new.turns ≤ cost array) }
+    ensures within { OnOk result ((1 ≤ ctx.new.turns) × (ctx.new.turns ≤ ctx.old.limit)) }
+    ensures limit { (l : ℕ) → result ≡ Err (VortexError.IterationLimit l)
+        → (l ≡ ctx.old.limit) × (ctx.new.turns ≡ l) × (l < cost array) × GoesOn M.fits array l }
+    ensures err { IfErr result
+        (λ e. (e ≡ VortexError.IterationLimit ctx.old.limit) ⊎ IsStopped array e) }
+    ensures told { ctx.new.turns ≤ ctx.old.limit }
+    ensures kept { ctx.new.limit ≡ ctx.old.limit }
+{
+    let mut frames: Vec<Frame> = Vec::new(ctx.alloc);
+    let mut current = array;
+    ctx.turns = 0;
+    while ctx.turns < ctx.limit {
+        ctx.turns += 1;
+        match take_turn::<M>(ctx.alloc, &mut frames, current) {
+            Ok(Turn::Go(next)) => current = next,
+            Ok(Turn::Return(done)) => return Ok(done),
+            Err(e) => return Err(e),
+        }
+    }
+    Err(VortexError::IterationLimit { limit: ctx.limit })
+}
+
+/// Executes `array` to a column of its type and length. A tree that is a constant or a canonical column already is returned as
+/// it is.
+///
+/// # Errors
+///
+/// Those of `execute_until`.
+pub fn execute(array: ArrayRef, ctx: &mut ExecutionCtx) -> VortexResult<Columnar>
+    ensures ok { IfOk result (λ c. KeepsExactly array (columnar_tree c)) }
+    ensures executed { IfOk result (λ c. IsExecuted (λ t. is_columnar (datum t)) array ctx.new.turns (columnar_tree c)) }
+    ensures as_it_is { is_columnar (datum array) ≡ true → IfOk result (λ c. columnar_tree c ≡ array) }
+    ensures bound { OnOk result (ctx.new.turns ≤ cost array) }
+    ensures within { OnOk result ((1 ≤ ctx.new.turns) × (ctx.new.turns ≤ ctx.old.limit)) }
+    ensures limit { (l : ℕ) → result ≡ Err (VortexError.IterationLimit l)
+        → (l ≡ ctx.old.limit) × (ctx.new.turns ≡ l) × (l < cost array) × GoesOn (λ t. is_columnar (datum t)) array l }
+    ensures err { IfErr result
+        (λ e. (e ≡ VortexError.IterationLimit ctx.old.limit) ⊎ IsStopped array e) }
+    ensures told { ctx.new.turns ≤ ctx.old.limit }
+    ensures kept { ctx.new.limit ≡ ctx.old.limit }
+{
+    match execute_until::<AnyColumnar>(array, ctx) {
+        Ok(done) => match Columnar::try_from_array_ref(done) {
+            Ok(column) => Ok(column),
+            Err(_) => unreachable!(),
+        },
+        Err(e) => Err(e),
+    }
+}

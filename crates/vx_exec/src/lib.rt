@@ -1,0 +1,8 @@
+//! Execution: trees into columns, by turns over an explicit stack of suspended parents.
+#![tactic(auto)]
+
+mod context;
+mod turn;
+
+pub use context::{DEFAULT_TURNS, ExecutionCtx, execute, execute_until};
+pub use turn::{Frame, Turn, take_turn};

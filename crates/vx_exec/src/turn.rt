@@ -1,0 +1,102 @@
+//! One turn of the executor.
+
+ghost use Rattle.std.specs.Prelude.{◌≡◌, IfOk, IfErr, false};
+ghost use Rattle.vx_step.specs.Steps.{IsStopped};
+ghost use Rattle.vx_exec.specs.Frames.{filled, AreFrames};
+ghost use Rattle.vx_exec.specs.Moves.{is_reached, IsMove, IsTurned};
+
+use std::alloc::Global;
+use vx_step::{ExecutionStep, SlotTarget, Suspended, step, take_slot};
+use vx_tree::{AnyCanonical, ArrayRef, Matcher};
+use vx_value::VortexResult;
+
+/// A suspended parent, and what its open slot is executed to. (own)
+#[derive(Drop)]
+pub struct Frame {
+    pub parent: Suspended,
+    /// The open slot, counted from 0.
+    pub slot: usize,
+    pub target: SlotTarget,
+}
+
+/// The outcome of a turn. (own)
+#[derive(Drop)]
+pub enum Turn {
+    /// The node to go on with.
+    Go(ArrayRef),
+    /// The executed root.
+    Return(ArrayRef),
+}
+
+/// Whether `current` has reached its target: the last frame's, or the root's if there is no frame. A canonical node always
+/// has.
+fn is_reached<M: Matcher>(frames: &[Frame], current: &ArrayRef) -> bool
+    ensures { result ≡ is_reached M.fits frames.now current.now }
+{
+    if current.is::<AnyCanonical>() {
+        return true;
+    }
+    match frames.last() {
+        Some(frame) => frame.target.is_met_by(current),
+        None => M::matches(current),
+    }
+}
+
+/// Takes the step of `current`, or suspends it and enters the slot that the step asks for.
+#[tactic(auto, using(crate::proofs::Turning::open_data))]
+fn advance<M: Matcher>(
+    alloc: Global,
+    frames: &mut Vec<Frame>,
+    current: ArrayRef,
+) -> VortexResult<ArrayRef>
+    requires frames { AreFrames frames.old.items current }
+    requires open { is_reached M.fits frames.old.items current ≡ false }
+    ensures ok { IfOk result (λ u. IsMove M.fits frames.old.items current frames.new.items u) }
+    ensures err { IfErr result (IsStopped (filled frames.old.items current)) }
+{
+    match step(alloc, &current) {
+        Ok(ExecutionStep::Done(next)) => Ok(next),
+        Ok(ExecutionStep::ExecuteSlot(slot, target)) => {
+            let (parent, child) = take_slot(alloc, current, slot)?;
+            frames.push(Frame {
+                parent,
+                slot,
+                target,
+            })?;
+            Ok(child)
+        }
+        Err(e) => Err(e),
+    }
+}
+
+/// Takes one turn: puts `current` back if it has reached its target, or else takes its step or enters a slot. `frames` has
+/// the outermost parent first. (own)
+///
+/// The errors are `OutOfMemory`, and `Fault` only if a row of the whole tree, or of a node in it, has no value.
+pub fn take_turn<M: Matcher>(
+    alloc: Global,
+    frames: &mut Vec<Frame>,
+    current: ArrayRef,
+) -> VortexResult<Turn>
+    requires { AreFrames frames.old.items current }
+    ensures ok { IfOk result (λ r. IsTurned M.fits frames.old.items current frames.new.items r) }
+    ensures err { IfErr result (IsStopped (filled frames.old.items current)) }
+{
+    if is_reached::<M>(frames, &current) {
+        match frames.pop() {
+            Some(
+                Frame {
+                    parent,
+                    slot,
+                    target: _,
+                },
+            ) => Ok(Turn::Go(parent.put(alloc, slot, current)?)),
+            None => Ok(Turn::Return(current)),
+        }
+    } else {
+        match advance::<M>(alloc, frames, current) {
+            Ok(next) => Ok(Turn::Go(next)),
+            Err(e) => Err(e),
+        }
+    }
+}

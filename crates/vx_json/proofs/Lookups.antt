@@ -1,0 +1,111 @@
+-- Looking into a value.
+use Rattle.std.proofs.Common.{◌≡◌, ℕ, ◌+◌, ◌<◌, ◌≤◌, max, List, [], ◌∷◌, length, refl, ap, sym, arith, Option, Some, None, option_and_then, String, codes, zero, suc, slice_index_or}
+use Rattle.std.specs.declared.alloc.Global.{Global}
+use Rattle.std.specs.declared.cmp.Ordering.{Ordering}
+use Rattle.std.specs.declared.cmp.Ordering.TheVariants.{Less, Equal, Greater}
+use Rattle.std.specs.Ordering.{nat_cmp, match_ordering}
+use Rattle.std.specs.Cmp.Lexicographic.{slice_cmp}
+use Rattle.serde_json.specs.declared.value.Value.{Value}
+use Rattle.serde_json.specs.Data.{Data, null, boolean, number, string, array, object, Items, Members, no_members, member, depth, members_depth, items_depth}
+use Rattle.serde_json.specs.Find.{get, get_member, as_object, as_array}
+use Rattle.serde_json.specs.View.{view, members_view, items_view}
+use Rattle.vx_tree.specs.Tree.{Tree}
+use Rattle.vx_json.specs.Fields.{member_count, members_count, text_at, items_at}
+use Rattle.vx_json.specs.Spelled.{tree_spelled, trees_spelled, trees_listed, tree_under, trees_under, tree_by, node_of}
+
+-- a map's length counts its members
+count_view : (es : List (String Global × Value)) → members_count (members_view es) ≡ length es
+count_view [] = refl
+count_view (e ∷ es) = omega (arith, count_view es)
+
+pub member_count-object : (d : Data) (es : List (String Global × Value)) → as_object d ≡ Some (members_view es) → member_count d ≡ length es
+member_count-object null es p = absurd (cc)
+member_count-object (boolean b) es p = absurd (cc)
+member_count-object (number n) es p = absurd (cc)
+member_count-object (string s) es p = absurd (cc)
+member_count-object (array ds) es p = absurd (cc)
+member_count-object (object ms) es p =
+    let same : ms ≡ members_view es = cc in
+    omega (arith, ap members_count same, count_view es)
+
+-- what stands under a key is less deep than the whole
+less_by : (o : Ordering) (d e : Data) (found : Option Data) (n : ℕ) → (found ≡ Some e → depth e ≤ n) → match_ordering o found (Some d) found ≡ Some e → depth e ≤ max (depth d) n
+less_by Less d e found n h p = omega (arith, h p)
+less_by Equal d e found n h p = let same : d ≡ e = cc in omega (arith, ap depth same)
+less_by Greater d e found n h p = omega (arith, h p)
+
+member_less : (k : List ℕ) (ms : Members) (e : Data) → get_member k ms ≡ Some e → depth e ≤ members_depth ms
+member_less k no_members e p = absurd (cc)
+member_less k (member l d ms) e p = less_by (slice_cmp nat_cmp k l) d e (get_member k ms) (members_depth ms) (member_less k ms e) p
+
+pub get_less : (k : List ℕ) (d e : Data) → get k d ≡ Some e → depth e < depth d
+get_less k null e p = absurd (cc)
+get_less k (boolean b) e p = absurd (cc)
+get_less k (number n) e p = absurd (cc)
+get_less k (string s) e p = absurd (cc)
+get_less k (array ds) e p = absurd (cc)
+get_less k (object ms) e p = omega (arith, member_less k ms e p)
+
+-- a list under a key is less deep by two, and its values no deeper than it
+array_less : (e : Data) (ds : Items) → as_array e ≡ Some ds → items_depth ds < depth e
+array_less null ds p = absurd (cc)
+array_less (boolean b) ds p = absurd (cc)
+array_less (number n) ds p = absurd (cc)
+array_less (string s) ds p = absurd (cc)
+array_less (array es) ds p = let same : es ≡ ds = cc in omega (arith, ap items_depth same)
+array_less (object ms) ds p = absurd (cc)
+
+list_in : (k : List ℕ) (d : Data) (ds : Items) (found : Option Data) → get k d ≡ found → Some ds ≡ option_and_then as_array found → items_depth ds + 1 < depth d
+list_in k d ds None is p = absurd (cc)
+list_in k d ds (Some e) is p = omega (arith, get_less k d e is, array_less e ds (sym p))
+
+pub list_less : (k : List ℕ) (d : Data) (ds : Items) → Some ds ≡ items_at k d → items_depth ds + 1 < depth d
+list_less k d ds p = list_in k d ds (get k d) refl p
+
+pub item_less : (vs : List Value) (i : ℕ) (v : Value) → i < length vs → v ≡ slice_index_or vs i v → depth (view v) ≤ items_depth (items_view vs)
+item_less [] i v h p = absurd (omega arith)
+item_less (w ∷ vs) zero v h p = let same : v ≡ w = p in omega (arith, ap (λ u. depth (view u)) same)
+item_less (w ∷ vs) (suc i) v h p = omega (arith, item_less vs i v (omega arith) p)
+
+-- the tree under a key is the one that the value under it spells
+under_by : (o : Ordering) (d : Data) (t : Option Tree) (found : Option Data) → t ≡ option_and_then tree_spelled found
+    → match_ordering o t (tree_spelled d) t ≡ option_and_then tree_spelled (match_ordering o found (Some d) found)
+under_by Less d t found p = p
+under_by Equal d t found p = refl
+under_by Greater d t found p = p
+
+tree_under-get : (k : List ℕ) (ms : Members) → tree_under k ms ≡ option_and_then tree_spelled (get_member k ms)
+tree_under-get k no_members = refl
+tree_under-get k (member l d ms) = under_by (slice_cmp nat_cmp k l) d (tree_under k ms) (get_member k ms) (tree_under-get k ms)
+
+-- the trees under a key are those that the list under it spells
+listed_by : (d : Data) → trees_listed d ≡ option_and_then trees_spelled (as_array d)
+listed_by null = refl
+listed_by (boolean b) = refl
+listed_by (number n) = refl
+listed_by (string s) = refl
+listed_by (array ds) = refl
+listed_by (object ms) = refl
+
+trees_by : (o : Ordering) (d : Data) (ts : Option (List Tree)) (found : Option Data) → ts ≡ option_and_then trees_spelled (option_and_then as_array found)
+    → match_ordering o ts (trees_listed d) ts ≡ option_and_then trees_spelled (option_and_then as_array (match_ordering o found (Some d) found))
+trees_by Less d ts found p = p
+trees_by Equal d ts found p = listed_by d
+trees_by Greater d ts found p = p
+
+trees_under-get : (k : List ℕ) (ms : Members) → trees_under k ms ≡ option_and_then trees_spelled (option_and_then as_array (get_member k ms))
+trees_under-get k no_members = refl
+trees_under-get k (member l d ms) = trees_by (slice_cmp nat_cmp k l) d (trees_under k ms) (get_member k ms) (trees_under-get k ms)
+
+node_by : (ms : Members) (enc : Option (List ℕ)) → option_and_then (node_of (object ms) (λ k. tree_under k ms) (λ k. trees_under k ms)) enc ≡ tree_by (object ms) enc
+node_by ms None = refl
+node_by ms (Some enc) = λ i. node_of (object ms) (λ k. tree_under-get k ms i) (λ k. trees_under-get k ms i) enc
+
+-- what a value spells, by its `enc` and what stands under its keys
+pub spelled_by : (d : Data) → tree_spelled d ≡ tree_by d (text_at (codes "enc") d)
+spelled_by null = refl
+spelled_by (boolean b) = refl
+spelled_by (number n) = refl
+spelled_by (string s) = refl
+spelled_by (array ds) = refl
+spelled_by (object ms) = node_by ms (text_at (codes "enc") (object ms))

@@ -1,0 +1,21 @@
+use Rattle.std.proofs.Common.{◌+◌, ◌*◌, ◌≡◌, ◌++◌, drop, option_map}
+use Rattle.serde_json.specs.View.{view, items_view}
+use Rattle.serde_json.specs.Data.{depth, items_depth}
+use Rattle.vx_json.specs.Spelled.{trees_spelled}
+use Rattle.vx_json.proofs.tree.+tree_of.Given as goal
+
+abbrev pub decreases-tree_of : goal.decreases-tree_of
+decreases-tree_of l = 2 * depth (view l.value.now) + 1
+
+abbrev pub decreases-trees_of : goal.decreases-trees_of
+decreases-trees_of l = 2 * items_depth (items_view l.list.now.items) + 2
+
+-- the trees so far, and then those of the values that are left
+abbrev pub invariant-trees_of-loop-value : goal.invariant-trees_of-loop-value
+invariant-trees_of-loop-value l = trees_spelled (items_view l.list.items) ≡ option_map (λ ts. l.trees.items ++ ts) (trees_spelled (items_view (drop l.value-index l.list.items)))
+
+abbrev pub decreases-children : goal.decreases-children
+decreases-children l = 2 * depth (view l.value.now)
+
+abbrev pub decreases-child : goal.decreases-child
+decreases-child l = 2 * depth (view l.value.now)

@@ -1,0 +1,8 @@
+-- The keys under which trees stand.
+use Rattle.std.specs.Prelude.{ℕ, List, codes}
+use Rattle.vx_json.specs.declared.key.Key.{Key}
+use Rattle.vx_json.specs.declared.key.Key.TheVariants.{Child, Args}
+
+abbrev pub key_text : Key → List ℕ
+key_text Child = codes "child"
+key_text Args = codes "args"

@@ -1,0 +1,11 @@
+pub use Rattle.vx_value.specs.Values
+pub use Rattle.vx_tree.specs.Tree
+pub use Rattle.vx_tree.specs.Calls
+pub mod Keys
+pub mod Fields
+pub mod Refused
+pub mod SpelledFunctions
+pub mod SpelledTypes
+pub mod SpelledValues
+pub mod Spelled
+pub mod RowText

@@ -1,0 +1,132 @@
+-- The tree that a JSON value spells.
+use Rattle.std.specs.Prelude.{◌≡◌, ℕ, ◌-◌, ℤ, ◌&&◌, ◌==◌, List, [], ◌∷◌, length, is_none, Bool, nat_le, if◌then◌else◌, Option, Some, None, option_map, option_and_then, codes, bytes_eq, IsUtf8}
+use Rattle.std.specs.Ordering.{nat_cmp, match_ordering}
+use Rattle.std.specs.Cmp.Lexicographic.{slice_cmp}
+use Rattle.serde_json.specs.Data.{Data, null, boolean, number, string, array, object, Items, no_items, item, Members, no_members, member}
+use Rattle.serde_json.specs.Find.{get, as_bool}
+use Rattle.serde_json.specs.Read.{read}
+use Rattle.vx_value.specs.Types as type
+use Rattle.vx_value.specs.Types.{DataType}
+use Rattle.vx_value.specs.Values.{Value}
+use Rattle.vx_value.specs.declared.dtype.Nullability.TheVariants.{NonNullable}
+use Rattle.vx_value.specs.declared.dtype.PType.{PType}
+use Rattle.vx_fn.specs.declared.function.ScalarFnRef.{ScalarFnRef}
+use Rattle.vx_tree.specs.Calls.{inferred_refusal, inferred}
+use Rattle.vx_tree.specs.Tree.{Tree, node, constant, slice, bool, primitive, no_slots, absent, slot, dtype, len}
+use Rattle.vx_json.specs.Fields.{member_count, text_at, number_at, items_at}
+use Rattle.vx_json.specs.SpelledFunctions.{function_named}
+use Rattle.vx_json.specs.SpelledTypes.{type_spelled}
+use Rattle.vx_json.specs.SpelledValues.{integer_spelled, value_spelled, all_read}
+
+-- the type that the text under `type` names
+abbrev pub type_at : Data → Option DataType
+type_at d = option_and_then type_spelled (text_at (codes "type") d)
+
+-- `{"enc":"col","type":T,"rows":[..]}` and `{"enc":"flat","type":T,"values":[..]}`: a column, a value for each row
+abbrev pub boolean_column : List Bool → Tree
+boolean_column bs = node (type.bool NonNullable) (length bs) (bool bs) (absent no_slots)
+
+abbrev pub integer_column : PType → List ℤ → Tree
+integer_column p zs = node (type.primitive p NonNullable) (length zs) (primitive p zs) (absent no_slots)
+
+abbrev pub column_of_items : DataType → Items → Option Tree
+column_of_items (type.bool n) ds = option_map boolean_column (all_read as_bool ds)
+column_of_items (type.primitive p n) ds = option_map (integer_column p) (all_read (integer_spelled p) ds)
+
+abbrev pub column_of : List ℕ → Data → Option Tree
+column_of key d =
+    if member_count d == 3 then option_and_then (λ ty. option_and_then (column_of_items ty) (items_at key d)) (type_at d) else None
+
+-- `{"enc":"constant","type":T,"value":v,"len":n}`: the value v, n times
+abbrev pub repeated : DataType → Value → ℕ → Tree
+repeated ty v n = node ty n (constant (record { of_type = ty; value = v })) no_slots
+
+abbrev pub value_at : DataType → Data → Option Value
+value_at ty d = option_and_then (value_spelled ty) (get (codes "value") d)
+
+abbrev pub constant_of : Data → Option Tree
+constant_of d =
+    if member_count d == 4 then option_and_then (λ ty. option_and_then (λ v. option_map (repeated ty v) (number_at (codes "len") d)) (value_at ty d)) (type_at d) else None
+
+-- `{"enc":"slice","start":a,"stop":b,"child":{..}}`: the rows a to b of the child, b exclusive
+abbrev pub sliced : Tree → ℕ → ℕ → Option Tree
+sliced t a b = if nat_le a b && nat_le b (len t) then Some (node (dtype t) (b - a) (slice a b) (slot t no_slots)) else None
+
+abbrev pub slice_of : Data → Tree → Option Tree
+slice_of d t =
+    if member_count d == 4 then option_and_then (λ a. option_and_then (sliced t a) (number_at (codes "stop") d)) (number_at (codes "start") d) else None
+
+-- `{"enc":"fn","fn":"add","args":[{..},{..}]}`: the function of the trees, row by row, where it takes them
+abbrev pub function_at : Data → Option ScalarFnRef
+function_at d = option_and_then function_named (text_at (codes "fn") d)
+
+abbrev pub applied : List Tree → ScalarFnRef → Option Tree
+applied ts f = if is_none (inferred_refusal f ts) then inferred f ts else None
+
+abbrev pub function_of : Data → List Tree → Option Tree
+function_of d ts = if member_count d == 3 then option_and_then (applied ts) (function_at d) else None
+
+-- the tree of an object with this `enc`, from its fields, from the tree under each key and from the list of trees under
+-- each key: a line for each encoding
+abbrev pub node_of : Data → (List ℕ → Option Tree) → (List ℕ → Option (List Tree)) → List ℕ → Option Tree
+node_of d child children enc =
+    if bytes_eq enc (codes "col") then column_of (codes "rows") d
+    else (if bytes_eq enc (codes "flat") then column_of (codes "values") d
+    else (if bytes_eq enc (codes "constant") then constant_of d
+    else (if bytes_eq enc (codes "slice") then option_and_then (slice_of d) (child (codes "child"))
+    else (if bytes_eq enc (codes "fn") then option_and_then (function_of d) (children (codes "args"))
+    else None))))
+
+-- one tree more
+abbrev pub tree_first : Option Tree → Option (List Tree) → Option (List Tree)
+tree_first tree trees = option_and_then (λ t. option_map (λ ts. t ∷ ts) trees) tree
+
+-- the tree that a value spells, those that a list of values spells, and the tree and the trees under a key
+abbrev mutual
+  pub tree_spelled : Data → Option Tree
+  tree_spelled null = None
+  tree_spelled (boolean b) = None
+  tree_spelled (number n) = None
+  tree_spelled (string s) = None
+  tree_spelled (array ds) = None
+  tree_spelled (object ms) = option_and_then (node_of (object ms) (λ k. tree_under k ms) (λ k. trees_under k ms)) (text_at (codes "enc") (object ms))
+
+  pub trees_spelled : Items → Option (List Tree)
+  trees_spelled no_items = Some []
+  trees_spelled (item d ds) = tree_first (tree_spelled d) (trees_spelled ds)
+
+  pub trees_listed : Data → Option (List Tree)
+  trees_listed null = None
+  trees_listed (boolean b) = None
+  trees_listed (number n) = None
+  trees_listed (string s) = None
+  trees_listed (array ds) = trees_spelled ds
+  trees_listed (object ms) = None
+
+  pub tree_under : List ℕ → Members → Option Tree
+  tree_under k no_members = None
+  tree_under k (member l d ms) = match_ordering (slice_cmp nat_cmp k l) (tree_under k ms) (tree_spelled d) (tree_under k ms)
+
+  pub trees_under : List ℕ → Members → Option (List Tree)
+  trees_under k no_members = None
+  trees_under k (member l d ms) =
+      match_ordering (slice_cmp nat_cmp k l) (trees_under k ms) (trees_listed d) (trees_under k ms)
+
+-- the bytes are JSON, and its value spells this tree
+abbrev pub Spells : List ℕ → Tree → Type 0
+Spells bytes t = IsUtf8 bytes × (option_and_then tree_spelled (read bytes) ≡ Some t)
+
+abbrev pub SpellsNone : List ℕ → Type 0
+SpellsNone bytes = (t : Tree) → ¬ (Spells bytes t)
+
+-- ---- the same by look-ups, as the reader goes
+
+abbrev pub tree_at : List ℕ → Data → Option Tree
+tree_at k d = option_and_then tree_spelled (get k d)
+
+abbrev pub trees_at : List ℕ → Data → Option (List Tree)
+trees_at k d = option_and_then trees_spelled (items_at k d)
+
+abbrev pub tree_by : Data → Option (List ℕ) → Option Tree
+tree_by d None = None
+tree_by d (Some enc) = node_of d (λ k. tree_at k d) (λ k. trees_at k d) enc

@@ -1,0 +1,218 @@
+//! The tree that a JSON value spells.
+//!
+//! A tree is an object whose `enc` names the encoding. Each encoding has exactly its own keys:
+//! `{"enc":"col","type":"i32","rows":[1,-2]}`, `{"enc":"flat","type":"i32","values":[1,-2]}`,
+//! `{"enc":"constant","type":"bool","value":true,"len":3}`, `{"enc":"slice","start":0,"stop":1,"child":{..}}` and
+//! `{"enc":"fn","fn":"add","args":[{..},{..}]}`.
+
+ghost use Rattle.std.specs.Prelude.{◌≡◌, ◌⊎◌, Some, None, option_map, IfOk, IfErr, IfSome};
+ghost use Rattle.serde_json.specs.View.{view, items_view};
+ghost use Rattle.vx_value.specs.View.{type_of};
+ghost use Rattle.vx_value.specs.Types.{nullability_of};
+ghost use Rattle.vx_value.specs.declared.dtype.Nullability.TheVariants.{NonNullable};
+ghost use Rattle.vx_json.specs.Keys.{key_text};
+ghost use Rattle.vx_json.specs.Refused.{IsRefused};
+ghost use Rattle.vx_json.specs.Spelled.{type_at, column_of_items, column_of, constant_of, slice_of, function_at, applied, function_of, tree_spelled, trees_spelled, tree_at, trees_at, Spells, SpellsNone};
+
+use crate::BAD_VALUE;
+use crate::fields::{count, items, number, text};
+use crate::functions::function_named;
+use crate::key::Key;
+use crate::types::type_named;
+use crate::values::{booleans, integers, scalar};
+use serde_json::Value;
+use std::alloc::Global;
+use vx_fn::ScalarFnRef;
+use vx_tree::{
+    ArrayRef, BoolArray, ConstantArray, IntoArray, PrimitiveArray, ScalarFnArray, SliceArray,
+};
+use vx_value::{ArgKind, DType, Nullability, VortexError, VortexResult};
+
+/// The type that the text under `type` names.
+fn dtype_of(value: &Value) -> Option<DType>
+    ensures named { option_map type_of result ≡ type_at (view value.now) }
+    ensures never_null { IfSome result (λ t. nullability_of (type_of t) ≡ NonNullable) }
+{
+    type_named(text(value, "type")?)
+}
+
+/// The column of a list's values, without nulls.
+fn column_of_items(alloc: Global, dtype: DType, list: &Vec<Value>) -> VortexResult<ArrayRef>
+    ensures ok { IfOk result (λ t. column_of_items (type_of dtype) (items_view list.now.items) ≡ Some t) }
+    ensures err { IfErr result (IsRefused (column_of_items (type_of dtype) (items_view list.now.items) ≡ None)) }
+{
+    match dtype {
+        DType::Bool(_) => {
+            let dtype = DType::Bool(Nullability::NonNullable);
+            Ok(BoolArray::try_new(alloc, dtype, booleans(alloc, list)?)?.into_array())
+        }
+        DType::Primitive(ptype, _) => {
+            let dtype = DType::Primitive(ptype, Nullability::NonNullable);
+            let values = integers(alloc, ptype, list)?;
+            Ok(PrimitiveArray::try_new(alloc, dtype, values)?.into_array())
+        }
+    }
+}
+
+/// A column, a value for each row, in the list under a key.
+fn column(alloc: Global, value: &Value, key: &str) -> VortexResult<ArrayRef>
+    ensures ok { IfOk result (λ t. column_of key.now (view value.now) ≡ Some t) }
+    ensures err { IfErr result (IsRefused (column_of key.now (view value.now) ≡ None)) }
+{
+    if count(value) != 3 {
+        return Err(BAD_VALUE);
+    }
+    let (Some(dtype), Some(list)) = (dtype_of(value), items(value, key)) else {
+        return Err(BAD_VALUE);
+    };
+    column_of_items(alloc, dtype, list)
+}
+
+/// One value, for each row.
+fn constant(alloc: Global, value: &Value) -> VortexResult<ArrayRef>
+    ensures ok { IfOk result (λ t. constant_of (view value.now) ≡ Some t) }
+    ensures err { IfErr result (IsRefused (constant_of (view value.now) ≡ None)) }
+{
+    if count(value) != 4 {
+        return Err(BAD_VALUE);
+    }
+    let (Some(dtype), Some(spelled), Some(len)) = (
+        dtype_of(value),
+        value.get("value"),
+        number(value, "len"),
+    ) else {
+        return Err(BAD_VALUE);
+    };
+    let Some(scalar) = scalar(dtype, spelled) else {
+        return Err(BAD_VALUE);
+    };
+    Ok(ConstantArray::new(alloc, scalar, len as usize)?.into_array())
+}
+
+/// A range of the child's rows.
+fn slice(alloc: Global, value: &Value, child: ArrayRef) -> VortexResult<ArrayRef>
+    ensures ok { IfOk result (λ t. slice_of (view value.now) child ≡ Some t) }
+    ensures err { IfErr result (IsRefused (slice_of (view value.now) child ≡ None)) }
+{
+    if count(value) != 4 {
+        return Err(BAD_VALUE);
+    }
+    let (Some(start), Some(stop)) = (number(value, "start"), number(value, "stop")) else {
+        return Err(BAD_VALUE);
+    };
+    if stop < start || stop > child.len() as u64 {
+        return Err(BAD_VALUE);
+    }
+    Ok(SliceArray::new(alloc, child, start as usize..stop as usize)?.into_array())
+}
+
+/// The function that the text under `fn` names.
+fn function_at(value: &Value) -> Option<ScalarFnRef>
+    ensures { result ≡ function_at (view value.now) }
+{
+    function_named(text(value, "fn")?)
+}
+
+/// The function of the trees, where it takes them.
+fn applied(alloc: Global, scalar_fn: ScalarFnRef, children: Vec<ArrayRef>) -> VortexResult<ArrayRef>
+    ensures ok { IfOk result (λ t. applied children.items scalar_fn ≡ Some t) }
+    ensures err { IfErr result (IsRefused (applied children.items scalar_fn ≡ None)) }
+{
+    match ScalarFnArray::try_new(alloc, scalar_fn, children) {
+        Ok(node) => Ok(node.into_array()),
+        Err(VortexError::OutOfMemory) => Err(VortexError::OutOfMemory),
+        Err(_) => Err(BAD_VALUE),
+    }
+}
+
+/// A function of trees, row by row.
+fn function(alloc: Global, value: &Value, children: Vec<ArrayRef>) -> VortexResult<ArrayRef>
+    ensures ok { IfOk result (λ t. function_of (view value.now) children.items ≡ Some t) }
+    ensures err { IfErr result (IsRefused (function_of (view value.now) children.items ≡ None)) }
+{
+    match (count(value), function_at(value)) {
+        (3, Some(scalar_fn)) => applied(alloc, scalar_fn, children),
+        _ => Err(BAD_VALUE),
+    }
+}
+
+/// The trees that the values of a list spell.
+#[cycle(tree_of)]
+fn trees_of(alloc: Global, list: &Vec<Value>) -> VortexResult<Vec<ArrayRef>>
+    ensures ok { IfOk result (λ v. trees_spelled (items_view list.now.items) ≡ Some v.items) }
+    ensures err { IfErr result (IsRefused (trees_spelled (items_view list.now.items) ≡ None)) }
+{
+    let mut trees = Vec::with_capacity(alloc, list.len())?;
+    for value in list {
+        match tree_of(alloc, value) {
+            Ok(tree) => trees.push(tree)?,
+            Err(e) => return Err(e),
+        }
+    }
+    Ok(trees)
+}
+
+/// The trees in the list under a key.
+#[cycle(tree_of)]
+fn children(alloc: Global, value: &Value, key: Key) -> VortexResult<Vec<ArrayRef>>
+    ensures ok { IfOk result (λ v. trees_at (key_text key) (view value.now) ≡ Some v.items) }
+    ensures err { IfErr result (IsRefused (trees_at (key_text key) (view value.now) ≡ None)) }
+{
+    match items(value, key.text()) {
+        Some(list) => trees_of(alloc, list),
+        None => Err(BAD_VALUE),
+    }
+}
+
+/// The tree under a key.
+#[cycle(tree_of)]
+fn child(alloc: Global, value: &Value, key: Key) -> VortexResult<ArrayRef>
+    ensures ok { IfOk result (λ t. tree_at (key_text key) (view value.now) ≡ Some t) }
+    ensures err { IfErr result (IsRefused (tree_at (key_text key) (view value.now) ≡ None)) }
+{
+    match value.get(key.text()) {
+        Some(child) => tree_of(alloc, child),
+        None => Err(BAD_VALUE),
+    }
+}
+
+/// The tree that a value spells. `InvalidArgument` with `BadValue` exactly where it spells none. (own)
+#[cycle(tree_of)]
+#[tactic(auto, using(crate::proofs::Lookups::spelled_by))]
+pub fn tree_of(alloc: Global, value: &Value) -> VortexResult<ArrayRef>
+    ensures ok { IfOk result (λ t. tree_spelled (view value.now) ≡ Some t) }
+    ensures err { IfErr result (λ e. (e ≡ VortexError.OutOfMemory)
+        ⊎ ((e ≡ VortexError.InvalidArgument ArgKind.BadValue)
+        × (tree_spelled (view value.now) ≡ None))) }
+{
+    match text(value, "enc") {
+        Some("col") => column(alloc, value, "rows"),
+        Some("flat") => column(alloc, value, "values"),
+        Some("constant") => constant(alloc, value),
+        Some("slice") => match child(alloc, value, Key::Child) {
+            Ok(child) => slice(alloc, value, child),
+            Err(e) => Err(e),
+        },
+        Some("fn") => match children(alloc, value, Key::Args) {
+            Ok(children) => function(alloc, value, children),
+            Err(e) => Err(e),
+        },
+        _ => Err(BAD_VALUE),
+    }
+}
+
+/// The tree that a JSON text spells. `InvalidArgument` with `BadValue` exactly where it spells none. (own)
+pub fn tree_of_bytes(alloc: Global, bytes: &[u8]) -> VortexResult<ArrayRef>
+    ensures ok { IfOk result (λ t. Spells bytes.now t) }
+    ensures err { IfErr result (λ e. (e ≡ VortexError.OutOfMemory)
+        ⊎ ((e ≡ VortexError.InvalidArgument ArgKind.BadValue) × SpellsNone bytes.now)) }
+{
+    match Value::from_slice(alloc, bytes) {
+        Ok(value) => tree_of(alloc, &value),
+        Err(e) => if e.is_memory() {
+            Err(VortexError::OutOfMemory)
+        } else {
+            Err(BAD_VALUE)
+        },
+    }
+}

@@ -1,0 +1,29 @@
+//! The types, as texts name them.
+
+ghost use Rattle.std.specs.Prelude.{◌≡◌, option_map, IfSome};
+ghost use Rattle.vx_value.specs.View.{type_of};
+ghost use Rattle.vx_value.specs.Types.{nullability_of};
+ghost use Rattle.vx_value.specs.declared.dtype.Nullability.TheVariants.{NonNullable};
+ghost use Rattle.vx_json.specs.SpelledTypes.{type_spelled};
+
+use vx_value::{DType, Nullability, PType};
+
+/// The type that a text names. Null isn't among the values of any.
+pub(crate) fn type_named(text: &str) -> Option<DType>
+    ensures named { option_map type_of result ≡ type_spelled text.now }
+    ensures never_null { IfSome result (λ t. nullability_of (type_of t) ≡ NonNullable) }
+{
+    let ptype = match text {
+        "bool" => return Some(DType::Bool(Nullability::NonNullable)),
+        "u8" => PType::U8,
+        "u16" => PType::U16,
+        "u32" => PType::U32,
+        "u64" => PType::U64,
+        "i8" => PType::I8,
+        "i16" => PType::I16,
+        "i32" => PType::I32,
+        "i64" => PType::I64,
+        _ => return None,
+    };
+    Some(DType::Primitive(ptype, Nullability::NonNullable))
+}

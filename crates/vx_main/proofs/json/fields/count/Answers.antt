@@ -1,7 +1,0 @@
-use Rattle.std.proofs.Common.{◌∙◌, sym}
-use Rattle.serde_json.specs.View.{view}
-use Rattle.vx_main.proofs.Lookups.{member_count-object}
-use Rattle.vx_main.proofs.json.fields.count.Goals as goal
-
-pub returns-in-Some : goal.returns-in-Some
-returns-in-Some c = c.len.ensures.len ∙ sym (member_count-object (view c.args.value.now) _ (sym c.in-Some.ensures))

@@ -1,0 +1,92 @@
+//! One step of a function's node.
+
+ghost use Rattle.std.specs.Prelude.{◌≡◌, ◌++◌, ◌∷◌, [], map, IfOk, IfErr, OnOk, MatchOption, true, Some};
+ghost use Rattle.vx_tree.specs.Tree.{Tree, dtype, len, datum, node, function, slots_of, filled_slots, is_columnar};
+ghost use Rattle.vx_tree.specs.Well.{IsNode, shapes};
+ghost use Rattle.vx_tree.specs.Columns.{columnar_tree};
+ghost use Rattle.vx_tree.specs.Refusals.{all_present};
+ghost use Rattle.vx_step.specs.Waiting.{AreColumns, HoldsColumn, waits, trees_of};
+ghost use Rattle.vx_step.specs.Steps.{IsStep, IsStopped, AwaitsAt};
+ghost use Rattle.vx_step.specs.declared.steps.SlotTarget.TheVariants as target;
+
+use vx_column::apply_fn;
+use crate::steps::{ExecutionStep, SlotTarget};
+use std::alloc::{AllocError, Global};
+use vx_fn::ScalarFnRef;
+use vx_tree::{AnyColumnar, ArrayRef, Columnar, IntoArray};
+use vx_value::VortexResult;
+
+/// The first slot that is no column yet is to be executed to one; where there is none, the function is applied. (own)
+#[tactic(auto, using(crate::proofs::Applying::slots_present, crate::proofs::Applying::may_call, crate::proofs::Applying::applied_done, crate::proofs::Applying::unapplied_stopped))]
+pub(crate) fn apply_or_wait(
+    alloc: Global,
+    array: &ArrayRef,
+    scalar_fn: &ScalarFnRef,
+    slots: &[Option<ArrayRef>],
+) -> VortexResult<ExecutionStep>
+    requires shape { array.now ≡ node (dtype array.now) (len array.now) (function scalar_fn.now) (slots_of slots.now) }
+    requires well { IsNode (dtype array.now) (len array.now) (function scalar_fn.now) (shapes (slots_of slots.now)) }
+    ensures ok { IfOk result (λ s. IsStep array.now s) }
+    ensures err { IfErr result (IsStopped array.now) }
+{
+    match first_waiting(slots) {
+        Some(slot) => Ok(ExecutionStep::ExecuteSlot(slot, SlotTarget::Columnar)),
+        None => {
+            let columns = columns_of(alloc, slots)?;
+            match apply_fn(alloc, scalar_fn, columns.as_slice(), array.len()) {
+                Ok(column) => {
+                    column.as_array().well();
+                    Ok(ExecutionStep::Done(column.into_array()))
+                }
+                Err(e) => Err(e),
+            }
+        }
+    }
+}
+
+/// The first slot whose tree is no column, counted from 0. (own)
+fn first_waiting(slots: &[Option<ArrayRef>]) -> Option<usize>
+    requires { all_present (shapes (slots_of slots.now)) ≡ true }
+    ensures { MatchOption result (AreColumns (slots_of slots.now)) (λ i. AwaitsAt target.Columnar i (slots_of slots.now)) }
+{
+    for index in 0..slots.len() {
+        if is_waiting(&slots[index]) {
+            return Some(index);
+        }
+    }
+    None
+}
+
+/// Whether the tree of a slot is no column yet. (own)
+fn is_waiting(slot: &Option<ArrayRef>) -> bool
+    ensures { result ≡ waits slot.now }
+{
+    match slot {
+        Some(child) => !child.is::<AnyColumnar>(),
+        None => false,
+    }
+}
+
+/// The columns in the slots, which share the storage. (own)
+fn columns_of(alloc: Global, slots: &[Option<ArrayRef>]) -> Result<Vec<Columnar>, AllocError>
+    requires { AreColumns (slots_of slots.now) }
+    ensures { IfOk result (λ columns. filled_slots (map columnar_tree columns.items) ≡ slots_of slots.now) }
+{
+    let mut columns = Vec::with_capacity(alloc, slots.len())?;
+    for slot in slots {
+        push_column(&mut columns, slot)?;
+    }
+    Ok(columns)
+}
+
+/// Adds the column in a slot. (own)
+fn push_column(columns: &mut Vec<Columnar>, slot: &Option<ArrayRef>) -> Result<(), AllocError>
+    requires { HoldsColumn slot.now }
+    ensures { OnOk result (map columnar_tree columns.new.items ≡ map columnar_tree columns.old.items ++ trees_of slot.now) }
+{
+    let Some(child) = slot else { unreachable!() };
+    match Columnar::try_from_array_ref(child.clone()?) {
+        Ok(column) => Ok(columns.push(column)?),
+        Err(_) => unreachable!(),
+    }
+}
