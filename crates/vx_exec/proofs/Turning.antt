@@ -26,8 +26,8 @@ exactly_shape t u h = λ i. shape (h.keeps.same_type i) (h.keeps.same_len i)
 
 -- the node takes its step
 pub move_done : (fits : Tree → Bool) (fs : List Frame) (t u : Tree) → is_reached fits fs t ≡ false → AreFrames fs t → IsDone t u → IsMove fits fs t fs u
-move_done fits fs t u open h d = record {
-  one = inr (inr (record { open = open; same = refl; done = d }));
+move_done fits fs t u going h d = record {
+  one = inr (inr (record { going = going; same = refl; done = d }));
   exactly = filled_exactly fs t u d.exactly;
   frames = frames_replace fs t u (exactly_shape t u d.exactly) h;
   falls = omega (arith, d.falls);
@@ -38,12 +38,12 @@ put_target i c (node ty n d ss) = refl
 
 -- a child is taken out of the node, and becomes the current one
 pub move_push : (fits : Tree → Bool) (fs gs : List Frame) (i : ℕ) (t p c : Tree) (g : SlotTarget) → is_reached fits fs t ≡ false → put i c p ≡ t → IsHole i p → IsNodeOf t → Awaits i t → g ≡ target_of t → AreFrames fs t → gs ≡ fs ++ record { parent = p; slot = i; target = g } ∷ [] → IsMove fits fs t gs c
-move_push fits fs gs i t p c g open e hole node w aim h join =
+move_push fits fs gs i t p c g going e hole formed w aim h join =
     let f : Frame = record { parent = p; slot = i; target = g } in
-    let frame : IsFrame f c = record { hole = hole; fits = subst IsNodeOf (sym e) node; target = aim ∙ ap target_of (sym e) ∙ put_target i c p } in
+    let frame : IsFrame f c = record { hole = hole; fits = subst IsNodeOf (sym e) formed; target = aim ∙ ap target_of (sym e) ∙ put_target i c p } in
     let falls : top p + top c < top (put i c p) = take_falls i c p hole (subst (λ x. Awaits i x) (sym e) w) in
     subst (λ x. IsMove fits fs t x c) (sym join) (record {
-      one = inr (inl (record { frame = f; open = open; pushed = refl; taken = e; hole = hole; awaited = w; target = aim }));
+      one = inr (inl (record { frame = f; going = going; pushed = refl; taken = e; hole = hole; awaited = w; target = aim }));
       exactly = exactly_equal _ _ (ap (filled fs) (sym e) ∙ sym (filled_append fs f c));
       frames = frames_push fs f c (subst (λ x. AreFrames fs x) (sym e) h) frame;
       falls = omega (arith, frames_top_append fs f, falls, ap top e);
@@ -150,8 +150,8 @@ not_both false h k = absurd (cc)
 
 stays : (fits : Tree → Bool) (t : Tree) (gs : List Frame) (v : Tree) → is_reached fits [] t ≡ true → IsOneMove fits [] t gs v → ⊥
 stays fits t gs v h (inl m) = no_frame gs m.frame m.popped
-stays fits t gs v h (inr (inl m)) = not_both (is_reached fits [] t) h m.open
-stays fits t gs v h (inr (inr m)) = not_both (is_reached fits [] t) h m.open
+stays fits t gs v h (inr (inl m)) = not_both (is_reached fits [] t) h m.going
+stays fits t gs v h (inr (inr m)) = not_both (is_reached fits [] t) h m.going
 
 stays_long : (fits : Tree → Bool) (t : Tree) (n : ℕ) (fs : List Frame) (u : Tree) → is_reached fits [] t ≡ true → Reaches fits t n fs u → (fs ≡ []) × (u ≡ t)
 unfolding Reaches
@@ -192,3 +192,10 @@ loop_moves fits root fs gs t u n now m = record {
 -- while the loop goes on, a turn is left
 pub loop_short : (fits : Tree → Bool) (root : Tree) (fs : List Frame) (t : Tree) (n : ℕ) → IsLoop fits root fs t n → n < cost root
 loop_short fits root fs t n now = omega (arith, now.turns, top_positive t)
+
+pub goes_on : (fits : Tree → Bool) (root : Tree) (fs : List Frame) (t : Tree) (n : ℕ) → IsLoop fits root fs t n → GoesOn fits root n
+goes_on fits root fs t n now = (fs, t, now.moved)
+
+pub returned_as_it_is : (fits : Tree → Bool) (t : Tree) (n : ℕ) (fs : List Frame) (u v : Tree) → Reaches fits t n fs u → fs ≡ [] → u ≡ v → is_reached fits [] v ≡ true → fits t ≡ true → v ≡ t
+returned_as_it_is fits t n fs u v moved bare same reached h =
+    as_it_is fits t (n + 1) v h (executed fits t n fs u v moved bare same reached)

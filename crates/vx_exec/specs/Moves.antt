@@ -30,7 +30,7 @@ pub record IsPop (fits : Tree → Bool) (fs : List Frame) (t : Tree) (gs : List 
 -- the current node is suspended, and the first of its slots that isn't ready becomes the current node
 pub record IsPush (fits : Tree → Bool) (fs : List Frame) (t : Tree) (gs : List Frame) (u : Tree) : Type 0 where
   pub frame : Frame
-  pub open : is_reached fits fs t ≡ false
+  pub going : is_reached fits fs t ≡ false
   pub pushed : gs ≡ fs ++ frame ∷ []
   pub taken : put frame.slot u frame.parent ≡ t
   pub hole : IsHole frame.slot frame.parent
@@ -39,7 +39,7 @@ pub record IsPush (fits : Tree → Bool) (fs : List Frame) (t : Tree) (gs : List
 
 -- the current node, whose slots are ready, takes its step
 pub record IsStepped (fits : Tree → Bool) (fs : List Frame) (t : Tree) (gs : List Frame) (u : Tree) : Type 0 where
-  pub open : is_reached fits fs t ≡ false
+  pub going : is_reached fits fs t ≡ false
   pub same : gs ≡ fs
   pub done : IsDone t u
 
