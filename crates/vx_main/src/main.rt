@@ -2,7 +2,7 @@
 #![tactic(auto)]
 
 ghost use Rattle.std.specs.Prelude.{◌≡◌, ◌↔◌, None, drop};
-ghost use Rattle.std.specs.Io.{error_kind};
+ghost use Rattle.std.specs.IoError.{error_kind};
 ghost use Rattle.vx_main.specs.Commands.{texts, command_of};
 ghost use Rattle.std.specs.declared.io.ErrorKind.TheVariants as failure;
 
