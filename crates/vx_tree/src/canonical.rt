@@ -1,25 +1,36 @@
 //! Columns that hold their rows themselves.
 
-ghost use Rattle.std.specs.Prelude.{◌≡◌, ◌⊎◌, true, is_ok, IfOk, IfErr, OnOk};
+ghost use Rattle.std.specs.Prelude.{◌≡◌, ◌⊎◌, ◌==◌, true, is_ok, IfOk, IfErr, OnOk, option_map};
 ghost use Rattle.vx_value.specs.Types.{nullability_of};
 ghost use Rattle.vx_value.specs.declared.dtype.Nullability.TheVariants.{NonNullable};
 ghost use Rattle.vx_value.specs.View.{type_of};
 ghost use Rattle.vx_tree.specs.Tree.{Tree, dtype, len, datum, is_canonical};
-ghost use Rattle.vx_tree.specs.Columns.{canonical_tree, empty_of};
+ghost use Rattle.vx_tree.specs.Columns.{canonical_tree, bool_column, primitive_column, empty_of};
 
 use crate::array::{ArrayRef, IntoArray};
 use crate::arrays::boolean::BoolArray;
 use crate::arrays::primitive::PrimitiveArray;
 use crate::arrays::values::PrimitiveValues;
-use std::alloc::Global;
+use std::alloc::{AllocError, Global};
 use vx_mask::BitBuffer;
 use vx_value::{ArgKind, DType, VortexError, VortexResult};
 
 /// A column in the canonical encoding of its type.
-#[derive(Drop)]
+#[derive(Debug, Drop)]
 pub enum Canonical {
     Bool(BoolArray),
     Primitive(PrimitiveArray),
+}
+
+impl Clone for Canonical {
+    ghost is_clone = { λ a b. b ≡ a };
+
+    fn clone(&self) -> Result<Canonical, AllocError> {
+        match self {
+            Canonical::Bool(column) => Ok(Canonical::Bool(column.clone()?)),
+            Canonical::Primitive(column) => Ok(Canonical::Primitive(column.clone()?)),
+        }
+    }
 }
 
 impl Canonical {
@@ -81,11 +92,62 @@ impl Canonical {
         self.as_array().len()
     }
 
+    /// Returns whether there are no rows.
+    pub fn is_empty(&self) -> bool
+        ensures { result ≡ (len (canonical_tree self.now) == 0) }
+    {
+        self.as_array().is_empty()
+    }
+
     /// The type of the rows.
     pub fn dtype(&self) -> &DType
         ensures { type_of result.now ≡ dtype (canonical_tree self.now) }
     {
         self.as_array().dtype()
+    }
+
+    /// Returns the column if it is one of booleans.
+    pub fn as_bool(&self) -> Option<&BoolArray>
+        ensures { option_map (λ c. c.now) result ≡ bool_column self.now }
+    {
+        if let Canonical::Bool(column) = self {
+            Some(column)
+        } else {
+            None
+        }
+    }
+
+    /// Returns the column if it is one of integers.
+    pub fn as_primitive(&self) -> Option<&PrimitiveArray>
+        ensures { option_map (λ c. c.now) result ≡ primitive_column self.now }
+    {
+        if let Canonical::Primitive(column) = self {
+            Some(column)
+        } else {
+            None
+        }
+    }
+
+    /// Returns the column by value if it is one of booleans.
+    pub fn into_bool(self) -> Option<BoolArray>
+        ensures { result ≡ bool_column self }
+    {
+        if let Canonical::Bool(column) = self {
+            Some(column)
+        } else {
+            None
+        }
+    }
+
+    /// Returns the column by value if it is one of integers.
+    pub fn into_primitive(self) -> Option<PrimitiveArray>
+        ensures { result ≡ primitive_column self }
+    {
+        if let Canonical::Primitive(column) = self {
+            Some(column)
+        } else {
+            None
+        }
     }
 }
 

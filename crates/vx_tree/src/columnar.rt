@@ -1,6 +1,6 @@
 //! Columns whose rows can be read without further work.
 
-ghost use Rattle.std.specs.Prelude.{◌≡◌, ◌⊎◌, true, is_ok, IfOk, IfErr, OnOk};
+ghost use Rattle.std.specs.Prelude.{◌≡◌, ◌⊎◌, ◌==◌, true, is_ok, IfOk, IfErr, OnOk};
 ghost use Rattle.vx_value.specs.Types.{nullability_of};
 ghost use Rattle.vx_value.specs.declared.dtype.Nullability.TheVariants.{NonNullable};
 ghost use Rattle.vx_value.specs.View.{type_of};
@@ -10,14 +10,25 @@ ghost use Rattle.vx_tree.specs.Columns.{columnar_tree};
 use crate::array::{ArrayRef, IntoArray};
 use crate::arrays::constant::ConstantArray;
 use crate::canonical::Canonical;
-use std::alloc::Global;
+use std::alloc::{AllocError, Global};
 use vx_value::{ArgKind, DType, Scalar, VortexError, VortexResult};
 
 /// A canonical column, or one value for each row.
-#[derive(Drop)]
+#[derive(Debug, Drop)]
 pub enum Columnar {
     Canonical(Canonical),
     Constant(ConstantArray),
+}
+
+impl Clone for Columnar {
+    ghost is_clone = { λ a b. b ≡ a };
+
+    fn clone(&self) -> Result<Columnar, AllocError> {
+        match self {
+            Columnar::Canonical(column) => Ok(Columnar::Canonical(column.clone()?)),
+            Columnar::Constant(column) => Ok(Columnar::Constant(column.clone()?)),
+        }
+    }
 }
 
 impl Columnar {
@@ -64,6 +75,13 @@ impl Columnar {
         ensures { result ≡ len (columnar_tree self.now) }
     {
         self.as_array().len()
+    }
+
+    /// Returns whether there are no rows.
+    pub fn is_empty(&self) -> bool
+        ensures { result ≡ (len (columnar_tree self.now) == 0) }
+    {
+        self.as_array().is_empty()
     }
 
     /// The type of the rows.

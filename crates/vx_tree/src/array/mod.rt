@@ -12,4 +12,4 @@ pub(crate) use node::know_well;
 pub use node::{ArrayRef, ArraySlots, Encoding, Node};
 pub use typed::{Array, ArrayParts, IntoArray};
 pub use view::ArrayView;
-pub use vtable::{ArrayId, Encoded, VTable};
+pub use vtable::{ArrayId, Encoded, VTable, VTable as ArrayVTable};

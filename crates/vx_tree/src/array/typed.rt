@@ -1,6 +1,6 @@
 //! A handle that knows its encoding.
 
-ghost use Rattle.std.specs.Prelude.{◌≡◌, ◌⊎◌, is_ok, IfOk, IfErr, OnOk, Some, None, true};
+ghost use Rattle.std.specs.Prelude.{◌≡◌, ◌⊎◌, ◌==◌, is_ok, IfOk, IfErr, OnOk, Some, None, true};
 ghost use Rattle.vx_value.specs.View.{type_of};
 ghost use Rattle.vx_tree.specs.Tree.{Tree, dtype, len, datum, slots, slots_of, node, id_of};
 ghost use Rattle.vx_tree.specs.Well.{shapes, IsNode};
@@ -10,12 +10,15 @@ use crate::array::{ArrayRef, ArrayView, Node, VTable};
 use std::alloc::{AllocError, Global};
 use std::marker::{Model, PhantomData};
 use std::ops::Deref;
+use std::rc::Rc;
 use vx_value::{DType, VortexError, VortexResult};
 
 /// A node of V's encoding. It is the same node as its reference's.
 #[derive(Drop)]
+#[derive_where(Debug)]
 pub struct Array<V: VTable> {
     array: ArrayRef,
+    #[derive_where(skip(Debug))]
     tag: PhantomData<V>,
 }
 
@@ -159,6 +162,16 @@ impl<V: VTable> Array<V> {
         }
     }
 
+    /// Returns the reference of a shared handle. `AllocError` if the node can't be shared once more. (own)
+    pub fn shared_into_array(shared: Rc<Array<V>>) -> Result<ArrayRef, AllocError>
+        ensures { IfOk result (λ a. a ≡ shared.value) }
+    {
+        match Rc::try_unwrap(shared) {
+            Ok(handle) => Ok(handle.array),
+            Err(shared) => shared.array.clone(),
+        }
+    }
+
     /// The data of the node.
     pub fn data(&self) -> &V::TypedArrayData
         ensures { V.stands_for result.now ≡ datum self.now }
@@ -195,6 +208,13 @@ impl<V: VTable> Array<V> {
         self.array.len()
     }
 
+    /// Returns whether there are no rows.
+    pub fn is_empty(&self) -> bool
+        ensures { result ≡ (len self.now == 0) }
+    {
+        self.array.is_empty()
+    }
+
     /// The type of the rows.
     pub fn dtype(&self) -> &DType
         ensures { type_of result.now ≡ dtype self.now }
@@ -217,6 +237,14 @@ impl<V: VTable> Deref for Array<V> {
 
     fn deref(&self) -> &V::TypedArrayData {
         self.data()
+    }
+}
+
+impl<V: VTable> AsRef<ArrayRef> for Array<V> {
+    fn as_ref(&self) -> &ArrayRef
+        ensures { result.now ≡ self.now }
+    {
+        &self.array
     }
 }
 

@@ -1,6 +1,6 @@
 //! A node, borrowed, with the data of its encoding.
 
-ghost use Rattle.std.specs.Prelude.{◌≡◌, IfOk};
+ghost use Rattle.std.specs.Prelude.{◌≡◌, ◌==◌, IfOk};
 ghost use Rattle.vx_value.specs.View.{type_of};
 ghost use Rattle.vx_tree.specs.Tree.{dtype, len, datum, slots, slots_of, id_of};
 
@@ -10,9 +10,10 @@ use std::ops::Deref;
 use vx_value::{DType, Id};
 
 /// A node of V's encoding, borrowed. Who makes one by hand owes that the payload is the node's.
-#[derive_where(Clone, Copy)]
+#[derive_where(Clone, Copy, Debug)]
 pub struct ArrayView<'a, V: Encoded> {
     pub array: &'a ArrayRef,
+    #[derive_where(skip(Debug))]
     pub payload: &'a V::TypedArrayData,
 }
 
@@ -52,11 +53,26 @@ impl<'a, V: Encoded> ArrayView<'a, V> {
         self.array.len()
     }
 
+    /// Returns whether there are no rows.
+    pub fn is_empty(&self) -> bool
+        ensures { result ≡ (len self.now.array.now == 0) }
+    {
+        self.array.is_empty()
+    }
+
     /// The id of the encoding.
     pub fn encoding_id(&self) -> Id
         ensures { result ≡ id_of (datum self.now.array.now) }
     {
         self.array.encoding_id()
+    }
+}
+
+impl<'a, V: Encoded> AsRef<ArrayRef> for ArrayView<'a, V> {
+    fn as_ref(&self) -> &ArrayRef
+        ensures { result.now ≡ self.now.array.now }
+    {
+        self.array
     }
 }
 

@@ -23,6 +23,22 @@ pub struct ConstantData {
     pub scalar: Scalar,
 }
 
+impl ConstantData {
+    /// Returns the data of a node that repeats `scalar`.
+    pub fn new(scalar: Scalar) -> ConstantData
+        ensures { result ≡ record { scalar = scalar } }
+    {
+        ConstantData { scalar }
+    }
+
+    /// Returns the value of each row.
+    pub fn scalar(&self) -> &Scalar
+        ensures { result.now ≡ self.now.scalar }
+    {
+        &self.scalar
+    }
+}
+
 impl Clone for ConstantData {
     ghost is_clone = { λ a b. b ≡ a };
 

@@ -29,6 +29,13 @@ pub struct ScalarFnData {
 }
 
 impl ScalarFnData {
+    /// Returns the data of a node that applies `scalar_fn`. (own)
+    pub fn new(scalar_fn: ScalarFnRef) -> ScalarFnData
+        ensures { result ≡ record { scalar_fn = scalar_fn } }
+    {
+        ScalarFnData { scalar_fn }
+    }
+
     /// The function of the node.
     pub fn scalar_fn(&self) -> &ScalarFnRef
         ensures { result.now ≡ self.now.scalar_fn }

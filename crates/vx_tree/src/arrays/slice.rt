@@ -1,6 +1,6 @@
 //! A range of another array's rows.
 
-ghost use Rattle.std.specs.Prelude.{◌≡◌, ◌⊎◌, ◌-◌, ◌≤◌, IfOk, IfErr, OnOk, Some, None, true, refl};
+ghost use Rattle.std.specs.Prelude.{◌≡◌, ◌⊎◌, ◌-◌, ◌≤◌, ◌==◌, IfOk, IfErr, OnOk, Some, None, true, refl};
 ghost use Rattle.vx_value.specs.declared.id.Id.TheVariants as id;
 ghost use Rattle.vx_tree.specs.Tree.{Tree, dtype, len, slice, is_slice, node, slot, no_slots};
 
@@ -20,6 +20,50 @@ pub type SliceArray = Array<Slice>;
 #[derive(Debug, Drop)]
 pub struct SliceData {
     pub range: Range<usize>,
+}
+
+/// The parts of `SliceData`.
+#[derive(Debug, Drop)]
+pub struct SliceDataParts {
+    /// The rows of the child, from `start`, inclusive, to `end`, exclusive.
+    pub range: Range<usize>,
+}
+
+impl SliceData {
+    /// Returns the data of a slice that keeps the rows of `range`.
+    pub fn new(range: Range<usize>) -> SliceData
+        ensures { result ≡ record { range = range } }
+    {
+        SliceData { range }
+    }
+
+    /// Returns the number of rows in the range, 0 if it is reversed.
+    pub fn len(&self) -> usize
+        ensures { result ≡ self.now.range.end - self.now.range.start }
+    {
+        self.range.end.saturating_sub(self.range.start)
+    }
+
+    /// Returns whether the range has no rows.
+    pub fn is_empty(&self) -> bool
+        ensures { result ≡ (self.now.range.end - self.now.range.start == 0) }
+    {
+        self.len() == 0
+    }
+
+    /// Returns the range of the child's rows.
+    pub fn slice_range(&self) -> &Range<usize>
+        ensures { result.now ≡ self.now.range }
+    {
+        &self.range
+    }
+
+    /// Returns the parts of the data.
+    pub fn into_parts(self) -> SliceDataParts
+        ensures { result ≡ record { range = self.range } }
+    {
+        SliceDataParts { range: self.range }
+    }
 }
 
 impl Clone for SliceData {
