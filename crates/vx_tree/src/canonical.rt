@@ -1,4 +1,4 @@
-//! Columns that hold their rows themselves.
+//! Columns in the canonical encoding of their type.
 
 ghost use Rattle.std.specs.Prelude.{◌≡◌, ◌⊎◌, ◌==◌, true, is_ok, IfOk, IfErr, OnOk, option_map};
 ghost use Rattle.vx_value.specs.Types.{nullability_of};
@@ -34,7 +34,7 @@ impl Clone for Canonical {
 }
 
 impl Canonical {
-    /// The column of the type without rows. `InvalidArgument` with `BadType` exactly where the type is nullable.
+    /// Makes the column of type `dtype` without rows. `InvalidArgument` with `BadType` exactly if `dtype` is nullable.
     #[tactic(auto, using(crate::proofs::Kinding::zero_in_range, crate::proofs::Kinding::only_nullable))]
     pub fn empty(alloc: Global, dtype: &DType) -> VortexResult<Canonical>
         ensures ok { IfOk result (λ c. canonical_tree c ≡ empty_of (type_of dtype.now)) }
@@ -58,7 +58,7 @@ impl Canonical {
         }
     }
 
-    /// The column of a tree, which is handed back where it isn't canonical. (own)
+    /// Returns `array` as a column. Hands it back if it isn't canonical. (own)
     pub fn try_from_array_ref(array: ArrayRef) -> Result<Canonical, ArrayRef>
         ensures which { is_ok result ≡ is_canonical (datum array) }
         ensures ok { IfOk result (λ c. canonical_tree c ≡ array) }
@@ -73,7 +73,7 @@ impl Canonical {
         }
     }
 
-    /// The reference of the column.
+    /// Returns the reference of the column. (own)
     #[tactic(auto, using(crate::proofs::Kinding::bool_canonical, crate::proofs::Kinding::primitive_canonical))]
     pub fn as_array(&self) -> &ArrayRef
         ensures of { result.now ≡ canonical_tree self.now }
@@ -85,7 +85,7 @@ impl Canonical {
         }
     }
 
-    /// How many rows there are.
+    /// Returns the number of rows.
     pub fn len(&self) -> usize
         ensures { result ≡ len (canonical_tree self.now) }
     {
@@ -99,14 +99,14 @@ impl Canonical {
         self.as_array().is_empty()
     }
 
-    /// The type of the rows.
+    /// Returns the type of the rows.
     pub fn dtype(&self) -> &DType
         ensures { type_of result.now ≡ dtype (canonical_tree self.now) }
     {
         self.as_array().dtype()
     }
 
-    /// Returns the column if it is one of booleans.
+    /// Returns the column if it is a boolean column, else `None`.
     pub fn as_bool(&self) -> Option<&BoolArray>
         ensures { option_map (λ c. c.now) result ≡ bool_column self.now }
     {
@@ -117,7 +117,7 @@ impl Canonical {
         }
     }
 
-    /// Returns the column if it is one of integers.
+    /// Returns the column if it is an integer column, else `None`.
     pub fn as_primitive(&self) -> Option<&PrimitiveArray>
         ensures { option_map (λ c. c.now) result ≡ primitive_column self.now }
     {
@@ -128,7 +128,7 @@ impl Canonical {
         }
     }
 
-    /// Returns the column by value if it is one of booleans.
+    /// Returns the column by value if it is a boolean column, else `None`.
     pub fn into_bool(self) -> Option<BoolArray>
         ensures { result ≡ bool_column self }
     {
@@ -139,7 +139,7 @@ impl Canonical {
         }
     }
 
-    /// Returns the column by value if it is one of integers.
+    /// Returns the column by value if it is an integer column, else `None`.
     pub fn into_primitive(self) -> Option<PrimitiveArray>
         ensures { result ≡ primitive_column self }
     {

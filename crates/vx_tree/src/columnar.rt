@@ -1,4 +1,4 @@
-//! Columns whose rows can be read without further work.
+//! Columns whose rows can be read without executing anything.
 
 ghost use Rattle.std.specs.Prelude.{◌≡◌, ◌⊎◌, ◌==◌, true, is_ok, IfOk, IfErr, OnOk};
 ghost use Rattle.vx_value.specs.Types.{nullability_of};
@@ -13,7 +13,7 @@ use crate::canonical::Canonical;
 use std::alloc::{AllocError, Global};
 use vx_value::{ArgKind, DType, Scalar, VortexError, VortexResult};
 
-/// A canonical column, or one value for each row.
+/// A canonical column, or a constant.
 #[derive(Debug, Drop)]
 pub enum Columnar {
     Canonical(Canonical),
@@ -32,8 +32,7 @@ impl Clone for Columnar {
 }
 
 impl Columnar {
-    /// The value so many times, without a row being made. `InvalidArgument` with `BadType` exactly where its type is
-    /// nullable.
+    /// Makes the constant of `len` rows, each `scalar`. `InvalidArgument` with `BadType` exactly if its type is nullable.
     pub fn constant(alloc: Global, scalar: Scalar, len: usize) -> VortexResult<Columnar>
         ensures ok { IfOk result (λ c. columnar_tree c ≡ node scalar.of_type len (constant scalar) no_slots) }
         ensures valid { OnOk result (nullability_of scalar.of_type ≡ NonNullable) }
@@ -43,7 +42,7 @@ impl Columnar {
         Ok(Columnar::Constant(ConstantArray::new(alloc, scalar, len)?))
     }
 
-    /// The column of a tree, which is handed back where it is none. (own)
+    /// Returns `array` as a column. Hands it back if it is neither canonical nor a constant. (own)
     pub fn try_from_array_ref(array: ArrayRef) -> Result<Columnar, ArrayRef>
         ensures which { is_ok result ≡ is_columnar (datum array) }
         ensures ok { IfOk result (λ c. columnar_tree c ≡ array) }
@@ -58,7 +57,7 @@ impl Columnar {
         }
     }
 
-    /// The reference of the column.
+    /// Returns the reference of the column. (own)
     #[tactic(auto, using(crate::proofs::Kinding::canonical_columnar, crate::proofs::Kinding::constant_columnar))]
     pub fn as_array(&self) -> &ArrayRef
         ensures of { result.now ≡ columnar_tree self.now }
@@ -70,7 +69,7 @@ impl Columnar {
         }
     }
 
-    /// How many rows there are.
+    /// Returns the number of rows.
     pub fn len(&self) -> usize
         ensures { result ≡ len (columnar_tree self.now) }
     {
@@ -84,7 +83,7 @@ impl Columnar {
         self.as_array().is_empty()
     }
 
-    /// The type of the rows.
+    /// Returns the type of the rows.
     pub fn dtype(&self) -> &DType
         ensures { type_of result.now ≡ dtype (columnar_tree self.now) }
     {

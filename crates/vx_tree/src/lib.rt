@@ -1,4 +1,4 @@
-//! Array trees: nodes of a closed set of encodings, each with a logical type, a length, data and child slots.
+//! Array trees. A node has an encoding, a logical type, a length in rows, the encoding's data, and slots for its children.
 #![tactic(auto)]
 
 pub mod array;

@@ -1,4 +1,4 @@
-//! Arrays: a shared node, behind an untyped reference, a typed handle or a typed view.
+//! Arrays: shared nodes, and the untyped references, typed handles and typed views of them.
 
 mod erased;
 mod kind;
