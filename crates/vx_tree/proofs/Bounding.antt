@@ -1,6 +1,6 @@
 -- The bound on turns.
-use Rattle.std.proofs.Common.{◌≡◌, ◌<◌, ◌+◌, ℕ, arith}
-use Rattle.vx_tree.specs.Tree.{Tree, Data, Slots, node, constant, slice, function, bool, primitive, no_slots, absent, slot}
+use Rattle.std.proofs.Common.{◌≡◌, ◌<◌, ◌+◌, ℕ, true, arith, refl}
+use Rattle.vx_tree.specs.Tree.{Tree, Data, Slots, node, constant, slice, function, bool, primitive, no_slots, absent, slot, is_canonical}
 use Rattle.vx_tree.specs.Cost.{cost, base_cost, slots_cost, all_reached, slots_extra, slots_sum, reach}
 use Rattle.vx_value.specs.Types.{DataType}
 use Rattle.vx_fn.specs.declared.function.ScalarFnRef.{ScalarFnRef}
@@ -31,3 +31,18 @@ function_cost ty n f ss = omega (arith, slots_paid f ss)
 
 pub function_reach : (ty : DataType) (n : ℕ) (f : ScalarFnRef) (ss : Slots) → reach (node ty n (function f) ss) ≡ 1 + slots_sum reach ss
 function_reach ty n f ss = omega (arith, slots_reached ss)
+
+-- a column costs one turn
+pub column_cost : (ty : DataType) (n : ℕ) (d : Data) → is_canonical d ≡ true → cost (node ty n d (absent no_slots)) ≡ 1
+column_cost ty n (constant v) h = absurd (cc)
+column_cost ty n (slice a b) h = absurd (cc)
+column_cost ty n (function f) h = absurd (cc)
+column_cost ty n (bool bs) h = refl
+column_cost ty n (primitive p zs) h = refl
+
+pub column_reach : (ty : DataType) (n : ℕ) (d : Data) → is_canonical d ≡ true → reach (node ty n d (absent no_slots)) ≡ 1
+column_reach ty n (constant v) h = absurd (cc)
+column_reach ty n (slice a b) h = absurd (cc)
+column_reach ty n (function f) h = absurd (cc)
+column_reach ty n (bool bs) h = refl
+column_reach ty n (primitive p zs) h = refl

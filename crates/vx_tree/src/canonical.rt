@@ -1,29 +1,40 @@
-//! Columns that hold their rows themselves.
+//! Columns in the canonical encoding of their type.
 
-ghost use Rattle.std.specs.Prelude.{◌≡◌, ◌⊎◌, true, is_ok, IfOk, IfErr, OnOk};
+ghost use Rattle.std.specs.Prelude.{◌≡◌, ◌⊎◌, ◌==◌, true, is_ok, IfOk, IfErr, OnOk, option_map};
 ghost use Rattle.vx_value.specs.Types.{nullability_of};
 ghost use Rattle.vx_value.specs.declared.dtype.Nullability.TheVariants.{NonNullable};
 ghost use Rattle.vx_value.specs.View.{type_of};
 ghost use Rattle.vx_tree.specs.Tree.{Tree, dtype, len, datum, is_canonical};
-ghost use Rattle.vx_tree.specs.Columns.{canonical_tree, empty_of};
+ghost use Rattle.vx_tree.specs.Columns.{canonical_tree, bool_column, primitive_column, empty_of};
 
 use crate::array::{ArrayRef, IntoArray};
 use crate::arrays::boolean::BoolArray;
 use crate::arrays::primitive::PrimitiveArray;
 use crate::arrays::values::PrimitiveValues;
-use std::alloc::Global;
+use std::alloc::{AllocError, Global};
 use vx_mask::BitBuffer;
 use vx_value::{ArgKind, DType, VortexError, VortexResult};
 
 /// A column in the canonical encoding of its type.
-#[derive(Drop)]
+#[derive(Debug, Drop)]
 pub enum Canonical {
     Bool(BoolArray),
     Primitive(PrimitiveArray),
 }
 
+impl Clone for Canonical {
+    ghost is_clone = { λ a b. b ≡ a };
+
+    fn clone(&self) -> Result<Canonical, AllocError> {
+        match self {
+            Canonical::Bool(column) => Ok(Canonical::Bool(column.clone()?)),
+            Canonical::Primitive(column) => Ok(Canonical::Primitive(column.clone()?)),
+        }
+    }
+}
+
 impl Canonical {
-    /// The column of the type without rows. `InvalidArgument` with `BadType` exactly where the type is nullable.
+    /// Makes the column of type `dtype` without rows. `InvalidArgument` with `BadType` exactly if `dtype` is nullable.
     #[tactic(auto, using(crate::proofs::Kinding::zero_in_range, crate::proofs::Kinding::only_nullable))]
     pub fn empty(alloc: Global, dtype: &DType) -> VortexResult<Canonical>
         ensures ok { IfOk result (λ c. canonical_tree c ≡ empty_of (type_of dtype.now)) }
@@ -47,7 +58,7 @@ impl Canonical {
         }
     }
 
-    /// The column of a tree, which is handed back where it isn't canonical. (own)
+    /// Returns `array` as a column. Hands it back if it isn't canonical. (own)
     pub fn try_from_array_ref(array: ArrayRef) -> Result<Canonical, ArrayRef>
         ensures which { is_ok result ≡ is_canonical (datum array) }
         ensures ok { IfOk result (λ c. canonical_tree c ≡ array) }
@@ -62,7 +73,7 @@ impl Canonical {
         }
     }
 
-    /// The reference of the column.
+    /// Returns the reference of the column. (own)
     #[tactic(auto, using(crate::proofs::Kinding::bool_canonical, crate::proofs::Kinding::primitive_canonical))]
     pub fn as_array(&self) -> &ArrayRef
         ensures of { result.now ≡ canonical_tree self.now }
@@ -74,18 +85,69 @@ impl Canonical {
         }
     }
 
-    /// How many rows there are.
+    /// Returns the number of rows.
     pub fn len(&self) -> usize
         ensures { result ≡ len (canonical_tree self.now) }
     {
         self.as_array().len()
     }
 
-    /// The type of the rows.
+    /// Returns whether there are no rows.
+    pub fn is_empty(&self) -> bool
+        ensures { result ≡ (len (canonical_tree self.now) == 0) }
+    {
+        self.as_array().is_empty()
+    }
+
+    /// Returns the type of the rows.
     pub fn dtype(&self) -> &DType
         ensures { type_of result.now ≡ dtype (canonical_tree self.now) }
     {
         self.as_array().dtype()
+    }
+
+    /// Returns the column if it is a boolean column, else `None`.
+    pub fn as_bool(&self) -> Option<&BoolArray>
+        ensures { option_map (λ c. c.now) result ≡ bool_column self.now }
+    {
+        if let Canonical::Bool(column) = self {
+            Some(column)
+        } else {
+            None
+        }
+    }
+
+    /// Returns the column if it is an integer column, else `None`.
+    pub fn as_primitive(&self) -> Option<&PrimitiveArray>
+        ensures { option_map (λ c. c.now) result ≡ primitive_column self.now }
+    {
+        if let Canonical::Primitive(column) = self {
+            Some(column)
+        } else {
+            None
+        }
+    }
+
+    /// Returns the column by value if it is a boolean column, else `None`.
+    pub fn into_bool(self) -> Option<BoolArray>
+        ensures { result ≡ bool_column self }
+    {
+        if let Canonical::Bool(column) = self {
+            Some(column)
+        } else {
+            None
+        }
+    }
+
+    /// Returns the column by value if it is an integer column, else `None`.
+    pub fn into_primitive(self) -> Option<PrimitiveArray>
+        ensures { result ≡ primitive_column self }
+    {
+        if let Canonical::Primitive(column) = self {
+            Some(column)
+        } else {
+            None
+        }
     }
 }
 

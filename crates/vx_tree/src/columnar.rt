@@ -1,6 +1,6 @@
-//! Columns whose rows can be read without further work.
+//! Columns whose rows can be read without executing anything.
 
-ghost use Rattle.std.specs.Prelude.{◌≡◌, ◌⊎◌, true, is_ok, IfOk, IfErr, OnOk};
+ghost use Rattle.std.specs.Prelude.{◌≡◌, ◌⊎◌, ◌==◌, true, is_ok, IfOk, IfErr, OnOk};
 ghost use Rattle.vx_value.specs.Types.{nullability_of};
 ghost use Rattle.vx_value.specs.declared.dtype.Nullability.TheVariants.{NonNullable};
 ghost use Rattle.vx_value.specs.View.{type_of};
@@ -10,19 +10,29 @@ ghost use Rattle.vx_tree.specs.Columns.{columnar_tree};
 use crate::array::{ArrayRef, IntoArray};
 use crate::arrays::constant::ConstantArray;
 use crate::canonical::Canonical;
-use std::alloc::Global;
+use std::alloc::{AllocError, Global};
 use vx_value::{ArgKind, DType, Scalar, VortexError, VortexResult};
 
-/// A canonical column, or one value for each row.
-#[derive(Drop)]
+/// A canonical column, or a constant.
+#[derive(Debug, Drop)]
 pub enum Columnar {
     Canonical(Canonical),
     Constant(ConstantArray),
 }
 
+impl Clone for Columnar {
+    ghost is_clone = { λ a b. b ≡ a };
+
+    fn clone(&self) -> Result<Columnar, AllocError> {
+        match self {
+            Columnar::Canonical(column) => Ok(Columnar::Canonical(column.clone()?)),
+            Columnar::Constant(column) => Ok(Columnar::Constant(column.clone()?)),
+        }
+    }
+}
+
 impl Columnar {
-    /// The value so many times, without a row being made. `InvalidArgument` with `BadType` exactly where its type is
-    /// nullable.
+    /// Makes the constant of `len` rows, each `scalar`. `InvalidArgument` with `BadType` exactly if its type is nullable.
     pub fn constant(alloc: Global, scalar: Scalar, len: usize) -> VortexResult<Columnar>
         ensures ok { IfOk result (λ c. columnar_tree c ≡ node scalar.of_type len (constant scalar) no_slots) }
         ensures valid { OnOk result (nullability_of scalar.of_type ≡ NonNullable) }
@@ -32,7 +42,7 @@ impl Columnar {
         Ok(Columnar::Constant(ConstantArray::new(alloc, scalar, len)?))
     }
 
-    /// The column of a tree, which is handed back where it is none. (own)
+    /// Returns `array` as a column. Hands it back if it is neither canonical nor a constant. (own)
     pub fn try_from_array_ref(array: ArrayRef) -> Result<Columnar, ArrayRef>
         ensures which { is_ok result ≡ is_columnar (datum array) }
         ensures ok { IfOk result (λ c. columnar_tree c ≡ array) }
@@ -47,7 +57,7 @@ impl Columnar {
         }
     }
 
-    /// The reference of the column.
+    /// Returns the reference of the column. (own)
     #[tactic(auto, using(crate::proofs::Kinding::canonical_columnar, crate::proofs::Kinding::constant_columnar))]
     pub fn as_array(&self) -> &ArrayRef
         ensures of { result.now ≡ columnar_tree self.now }
@@ -59,14 +69,21 @@ impl Columnar {
         }
     }
 
-    /// How many rows there are.
+    /// Returns the number of rows.
     pub fn len(&self) -> usize
         ensures { result ≡ len (columnar_tree self.now) }
     {
         self.as_array().len()
     }
 
-    /// The type of the rows.
+    /// Returns whether there are no rows.
+    pub fn is_empty(&self) -> bool
+        ensures { result ≡ (len (columnar_tree self.now) == 0) }
+    {
+        self.as_array().is_empty()
+    }
+
+    /// Returns the type of the rows.
     pub fn dtype(&self) -> &DType
         ensures { type_of result.now ≡ dtype (columnar_tree self.now) }
     {

@@ -1,4 +1,4 @@
-//! Array trees: nodes of a closed set of encodings, each with a logical type, a length, data and child slots.
+//! Array trees. A node has an encoding, a logical type, a length in rows, the encoding's data, and slots for its children.
 #![tactic(auto)]
 
 pub mod array;
@@ -11,15 +11,15 @@ mod matcher;
 mod tests;
 
 pub use array::{
-    Array, ArrayId, ArrayKind, ArrayParts, ArrayRef, ArraySlots, ArrayView, Encoded, Encoding,
-    IntoArray, Node, VTable,
+    Array, ArrayId, ArrayKind, ArrayParts, ArrayRef, ArraySlots, ArrayVTable, ArrayView, Encoded,
+    Encoding, IntoArray, Node, VTable,
 };
 pub use arrays::boolean::{Bool, BoolArray, BoolData};
 pub use arrays::constant::{Constant, ConstantArray, ConstantData};
 pub use arrays::native::NativeInteger;
 pub use arrays::primitive::{Primitive, PrimitiveArray, PrimitiveData};
 pub use arrays::scalar_fn::{ScalarFn, ScalarFnArray, ScalarFnData};
-pub use arrays::slice::{Slice, SliceArray, SliceData};
+pub use arrays::slice::{Slice, SliceArray, SliceData, SliceDataParts};
 pub use arrays::values::{PrimitiveValues, native_of};
 pub use canonical::Canonical;
 pub use columnar::Columnar;

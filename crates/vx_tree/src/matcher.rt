@@ -5,16 +5,16 @@ ghost use Rattle.vx_tree.specs.Tree.{Tree, datum, is_canonical, is_columnar, is_
 
 use crate::array::{ArrayRef, Encoding, VTable};
 
-/// A test on the root of a tree.
+/// Tests on the root of a tree.
 pub trait Matcher {
     ghost fits: { Tree → Bool };
 
-    /// Whether the tree passes. It takes no memory.
+    /// Returns whether the tree passes. Takes no memory.
     fn matches(array: &ArrayRef) -> bool
         ensures { result ≡ fits array.now };
 }
 
-/// Any tree.
+/// Matches any tree.
 #[derive(Clone, Copy, Debug)]
 pub struct AnyArray;
 
@@ -26,7 +26,7 @@ impl Matcher for AnyArray {
     }
 }
 
-/// Trees that hold their rows themselves.
+/// Matches canonical columns.
 #[derive(Clone, Copy, Debug)]
 pub struct AnyCanonical;
 
@@ -44,7 +44,7 @@ impl Matcher for AnyCanonical {
     }
 }
 
-/// Trees that are canonical, or that repeat one value.
+/// Matches canonical columns and constants.
 #[derive(Clone, Copy, Debug)]
 pub struct AnyColumnar;
 
@@ -62,7 +62,7 @@ impl Matcher for AnyColumnar {
     }
 }
 
-/// Trees of a function.
+/// Matches function nodes.
 #[derive(Clone, Copy, Debug)]
 pub struct AnyScalarFn;
 
@@ -80,7 +80,7 @@ impl Matcher for AnyScalarFn {
     }
 }
 
-/// Each tag: trees of its encoding.
+/// A tag matches the nodes of its encoding; `ScalarFn` matches those of every function.
 impl<V: VTable> Matcher for V {
     ghost fits = { λ t. V.is_kind (datum t) };
 

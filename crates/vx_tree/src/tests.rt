@@ -1,10 +1,12 @@
 use crate::{
-    AnyCanonical, AnyColumnar, AnyScalarFn, Array, ArrayKind, ArrayParts, ArrayRef, BoolArray,
-    Canonical, Columnar, Constant, ConstantArray, ConstantData, IntoArray, Primitive,
-    PrimitiveArray, PrimitiveData, PrimitiveValues, ScalarFn, ScalarFnArray, ScalarFnData, Slice,
-    SliceArray, SliceData, native_of,
+    AnyArray, AnyCanonical, AnyColumnar, AnyScalarFn, Array, ArrayKind, ArrayParts, ArrayRef,
+    ArrayView, Bool, BoolArray, Canonical, Columnar, Constant, ConstantArray, ConstantData,
+    IntoArray, Matcher, Primitive, PrimitiveArray, PrimitiveData, PrimitiveValues, ScalarFn,
+    ScalarFnArray, ScalarFnData, Slice, SliceArray, SliceData, native_of,
 };
-use std::alloc::Global;
+use std::alloc::{AllocError, Global};
+use std::ops::Range;
+use std::rc::Rc;
 use std::test::Fail;
 use vx_fn::{Operator, ScalarFnRef};
 use vx_mask::{BitBuffer, Buffer};
@@ -24,51 +26,31 @@ const BOOL: DType = DType::Bool(Nullability::NonNullable);
 
 const ADD: ScalarFnRef = ScalarFnRef::Binary(Operator::Add);
 
+fn is_refused<T: Drop>(answer: VortexResult<T>, kind: ArgKind) -> bool {
+    match answer {
+        Ok(_) => false,
+        Err(e) => e == VortexError::InvalidArgument(kind),
+    }
+}
+
+fn is_out_of_bounds(answer: VortexResult<SliceArray>, range: Range<usize>, len: usize) -> bool {
+    let (start, stop) = (range.start, range.end);
+    match answer {
+        Ok(_) => false,
+        Err(e) => e == VortexError::OutOfBounds { start, stop, len },
+    }
+}
+
 fn values(alloc: Global, items: &[i32]) -> VortexResult<PrimitiveValues> {
     Ok(PrimitiveValues::I32(Buffer::from_vec(alloc, items.to_vec(alloc)?)?))
 }
 
-fn column(alloc: Global, items: &[i32]) -> VortexResult<ArrayRef> {
-    Ok(PrimitiveArray::try_new(alloc, I32, values(alloc, items)?)?.into_array())
+fn column(alloc: Global, items: &[i32]) -> VortexResult<PrimitiveArray> {
+    PrimitiveArray::try_new(alloc, I32, values(alloc, items)?)
 }
 
-#[tactic(auto, using(crate::proofs::Kinding::zero_in_range))]
-fn zeros(alloc: Global, dtype: &DType, len: usize) -> VortexResult<ArrayRef> {
-    let of_type = dtype.clone()?;
-    match dtype {
-        DType::Bool(_) => {
-            let bits = BitBuffer::repeat(alloc, false, len)?;
-            Ok(BoolArray::try_new(alloc, of_type, bits)?.into_array())
-        }
-        DType::Primitive(ptype, _) => {
-            let values = PrimitiveValues::repeat(alloc, *ptype, 0, len)?;
-            Ok(PrimitiveArray::try_new(alloc, of_type, values)?.into_array())
-        }
-    }
-}
-
-fn children(alloc: Global, columns: &[(DType, usize)]) -> VortexResult<Vec<ArrayRef>> {
-    let mut children = Vec::with_capacity(alloc, columns.len())?;
-    for (dtype, len) in columns {
-        children.push(zeros(alloc, dtype, *len)?)?;
-    }
-    Ok(children)
-}
-
-fn one_slot(alloc: Global, child: Option<ArrayRef>) -> VortexResult<Vec<Option<ArrayRef>>> {
-    let mut slots = Vec::new(alloc);
-    slots.push(child)?;
-    Ok(slots)
-}
-
-fn two_slots(
-    alloc: Global,
-    lhs: &ArrayRef,
-    rhs: Option<ArrayRef>,
-) -> VortexResult<Vec<Option<ArrayRef>>> {
-    let mut slots = one_slot(alloc, Some(lhs.clone()?))?;
-    slots.push(rhs)?;
-    Ok(slots)
+fn booleans(alloc: Global, len: usize) -> VortexResult<BoolArray> {
+    BoolArray::try_new(alloc, BOOL, BitBuffer::repeat(alloc, true, len)?)
 }
 
 fn seven(nullability: Nullability) -> VortexResult<Scalar> {
@@ -78,362 +60,518 @@ fn seven(nullability: Nullability) -> VortexResult<Scalar> {
     )
 }
 
+fn sevens(alloc: Global, nullability: Nullability, len: usize) -> VortexResult<ConstantArray> {
+    match seven(nullability) {
+        Ok(scalar) => ConstantArray::new(alloc, scalar, len),
+        Err(e) => Err(e),
+    }
+}
+
+fn slice_of(alloc: Global, items: &[i32], range: Range<usize>) -> VortexResult<SliceArray> {
+    match column(alloc, items) {
+        Ok(column) => SliceArray::try_new(alloc, column.into_array(), range),
+        Err(e) => Err(e),
+    }
+}
+
+// Zeros of a type, so many.
+#[tactic(auto, using(crate::proofs::Kinding::zero_in_range))]
+fn zeros(alloc: Global, dtype: &DType, len: usize) -> VortexResult<ArrayRef> {
+    match dtype {
+        DType::Bool(_) => Ok(booleans(alloc, len)?.into_array()),
+        DType::Primitive(ptype, _) => {
+            let values = PrimitiveValues::repeat(alloc, *ptype, 0, len)?;
+            Ok(PrimitiveArray::try_new(alloc, dtype.clone()?, values)?.into_array())
+        }
+    }
+}
+
+fn children(alloc: Global, columns: &[(DType, usize)]) -> VortexResult<Vec<ArrayRef>> {
+    let mut children = Vec::new(alloc);
+    for (dtype, len) in columns {
+        children.push(zeros(alloc, dtype, *len)?)?;
+    }
+    Ok(children)
+}
+
+fn in_slot(alloc: Global, slot: &Option<(DType, usize)>) -> VortexResult<Option<ArrayRef>> {
+    match slot {
+        Some((dtype, len)) => Ok(Some(zeros(alloc, dtype, *len)?)),
+        None => Ok(None),
+    }
+}
+
+fn in_slots(
+    alloc: Global,
+    slots: &[Option<(DType, usize)>],
+) -> VortexResult<Vec<Option<ArrayRef>>> {
+    let mut filled = Vec::new(alloc);
+    for slot in slots {
+        filled.push(in_slot(alloc, slot)?)?;
+    }
+    Ok(filled)
+}
+
+fn slice_of_parts(
+    alloc: Global,
+    dtype: DType,
+    len: usize,
+    slots: &[Option<(DType, usize)>],
+) -> VortexResult<SliceArray> {
+    let slots = in_slots(alloc, slots)?;
+    Array::try_from_parts(
+        alloc,
+        ArrayParts::new(Slice, dtype, len, SliceData::new(2..5), slots),
+    )
+}
+
+fn column_of_parts(
+    alloc: Global,
+    dtype: DType,
+    len: usize,
+    slots: &[Option<(DType, usize)>],
+) -> VortexResult<PrimitiveArray> {
+    let payload = PrimitiveData {
+        values: values(alloc, &[1, 2])?,
+    };
+    let slots = in_slots(alloc, slots)?;
+    Array::try_from_parts(
+        alloc,
+        ArrayParts::new(Primitive, dtype, len, payload, slots),
+    )
+}
+
+fn constant_of_parts(alloc: Global, dtype: DType) -> VortexResult<ConstantArray> {
+    let payload = ConstantData::new(seven(Nullability::NonNullable)?);
+    Array::try_from_parts(
+        alloc,
+        ArrayParts::new(Constant, dtype, 1, payload, Vec::new(alloc)),
+    )
+}
+
+// A node of Add under the id, from its parts.
+fn sum_of_parts(
+    alloc: Global,
+    id: Id,
+    dtype: DType,
+    len: usize,
+    slots: &[Option<(DType, usize)>],
+) -> VortexResult<ScalarFnArray> {
+    let slots = in_slots(alloc, slots)?;
+    Array::try_from_parts(
+        alloc,
+        ArrayParts::new(ScalarFn { id }, dtype, len, ScalarFnData::new(ADD), slots),
+    )
+}
+
+fn call_of(
+    alloc: Global,
+    function: ScalarFnRef,
+    columns: &[(DType, usize)],
+) -> VortexResult<ScalarFnArray> {
+    ScalarFnArray::try_new(alloc, function, children(alloc, columns)?)
+}
+
+// Whether Add of these columns is refused for that reason, with that text.
+fn sum_is_refused(alloc: Global, columns: &[(DType, usize)], kind: ArgKind, text: &str) -> bool {
+    match call_of(alloc, ADD, columns) {
+        Ok(_) => false,
+        Err(e) => e == VortexError::InvalidArgument(kind) && prints(alloc, e, text),
+    }
+}
+
+fn prints(alloc: Global, e: VortexError, text: &str) -> bool {
+    match e.to_string(alloc) {
+        Ok(printed) => printed.as_str() == text,
+        Err(_) => false,
+    }
+}
+
+// Whether a tree reads as these 3 rows, under an id and with the name of its first slot.
+fn reads_as(array: &ArrayRef, dtype: &DType, id: Id, name: Option<&str>) -> bool {
+    array.len() == 3
+        && !array.is_empty()
+        && array.dtype() == dtype
+        && array.encoding_id() == id
+        && array.slot_name(0) == name
+        && array.slot_name(2).is_none()
+}
+
+// Whether a view reads as its slice.
+fn views_rows(view: ArrayView<'_, Slice>, array: &ArrayRef) -> bool {
+    view.len() == array.len() && !view.is_empty() && view.dtype() == array.dtype()
+}
+
+fn views_node(view: ArrayView<'_, Slice>) -> bool {
+    view.encoding_id() == Id::Slice
+        && view.slots().len() == 1
+        && view.as_ref().len() == view.array().len()
+}
+
+fn views_data(view: ArrayView<'_, Slice>) -> bool {
+    view.data().len() == 3 && view.slice_range().start == 1
+}
+
+fn matches_only<M: Matcher>(matched: &ArrayRef, other: &ArrayRef) -> bool {
+    matched.is::<M>() && !other.is::<M>()
+}
+
 #[test]
 fn slices_only_in_bounds(rt: HostRuntime) -> Result<(), Fail> {
     let alloc = rt.alloc();
-    let array = column(alloc, &[10, 20, 30])?;
     for (start, stop) in [(0, 4), (2, 1), (4, 4)] {
-        let refusal = VortexError::OutOfBounds {
-            start,
-            stop,
-            len: 3,
-        };
-        match SliceArray::try_new(alloc, array.clone()?, start..stop) {
-            Ok(_) => panic!(rt; "{start}..{stop} of 3 rows"),
-            Err(e) => assert!(rt; e == refusal),
-        }
+        let slice = slice_of(alloc, &[10, 20, 30], start..stop);
+        assert!(rt;
+            is_out_of_bounds(slice, start..stop, 3),
+            "{start}..{stop} of 3 rows"
+        );
     }
-    let slice = SliceArray::try_new(alloc, array, 1..3)?;
-    assert!(rt; slice.len() == 2 && slice.range.start == 1);
-    let view = slice.as_view();
-    assert!(rt; view.len() == 2 && view.encoding_id() == Id::Slice);
-    let slice = view.into_owned()?.into_array();
-    assert!(rt; slice.is::<Slice>() && !slice.is::<Primitive>());
-    assert!(rt; !slice.is::<AnyColumnar>() && !slice.is_empty());
-    assert!(rt; *slice.dtype() == I32);
+    let slice = slice_of(alloc, &[10, 20, 30, 40], 1..4)?;
+    assert!(rt; views_rows(slice.as_view(), slice.as_array()));
+    assert!(rt; views_node(slice.as_view()) && views_data(slice.as_view()));
+    let slice = slice.as_view().into_owned()?.into_array();
+    assert!(rt; reads_as(&slice, &I32, Id::Slice, Some("child")));
     Ok(())
 }
 
 #[test]
-fn parts_of_a_slice_are_refused_in_order(rt: HostRuntime) -> Result<(), Fail> {
+fn data_of_a_slice(rt: HostRuntime) -> Result<(), Fail> {
     let alloc = rt.alloc();
-    let array = column(alloc, &[10, 20, 30])?;
-    for (dtype, len, slots, kind) in [
-        (NULLABLE, 9, Vec::new(alloc), ArgKind::SlotCount),
-        (
-            NULLABLE,
-            9,
-            one_slot(alloc, None)?,
-            ArgKind::SlotMissing { slot: 0 },
-        ),
-        (
-            NULLABLE,
-            9,
-            one_slot(alloc, Some(array.clone()?))?,
-            ArgKind::NodeType,
-        ),
-        (
-            I32,
-            9,
-            one_slot(alloc, Some(array.clone()?))?,
-            ArgKind::NodeLen,
-        ),
-    ] {
-        let payload = SliceData { range: 2..5 };
-        let parts = ArrayParts::new(Slice, dtype, len, payload, slots);
-        match Array::try_from_parts(alloc, parts) {
-            Ok(_) => panic!(rt; "{kind:?}"),
-            Err(e) => assert!(rt; e == VortexError::InvalidArgument(kind), "{kind:?}"),
-        }
-    }
+    let data = SliceData::new(2..5);
+    assert!(rt; data.len() == 3 && !data.is_empty() && data.slice_range().start == 2);
+    assert_eq!(rt;
+        format!(in alloc; "{data:?}")?.as_str(),
+        "SliceData { range: 2..5 }"
+    );
+    assert!(rt; data.into_parts().range.end == 5 && SliceData::new(5..2).is_empty());
     Ok(())
 }
 
 #[test]
-fn parts_of_a_column_are_refused_in_order(rt: HostRuntime) -> Result<(), Fail> {
+fn parts_of_a_slice_are_refused_in_order(rt: HostRuntime) {
     let alloc = rt.alloc();
-    let array = column(alloc, &[10, 20, 30])?;
-    for (dtype, len, slots, kind) in [
-        (NULLABLE, 9, Vec::new(alloc), ArgKind::SlotCount),
-        (
-            NULLABLE,
-            9,
-            one_slot(alloc, Some(array.clone()?))?,
-            ArgKind::BadType,
-        ),
-        (
-            I32,
-            9,
-            one_slot(alloc, Some(array.clone()?))?,
-            ArgKind::SlotType { slot: 0 },
-        ),
-        (I32, 9, one_slot(alloc, None)?, ArgKind::NodeLen),
-    ] {
-        let payload = PrimitiveData {
-            values: values(alloc, &[1, 2])?,
-        };
-        let parts = ArrayParts::new(Primitive, dtype, len, payload, slots);
-        match Array::try_from_parts(alloc, parts) {
-            Ok(_) => panic!(rt; "{kind:?}"),
-            Err(e) => assert!(rt; e == VortexError::InvalidArgument(kind), "{kind:?}"),
-        }
-    }
-    Ok(())
+    let one = [Some((I32, 3))];
+    assert!(rt; is_refused(slice_of_parts(alloc, NULLABLE, 9, &[]), ArgKind::SlotCount));
+    assert!(rt;
+        is_refused(
+            slice_of_parts(alloc, NULLABLE, 9, &[None]),
+            ArgKind::SlotMissing { slot: 0 }
+        )
+    );
+    assert!(rt; is_refused(slice_of_parts(alloc, NULLABLE, 9, &one), ArgKind::NodeType));
+    assert!(rt; is_refused(slice_of_parts(alloc, I32, 9, &one), ArgKind::NodeLen));
+    assert!(rt; is_out_of_bounds(slice_of_parts(alloc, I32, 3, &one), 2..5, 3));
+    assert!(rt; slice_of_parts(alloc, I32, 3, &[Some((I32, 5))]).is_ok());
+}
+
+#[test]
+fn parts_of_a_column_are_refused_in_order(rt: HostRuntime) {
+    let alloc = rt.alloc();
+    let one = [Some((I32, 3))];
+    assert!(rt; is_refused(column_of_parts(alloc, NULLABLE, 9, &[]), ArgKind::SlotCount));
+    assert!(rt; is_refused(column_of_parts(alloc, NULLABLE, 9, &one), ArgKind::BadType));
+    assert!(rt;
+        is_refused(
+            column_of_parts(alloc, I32, 9, &one),
+            ArgKind::SlotType { slot: 0 }
+        )
+    );
+    assert!(rt; is_refused(column_of_parts(alloc, I32, 9, &[None]), ArgKind::NodeLen));
+    assert!(rt; column_of_parts(alloc, I32, 2, &[None]).is_ok());
 }
 
 #[test]
 fn constants_of_any_length(rt: HostRuntime) -> Result<(), Fail> {
     let alloc = rt.alloc();
-    let array = ConstantArray::new(alloc, seven(Nullability::NonNullable)?, usize::MAX)?;
-    assert!(rt; array.len() == usize::MAX && array.as_array().encoding_id() == Id::Constant);
-    let array = array.into_array();
-    assert!(rt; array.is::<AnyColumnar>() && !array.is::<AnyCanonical>());
-    assert!(rt; array.is::<Constant>() && array.slots().is_empty());
-    assert!(rt; Columnar::constant(alloc, seven(Nullability::NonNullable)?, 0)?.len() == 0);
-    let refusal = VortexError::InvalidArgument(ArgKind::BadType);
-    match ConstantArray::new(alloc, seven(Nullability::Nullable)?, 1) {
-        Ok(_) => panic!(rt; "a nullable type"),
-        Err(e) => assert!(rt; e == refusal),
-    }
-    let payload = ConstantData {
-        scalar: seven(Nullability::NonNullable)?,
-    };
-    let parts = ArrayParts::new(
-        Constant,
-        DType::Bool(Nullability::NonNullable),
-        1,
-        payload,
-        Vec::new(alloc),
-    );
-    match Array::try_from_parts(alloc, parts) {
-        Ok(_) => panic!(rt; "another type"),
-        Err(e) => assert!(rt; e == VortexError::InvalidArgument(ArgKind::NodeType)),
-    }
+    assert!(rt; is_refused(sevens(alloc, Nullability::Nullable, 1), ArgKind::BadType));
+    assert!(rt; is_refused(constant_of_parts(alloc, BOOL), ArgKind::NodeType));
+    let array = sevens(alloc, Nullability::NonNullable, usize::MAX)?;
+    assert!(rt; array.len() == usize::MAX && array.scalar().as_integer() == Some(7));
+    let column = Columnar::constant(alloc, seven(Nullability::NonNullable)?, 3)?;
+    assert!(rt; column.len() == 3 && !column.clone()?.is_empty());
+    assert!(rt; reads_as(&column.into_array(), &I32, Id::Constant, None));
     Ok(())
 }
 
+fn most(alloc: Global) -> Result<PrimitiveValues, AllocError> {
+    PrimitiveValues::repeat(alloc, PType::U64, 18446744073709551615, 3)
+}
+
+fn least() -> i8 {
+    native_of(-128)
+}
+
+fn reads_back(values: &PrimitiveValues, index: usize, number: i128) -> bool {
+    index < values.len() && values.wide_at(index) == number
+}
+
+// Whether the last two of three values are -7 and 9, of their type.
+fn slices_values(values: &PrimitiveValues) -> bool {
+    if values.len() != 3 {
+        return false;
+    }
+    match values.slice(1..3) {
+        Ok(part) => reads_as_i32(&part),
+        Err(_) => false,
+    }
+}
+
+fn reads_as_i32(part: &PrimitiveValues) -> bool {
+    part.ptype() == PType::I32 && reads_back(part, 0, -7) && reads_back(part, 1, 9)
+}
+
+// Whether zeros of the type read as a column of it.
+fn reads_as_zeros(alloc: Global, ptype: PType) -> bool {
+    let dtype = DType::Primitive(ptype, Nullability::NonNullable);
+    match zeros(alloc, &dtype, 3) {
+        Ok(column) => reads_as(&column, &dtype, Id::Primitive, Some("validity")),
+        Err(_) => false,
+    }
+}
+
 #[test]
-fn columns_share_their_buffers(rt: HostRuntime) -> Result<(), Fail> {
+fn values_of_each_type(rt: HostRuntime) {
+    for ptype in [
+        PType::U8,
+        PType::U16,
+        PType::U32,
+        PType::U64,
+        PType::I8,
+        PType::I16,
+        PType::I32,
+        PType::I64,
+    ] {
+        assert!(rt; reads_as_zeros(rt.alloc(), ptype), "{ptype:?}");
+    }
+}
+
+#[test]
+fn values_are_read_and_sliced(rt: HostRuntime) -> Result<(), Fail> {
     let alloc = rt.alloc();
     let all = values(alloc, &[7, -7, 9])?;
-    assert!(rt; all.len() == 3);
-    let part = all.slice(1..3)?;
-    assert!(rt; part.len() == 2 && part.wide_at(0) == -7 && part.ptype() == PType::I32);
-    assert!(rt; native_of::<i8>(-128) == -128);
-    let most = PrimitiveValues::repeat(alloc, PType::U64, 18446744073709551615, 3)?;
-    assert!(rt; most.len() == 3);
-    assert!(rt; most.wide_at(2) == 18446744073709551615);
-    let bits = BitBuffer::repeat(alloc, true, 3)?;
-    let bools = BoolArray::try_new(alloc, DType::Bool(Nullability::NonNullable), bits)?;
-    match bools.as_array().kind() {
-        ArrayKind::Bool(bits) => assert!(rt; bits.get(2) == Some(true)),
-        _ => panic!(rt; "a column of booleans"),
-    }
-    for dtype in [I32, DType::Bool(Nullability::NonNullable)] {
-        let empty = Canonical::empty(alloc, &dtype)?;
-        assert!(rt; empty.len() == 0 && *empty.dtype() == dtype);
-    }
-    assert!(rt; Canonical::empty(alloc, &NULLABLE).is_err());
+    assert!(rt; reads_back(&all, 1, -7) && slices_values(&all.clone()?));
+    assert!(rt; reads_back(&most(alloc)?, 2, 18446744073709551615));
+    assert!(rt; least() == -128);
     Ok(())
 }
 
+fn is_empty_column(alloc: Global, dtype: &DType) -> bool {
+    match Canonical::empty(alloc, dtype) {
+        Ok(empty) => empty.is_empty() && empty.len() == 0 && empty.dtype() == dtype,
+        Err(_) => false,
+    }
+}
+
 #[test]
-fn parts_come_back_where_not_shared(rt: HostRuntime) -> Result<(), Fail> {
+fn canonical_columns(rt: HostRuntime) -> Result<(), Fail> {
     let alloc = rt.alloc();
-    let column = PrimitiveArray::try_new(alloc, I32, values(alloc, &[7, -7])?)?;
-    let shared = column.clone()?;
-    let Err(column) = column.try_into_parts() else {
-        panic!(rt; "a shared node");
-    };
-    let Ok(column) = Canonical::try_from_array_ref(column.into_array()) else {
-        panic!(rt; "a column");
-    };
-    let column = Columnar::Canonical(column);
-    assert!(rt; column.len() == 2 && column.as_array().is::<AnyCanonical>());
-    let copy = column.into_array().into_node(alloc)?;
-    assert!(rt; copy.len == 2 && copy.slots.len() == 1);
-    let Ok(parts) = shared.try_into_parts() else {
-        panic!(rt; "the only owner");
-    };
-    assert!(rt; parts.payload.values.len() == 2);
+    assert!(rt; is_empty_column(alloc, &I32) && is_empty_column(alloc, &BOOL));
+    assert!(rt; is_refused(Canonical::empty(alloc, &NULLABLE), ArgKind::BadType));
+    let flags = Canonical::Bool(booleans(alloc, 3)?);
+    assert!(rt; flags.as_bool().is_some() && flags.as_primitive().is_none());
+    assert!(rt; flags.clone()?.into_primitive().is_none());
+    assert!(rt; flags.into_bool().is_some());
+    let numbers = Canonical::Primitive(column(alloc, &[7, -7, 9])?);
+    assert!(rt; numbers.as_primitive().is_some() && numbers.as_bool().is_none());
+    assert!(rt; numbers.clone()?.into_bool().is_none());
+    assert!(rt; numbers.into_primitive().is_some());
     Ok(())
 }
 
 #[test]
-fn functions_are_put_off(rt: HostRuntime) -> Result<(), Fail> {
+fn matchers_test_the_root(rt: HostRuntime) -> Result<(), Fail> {
+    let alloc = rt.alloc();
+    let numbers = zeros(alloc, &I32, 3)?;
+    let flags = zeros(alloc, &BOOL, 3)?;
+    let constant = sevens(alloc, Nullability::NonNullable, 3)?.into_array();
+    let slice = slice_of(alloc, &[7, 8], 0..1)?.into_array();
+    let sum = call_of(alloc, ADD, &[(I32, 3), (I32, 3)])?.into_array();
+    assert!(rt;
+        matches_only::<Bool>(&flags, &numbers) && matches_only::<Primitive>(&numbers, &flags)
+    );
+    assert!(rt;
+        matches_only::<Constant>(&constant, &slice) && matches_only::<Slice>(&slice, &constant)
+    );
+    assert!(rt;
+        matches_only::<ScalarFn>(&sum, &flags) && matches_only::<AnyScalarFn>(&sum, &slice)
+    );
+    assert!(rt;
+        matches_only::<AnyCanonical>(&flags, &constant)
+            && matches_only::<AnyCanonical>(&numbers, &sum)
+    );
+    assert!(rt;
+        matches_only::<AnyColumnar>(&constant, &slice) && matches_only::<AnyColumnar>(&flags, &sum)
+    );
+    assert!(rt; sum.is::<AnyArray>() && slice.is::<AnyArray>());
+    Ok(())
+}
+
+// Whether the tree comes back as a column, and as no column of another encoding.
+fn is_column_again(array: ArrayRef) -> bool {
+    match BoolArray::try_from_array_ref(array) {
+        Ok(_) => false,
+        Err(array) => match Columnar::try_from_array_ref(array) {
+            Ok(column) => column.as_array().is::<AnyCanonical>() && column.len() == 2,
+            Err(_) => false,
+        },
+    }
+}
+
+// The parts of a column if it has no other owner.
+fn has_parts(column: PrimitiveArray) -> bool {
+    match column.try_into_parts() {
+        Ok(parts) => parts.len == 2 && parts.slots.len() == 1,
+        Err(_) => false,
+    }
+}
+
+fn shares(alloc: Global, column: PrimitiveArray) -> VortexResult<ArrayRef> {
+    let shared = Rc::new(alloc, column)?;
+    let _owner = shared.clone()?;
+    Ok(Array::shared_into_array(shared)?)
+}
+
+fn has_node(alloc: Global, array: ArrayRef) -> bool {
+    match array.into_node(alloc) {
+        Ok(node) => node.len == 2 && node.slots.len() == 1,
+        Err(_) => false,
+    }
+}
+
+#[test]
+fn parts_come_back_if_not_shared(rt: HostRuntime) -> Result<(), Fail> {
+    let alloc = rt.alloc();
+    let column = column(alloc, &[7, -7])?;
+    assert!(rt; !has_parts(column.clone()?));
+    assert!(rt; has_node(alloc, shares(alloc, column.clone()?)?));
+    assert!(rt; is_column_again(column.as_array().clone()?));
+    assert!(rt; has_parts(column));
+    Ok(())
+}
+
+#[test]
+fn handles_print_their_node(rt: HostRuntime) -> Result<(), Fail> {
+    let alloc = rt.alloc();
+    let numbers = column(alloc, &[7, -7])?;
+    let view = format!(in alloc; "{:?}", numbers.as_view())?;
+    assert!(rt;
+        view.starts_with(
+            "ArrayView { array: ArrayRef { node: Node { dtype: Primitive(I32, NonNullable), len: 2"
+        )
+    );
+    let text = format!(in alloc; "{:?}", Columnar::Canonical(Canonical::Primitive(numbers)))?;
+    assert!(rt; text.starts_with("Canonical(Primitive(Array { array: ArrayRef { node: "));
+    Ok(())
+}
+
+fn is_lazy_call(
+    alloc: Global,
+    function: ScalarFnRef,
+    columns: &[(DType, usize)],
+    dtype: &DType,
+) -> bool {
+    match call_of(alloc, function, columns) {
+        Ok(array) => {
+            let name = function.child_name(0);
+            *array.scalar_fn() == function && reads_as(array.as_array(), dtype, function.id(), name)
+        }
+        Err(_) => false,
+    }
+}
+
+#[test]
+fn functions_are_lazy(rt: HostRuntime) {
     let alloc = rt.alloc();
     let less = ScalarFnRef::Binary(Operator::Lt);
-    for (function, trees, dtype, id) in [
-        (
-            ADD,
-            children(alloc, &[(I32, 3), (I32, 3)])?,
-            I32,
-            Id::Binary,
-        ),
-        (
-            less,
-            children(alloc, &[(I32, 3), (I32, 3)])?,
-            BOOL,
-            Id::Binary,
-        ),
-        (
-            ScalarFnRef::Not,
-            children(alloc, &[(BOOL, 3)])?,
-            BOOL,
-            Id::Not,
-        ),
-    ] {
-        let array = ScalarFnArray::try_new(alloc, function, trees)?.into_array();
-        assert!(rt; array.len() == 3 && *array.dtype() == dtype, "{function:?}");
-        assert!(rt; array.encoding_id() == id, "{function:?}");
-        assert!(rt;
-            array.is::<AnyScalarFn>() && !array.is::<AnyColumnar>(),
-            "{function:?}"
-        );
-        let Some(view) = array.as_opt::<ScalarFn>() else {
-            panic!(rt; "{function:?}");
-        };
-        assert!(rt; *view.data().scalar_fn() == function, "{function:?}");
-        assert!(rt;
-            array.slot_name(0) == function.child_name(0),
-            "{function:?}"
-        );
-        assert!(rt; array.slot_name(2) == None, "{function:?}");
-    }
-    let array = column(alloc, &[1])?;
-    assert!(rt; !array.is::<AnyScalarFn>() && array.slot_name(0) == Some("validity"));
-    let slice = SliceArray::try_new(alloc, array, 0..1)?.into_array();
-    assert!(rt; slice.slot_name(0) == Some("child") && slice.slot_name(1) == None);
-    Ok(())
+    assert!(rt; is_lazy_call(alloc, ADD, &[(I32, 3), (I32, 3)], &I32));
+    assert!(rt; is_lazy_call(alloc, less, &[(I32, 3), (I32, 3)], &BOOL));
+    assert!(rt; is_lazy_call(alloc, ScalarFnRef::Not, &[(BOOL, 3)], &BOOL));
 }
 
 #[test]
 fn functions_are_refused_in_order(rt: HostRuntime) -> Result<(), Fail> {
     let alloc = rt.alloc();
-    for (columns, kind, text) in [
+    let cases: [(&[(DType, usize)], ArgKind, &str); 7] = [
         (
-            children(alloc, &[])?,
+            &[],
             ArgKind::NoChildren,
             "ScalarFnArray length cannot be inferred without children",
         ),
         (
-            children(alloc, &[(BOOL, 3)])?,
+            &[(BOOL, 3)],
             ArgKind::Arity { want: 2, got: 1 },
             "ScalarFnArray requires 2 children, got 1",
         ),
         (
-            children(alloc, &[(I32, 3), (I32, 2), (BOOL, 1)])?,
+            &[(I32, 3), (I32, 2), (BOOL, 1)],
             ArgKind::Arity { want: 2, got: 3 },
             "ScalarFnArray requires 2 children, got 3",
         ),
         (
-            children(alloc, &[(I32, 3), (I32, 2)])?,
+            &[(I32, 3), (I32, 2)],
             ArgKind::ChildLen,
             "ScalarFnArray must have children equal to the array length",
         ),
         (
-            children(alloc, &[(U8, 3), (I8, 2)])?,
+            &[(U8, 3), (I8, 2)],
             ArgKind::ChildLen,
             "ScalarFnArray must have children equal to the array length",
         ),
-        (
-            children(alloc, &[(U8, 3), (I8, 3)])?,
-            ArgKind::NoRow,
-            "no row",
-        ),
-        (
-            children(alloc, &[(BOOL, 3), (BOOL, 3)])?,
-            ArgKind::NoRow,
-            "no row",
-        ),
-    ] {
-        match ScalarFnArray::try_new(alloc, ADD, columns) {
-            Ok(_) => panic!(rt; "{kind:?}"),
-            Err(e) => {
-                assert!(rt; e == VortexError::InvalidArgument(kind), "{kind:?}");
-                assert!(rt; format!(in alloc; "{e}")?.starts_with(text), "{kind:?}");
-            }
-        }
+        (&[(U8, 3), (I8, 3)], ArgKind::NoRow, "no row"),
+        (&[(BOOL, 3), (BOOL, 3)], ArgKind::NoRow, "no row"),
+    ];
+    for (columns, kind, text) in cases {
+        assert!(rt; sum_is_refused(alloc, columns, kind, text), "{kind:?}");
     }
     let flags = children(alloc, &[(BOOL, 3)])?;
-    match ScalarFnArray::try_new_with_len(alloc, ScalarFnRef::Not, flags, 2) {
-        Ok(_) => panic!(rt; "2 of 3 rows"),
-        Err(e) => assert!(rt; e == VortexError::InvalidArgument(ArgKind::ChildLen)),
-    }
+    let not = ScalarFnArray::try_new_with_len(alloc, ScalarFnRef::Not, flags, 2);
+    assert!(rt; is_refused(not, ArgKind::ChildLen));
     Ok(())
 }
 
 #[test]
-fn parts_of_a_function_are_refused_in_order(rt: HostRuntime) -> Result<(), Fail> {
+fn parts_of_a_function_are_refused_in_order(rt: HostRuntime) {
     let alloc = rt.alloc();
-    let numbers = column(alloc, &[10, 20, 30])?;
-    let flags = zeros(alloc, &BOOL, 3)?;
-    for (id, dtype, len, slots, kind) in [
+    let numbers = [Some((I32, 3)), Some((I32, 3))];
+    let flags = [Some((BOOL, 3)), Some((BOOL, 3))];
+    let cases: [(Id, DType, &[Option<(DType, usize)>], ArgKind); 7] = [
         (
             Id::Not,
             BOOL,
-            9,
-            two_slots(alloc, &numbers, None)?,
+            &[Some((I32, 3)), None],
             ArgKind::FnSlotMissing,
         ),
+        (Id::Not, BOOL, &[None], ArgKind::FnSlotMissing),
         (
             Id::Not,
             BOOL,
-            9,
-            one_slot(alloc, None)?,
-            ArgKind::FnSlotMissing,
-        ),
-        (
-            Id::Not,
-            BOOL,
-            9,
-            one_slot(alloc, Some(numbers.clone()?))?,
+            &[Some((I32, 3))],
             ArgKind::Arity { want: 2, got: 1 },
         ),
-        (
-            Id::Not,
-            BOOL,
-            9,
-            two_slots(alloc, &flags, Some(flags.clone()?))?,
-            ArgKind::NodeType,
-        ),
-        (
-            Id::Binary,
-            BOOL,
-            9,
-            two_slots(alloc, &flags, Some(flags.clone()?))?,
-            ArgKind::NoRow,
-        ),
-        (
-            Id::Binary,
-            BOOL,
-            9,
-            two_slots(alloc, &numbers, Some(numbers.clone()?))?,
-            ArgKind::NodeType,
-        ),
-        (
-            Id::Binary,
-            I32,
-            9,
-            two_slots(alloc, &numbers, Some(numbers.clone()?))?,
-            ArgKind::ChildLen,
-        ),
-    ] {
-        let payload = ScalarFnData { scalar_fn: ADD };
-        let parts = ArrayParts::new(ScalarFn { id }, dtype, len, payload, slots);
-        match Array::<ScalarFn>::try_from_parts(alloc, parts) {
-            Ok(_) => panic!(rt; "{kind:?}"),
-            Err(e) => assert!(rt; e == VortexError::InvalidArgument(kind), "{kind:?}"),
-        }
+        (Id::Not, BOOL, &flags, ArgKind::NodeType),
+        (Id::Binary, BOOL, &flags, ArgKind::NoRow),
+        (Id::Binary, BOOL, &numbers, ArgKind::NodeType),
+        (Id::Binary, I32, &numbers, ArgKind::ChildLen),
+    ];
+    for (id, dtype, slots, kind) in cases {
+        assert!(rt;
+            is_refused(sum_of_parts(alloc, id, dtype, 9, slots), kind),
+            "{kind:?}"
+        );
     }
-    Ok(())
 }
 
 #[test]
 fn parts_of_a_function_come_back(rt: HostRuntime) -> Result<(), Fail> {
     let alloc = rt.alloc();
-    let numbers = column(alloc, &[10, 20, 30])?;
-    let slots = two_slots(alloc, &numbers, Some(numbers.clone()?))?;
-    let payload = ScalarFnData { scalar_fn: ADD };
-    let parts = ArrayParts::new(ScalarFn { id: Id::Binary }, I32, 3, payload, slots);
-    let sums = Array::<ScalarFn>::try_from_parts(alloc, parts)?;
-    match sums.as_array().kind() {
+    let sum = sum_of_parts(alloc, Id::Binary, I32, 3, &[Some((I32, 3)), Some((I32, 3))])?;
+    match sum.as_array().kind() {
         ArrayKind::ScalarFn(function, slots) => {
             assert!(rt; *function == ADD && slots.len() == 2);
         }
         _ => panic!(rt; "a function"),
     }
-    let Ok(parts) = sums.try_into_parts() else {
+    let Ok(parts) = sum.try_into_parts() else {
         panic!(rt; "the only owner");
     };
     assert!(rt; parts.vtable.id == Id::Binary && parts.payload.scalar_fn == ADD);

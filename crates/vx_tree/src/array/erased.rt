@@ -1,4 +1,4 @@
-//! What an untyped reference tells of its tree.
+//! The readers of an untyped reference.
 
 ghost use Rattle.std.specs.Prelude.{◌≡◌, ◌==◌, is_some, IfSome, length, option_map, slice_get};
 ghost use Rattle.vx_value.specs.View.{type_of};
@@ -13,35 +13,35 @@ use crate::matcher::Matcher;
 use vx_value::{DType, Id};
 
 impl ArrayRef {
-    /// How many rows there are.
+    /// Returns the number of rows.
     pub fn len(&self) -> usize
         ensures { result ≡ len self.now }
     {
         self.node.len
     }
 
-    /// Whether there is no row.
+    /// Returns whether there are no rows.
     pub fn is_empty(&self) -> bool
         ensures { result ≡ (len self.now == 0) }
     {
         self.node.len == 0
     }
 
-    /// The type of the rows.
+    /// Returns the type of the rows.
     pub fn dtype(&self) -> &DType
         ensures { type_of result.now ≡ dtype self.now }
     {
         &self.node.dtype
     }
 
-    /// The data of the root.
+    /// Returns the data of the root.
     pub fn encoding(&self) -> &Encoding
         ensures { data_of result.now ≡ datum self.now }
     {
         &self.node.encoding
     }
 
-    /// The id of the root's encoding: of a function's node, the function's.
+    /// Returns the id of the root's encoding, or of its function if it is a function node.
     pub fn encoding_id(&self) -> Id
         ensures { result ≡ id_of (datum self.now) }
     {
@@ -54,15 +54,15 @@ impl ArrayRef {
         }
     }
 
-    /// The slots of the root, in their order.
+    /// Returns the slots of the root, in order.
     pub fn slots(&self) -> &[Option<ArrayRef>]
         ensures { slots_of result.now ≡ slots self.now }
     {
         &self.node.slots
     }
 
-    /// What a slot of the root is called, counted from 0: `child` of a slice, `validity` of a column, and of a function what
-    /// its argument is. None where the encoding has no such slot.
+    /// Returns the name of the root's slot `index`, counted from 0. A slice has `child`, a column has `validity`, and a
+    /// function node has the names of its arguments. `None` if there is no such slot.
     pub fn slot_name(&self, index: usize) -> Option<&'static str>
         ensures { option_map (λ s. s.now) result ≡ slice_get (slot_names (datum self.now)) index }
     {
@@ -76,7 +76,7 @@ impl ArrayRef {
         }
     }
 
-    /// What is known of each tree: it is well formed, and has a cell for each row. (own)
+    /// States what holds of every tree: it is well formed, and its meaning has one cell per row. (own)
     #[tactic(auto, using(crate::proofs::Counting::rows_counted))]
     pub fn well(&self)
         ensures formed { IsWell self.now }
@@ -85,14 +85,14 @@ impl ArrayRef {
         let _well = &self.node;
     }
 
-    /// Whether the tree is what M looks for.
+    /// Returns whether `M` matches the tree.
     pub fn is<M: Matcher>(&self) -> bool
         ensures { result ≡ M.fits self.now }
     {
         M::matches(self)
     }
 
-    /// A view of the root where it is of V's encoding.
+    /// Returns a view of the root, or `None` if it isn't of `V`'s encoding.
     pub fn as_opt<V: VTable>(&self) -> Option<ArrayView<'_, V>>
         ensures which { is_some result ≡ V.is_kind (datum self.now) }
         ensures of { IfSome result (λ v. v.array.now ≡ self.now) }

@@ -1,4 +1,4 @@
-//! A node, opened: the one place where nodes are taken apart.
+//! The one place where nodes are taken apart.
 
 ghost use Rattle.std.specs.Prelude.{◌≡◌};
 ghost use Rattle.vx_tree.specs.Kinds.{IsKindOf};
@@ -9,22 +9,22 @@ use vx_fn::ScalarFnRef;
 use vx_mask::BitBuffer;
 use vx_value::Scalar;
 
-/// The root of a tree, with its children by their roles. (own)
+/// The root of a tree, with its data and children by their roles. (own)
 pub enum ArrayKind<'a> {
-    /// One value, for each row.
+    /// The value of each row.
     Constant(&'a Scalar),
-    /// The rows from a start, inclusive, to a stop, exclusive, of a child.
+    /// The child, and the range of its rows: the start, inclusive, and the stop, exclusive.
     Slice(&'a ArrayRef, usize, usize),
-    /// A function, row by row, of the trees in these slots, each of which holds one.
+    /// The function, and the slots of its arguments. Each slot has a tree.
     ScalarFn(&'a ScalarFnRef, &'a [Option<ArrayRef>]),
-    /// A column of booleans, its rows.
+    /// The rows of a column of booleans.
     Bool(&'a BitBuffer),
-    /// A column of integers, its rows.
+    /// The rows of a column of integers.
     Primitive(&'a PrimitiveValues),
 }
 
 impl ArrayRef {
-    /// The root, opened. (own)
+    /// Returns the data and children of the root. (own)
     pub fn kind(&self) -> ArrayKind<'_>
         ensures { IsKindOf result self.now }
     {

@@ -1,4 +1,4 @@
-//! Arrays: a shared node, behind an untyped reference, a typed handle or a typed view.
+//! Arrays: shared nodes, and the untyped references, typed handles and typed views of them.
 
 mod erased;
 mod kind;
@@ -12,4 +12,4 @@ pub(crate) use node::know_well;
 pub use node::{ArrayRef, ArraySlots, Encoding, Node};
 pub use typed::{Array, ArrayParts, IntoArray};
 pub use view::ArrayView;
-pub use vtable::{ArrayId, Encoded, VTable};
+pub use vtable::{ArrayId, Encoded, VTable, VTable as ArrayVTable};

@@ -1,4 +1,4 @@
-//! The node that all handles share.
+//! The nodes that all handles share.
 
 ghost use Rattle.std.specs.Prelude.{◌≡◌, IfOk, IfErr, IfSome};
 ghost use Rattle.vx_tree.specs.Tree.{Tree, slots_of};
@@ -15,10 +15,10 @@ use std::marker::Model;
 use std::rc::Rc;
 use vx_value::DType;
 
-/// The children of a node. A slot without a tree is one that may be left out.
+/// The slots of a node. A slot that may be left out can be `None`.
 pub type ArraySlots = Vec<Option<ArrayRef>>;
 
-/// The data of a node, by its encoding. (own: the original boxes a dynamic type)
+/// The data of a node, by encoding. (own: the original boxes a dynamic type)
 #[derive(Debug, Drop)]
 pub enum Encoding {
     Constant(ConstantData),
@@ -28,18 +28,18 @@ pub enum Encoding {
     Primitive(PrimitiveData),
 }
 
-/// The parts of a node, whose slots may lack a child. (own)
+/// The parts of a node, which needn't make a well-formed tree. (own)
 #[cycle(tree)]
 #[derive(Debug, Drop)]
 pub struct Node {
     pub dtype: DType,
-    /// In rows.
+    /// The number of rows.
     pub len: usize,
     pub encoding: Encoding,
     pub slots: Vec<Option<ArrayRef>>,
 }
 
-/// A shared, immutable and well-formed tree. A clone copies nothing but the reference.
+/// A shared, immutable and well-formed tree. A clone copies the reference alone.
 #[cycle(tree)]
 #[derive(Debug, Drop)]
 pub struct ArrayRef {
@@ -125,7 +125,7 @@ fn know_slot(slot: &Option<ArrayRef>)
     }
 }
 
-/// Each child is well formed, as its type says.
+/// States that each child is well formed.
 #[tactic(auto, using(crate::proofs::Opening::well_append))]
 pub(crate) fn know_well(slots: &[Option<ArrayRef>])
     ensures { AreWell (slots_of slots.now) }
@@ -136,7 +136,7 @@ pub(crate) fn know_well(slots: &[Option<ArrayRef>])
 }
 
 impl Node {
-    /// The tree of these parts.
+    /// Makes the tree of these parts. They must meet the conditions of the encoding.
     pub fn into_array(self, alloc: Global) -> Result<ArrayRef, AllocError>
         requires { IsNodeOf (tree_of self) }
         ensures { IfOk result (λ t. t ≡ tree_of self) }
@@ -149,7 +149,7 @@ impl Node {
 }
 
 impl ArrayRef {
-    /// The parts of the root, without a copy where no one else holds it.
+    /// Returns the parts of the root. Copies them if the root is shared.
     pub fn into_node(self, alloc: Global) -> Result<Node, AllocError>
         ensures { IfOk result (λ n. tree_of n ≡ self) }
     {
@@ -165,7 +165,7 @@ impl ArrayRef {
         }
     }
 
-    /// The parts of the root where no one else holds it, else the tree itself.
+    /// Returns the parts of the root. Hands the tree back if the root is shared.
     pub(crate) fn try_into_node(self) -> Result<Node, ArrayRef>
         ensures ok { IfOk result (λ n. tree_of n ≡ self) }
         ensures err { IfErr result (λ a. a ≡ self) }

@@ -1,6 +1,6 @@
-//! A handle that knows its encoding.
+//! Handles that know their encoding.
 
-ghost use Rattle.std.specs.Prelude.{◌≡◌, ◌⊎◌, is_ok, IfOk, IfErr, OnOk, Some, None, true};
+ghost use Rattle.std.specs.Prelude.{◌≡◌, ◌⊎◌, ◌==◌, is_ok, IfOk, IfErr, OnOk, Some, None, true};
 ghost use Rattle.vx_value.specs.View.{type_of};
 ghost use Rattle.vx_tree.specs.Tree.{Tree, dtype, len, datum, slots, slots_of, node, id_of};
 ghost use Rattle.vx_tree.specs.Well.{shapes, IsNode};
@@ -10,12 +10,15 @@ use crate::array::{ArrayRef, ArrayView, Node, VTable};
 use std::alloc::{AllocError, Global};
 use std::marker::{Model, PhantomData};
 use std::ops::Deref;
+use std::rc::Rc;
 use vx_value::{DType, VortexError, VortexResult};
 
-/// A node of V's encoding. It is the same node as its reference's.
+/// A handle of a node of `V`'s encoding. It shares the node with its reference.
 #[derive(Drop)]
+#[derive_where(Debug)]
 pub struct Array<V: VTable> {
     array: ArrayRef,
+    #[derive_where(skip(Debug))]
     tag: PhantomData<V>,
 }
 
@@ -43,19 +46,19 @@ impl<V: VTable> Clone for Array<V> {
     }
 }
 
-/// What a node of V's encoding is made of.
+/// The parts of a node of `V`'s encoding.
 #[derive(Drop)]
 pub struct ArrayParts<V: VTable> {
     pub vtable: V,
     pub dtype: DType,
-    /// In rows.
+    /// The number of rows.
     pub len: usize,
     pub payload: V::TypedArrayData,
     pub slots: Vec<Option<ArrayRef>>,
 }
 
 impl<V: VTable> ArrayParts<V> {
-    /// The parts, by name.
+    /// Returns the parts, which aren't checked.
     pub fn new(
         vtable: V,
         dtype: DType,
@@ -76,7 +79,7 @@ impl<V: VTable> ArrayParts<V> {
 }
 
 impl<V: VTable> Array<V> {
-    /// The node of these parts. It refuses by the first condition that fails, in the order of `VTable::validate`.
+    /// Makes the node of `parts`. Refuses with the error of `VTable::validate` if they break a condition of the encoding.
     #[tactic(auto, using(crate::proofs::Refusing::node_unless_refused))]
     pub fn try_from_parts(alloc: Global, parts: ArrayParts<V>) -> VortexResult<Array<V>>
         ensures ok { IfOk result (λ a. a ≡ node (type_of parts.dtype) parts.len (V.stands_for parts.payload) (slots_of parts.slots.items)) }
@@ -88,7 +91,7 @@ impl<V: VTable> Array<V> {
         Ok(Array::from_parts_unchecked(alloc, parts)?)
     }
 
-    /// The node of these parts, which the caller knows to meet the conditions of its encoding.
+    /// Makes the node of `parts` without checking them. They must meet the conditions of the encoding.
     pub fn from_parts_unchecked(alloc: Global, parts: ArrayParts<V>) -> Result<Array<V>, AllocError>
         requires { IsNode (type_of parts.dtype) parts.len (V.stands_for parts.payload) (shapes (slots_of parts.slots.items)) }
         ensures { IfOk result (λ a. a ≡ node (type_of parts.dtype) parts.len (V.stands_for parts.payload) (slots_of parts.slots.items)) }
@@ -112,7 +115,7 @@ impl<V: VTable> Array<V> {
         })
     }
 
-    /// The handle of a tree, which is handed back where it is of another encoding.
+    /// Returns the handle of `array`'s node. Hands `array` back if it has another encoding.
     pub fn try_from_array_ref(array: ArrayRef) -> Result<Array<V>, ArrayRef>
         ensures which { is_ok result ≡ V.is_kind (datum array) }
         ensures ok { IfOk result (λ a. a ≡ array) }
@@ -128,7 +131,7 @@ impl<V: VTable> Array<V> {
         }
     }
 
-    /// The parts of the node, or the handle where the node is shared.
+    /// Returns the parts of the node. Hands the handle back if the node is shared.
     pub fn try_into_parts(self) -> Result<ArrayParts<V>, Array<V>>
         ensures named { IfOk result (λ p. V.named p.vtable ≡ id_of (datum self)) }
         ensures ok { IfOk result (λ p. node (type_of p.dtype) p.len (V.stands_for p.payload) (slots_of p.slots.items) ≡ self) }
@@ -159,7 +162,18 @@ impl<V: VTable> Array<V> {
         }
     }
 
-    /// The data of the node.
+    /// Returns the reference of the node that `shared` holds. `AllocError` if `shared` has other owners and `Rc` refuses one
+    /// more reference to the node. (own)
+    pub fn shared_into_array(shared: Rc<Array<V>>) -> Result<ArrayRef, AllocError>
+        ensures { IfOk result (λ a. a ≡ shared.value) }
+    {
+        match Rc::try_unwrap(shared) {
+            Ok(handle) => Ok(handle.array),
+            Err(shared) => shared.array.clone(),
+        }
+    }
+
+    /// Returns the data of the node.
     pub fn data(&self) -> &V::TypedArrayData
         ensures { V.stands_for result.now ≡ datum self.now }
     {
@@ -169,7 +183,7 @@ impl<V: VTable> Array<V> {
         payload
     }
 
-    /// The reference of the node.
+    /// Returns the reference of the node.
     pub fn as_array(&self) -> &ArrayRef
         ensures of { result.now ≡ self.now }
         ensures kind { V.is_kind (datum self.now) ≡ true }
@@ -177,7 +191,7 @@ impl<V: VTable> Array<V> {
         &self.array
     }
 
-    /// A view of the node.
+    /// Returns a view of the node.
     pub fn as_view(&self) -> ArrayView<'_, V>
         ensures of { result.array.now ≡ self.now }
         ensures payload { V.stands_for result.payload.now ≡ datum self.now }
@@ -188,21 +202,28 @@ impl<V: VTable> Array<V> {
         }
     }
 
-    /// How many rows there are.
+    /// Returns the number of rows.
     pub fn len(&self) -> usize
         ensures { result ≡ len self.now }
     {
         self.array.len()
     }
 
-    /// The type of the rows.
+    /// Returns whether there are no rows.
+    pub fn is_empty(&self) -> bool
+        ensures { result ≡ (len self.now == 0) }
+    {
+        self.array.is_empty()
+    }
+
+    /// Returns the type of the rows.
     pub fn dtype(&self) -> &DType
         ensures { type_of result.now ≡ dtype self.now }
     {
         self.array.dtype()
     }
 
-    /// The slots of the node.
+    /// Returns the slots of the node, in order.
     pub fn slots(&self) -> &[Option<ArrayRef>]
         ensures { slots_of result.now ≡ slots self.now }
     {
@@ -220,6 +241,14 @@ impl<V: VTable> Deref for Array<V> {
     }
 }
 
+impl<V: VTable> AsRef<ArrayRef> for Array<V> {
+    fn as_ref(&self) -> &ArrayRef
+        ensures { result.now ≡ self.now }
+    {
+        &self.array
+    }
+}
+
 impl<V: VTable> From<Array<V>> for ArrayRef {
     ghost from_gives = { λ a r. r ≡ a };
 
@@ -228,11 +257,11 @@ impl<V: VTable> From<Array<V>> for ArrayRef {
     }
 }
 
-/// Whatever is one tree.
+/// Types whose values are each one tree.
 pub trait IntoArray {
     ghost tree_of: { Self → Tree };
 
-    /// The reference of the tree. No node is made.
+    /// Returns the reference of the tree, without making a node.
     fn into_array(self) -> ArrayRef
         ensures { result ≡ tree_of self };
 }

@@ -1,6 +1,6 @@
-//! A node, borrowed, with the data of its encoding.
+//! Borrowed nodes, with the data of their encoding.
 
-ghost use Rattle.std.specs.Prelude.{◌≡◌, IfOk};
+ghost use Rattle.std.specs.Prelude.{◌≡◌, ◌==◌, IfOk};
 ghost use Rattle.vx_value.specs.View.{type_of};
 ghost use Rattle.vx_tree.specs.Tree.{dtype, len, datum, slots, slots_of, id_of};
 
@@ -9,50 +9,58 @@ use std::alloc::AllocError;
 use std::ops::Deref;
 use vx_value::{DType, Id};
 
-/// A node of V's encoding, borrowed. Who makes one by hand owes that the payload is the node's.
-#[derive_where(Clone, Copy)]
+/// A borrowed node of `V`'s encoding. If you build one yourself, `payload` must be the node's own data.
+#[derive_where(Clone, Copy, Debug)]
 pub struct ArrayView<'a, V: Encoded> {
     pub array: &'a ArrayRef,
+    #[derive_where(skip(Debug))]
     pub payload: &'a V::TypedArrayData,
 }
 
 impl<'a, V: Encoded> ArrayView<'a, V> {
-    /// The reference that is viewed.
+    /// Returns the reference of the node.
     pub fn array(&self) -> &'a ArrayRef
         ensures { result.now ≡ self.now.array.now }
     {
         self.array
     }
 
-    /// The data of the node.
+    /// Returns the data of the node.
     pub fn data(&self) -> &'a V::TypedArrayData
         ensures { result.now ≡ self.now.payload.now }
     {
         self.payload
     }
 
-    /// The slots of the node.
+    /// Returns the slots of the node, in order.
     pub fn slots(&self) -> &'a [Option<ArrayRef>]
         ensures { slots_of result.now ≡ slots self.now.array.now }
     {
         self.array.slots()
     }
 
-    /// The type of the rows.
+    /// Returns the type of the rows.
     pub fn dtype(&self) -> &'a DType
         ensures { type_of result.now ≡ dtype self.now.array.now }
     {
         self.array.dtype()
     }
 
-    /// How many rows there are.
+    /// Returns the number of rows.
     pub fn len(&self) -> usize
         ensures { result ≡ len self.now.array.now }
     {
         self.array.len()
     }
 
-    /// The id of the encoding.
+    /// Returns whether there are no rows.
+    pub fn is_empty(&self) -> bool
+        ensures { result ≡ (len self.now.array.now == 0) }
+    {
+        self.array.is_empty()
+    }
+
+    /// Returns the id of the node's encoding, or of its function if it is a function node.
     pub fn encoding_id(&self) -> Id
         ensures { result ≡ id_of (datum self.now.array.now) }
     {
@@ -60,8 +68,16 @@ impl<'a, V: Encoded> ArrayView<'a, V> {
     }
 }
 
+impl<'a, V: Encoded> AsRef<ArrayRef> for ArrayView<'a, V> {
+    fn as_ref(&self) -> &ArrayRef
+        ensures { result.now ≡ self.now.array.now }
+    {
+        self.array
+    }
+}
+
 impl<'a, V: VTable> ArrayView<'a, V> {
-    /// An owned handle of the same node.
+    /// Returns an owned handle of the same node. `AllocError` if `Rc` refuses one more reference to it.
     pub fn into_owned(self) -> Result<Array<V>, AllocError>
         requires { V.stands_for self.payload.now ≡ datum self.array.now }
         ensures { IfOk result (λ a. a ≡ self.entry.array.now) }

@@ -1,4 +1,4 @@
-//! What the code generic over an encoding knows of it.
+//! What generic code can do with an encoding.
 
 ghost use Rattle.std.specs.Prelude.{◌≡◌, ◌⊎◌, is_some, IfSome, IfErr, OnOk, Some, None, Bool, true};
 ghost use Rattle.vx_value.specs.View.{type_of};
@@ -13,15 +13,15 @@ use crate::array::{ArrayRef, Encoding};
 use std::alloc::Global;
 use vx_value::{DType, Id, VortexResult};
 
-/// The id of an encoding, as the original names it.
+/// The id of an encoding.
 pub type ArrayId = Id;
 
-/// A tag of an encoding, with the type of its node data. (own: the original has it in `VTable`)
+/// Tags of encodings, with the type of the node data. (own: the original has the type in `VTable`)
 pub trait Encoded {
     type TypedArrayData: Drop;
 }
 
-/// An encoding, named by its tag.
+/// Encodings, named by their tags.
 pub trait VTable: Encoded + Drop + Sized {
     // which node data are of the encoding, and what its typed data stands for
     ghost is_kind: { Data → Bool };
@@ -31,33 +31,34 @@ pub trait VTable: Encoded + Drop + Sized {
     // the id that a tag names
     ghost named: { Self → ArrayIdOf };
 
-    /// The id of the encoding, or of the function that the tag names.
+    /// Returns the id of the encoding, or of the function that the tag names.
     fn id(&self) -> ArrayId
         ensures { result ≡ named self.now };
 
-    /// The tag of some node data. (own)
+    /// Returns the tag of a node with this data. (own)
     fn tag(payload: &Self::TypedArrayData) -> Self
         ensures { named result ≡ id_of (stands_for payload.now) };
 
-    /// The node data, where it is of the encoding. (own)
+    /// Returns the typed data of `encoding`, or `None` if it is of another encoding. (own)
     fn project(encoding: &Encoding) -> Option<&Self::TypedArrayData>
         ensures which { is_some result ≡ is_kind (data_of encoding.now) }
         ensures value { IfSome result (λ d. stands_for d.now ≡ data_of encoding.now) };
 
-    /// The node data by value, where it is of the encoding. (own)
+    /// Returns the typed data of `encoding` by value, or `None` if it is of another encoding. (own)
     fn into_data(encoding: Encoding) -> Option<Self::TypedArrayData>
         ensures which { is_some result ≡ is_kind (data_of encoding) }
         ensures value { IfSome result (λ d. stands_for d ≡ data_of encoding) };
 
-    /// The typed data as node data. (own)
+    /// Returns `payload` as the data of a node. (own)
     fn wrap(payload: Self::TypedArrayData) -> Encoding
         ensures { data_of result ≡ stands_for payload };
 
-    /// Whether a node of these parts may be made.
+    /// Checks that these parts make a node.
     ///
-    /// It refuses by the first condition that fails: `InvalidArgument` with `SlotCount`, `SlotMissing`, then `BadType`,
-    /// `SlotType` or `NodeType`, then `NodeLen`, and last `OutOfBounds`. Of a function it is `FnSlotMissing`, `Arity`, then
-    /// `NodeType` where the tag is another function's, `NoRow`, `NodeType`, and last `ChildLen`.
+    /// The first condition that fails gives the error: `InvalidArgument` with `SlotCount`, `SlotMissing`, then `BadType`,
+    /// `SlotType` or `NodeType`, then `NodeLen`, and last `OutOfBounds`. For a function node the kinds are `FnSlotMissing`,
+    /// `Arity`, `NodeType` if the tag is another function's, `NoRow`, `NodeType` if `dtype` isn't the function's result
+    /// type, and last `ChildLen`.
     fn validate(
         &self,
         alloc: Global,

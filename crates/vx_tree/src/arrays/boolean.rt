@@ -1,4 +1,4 @@
-//! Columns of booleans.
+//! Boolean columns.
 
 ghost use Rattle.std.specs.Prelude.{◌≡◌, ◌⊎◌, length, IfOk, IfErr, OnOk, true, refl};
 ghost use Rattle.vx_value.specs.View.{type_of};
@@ -13,14 +13,14 @@ use std::alloc::{AllocError, Global};
 use vx_mask::BitBuffer;
 use vx_value::{ArgKind, DType, Id, Nullability, VortexError, VortexResult};
 
-/// The tag of the encoding.
+/// The tag of the boolean encoding.
 #[derive(Clone, Copy, Debug)]
 pub struct Bool;
 
-/// A column of booleans.
+/// A column of non-null booleans.
 pub type BoolArray = Array<Bool>;
 
-/// The values, a bit for each row.
+/// The data of a boolean column: one bit per row.
 #[derive(Debug, Drop)]
 pub struct BoolData {
     pub bits: BitBuffer,
@@ -100,7 +100,7 @@ impl VTable for Bool {
 }
 
 impl BoolArray {
-    /// The column of these values. `InvalidArgument` with `BadType` exactly where the type isn't `bool` without nulls.
+    /// Makes the column of `bits`. `InvalidArgument` with `BadType` exactly if `dtype` isn't the non-nullable `bool`.
     pub fn try_new(alloc: Global, dtype: DType, bits: BitBuffer) -> VortexResult<BoolArray>
         ensures ok { IfOk result (λ a. a ≡ node (type.bool NonNullable) (length bits) (bool bits) (absent no_slots)) }
         ensures valid { OnOk result (type_of dtype ≡ type.bool NonNullable) }

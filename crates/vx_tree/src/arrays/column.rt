@@ -1,4 +1,4 @@
-//! What all canonical columns ask of their parts.
+//! The conditions that all canonical columns share.
 
 ghost use Rattle.std.specs.Prelude.{◌≡◌, MatchResult, Some, None};
 ghost use Rattle.vx_value.specs.View.{type_of};
@@ -9,7 +9,7 @@ ghost use Rattle.vx_tree.specs.Refusals.{column_refusal};
 use crate::array::ArrayRef;
 use vx_value::{ArgKind, DType, VortexError, VortexResult};
 
-/// Whether a node of this type, length and these slots is a column of so many values of a type.
+/// Checks that a node of type `dtype` and length `len` with these slots is a column of `values` values of type `of_type`.
 #[tactic(auto, using(crate::proofs::Refusing::column_slot_count, crate::proofs::Refusing::the_slot))]
 pub(crate) fn check_column(
     dtype: &DType,

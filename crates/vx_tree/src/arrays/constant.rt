@@ -1,4 +1,4 @@
-//! One value, for each row.
+//! Arrays that repeat one value.
 
 ghost use Rattle.std.specs.Prelude.{◌≡◌, ◌⊎◌, IfOk, IfErr, OnOk, true, refl};
 ghost use Rattle.vx_value.specs.Types.{nullability_of};
@@ -10,17 +10,33 @@ use crate::array::{Array, ArrayId, ArrayParts, ArrayRef, Encoded, Encoding, VTab
 use std::alloc::{AllocError, Global};
 use vx_value::{ArgKind, DType, Id, Scalar, VortexError, VortexResult};
 
-/// The tag of the encoding.
+/// The tag of the constant encoding.
 #[derive(Clone, Copy, Debug)]
 pub struct Constant;
 
-/// One value, for each of any number of rows.
+/// One value, repeated for any number of rows.
 pub type ConstantArray = Array<Constant>;
 
-/// The value.
+/// The data of a constant: the value of each row.
 #[derive(Debug, Drop)]
 pub struct ConstantData {
     pub scalar: Scalar,
+}
+
+impl ConstantData {
+    /// Returns the data of a constant of `scalar`.
+    pub fn new(scalar: Scalar) -> ConstantData
+        ensures { result ≡ record { scalar = scalar } }
+    {
+        ConstantData { scalar }
+    }
+
+    /// Returns the value of each row.
+    pub fn scalar(&self) -> &Scalar
+        ensures { result.now ≡ self.now.scalar }
+    {
+        &self.scalar
+    }
 }
 
 impl Clone for ConstantData {
@@ -101,8 +117,7 @@ impl VTable for Constant {
 }
 
 impl ConstantArray {
-    /// The value so many times, without a row being made. `InvalidArgument` with `BadType` exactly where its type is
-    /// nullable.
+    /// Makes the constant of `len` rows, each `scalar`. `InvalidArgument` with `BadType` exactly if its type is nullable.
     #[tactic(auto, using(crate::proofs::Refusing::never_null, crate::proofs::Refusing::null_some))]
     pub fn new(alloc: Global, scalar: Scalar, len: usize) -> VortexResult<ConstantArray>
         ensures ok { IfOk result (λ a. a ≡ node scalar.of_type len (constant scalar) no_slots) }

@@ -1,4 +1,4 @@
-//! The encodings, one module each, and the values of their columns.
+//! The encodings, one module each, and the values of integer columns.
 
 pub mod boolean;
 mod column;

@@ -1,4 +1,4 @@
-//! The eight integer types of the program as columns hold them.
+//! The eight native integer types of columns.
 
 ghost use Rattle.std.specs.Prelude.{◌≡◌, ◌↔◌, ℤ, pos, map, Some, None, true, option_map, if◌then◌else◌};
 ghost use Rattle.vx_value.specs.IsOf.{in_range};
@@ -11,25 +11,25 @@ use num_traits::PrimInt;
 use vx_mask::Buffer;
 use vx_value::PType;
 
-/// An integer type that a column may hold. (own)
+/// The integer types that a column can hold. (own)
 pub trait NativeInteger: PrimInt {
     // which of the eight it is
     ghost kind: { PTypeOf };
 
-    /// Which of the eight it is.
+    /// Returns the type as a `PType`.
     fn ptype() -> PType
         ensures { result ≡ kind };
 
-    /// The number as one of the type, None where it is out of its range.
+    /// Returns `wide` in the type, or `None` if it is out of range.
     fn from_wide(wide: i128) -> Option<Self>
         ensures { option_map Self.value result ≡ (if in_range kind wide then Some wide else None) };
 
-    /// The number, whatever the type.
+    /// Returns the number in 128 bits.
     fn to_wide(self) -> i128
         ensures wide { result ≡ Self.value self }
         ensures ranged { in_range kind result ≡ true };
 
-    /// The values as those of a column.
+    /// Returns the values as those of a column. Shares their storage.
     fn wrap(values: Buffer<Self>) -> PrimitiveValues
         ensures same_kind { ptype_of result ≡ kind }
         ensures values { values_of result ≡ map Self.value values };

@@ -1,4 +1,4 @@
-//! Columns of integers.
+//! Integer columns.
 
 ghost use Rattle.std.specs.Prelude.{◌≡◌, ◌⊎◌, length, IfOk, IfErr, OnOk, true, refl};
 ghost use Rattle.vx_value.specs.View.{type_of};
@@ -14,14 +14,14 @@ use crate::arrays::values::PrimitiveValues;
 use std::alloc::{AllocError, Global};
 use vx_value::{ArgKind, DType, Id, Nullability, VortexError, VortexResult};
 
-/// The tag of the encoding.
+/// The tag of the primitive encoding.
 #[derive(Clone, Copy, Debug)]
 pub struct Primitive;
 
-/// A column of integers.
+/// A column of non-null integers.
 pub type PrimitiveArray = Array<Primitive>;
 
-/// The values, one for each row.
+/// The data of an integer column: the value of each row.
 #[derive(Debug, Drop)]
 pub struct PrimitiveData {
     pub values: PrimitiveValues,
@@ -96,8 +96,8 @@ impl VTable for Primitive {
 }
 
 impl PrimitiveArray {
-    /// The column of these values. `InvalidArgument` with `BadType` exactly where the type isn't that of the values,
-    /// without nulls.
+    /// Makes the column of `values`. `InvalidArgument` with `BadType` exactly if `dtype` isn't the non-nullable type of the
+    /// values.
     #[tactic(auto, using(crate::proofs::Refusing::of_that_type, crate::proofs::Refusing::of_another_type, crate::proofs::Refusing::no_slots_there))]
     pub fn try_new(
         alloc: Global,

@@ -1,4 +1,4 @@
-//! A function of other arrays, row by row.
+//! Lazy functions of other arrays.
 
 ghost use Rattle.std.specs.Prelude.{◌≡◌, ◌⊎◌, ◌++◌, map, IfOk, IfErr, OnOk, Some, None, true, false, refl};
 ghost use Rattle.vx_value.specs.View.{type_of};
@@ -13,23 +13,31 @@ use std::alloc::{AllocError, Global};
 use vx_fn::{Arity, ScalarFnRef};
 use vx_value::{ArgKind, DType, VortexError, VortexResult};
 
-/// The tag of a function's nodes, by the function's id.
+/// The tag of the nodes of one function.
 #[derive(Clone, Copy, Debug)]
 pub struct ScalarFn {
+    /// The id of the function.
     pub id: ArrayId,
 }
 
-/// A function of the slots' rows, row by row, put off.
+/// A lazy function, applied row by row to its children.
 pub type ScalarFnArray = Array<ScalarFn>;
 
-/// The function.
+/// The data of a function node: the function.
 #[derive(Debug, Drop)]
 pub struct ScalarFnData {
     pub scalar_fn: ScalarFnRef,
 }
 
 impl ScalarFnData {
-    /// The function of the node.
+    /// Returns the data of a node that applies `scalar_fn`. (own)
+    pub fn new(scalar_fn: ScalarFnRef) -> ScalarFnData
+        ensures { result ≡ record { scalar_fn = scalar_fn } }
+    {
+        ScalarFnData { scalar_fn }
+    }
+
+    /// Returns the function of the node.
     pub fn scalar_fn(&self) -> &ScalarFnRef
         ensures { result.now ≡ self.now.scalar_fn }
     {
@@ -115,7 +123,7 @@ impl VTable for ScalarFn {
     ghost kind_of = { λ d. refl };
 }
 
-/// Whether the slots are those of a function: each holds a tree, and there are as many as it takes.
+/// Checks that each slot has a tree and that `function` takes that many arguments.
 #[tactic(auto, using(crate::proofs::Calling::slots_missing, crate::proofs::Calling::slots_there, crate::proofs::Calling::count_slots))]
 fn check_slots(function: &ScalarFnRef, slots: &[Option<ArrayRef>]) -> VortexResult<()>
     ensures valid { OnOk result (slots_refusal function.now (shapes (slots_of slots.now)) ≡ None) }
@@ -127,7 +135,7 @@ fn check_slots(function: &ScalarFnRef, slots: &[Option<ArrayRef>]) -> VortexResu
     check_arity(function, slots.len())
 }
 
-/// Whether each slot holds a tree.
+/// Returns whether each slot has a tree.
 fn are_present(slots: &[Option<ArrayRef>]) -> bool
     ensures { result ≡ all_present (shapes (slots_of slots.now)) }
 {
@@ -139,7 +147,7 @@ fn are_present(slots: &[Option<ArrayRef>]) -> bool
     true
 }
 
-/// Whether the trees in the slots have so many rows.
+/// Checks that each tree in the slots has `len` rows.
 fn check_lengths(len: usize, slots: &[Option<ArrayRef>]) -> VortexResult<()>
     ensures valid { OnOk result (lengths_refusal len (shapes (slots_of slots.now)) ≡ None) }
     ensures refused { IfErr result (λ e. lengths_refusal len (shapes (slots_of slots.now)) ≡ Some e) }
@@ -151,7 +159,7 @@ fn check_lengths(len: usize, slots: &[Option<ArrayRef>]) -> VortexResult<()>
     }
 }
 
-/// Whether each tree in the slots has so many rows.
+/// Returns whether each tree in the slots has `len` rows.
 fn are_long(len: usize, slots: &[Option<ArrayRef>]) -> bool
     ensures { result ≡ all_long len (shapes (slots_of slots.now)) }
 {
@@ -163,7 +171,7 @@ fn are_long(len: usize, slots: &[Option<ArrayRef>]) -> bool
     true
 }
 
-/// Whether a slot holds a tree.
+/// Returns whether `slot` has a tree.
 fn is_present(slot: &Option<ArrayRef>) -> bool
     ensures { result ≡ is_present slot.now }
 {
@@ -173,7 +181,7 @@ fn is_present(slot: &Option<ArrayRef>) -> bool
     }
 }
 
-/// Whether the tree of a slot, where it holds one, has so many rows.
+/// Returns whether `slot` has no tree, or one with `len` rows.
 fn has_length(slot: &Option<ArrayRef>, len: usize) -> bool
     ensures { result ≡ is_long len slot.now }
 {
@@ -183,7 +191,7 @@ fn has_length(slot: &Option<ArrayRef>, len: usize) -> bool
     }
 }
 
-/// Whether a function takes so many arguments.
+/// Checks that `function` takes `count` arguments.
 fn check_arity(function: &ScalarFnRef, count: usize) -> VortexResult<()>
     ensures valid { OnOk result (arity_refusal function.now count ≡ None) }
     ensures refused { IfErr result (λ e. arity_refusal function.now count ≡ Some e) }
@@ -196,7 +204,7 @@ fn check_arity(function: &ScalarFnRef, count: usize) -> VortexResult<()>
     }
 }
 
-/// The types of the trees in the slots.
+/// Returns the types of the trees in the slots.
 fn types_of(alloc: Global, slots: &[Option<ArrayRef>]) -> Result<Vec<DType>, AllocError>
     ensures { IfOk result (λ types. map type_of types.items ≡ types_in (shapes (slots_of slots.now))) }
 {
@@ -207,7 +215,7 @@ fn types_of(alloc: Global, slots: &[Option<ArrayRef>]) -> Result<Vec<DType>, All
     Ok(types)
 }
 
-/// Adds the type of the tree in a slot, where it holds one.
+/// Appends the type of the tree in `slot` if it has one.
 fn push_type(types: &mut Vec<DType>, slot: &Option<ArrayRef>) -> Result<(), AllocError>
     ensures { OnOk result (map type_of types.new.items ≡ map type_of types.old.items ++ type_in slot.now) }
 {
@@ -217,7 +225,7 @@ fn push_type(types: &mut Vec<DType>, slot: &Option<ArrayRef>) -> Result<(), Allo
     }
 }
 
-/// Whether the tag is the function's, and the function of these slots gives the type.
+/// Checks that `tag` is the function's id, and that `function` gives `dtype` on arguments of the slots' types.
 #[tactic(auto, using(crate::proofs::Ordering::first_refused, crate::proofs::Ordering::later_refused, crate::proofs::Ordering::none_refused))]
 fn check_types(
     alloc: Global,
@@ -237,7 +245,7 @@ fn check_types(
     check_result(function, dtype, types.as_slice())
 }
 
-/// Whether a function of arguments of these types gives the type.
+/// Checks that `function` gives `dtype` on arguments of these types.
 fn check_result(function: &ScalarFnRef, dtype: &DType, types: &[DType]) -> VortexResult<()>
     ensures valid { OnOk result (result_refusal (type_of dtype.now) (return_type function.now (map type_of types.now)) ≡ None) }
     ensures refused { IfErr result (λ e. result_refusal (type_of dtype.now) (return_type function.now (map type_of types.now)) ≡ Some e) }
@@ -252,7 +260,7 @@ fn check_result(function: &ScalarFnRef, dtype: &DType, types: &[DType]) -> Vorte
     }
 }
 
-/// The trees, each in a slot.
+/// Puts each tree in a slot.
 #[tactic(auto, using(crate::proofs::Calling::filled_more))]
 fn fill_slots(alloc: Global, children: Vec<ArrayRef>) -> Result<Vec<Option<ArrayRef>>, AllocError>
     ensures { IfOk result (λ slots. slots_of slots.items ≡ filled_slots children.items) }
@@ -265,9 +273,9 @@ fn fill_slots(alloc: Global, children: Vec<ArrayRef>) -> Result<Vec<Option<Array
 }
 
 impl ScalarFnArray {
-    /// The function of these trees, with as many rows as the first one has.
+    /// Makes a node that applies `scalar_fn` to `children`, with as many rows as the first child has.
     ///
-    /// It refuses by the first condition that fails: `InvalidArgument` with `NoChildren`, and then as `try_new_with_len`.
+    /// `InvalidArgument` with `NoChildren` if there are no children, else the errors of `try_new_with_len`.
     pub fn try_new(
         alloc: Global,
         scalar_fn: ScalarFnRef,
@@ -285,10 +293,10 @@ impl ScalarFnArray {
         ScalarFnArray::try_new_with_len(alloc, scalar_fn, children, len)
     }
 
-    /// The function of these trees, for so many rows.
+    /// Makes a node that applies `scalar_fn` to `children`, with `len` rows.
     ///
-    /// It refuses by the first condition that fails: `InvalidArgument` with `Arity` where the function takes another number
-    /// of arguments, `ChildLen` where a tree has another length, and `NoRow` where the function takes no such types.
+    /// The first condition that fails gives the error: `InvalidArgument` with `Arity` if the function takes another number
+    /// of arguments, `ChildLen` if a child doesn't have `len` rows, and `NoRow` if the function takes no such types.
     #[tactic(auto, using(crate::proofs::Calling::call_count_refused, crate::proofs::Calling::call_lengths_refused, crate::proofs::Calling::call_row_refused, crate::proofs::Calling::call_taken, crate::proofs::Calling::call_made, crate::proofs::Calling::call_is_node))]
     pub fn try_new_with_len(
         alloc: Global,

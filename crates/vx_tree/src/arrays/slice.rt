@@ -1,6 +1,6 @@
-//! A range of another array's rows.
+//! Lazy slices of other arrays.
 
-ghost use Rattle.std.specs.Prelude.{◌≡◌, ◌⊎◌, ◌-◌, ◌≤◌, IfOk, IfErr, OnOk, Some, None, true, refl};
+ghost use Rattle.std.specs.Prelude.{◌≡◌, ◌⊎◌, ◌-◌, ◌≤◌, ◌==◌, IfOk, IfErr, OnOk, Some, None, true, refl};
 ghost use Rattle.vx_value.specs.declared.id.Id.TheVariants as id;
 ghost use Rattle.vx_tree.specs.Tree.{Tree, dtype, len, slice, is_slice, node, slot, no_slots};
 
@@ -9,17 +9,61 @@ use std::alloc::{AllocError, Global};
 use std::ops::Range;
 use vx_value::{ArgKind, DType, Id, VortexError, VortexResult};
 
-/// The tag of the encoding.
+/// The tag of the slice encoding.
 #[derive(Clone, Copy, Debug)]
 pub struct Slice;
 
-/// A range of a child's rows, put off.
+/// A lazy slice of its child.
 pub type SliceArray = Array<Slice>;
 
-/// The rows of the child that are kept: from the start, inclusive, to the end, exclusive.
+/// The data of a slice: the range of the child's rows, from `start`, inclusive, to `end`, exclusive.
 #[derive(Debug, Drop)]
 pub struct SliceData {
     pub range: Range<usize>,
+}
+
+/// The parts of `SliceData`.
+#[derive(Debug, Drop)]
+pub struct SliceDataParts {
+    /// The range of the child's rows, from `start`, inclusive, to `end`, exclusive.
+    pub range: Range<usize>,
+}
+
+impl SliceData {
+    /// Returns the data of a slice of `range`, which isn't checked.
+    pub fn new(range: Range<usize>) -> SliceData
+        ensures { result ≡ record { range = range } }
+    {
+        SliceData { range }
+    }
+
+    /// Returns the number of rows in the range, 0 if it is reversed.
+    pub fn len(&self) -> usize
+        ensures { result ≡ self.now.range.end - self.now.range.start }
+    {
+        self.range.end.saturating_sub(self.range.start)
+    }
+
+    /// Returns whether the range has no rows.
+    pub fn is_empty(&self) -> bool
+        ensures { result ≡ (self.now.range.end - self.now.range.start == 0) }
+    {
+        self.len() == 0
+    }
+
+    /// Returns the range of the child's rows.
+    pub fn slice_range(&self) -> &Range<usize>
+        ensures { result.now ≡ self.now.range }
+    {
+        &self.range
+    }
+
+    /// Returns the parts of the data.
+    pub fn into_parts(self) -> SliceDataParts
+        ensures { result ≡ record { range = self.range } }
+    {
+        SliceDataParts { range: self.range }
+    }
 }
 
 impl Clone for SliceData {
@@ -103,7 +147,7 @@ impl VTable for Slice {
     ghost kind_of = { λ d. refl };
 }
 
-/// Whether a range is in order and in bounds.
+/// Checks that a range is in order and in bounds. `OutOfBounds` unless `start` <= `stop` <= `len`.
 fn check_range(start: usize, stop: usize, len: usize) -> VortexResult<()>
     ensures ok { OnOk result ((start ≤ stop) × (stop ≤ len)) }
     ensures refused { IfErr result (λ e. (e ≡ VortexError.OutOfBounds start stop len) × (¬ ((start ≤ stop) × (stop ≤ len)))) }
@@ -116,7 +160,7 @@ fn check_range(start: usize, stop: usize, len: usize) -> VortexResult<()>
 }
 
 impl SliceArray {
-    /// The rows of a range of the child's.
+    /// Makes the lazy slice of `child` at `range`, which must be in order and in bounds.
     #[tactic(auto, using(crate::proofs::Refusing::slice_is_node))]
     pub fn new(alloc: Global, child: ArrayRef, range: Range<usize>) -> VortexResult<SliceArray>
         requires { (range.start ≤ range.end) × (range.end ≤ len child) }
@@ -137,7 +181,7 @@ impl SliceArray {
         Ok(Array::from_parts_unchecked(alloc, parts)?)
     }
 
-    /// The rows of a range of the child's. `OutOfBounds` exactly unless start <= end <= the child's length.
+    /// Makes the lazy slice of `child` at `range`. `OutOfBounds` exactly unless start <= end <= the child's length.
     pub fn try_new(alloc: Global, child: ArrayRef, range: Range<usize>) -> VortexResult<SliceArray>
         ensures ok { IfOk result (λ a. a ≡ node (dtype child) (range.end - range.start) (slice range.start range.end) (slot child no_slots)) }
         ensures valid { OnOk result ((range.start ≤ range.end) × (range.end ≤ len child)) }

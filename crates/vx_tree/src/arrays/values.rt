@@ -1,4 +1,4 @@
-//! The values of a column of integers.
+//! The values of integer columns.
 
 ghost use Rattle.std.specs.Prelude.{◌≡◌, ◌<◌, ◌≤◌, ℤ, map, length, IfOk, Some, true, slice_get, slice_range, replicate};
 ghost use Rattle.vx_value.specs.IsOf.{in_range};
@@ -67,7 +67,7 @@ fn part_of<T: NativeInteger>(
     Ok(T::wrap(buffer.slice(range)?))
 }
 
-/// The number as one of a type that has it. (own)
+/// Returns `wide` in the type, which must have it in its range. (own)
 pub fn native_of<T: NativeInteger>(wide: i128) -> T
     requires { in_range T.kind wide ≡ true }
     ensures { T.value result ≡ wide }
@@ -93,14 +93,14 @@ fn copies_of<T: NativeInteger>(
 }
 
 impl PrimitiveValues {
-    /// How many there are.
+    /// Returns the number of values.
     pub fn len(&self) -> usize
         ensures { result ≡ length (values_of self.now) }
     {
         by_type!(self, |buffer| buffer.len())
     }
 
-    /// Of which type they are.
+    /// Returns the type of the values.
     pub fn ptype(&self) -> PType
         ensures { result ≡ ptype_of self.now }
     {
@@ -116,7 +116,7 @@ impl PrimitiveValues {
         }
     }
 
-    /// The value at an index, counted from 0. (own)
+    /// Returns the value at `index`, counted from 0. It must be in bounds. (own)
     pub fn wide_at(&self, index: usize) -> i128
         requires { index < length (values_of self.now) }
         ensures value { slice_get (values_of self.now) index ≡ Some result }
@@ -125,7 +125,7 @@ impl PrimitiveValues {
         by_type!(self, |buffer| wide_at(buffer, index))
     }
 
-    /// The values of a range, which share their storage with these.
+    /// Returns the values of `range`, which must be in order and in bounds. They share their storage with these.
     pub fn slice(&self, range: Range<usize>) -> Result<PrimitiveValues, AllocError>
         requires order { range.start ≤ range.end }
         requires bounds { range.end ≤ length (values_of self.now) }
@@ -135,7 +135,7 @@ impl PrimitiveValues {
         by_type!(self, |buffer| part_of(buffer, range))
     }
 
-    /// One number so many times, which takes one allocation. (own)
+    /// Returns `len` times the number `wide`, which must be in the type's range. Takes one allocation. (own)
     pub fn repeat(
         alloc: Global,
         ptype: PType,

@@ -1,8 +1,14 @@
-use Rattle.vx_tree.proofs.Bounding.{cost_positive, function_cost, function_reach}
+use Rattle.vx_tree.proofs.Bounding.{cost_positive, function_cost, function_reach, column_cost, column_reach}
 use Rattle.vx_tree.proofs.laws.execution_bounds.Goals as goal
 
 pub returns-clause-positive : goal.returns-clause-positive
 returns-clause-positive c = cost_positive
+
+pub returns-clause-columns : goal.returns-clause-columns
+returns-clause-columns c = column_cost
+
+pub returns-clause-column_reach : goal.returns-clause-column_reach
+returns-clause-column_reach c = column_reach
 
 pub returns-clause-functions : goal.returns-clause-functions
 returns-clause-functions c = function_cost
