@@ -12,9 +12,7 @@ ghost use Rattle.vx_column.specs.Rows.{integer_at, calculated_rows, compared_row
 use crate::arithmetic::{
     calculate_buffer_with_number, calculate_buffers, calculate_number_with_buffer,
 };
-use crate::comparison::{
-    compare_buffer_with_number, compare_buffers, compare_number_with_buffer,
-};
+use crate::comparison::{compare_buffer_with_number, compare_buffers, compare_number_with_buffer};
 use std::alloc::{AllocError, Global};
 use vx_fn::Operator;
 use vx_mask::BitBuffer;

@@ -109,7 +109,7 @@ move_pop fits fs gs f t u reached split w e =
 
 -- whether the node passes the root's test, or is canonical
 pub reached_root : (fits : Tree → Bool) (u : Tree) → is_reached fits [] u ≡ true → (fits u ≡ true) ⊎ (is_canonical (datum u) ≡ true)
-reached_root fits u h = elim (either_true _ _ h) [ | inl c ↦ inr c | inr m ↦ inl m ]
+reached_root fits u h = elim (either_true _ _ h) [ inl c ↦ inr c | inr m ↦ inl m ]
 
 or_true : (a b : Bool) → b ≡ true → (a || b) ≡ true
 or_true true b h = refl

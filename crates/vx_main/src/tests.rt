@@ -21,7 +21,11 @@ const OUTPUT: &str = "type i32\nencoding vortex.primitive\n3\n4\n5\n";
 
 const CONSTANT: &str = r#"{"enc":"constant","type":"i32","value":7,"len":3}"#;
 
-fn run_five<S: Source, K: Sink>(alloc: Global, source: &mut S, sink: &mut K) -> Result<Status, Fail> {
+fn run_five<S: Source, K: Sink>(
+    alloc: Global,
+    source: &mut S,
+    sink: &mut K,
+) -> Result<Status, Fail> {
     let mut words = Vec::new(alloc);
     words.push(String::from_str(alloc, "run")?)?;
     words.push(String::from_str(alloc, "5")?)?;
@@ -41,7 +45,11 @@ fn is_written(alloc: Global, call: usize) -> Result<bool, Fail> {
     let mut sink = MemSink::new(alloc, 4, [call as u64].to_vec(alloc)?);
     let ended = run_five(alloc, &mut PlainSource::new(INPUT.as_bytes()), &mut sink)?;
     let held = OUTPUT.len().min(call.saturating_mul(4));
-    let status = if held < OUTPUT.len() { Status::WriteFault } else { Status::Done };
+    let status = if held < OUTPUT.len() {
+        Status::WriteFault
+    } else {
+        Status::Done
+    };
     Ok(ended == status && sink.held() == &OUTPUT.as_bytes()[..held])
 }
 
@@ -55,7 +63,10 @@ fn sources_in_pieces_and_failing(rt: HostRuntime) -> Result<(), Fail> {
     for call in 0..10 {
         let bytes = INPUT.as_bytes().to_vec(rt.alloc())?;
         let mut source = MemSource::new(bytes, 16, [call].to_vec(rt.alloc())?);
-        assert!(rt; is_read(rt.alloc(), &mut source, Status::ReadFault)?, "{call}");
+        assert!(rt;
+            is_read(rt.alloc(), &mut source, Status::ReadFault)?,
+            "{call}"
+        );
     }
     Ok(())
 }
@@ -107,7 +118,10 @@ fn system_streams_are_not_tried_again(rt: HostRuntime) -> Result<(), Fail> {
         assert!(rt; is_read(rt.alloc(), &mut source, status)?, "{has_failed}");
     }
     for (has_failed, status) in [(false, Status::WriteFault), (true, Status::Done)] {
-        let mut sink = StdoutSink::new(FailsOnce { bytes: b"", has_failed });
+        let mut sink = StdoutSink::new(FailsOnce {
+            bytes: b"",
+            has_failed,
+        });
         let mut source = PlainSource::new(INPUT.as_bytes());
         let ended = run_five(rt.alloc(), &mut source, &mut sink)?;
         assert!(rt; ended == status, "{has_failed}");
@@ -119,7 +133,11 @@ fn system_streams_are_not_tried_again(rt: HostRuntime) -> Result<(), Fail> {
 fn a_writer_without_room_fails(rt: HostRuntime) -> Result<(), Fail> {
     let mut room = [0u8; 4];
     let mut source = PlainSource::new(INPUT.as_bytes());
-    let ended = run_five(rt.alloc(), &mut source, &mut StdoutSink::new(room.as_mut_slice()))?;
+    let ended = run_five(
+        rt.alloc(),
+        &mut source,
+        &mut StdoutSink::new(room.as_mut_slice()),
+    )?;
     assert!(rt; ended == Status::WriteFault && room == *b"type");
     Ok(())
 }

@@ -9,9 +9,9 @@ ghost use Rattle.vx_step.specs.Waiting.{AreColumns, HoldsColumn, waits, trees_of
 ghost use Rattle.vx_step.specs.Steps.{IsStep, IsStopped, AwaitsAt};
 ghost use Rattle.vx_step.specs.declared.steps.SlotTarget.TheVariants as target;
 
-use vx_column::apply_fn;
 use crate::steps::{ExecutionStep, SlotTarget};
 use std::alloc::{AllocError, Global};
+use vx_column::apply_fn;
 use vx_fn::ScalarFnRef;
 use vx_tree::{AnyColumnar, ArrayRef, Columnar, IntoArray};
 use vx_value::VortexResult;

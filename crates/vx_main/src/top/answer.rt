@@ -4,11 +4,11 @@ ghost use Rattle.std.specs.Prelude.{◌≡◌, IfOk, IfErr, string_bytes};
 ghost use Rattle.vx_main.specs.Statuses.{status_of};
 ghost use Rattle.vx_main.specs.Runs.{Answers, HasNoAnswer};
 
-use vx_exec::{ExecutionCtx, execute};
-use vx_json::tree_of_bytes;
 use crate::top::column_text::column_text;
 use crate::top::status::Status;
 use std::alloc::Global;
+use vx_exec::{ExecutionCtx, execute};
+use vx_json::tree_of_bytes;
 use vx_value::VortexError;
 
 /// The status for an error of a layer below.

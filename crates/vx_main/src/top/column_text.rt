@@ -6,9 +6,9 @@ ghost use Rattle.vx_tree.specs.Tree.{dtype, len, datum, id_of, is_columnar};
 ghost use Rattle.vx_tree.specs.Cells.{rows};
 ghost use Rattle.vx_main.specs.Output.{Shows, IsLawful, head_lines};
 
+use std::alloc::{AllocError, Global};
 use vx_column::execute_scalar;
 use vx_json::push_row;
-use std::alloc::{AllocError, Global};
 use vx_tree::ArrayRef;
 use vx_value::{Scalar, VortexError, VortexResult, type_text};
 

@@ -6,8 +6,17 @@ ghost use Rattle.vx_main.specs.Commands.{texts, command_of, word_command, number
 use vx_exec::DEFAULT_TURNS;
 
 /// What `--help` prints.
-pub const HELP: &str =
-    "usage: vx run [TURNS] < TREE.json\n       vx --help\n       vx --version\n\nReads a tree as JSON on standard input, executes it to a column in at most so\nmany turns, 4194304 where none are given, and prints the type, the encoding and\none line for each row.\n\nstatus 0: done, 2: usage, 3: bad input, 4: fault in a row, 5: turn limit,\n9: out of memory, 10: read fault, 11: write fault, 12: input too large\n";
+pub const HELP: &str = "usage: vx run [TURNS] < TREE.json
+       vx --help
+       vx --version
+
+Reads a tree as JSON on standard input, executes it to a column in at most so
+many turns, 4194304 where none are given, and prints the type, the encoding and
+one line for each row.
+
+status 0: done, 2: usage, 3: bad input, 4: fault in a row, 5: turn limit,
+9: out of memory, 10: read fault, 11: write fault, 12: input too large
+";
 
 /// What `--version` prints.
 pub const VERSION: &str = "vx 0.1.0\n";
