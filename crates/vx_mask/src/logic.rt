@@ -103,7 +103,7 @@ impl BitOperation for BitGte {
 }
 
 impl BitBuffer {
-    /// Applies the operation to each bit and the bit of `other` at the same index; both buffers have one length.
+    /// Applies the operation to each bit and the bit of `other` at the same index. `other` must have the same length.
     /// Fails only if there is no memory for the result. (own)
     pub fn zip<O: BitOperation>(
         &self,

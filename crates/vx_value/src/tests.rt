@@ -7,7 +7,21 @@ use std::hash::{DefaultHasher, Hash, Hasher};
 
 const BOOL: DType = DType::Bool(Nullability::NonNullable);
 
+const U8: DType = DType::Primitive(PType::U8, Nullability::NonNullable);
+
+const U16: DType = DType::Primitive(PType::U16, Nullability::NonNullable);
+
+const U32: DType = DType::Primitive(PType::U32, Nullability::NonNullable);
+
+const U64: DType = DType::Primitive(PType::U64, Nullability::NonNullable);
+
+const I8: DType = DType::Primitive(PType::I8, Nullability::NonNullable);
+
+const I16: DType = DType::Primitive(PType::I16, Nullability::NonNullable);
+
 const I32: DType = DType::Primitive(PType::I32, Nullability::NonNullable);
+
+const I64: DType = DType::Primitive(PType::I64, Nullability::NonNullable);
 
 const NULLABLE_BOOL: DType = DType::Bool(Nullability::Nullable);
 
@@ -27,32 +41,14 @@ const TYPE_TEXTS: [(DType, &str); 11] = [
     (BOOL, "bool"),
     (NULLABLE_BOOL, "bool?"),
     (NULLABLE_I32, "i32?"),
-    (DType::Primitive(PType::U8, Nullability::NonNullable), "u8"),
-    (
-        DType::Primitive(PType::U16, Nullability::NonNullable),
-        "u16",
-    ),
-    (
-        DType::Primitive(PType::U32, Nullability::NonNullable),
-        "u32",
-    ),
-    (
-        DType::Primitive(PType::U64, Nullability::NonNullable),
-        "u64",
-    ),
-    (DType::Primitive(PType::I8, Nullability::NonNullable), "i8"),
-    (
-        DType::Primitive(PType::I16, Nullability::NonNullable),
-        "i16",
-    ),
-    (
-        DType::Primitive(PType::I32, Nullability::NonNullable),
-        "i32",
-    ),
-    (
-        DType::Primitive(PType::I64, Nullability::NonNullable),
-        "i64",
-    ),
+    (U8, "u8"),
+    (U16, "u16"),
+    (U32, "u32"),
+    (U64, "u64"),
+    (I8, "i8"),
+    (I16, "i16"),
+    (I32, "i32"),
+    (I64, "i64"),
 ];
 
 /// For each type the number below its range, its least and its greatest one, and the number above its range.
@@ -79,6 +75,13 @@ const RANGES: [(PType, i128, i128, i128, i128); 8] = [
     ),
 ];
 
+const LESS: Option<Ordering> = Some(Ordering::Less);
+
+const EQUAL: Option<Ordering> = Some(Ordering::Equal);
+
+const GREATER: Option<Ordering> = Some(Ordering::Greater);
+
+/// Two scalars, by type and value, and how they compare.
 const ORDERS: [(
     DType,
     Option<ScalarValue>,
@@ -86,32 +89,14 @@ const ORDERS: [(
     Option<ScalarValue>,
     Option<Ordering>,
 ); 10] = [
-    (NULLABLE_I32, None, NULLABLE_I32, ZERO, Some(Ordering::Less)),
-    (NULLABLE_I32, None, NULLABLE_I32, ONE, Some(Ordering::Less)),
-    (NULLABLE_I32, ZERO, NULLABLE_I32, ONE, Some(Ordering::Less)),
-    (
-        NULLABLE_I32,
-        ONE,
-        NULLABLE_I32,
-        MINUS_ONE,
-        Some(Ordering::Greater),
-    ),
-    (NULLABLE_I32, ONE, NULLABLE_I32, ONE, Some(Ordering::Equal)),
-    (
-        NULLABLE_I32,
-        None,
-        NULLABLE_I32,
-        None,
-        Some(Ordering::Equal),
-    ),
-    (BOOL, FALSE, BOOL, TRUE, Some(Ordering::Less)),
-    (
-        DType::Primitive(PType::U8, Nullability::NonNullable),
-        ONE,
-        DType::Primitive(PType::I8, Nullability::NonNullable),
-        ONE,
-        None,
-    ),
+    (NULLABLE_I32, None, NULLABLE_I32, ZERO, LESS),
+    (NULLABLE_I32, None, NULLABLE_I32, ONE, LESS),
+    (NULLABLE_I32, ZERO, NULLABLE_I32, ONE, LESS),
+    (NULLABLE_I32, ONE, NULLABLE_I32, MINUS_ONE, GREATER),
+    (NULLABLE_I32, ONE, NULLABLE_I32, ONE, EQUAL),
+    (NULLABLE_I32, None, NULLABLE_I32, None, EQUAL),
+    (BOOL, FALSE, BOOL, TRUE, LESS),
+    (U8, ONE, I8, ONE, None),
     (I32, ONE, NULLABLE_I32, ONE, None),
     (NULLABLE_BOOL, None, NULLABLE_I32, None, None),
 ];
@@ -225,7 +210,10 @@ fn is_ordered(left: &Scalar, right: &Scalar, order: Option<Ordering>) -> bool {
 }
 
 fn scalar(dtype: &DType, value: Option<ScalarValue>) -> Option<Scalar> {
-    Scalar::try_new(dtype.clone().ok()?, value).ok()
+    Scalar::try_new(dtype.clone().ok()?, value)
+        .ok()?
+        .clone()
+        .ok()
 }
 
 fn has_order(
