@@ -21,13 +21,13 @@ pub enum Operator {
     Lt,
     /// `lhs <= rhs`.
     Lte,
-    /// `lhs + rhs`, without wrapping.
+    /// `lhs + rhs`. Overflow is a fault.
     Add,
-    /// `lhs - rhs`, without wrapping.
+    /// `lhs - rhs`. Overflow is a fault.
     Sub,
-    /// `lhs * rhs`, without wrapping.
+    /// `lhs * rhs`. Overflow is a fault.
     Mul,
-    /// `lhs / rhs`, truncated toward zero.
+    /// `lhs / rhs`, truncated toward zero. Overflow and a divisor of 0 are faults.
     Div,
 }
 
