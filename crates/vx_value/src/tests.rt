@@ -1,5 +1,6 @@
 use crate::{
-    ArgKind, DType, Id, Nullability, PType, Scalar, ScalarValue, VortexError, fits, type_text,
+    ArgKind, DType, Id, Nullability, PType, Scalar, ScalarValue, VortexError, VortexResult, fits,
+    type_text,
 };
 use std::alloc::AllocError;
 use std::cmp::Ordering;
@@ -51,28 +52,46 @@ const TYPE_TEXTS: [(DType, &str); 11] = [
     (I64, "i64"),
 ];
 
-/// For each type the number below its range, its least and its greatest one, and the number above its range.
-const RANGES: [(PType, i128, i128, i128, i128); 8] = [
-    (PType::U8, -1, 0, 255, 256),
-    (PType::U16, -1, 0, 65535, 65536),
-    (PType::U32, -1, 0, 4294967295, 4294967296),
-    (
-        PType::U64,
-        -1,
-        0,
-        18446744073709551615,
-        18446744073709551616,
-    ),
-    (PType::I8, -129, -128, 127, 128),
-    (PType::I16, -32769, -32768, 32767, 32768),
-    (PType::I32, -2147483649, -2147483648, 2147483647, 2147483648),
-    (
-        PType::I64,
-        -9223372036854775809,
-        -9223372036854775808,
-        9223372036854775807,
-        9223372036854775808,
-    ),
+/// A type, a value, and whether the value is of the type.
+const VALUES: [(DType, Option<ScalarValue>, bool); 38] = [
+    (U8, Some(ScalarValue::Integer(-1)), false),
+    (U8, Some(ScalarValue::Integer(0)), true),
+    (U8, Some(ScalarValue::Integer(255)), true),
+    (U8, Some(ScalarValue::Integer(256)), false),
+    (U16, Some(ScalarValue::Integer(-1)), false),
+    (U16, Some(ScalarValue::Integer(0)), true),
+    (U16, Some(ScalarValue::Integer(65535)), true),
+    (U16, Some(ScalarValue::Integer(65536)), false),
+    (U32, Some(ScalarValue::Integer(-1)), false),
+    (U32, Some(ScalarValue::Integer(0)), true),
+    (U32, Some(ScalarValue::Integer(4294967295)), true),
+    (U32, Some(ScalarValue::Integer(4294967296)), false),
+    (U64, Some(ScalarValue::Integer(-1)), false),
+    (U64, Some(ScalarValue::Integer(0)), true),
+    (U64, Some(ScalarValue::Integer(18446744073709551615)), true),
+    (U64, Some(ScalarValue::Integer(18446744073709551616)), false),
+    (I8, Some(ScalarValue::Integer(-129)), false),
+    (I8, Some(ScalarValue::Integer(-128)), true),
+    (I8, Some(ScalarValue::Integer(127)), true),
+    (I8, Some(ScalarValue::Integer(128)), false),
+    (I16, Some(ScalarValue::Integer(-32769)), false),
+    (I16, Some(ScalarValue::Integer(-32768)), true),
+    (I16, Some(ScalarValue::Integer(32767)), true),
+    (I16, Some(ScalarValue::Integer(32768)), false),
+    (I32, Some(ScalarValue::Integer(-2147483649)), false),
+    (I32, Some(ScalarValue::Integer(-2147483648)), true),
+    (I32, Some(ScalarValue::Integer(2147483647)), true),
+    (I32, Some(ScalarValue::Integer(2147483648)), false),
+    (I64, Some(ScalarValue::Integer(-9223372036854775809)), false),
+    (I64, Some(ScalarValue::Integer(-9223372036854775808)), true),
+    (I64, Some(ScalarValue::Integer(9223372036854775807)), true),
+    (I64, Some(ScalarValue::Integer(9223372036854775808)), false),
+    (NULLABLE_BOOL, TRUE, true),
+    (NULLABLE_BOOL, None, true),
+    (BOOL, None, false),
+    (BOOL, ONE, false),
+    (I32, None, false),
+    (I32, TRUE, false),
 ];
 
 const LESS: Option<Ordering> = Some(Ordering::Less);
@@ -171,28 +190,15 @@ fn is_text(written: Result<String, AllocError>, text: &str) -> bool {
     }
 }
 
-/// Checks whether a scalar of type `dtype` holds `value`, and is refused if not `taken`.
-fn is_taken(dtype: DType, value: Option<ScalarValue>, taken: bool) -> bool {
-    match Scalar::try_new(dtype, value) {
-        Ok(scalar) => taken && scalar.value() == value,
-        Err(e) => !taken && e == VortexError::InvalidArgument(ArgKind::BadValue),
+fn scalar(dtype: &DType, value: Option<ScalarValue>) -> VortexResult<Scalar> {
+    Ok(Scalar::try_new(dtype.clone()?, value)?.clone()?)
+}
+
+fn is_taken(row: &(DType, Option<ScalarValue>, bool)) -> bool {
+    match scalar(&row.0, row.1) {
+        Ok(scalar) => row.2 && scalar.value() == row.1,
+        Err(e) => !row.2 && e == VortexError::InvalidArgument(ArgKind::BadValue),
     }
-}
-
-fn is_in_range(ptype: PType, number: i128, within: bool) -> bool {
-    let dtype = DType::Primitive(ptype, Nullability::NonNullable);
-    is_taken(dtype, Some(ScalarValue::Integer(number)), within)
-}
-
-fn has_range(row: &(PType, i128, i128, i128, i128)) -> bool {
-    is_in_range(row.0, row.1, false)
-        && is_in_range(row.0, row.2, true)
-        && is_in_range(row.0, row.3, true)
-        && is_in_range(row.0, row.4, false)
-}
-
-fn is_read_as(scalar: &Scalar, boolean: Option<bool>, integer: Option<i128>) -> bool {
-    scalar.as_bool() == boolean && scalar.as_integer() == integer
 }
 
 fn hash_of(scalar: &Scalar) -> u64 {
@@ -209,13 +215,6 @@ fn is_ordered(left: &Scalar, right: &Scalar, order: Option<Ordering>) -> bool {
         && (hash_of(left) == hash_of(right)) == equal
 }
 
-fn scalar(dtype: &DType, value: Option<ScalarValue>) -> Option<Scalar> {
-    Scalar::try_new(dtype.clone().ok()?, value)
-        .ok()?
-        .clone()
-        .ok()
-}
-
 fn has_order(
     row: &(
         DType,
@@ -226,7 +225,7 @@ fn has_order(
     ),
 ) -> bool {
     match (scalar(&row.0, row.1), scalar(&row.2, row.3)) {
-        (Some(left), Some(right)) => is_ordered(&left, &right, row.4),
+        (Ok(left), Ok(right)) => is_ordered(&left, &right, row.4),
         _ => false,
     }
 }
@@ -256,21 +255,18 @@ fn error_texts(rt: HostRuntime) {
 
 #[test]
 fn values_of_types(rt: HostRuntime) {
-    for row in &RANGES {
-        assert!(rt; has_range(row), "{}", row.4);
+    for row in &VALUES {
+        assert!(rt; is_taken(row));
     }
-    assert!(rt; is_taken(I32, TRUE, false) && is_taken(BOOL, ONE, false));
-    assert!(rt; is_taken(I32, None, false) && is_taken(BOOL, None, false));
-    assert!(rt; is_taken(NULLABLE_BOOL, TRUE, true) && is_taken(NULLABLE_BOOL, None, true));
 }
 
 #[test]
 fn defaults_of_types(rt: HostRuntime) {
-    assert!(rt; is_read_as(&Scalar::default_value(BOOL), Some(false), None));
-    assert!(rt; is_read_as(&Scalar::default_value(I32), None, Some(0)));
+    assert!(rt; Scalar::default_value(BOOL).as_bool() == Some(false));
+    assert!(rt; Scalar::default_value(I32).as_integer() == Some(0));
     assert!(rt; Scalar::default_value(NULLABLE_I32).is_null());
-    assert!(rt; is_read_as(&Scalar::zero_value(NULLABLE_BOOL), Some(false), None));
-    assert!(rt; is_read_as(&Scalar::null(NULLABLE_I32), None, None));
+    assert!(rt; Scalar::zero_value(NULLABLE_BOOL).as_bool() == Some(false));
+    assert!(rt; Scalar::null(NULLABLE_I32).value() == None);
 }
 
 #[test]
