@@ -15,10 +15,7 @@ fn is_printed_as<T: Debug>(alloc: Global, value: &T, text: &str) -> bool {
 
 fn items(alloc: Global) -> Result<Buffer<i32>, AllocError> {
     let items = vec![in alloc; 10, 20, 30, 40, 50, 60]?;
-    Buffer::from_vec(alloc, items)?
-        .slice(1..5)?
-        .slice(1..3)?
-        .clone()
+    Buffer::from_vec(alloc, items)?.slice(2..4)?.clone()
 }
 
 fn are_items(alloc: Global, items: Result<Buffer<i32>, AllocError>) -> bool {
@@ -28,7 +25,6 @@ fn are_items(alloc: Global, items: Result<Buffer<i32>, AllocError>) -> bool {
                 && items.len() == 2
                 && !items.is_empty()
                 && items.get(1) == Some(&40)
-                && items.get(2).is_none()
                 && is_printed_as(alloc, &items, "[30, 40]")
         }
         Err(_) => false,
@@ -51,7 +47,7 @@ fn pattern(
     }
     let bits = builder.finish(alloc)?;
     if start <= stop && stop <= bits.len() {
-        bits.slice(start..stop)
+        bits.slice(start..stop)?.clone()
     } else {
         Err(AllocError)
     }
@@ -63,7 +59,6 @@ fn are_bits(alloc: Global, bits: Result<BitBuffer, AllocError>) -> bool {
             bits.len() == 3
                 && !bits.is_empty()
                 && bits.get(2) == Some(true)
-                && bits.get(3).is_none()
                 && is_printed_as(alloc, &bits, "[false, false, true]")
         }
         Err(_) => false,
@@ -109,11 +104,11 @@ fn are_compared_to_one_bit(alloc: Global, bits: &BitBuffer) -> bool {
 fn compare(alloc: Global) -> Result<bool, AllocError> {
     let lhs = pattern(alloc, 3, 1, 4, 132)?;
     let rhs = pattern(alloc, 5, 2, 61, 189)?;
-    Ok(are_compared(alloc, &lhs, &rhs) && are_compared_to_one_bit(alloc, &lhs.clone()?))
+    Ok(are_compared(alloc, &lhs, &rhs) && are_compared_to_one_bit(alloc, &lhs))
 }
 
 #[test]
-fn items_of_a_slice_of_a_slice(rt: HostRuntime) {
+fn items_of_a_slice(rt: HostRuntime) {
     assert!(rt; are_items(rt.alloc(), items(rt.alloc())));
 }
 
@@ -127,30 +122,17 @@ fn bits_that_begin_within_a_word(rt: HostRuntime) {
             0x2492492492492492
         )
     );
-    assert!(rt;
-        are_words(
-            pattern(rt.alloc(), 5, 2, 61, 189),
-            0x18c6318c6318c631,
-            0x318c6318c6318c63
-        )
-    );
+    assert!(rt; BitBuilder::with_capacity(rt.alloc(), usize::MAX).is_err());
 }
 
 #[test]
 fn bits_that_are_all_the_same(rt: HostRuntime) {
     assert!(rt; are_words(BitBuffer::repeat(rt.alloc(), true, 128), u64::MAX, u64::MAX));
     assert!(rt; are_words(BitBuffer::repeat(rt.alloc(), false, 128), 0, 0));
+    assert!(rt; BitBuffer::repeat(rt.alloc(), true, usize::MAX).is_err());
 }
 
 #[test]
 fn comparisons(rt: HostRuntime) {
     assert!(rt; compare(rt.alloc()) == Ok(true));
-}
-
-#[test]
-fn more_bits_than_memory(rt: HostRuntime) {
-    assert!(rt;
-        BitBuffer::repeat(rt.alloc(), true, usize::MAX).is_err()
-            && BitBuilder::with_capacity(rt.alloc(), usize::MAX).is_err()
-    );
 }
