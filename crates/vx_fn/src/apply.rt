@@ -1,4 +1,4 @@
-//! The value of a function's row.
+//! Applying functions to a row.
 
 ghost use Rattle.std.specs.Prelude.{◌≡◌, map, IfOk, IfErr, IsSome, Some, None, MatchOption, ◌∷◌, [], true};
 ghost use Rattle.vx_value.specs.Types.{DataType, bool, primitive, same_type};
@@ -12,9 +12,9 @@ use crate::function::{Operator, ScalarFnRef};
 use std::cmp::Ordering;
 use vx_value::{DType, Nullability, PType, Scalar, ScalarValue, VortexError, VortexResult};
 
-/// The value that a function gives on these arguments, which are of types that it takes. It takes no memory.
+/// Applies `function` to `arguments`, one row of each, without allocating. The function must accept their types.
 ///
-/// `Fault` exactly where it gives none: where the result isn't of its type, and where a divisor is 0. (own)
+/// Returns `Fault` exactly if the row has no value: the result is out of its type's range, or a divisor is 0. (own)
 pub fn apply_row(function: &ScalarFnRef, arguments: &[Scalar]) -> VortexResult<Scalar>
     requires { IsSome (return_type function.now (map (λ s. s.of_type) arguments.now)) }
     ensures typed { IfOk result (λ s. return_type function.now (map (λ s. s.of_type) arguments.now) ≡ Some s.of_type) }
@@ -30,7 +30,7 @@ pub fn apply_row(function: &ScalarFnRef, arguments: &[Scalar]) -> VortexResult<S
     }
 }
 
-/// The value that an operator gives on two arguments, which are of types that it takes.
+/// Applies `operator` to two arguments, whose types it must accept.
 fn operate(operator: Operator, lhs: &Scalar, rhs: &Scalar) -> VortexResult<Scalar>
     requires { IsSome (binary_type operator (lhs.now.of_type ∷ rhs.now.of_type ∷ [])) }
     ensures typed { IfOk result (λ s. binary_type operator (lhs.now.of_type ∷ rhs.now.of_type ∷ []) ≡ Some s.of_type) }
@@ -49,7 +49,7 @@ fn operate(operator: Operator, lhs: &Scalar, rhs: &Scalar) -> VortexResult<Scala
     }
 }
 
-/// Whether a comparison holds of two values of one type.
+/// Compares two values of one type.
 fn compare(operator: Operator, lhs: &Scalar, rhs: &Scalar) -> VortexResult<Scalar>
     requires { same_type lhs.now.of_type rhs.now.of_type ≡ true }
     ensures { result ≡ Ok (record {
@@ -63,7 +63,7 @@ fn compare(operator: Operator, lhs: &Scalar, rhs: &Scalar) -> VortexResult<Scala
     }
 }
 
-/// The other boolean, of an argument of a type that is negated.
+/// Negates a boolean.
 fn negate(argument: &Scalar) -> VortexResult<Scalar>
     requires { IsSome (negated_type argument.now.of_type) }
     ensures ok { IfOk result (λ s. (negated_type argument.now.of_type ≡ Some s.of_type)
@@ -76,7 +76,7 @@ fn negate(argument: &Scalar) -> VortexResult<Scalar>
     }
 }
 
-/// A boolean, of the type that can't be null.
+/// Returns a boolean of the non-nullable type.
 fn truth(value: bool) -> VortexResult<Scalar>
     ensures { result ≡ Ok (record { of_type = bool Nullability.NonNullable; value = boolean value }) }
 {
@@ -86,7 +86,7 @@ fn truth(value: bool) -> VortexResult<Scalar>
     )
 }
 
-/// Whether a comparison holds of two values, by which comes first.
+/// Checks whether a comparison holds of two values that compare as `ordering`.
 fn holds(operator: Operator, ordering: Ordering) -> bool
     ensures { result ≡ holds operator ordering }
 {
@@ -101,7 +101,7 @@ fn holds(operator: Operator, ordering: Ordering) -> bool
     }
 }
 
-/// What an operator gives on two numbers, of their type.
+/// Applies `operator` to two integers of type `ptype`.
 fn calculate(operator: Operator, ptype: PType, x: i128, y: i128) -> VortexResult<Scalar>
     ensures ok { IfOk result (λ s. (s.of_type ≡ primitive ptype Nullability.NonNullable)
         × (calculated operator ptype x y ≡ value s.value)) }
@@ -113,7 +113,7 @@ fn calculate(operator: Operator, ptype: PType, x: i128, y: i128) -> VortexResult
     }
 }
 
-/// The number as a value of the type.
+/// Returns `z` as a value of type `ptype`, or `Fault` if it is out of the type's range.
 fn number(ptype: PType, z: i128) -> VortexResult<Scalar>
     ensures ok { IfOk result (λ s. (s.of_type ≡ primitive ptype Nullability.NonNullable)
         × (number ptype z ≡ value s.value)) }
@@ -128,7 +128,7 @@ fn number(ptype: PType, z: i128) -> VortexResult<Scalar>
     }
 }
 
-/// What an operator gives on two numbers, None where no type has it.
+/// Applies `operator` to two integers; `None` if no type has the result.
 fn exactly(operator: Operator, x: i128, y: i128) -> Option<i128>
     ensures { (p : PType) → MatchOption result (calculated operator p x y ≡ fault) (λ z. calculated operator p x y ≡ number p z) }
 {
@@ -142,7 +142,7 @@ fn exactly(operator: Operator, x: i128, y: i128) -> Option<i128>
     }
 }
 
-/// The first by the second, toward zero, None where no type has it.
+/// `x / y` truncated toward zero; `None` on division by zero or overflow.
 fn quotient(x: i128, y: i128) -> Option<i128>
     ensures { (p : PType) → MatchOption result (quotient p x y ≡ fault) (λ z. quotient p x y ≡ number p z) }
 {

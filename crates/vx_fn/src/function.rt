@@ -1,4 +1,4 @@
-//! The functions, as in the original's `scalar_fn` module.
+//! Scalar functions, as in the original's `scalar_fn` module.
 
 ghost use Rattle.std.specs.Prelude.{◌≡◌, ◌==◌, ℕ, option_map, slice_get};
 ghost use Rattle.vx_fn.specs.Functions.{function_id, arity, argument_names};
@@ -6,33 +6,33 @@ ghost use Rattle.vx_fn.specs.ReturnTypes.{is_comparison};
 
 use vx_value::Id;
 
-/// A function of two arguments, written between them.
+/// A binary operator.
 #[derive(Clone, Copy, Debug, PartialEq, Eq, Hash)]
 pub enum Operator {
-    /// Whether they are equal.
+    /// `lhs == rhs`.
     Eq,
-    /// Whether they differ.
+    /// `lhs != rhs`.
     NotEq,
-    /// Whether the first is above the second.
+    /// `lhs > rhs`.
     Gt,
-    /// Whether the first isn't below the second.
+    /// `lhs >= rhs`.
     Gte,
-    /// Whether the first is below the second.
+    /// `lhs < rhs`.
     Lt,
-    /// Whether the first isn't above the second.
+    /// `lhs <= rhs`.
     Lte,
-    /// Their sum.
+    /// `lhs + rhs`. Overflow is a fault.
     Add,
-    /// The first less the second.
+    /// `lhs - rhs`. Overflow is a fault.
     Sub,
-    /// Their product.
+    /// `lhs * rhs`. Overflow is a fault.
     Mul,
-    /// The first by the second, toward zero.
+    /// `lhs / rhs`, truncated toward zero. Overflow and a divisor of 0 are faults.
     Div,
 }
 
 impl Operator {
-    /// Whether it compares, so that its result is a boolean. (own)
+    /// Checks whether the operator is a comparison, whose result is a boolean. (own)
     pub fn is_comparison(self) -> bool
         ensures { result ≡ is_comparison self }
     {
@@ -44,24 +44,24 @@ impl Operator {
     }
 }
 
-/// A function that gives a value for each row of its arguments.
+/// A scalar function: computes one value for each row of its arguments.
 #[derive(Clone, Copy, Debug, PartialEq, Eq, Hash)]
 pub enum ScalarFnRef {
-    /// An operator.
+    /// A binary operator, of the arguments `lhs` and `rhs`.
     Binary(Operator),
-    /// The other boolean.
+    /// The negation of a boolean, the argument `input`.
     Not,
 }
 
-/// How many arguments a function takes.
+/// The number of arguments that a function takes.
 #[derive(Clone, Copy, Debug, PartialEq, Eq)]
 pub enum Arity {
-    /// So many, and no other number.
+    /// Exactly this number.
     Exact(usize),
 }
 
 impl Arity {
-    /// Whether so many arguments are taken.
+    /// Checks whether the function takes `arguments` arguments.
     pub fn matches(self, arguments: usize) -> bool
         ensures { (n : ℕ) → self ≡ Arity.Exact n → result ≡ (arguments == n) }
     {
@@ -72,7 +72,7 @@ impl Arity {
 }
 
 impl ScalarFnRef {
-    /// The id of the function.
+    /// Returns the function's id.
     pub fn id(&self) -> Id
         ensures { result ≡ function_id self.now }
     {
@@ -82,7 +82,8 @@ impl ScalarFnRef {
         }
     }
 
-    /// What an argument is called, counted from 0: `lhs` and `rhs`, or `input`. None where the function takes no such one.
+    /// Returns the name of the argument at `index`, counted from 0: `lhs` and `rhs`, or `input`. Returns `None` if the
+    /// function has no such argument.
     pub fn child_name(&self, index: usize) -> Option<&'static str>
         ensures { option_map (λ s. s.now) result ≡ slice_get (argument_names self.now) index }
     {
@@ -94,7 +95,7 @@ impl ScalarFnRef {
         }
     }
 
-    /// How many arguments it takes.
+    /// Returns the number of arguments that the function takes.
     pub fn arity(&self) -> Arity
         ensures { result ≡ Arity.Exact (arity self.now) }
     {

@@ -1,4 +1,4 @@
-//! Functions of a row: what they are called, which types they take, and which value they give.
+//! Scalar functions: their ids, their types and their values, one row at a time.
 #![tactic(auto)]
 
 mod apply;

@@ -1,4 +1,4 @@
-//! The type of a function's result.
+//! The types of functions' results.
 
 ghost use Rattle.std.specs.Prelude.{◌≡◌, ◌⊎◌, map, IfOk, IfErr, Some, None, option_map, ◌∷◌, []};
 ghost use Rattle.vx_value.specs.View.{type_of};
@@ -8,11 +8,13 @@ use crate::function::{Operator, ScalarFnRef};
 use vx_value::{ArgKind, DType, Nullability, VortexError, VortexResult};
 
 impl ScalarFnRef {
-    /// The type of the result, by the types of the arguments.
+    /// Returns the type of the result if the arguments have the types `arguments`.
     ///
-    /// Two booleans, and two integers of one type, compare to a boolean; two integers of one type are added, subtracted,
-    /// multiplied and divided to that type; a boolean is negated. Null is among the values of none of these types.
-    /// `InvalidArgument` with `NoRow` exactly where the function takes no such arguments.
+    /// Comparisons accept two booleans or two integers of one type, and return a boolean. Arithmetic accepts two
+    /// integers of one type, and returns that type. `Not` accepts a boolean, and returns one. Only non-nullable types
+    /// are accepted so far.
+    ///
+    /// Returns `InvalidArgument` with `NoRow` exactly if the function doesn't accept these arguments.
     pub fn return_dtype(&self, arguments: &[DType]) -> VortexResult<DType>
         ensures ok { IfOk result (λ t. return_type self.now (map type_of arguments.now) ≡ Some (type_of t)) }
         ensures refused { IfErr result (λ e. (e ≡ VortexError.InvalidArgument ArgKind.NoRow)
@@ -25,7 +27,7 @@ impl ScalarFnRef {
     }
 }
 
-/// The type of a function's result, None where it takes no such arguments.
+/// Returns the type of a function's result, or `None` if it doesn't accept the arguments.
 fn type_in_row(function: &ScalarFnRef, arguments: &[DType]) -> Option<DType>
     ensures { option_map type_of result ≡ return_type function.now (map type_of arguments.now) }
 {
@@ -38,7 +40,7 @@ fn type_in_row(function: &ScalarFnRef, arguments: &[DType]) -> Option<DType>
     }
 }
 
-/// The type of an operator's result, None where it takes no such arguments.
+/// Returns the type of an operator's result, or `None` if it doesn't accept the arguments.
 #[tactic(auto, using(crate::proofs::Typing::of_one_type))]
 fn binary_type(operator: Operator, lhs: &DType, rhs: &DType) -> Option<DType>
     ensures { option_map type_of result ≡ binary_type operator (type_of lhs.now ∷ type_of rhs.now ∷ []) }
@@ -50,7 +52,7 @@ fn binary_type(operator: Operator, lhs: &DType, rhs: &DType) -> Option<DType>
     }
 }
 
-/// The type of an operator's result on two arguments of one type, None where it takes none of that type.
+/// Returns the type of an operator's result on two arguments of type `dtype`, or `None` if it doesn't accept them.
 fn operator_type(operator: Operator, dtype: &DType) -> Option<DType>
     ensures { option_map type_of result ≡ operator_type operator (type_of dtype.now) }
 {

@@ -1,9 +1,7 @@
-ghost use Rattle.std.specs.Prelude.{◌≡◌, IfOk, IsTrue};
+ghost use Rattle.std.specs.Prelude.{◌≡◌, IfOk};
 ghost use Rattle.vx_value.specs.Types.{primitive};
-ghost use Rattle.vx_fn.specs.ReturnTypes.{is_comparison};
 
 use crate::{Arity, Operator, ScalarFnRef, apply_row};
-use std::test::Fail;
 use vx_value::{
     ArgKind, DType, Id, Nullability, PType, Scalar, ScalarValue, VortexError, VortexResult,
 };
@@ -18,6 +16,174 @@ const U32: DType = DType::Primitive(PType::U32, Nullability::NonNullable);
 
 const NULLABLE_I32: DType = DType::Primitive(PType::I32, Nullability::Nullable);
 
+const ADD: ScalarFnRef = ScalarFnRef::Binary(Operator::Add);
+
+const EQ: ScalarFnRef = ScalarFnRef::Binary(Operator::Eq);
+
+const LT: ScalarFnRef = ScalarFnRef::Binary(Operator::Lt);
+
+const FALSE: Option<ScalarValue> = Some(ScalarValue::Bool(false));
+
+const TRUE: Option<ScalarValue> = Some(ScalarValue::Bool(true));
+
+/// A function, the types of its arguments, and the type of its result, or `None` if it doesn't accept them.
+const TYPES: [(ScalarFnRef, &[DType], Option<DType>); 17] = [
+    (ADD, &[I32, I32], Some(I32)),
+    (LT, &[I32, I32], Some(BOOL)),
+    (LT, &[BOOL, BOOL], Some(BOOL)),
+    (ScalarFnRef::Not, &[BOOL], Some(BOOL)),
+    (ADD, &[], None),
+    (ADD, &[I32], None),
+    (ADD, &[I32, I32, I32], None),
+    (ADD, &[I32, U32], None),
+    (EQ, &[I32, U32], None),
+    (EQ, &[BOOL, I32], None),
+    (ADD, &[BOOL, BOOL], None),
+    (ADD, &[NULLABLE_I32, NULLABLE_I32], None),
+    (EQ, &[NULLABLE_BOOL, NULLABLE_BOOL], None),
+    (EQ, &[I32, NULLABLE_I32], None),
+    (ScalarFnRef::Not, &[I32], None),
+    (ScalarFnRef::Not, &[NULLABLE_BOOL], None),
+    (ScalarFnRef::Not, &[BOOL, BOOL], None),
+];
+
+/// An operator, the type of two integers, the integers, and the result, or `None` for a fault.
+const VALUES: [(Operator, PType, i128, i128, Option<ScalarValue>); 59] = [
+    (
+        Operator::Add,
+        PType::U8,
+        200,
+        55,
+        Some(ScalarValue::Integer(255)),
+    ),
+    (
+        Operator::Sub,
+        PType::I16,
+        3,
+        10,
+        Some(ScalarValue::Integer(-7)),
+    ),
+    (
+        Operator::Mul,
+        PType::I64,
+        -3,
+        5,
+        Some(ScalarValue::Integer(-15)),
+    ),
+    (
+        Operator::Div,
+        PType::I32,
+        -7,
+        2,
+        Some(ScalarValue::Integer(-3)),
+    ),
+    (
+        Operator::Div,
+        PType::I32,
+        7,
+        -2,
+        Some(ScalarValue::Integer(-3)),
+    ),
+    (
+        Operator::Div,
+        PType::I32,
+        -7,
+        -2,
+        Some(ScalarValue::Integer(3)),
+    ),
+    (
+        Operator::Div,
+        PType::U8,
+        7,
+        2,
+        Some(ScalarValue::Integer(3)),
+    ),
+    (Operator::Add, PType::U8, 200, 100, None),
+    (Operator::Sub, PType::U8, 0, 1, None),
+    (Operator::Mul, PType::I16, 256, 128, None),
+    (Operator::Div, PType::I8, -128, -1, None),
+    (Operator::Div, PType::I32, 1, 0, None),
+    (Operator::Div, PType::I32, 0, 0, None),
+    (Operator::Add, PType::U8, 255, 1, None),
+    (Operator::Sub, PType::U8, 0, 1, None),
+    (Operator::Mul, PType::U8, 255, 255, None),
+    (Operator::Add, PType::U16, 65535, 1, None),
+    (Operator::Sub, PType::U16, 0, 1, None),
+    (Operator::Mul, PType::U16, 65535, 65535, None),
+    (Operator::Add, PType::U32, 4294967295, 1, None),
+    (Operator::Sub, PType::U32, 0, 1, None),
+    (Operator::Mul, PType::U32, 4294967295, 4294967295, None),
+    (Operator::Add, PType::U64, 18446744073709551615, 1, None),
+    (Operator::Sub, PType::U64, 0, 1, None),
+    (
+        Operator::Mul,
+        PType::U64,
+        18446744073709551615,
+        18446744073709551615,
+        None,
+    ),
+    (Operator::Add, PType::I8, 127, 1, None),
+    (Operator::Sub, PType::I8, -128, 1, None),
+    (Operator::Mul, PType::I8, 127, 127, None),
+    (Operator::Div, PType::I8, -128, -1, None),
+    (Operator::Add, PType::I16, 32767, 1, None),
+    (Operator::Sub, PType::I16, -32768, 1, None),
+    (Operator::Mul, PType::I16, 32767, 32767, None),
+    (Operator::Div, PType::I16, -32768, -1, None),
+    (Operator::Add, PType::I32, 2147483647, 1, None),
+    (Operator::Sub, PType::I32, -2147483648, 1, None),
+    (Operator::Mul, PType::I32, 2147483647, 2147483647, None),
+    (Operator::Div, PType::I32, -2147483648, -1, None),
+    (Operator::Add, PType::I64, 9223372036854775807, 1, None),
+    (Operator::Sub, PType::I64, -9223372036854775808, 1, None),
+    (
+        Operator::Mul,
+        PType::I64,
+        9223372036854775807,
+        9223372036854775807,
+        None,
+    ),
+    (Operator::Div, PType::I64, -9223372036854775808, -1, None),
+    (Operator::Eq, PType::I32, -3, 5, FALSE),
+    (Operator::Eq, PType::I32, 5, 5, TRUE),
+    (Operator::Eq, PType::I32, 5, -3, FALSE),
+    (Operator::NotEq, PType::I32, -3, 5, TRUE),
+    (Operator::NotEq, PType::I32, 5, 5, FALSE),
+    (Operator::NotEq, PType::I32, 5, -3, TRUE),
+    (Operator::Gt, PType::I32, -3, 5, FALSE),
+    (Operator::Gt, PType::I32, 5, 5, FALSE),
+    (Operator::Gt, PType::I32, 5, -3, TRUE),
+    (Operator::Gte, PType::I32, -3, 5, FALSE),
+    (Operator::Gte, PType::I32, 5, 5, TRUE),
+    (Operator::Gte, PType::I32, 5, -3, TRUE),
+    (Operator::Lt, PType::I32, -3, 5, TRUE),
+    (Operator::Lt, PType::I32, 5, 5, FALSE),
+    (Operator::Lt, PType::I32, 5, -3, FALSE),
+    (Operator::Lte, PType::I32, -3, 5, TRUE),
+    (Operator::Lte, PType::I32, 5, 5, TRUE),
+    (Operator::Lte, PType::I32, 5, -3, FALSE),
+];
+
+fn has_names(
+    function: &ScalarFnRef,
+    id: Id,
+    arity: usize,
+    first: &str,
+    second: Option<&str>,
+) -> bool {
+    function.id() == id
+        && function.arity() == Arity::Exact(arity)
+        && function.child_name(0) == Some(first)
+        && function.child_name(1) == second
+}
+
+fn has_type(row: &(ScalarFnRef, &[DType], Option<DType>)) -> bool {
+    match row.0.return_dtype(row.1) {
+        Ok(dtype) => row.2 == Some(dtype),
+        Err(e) => row.2.is_none() && e == VortexError::InvalidArgument(ArgKind::NoRow),
+    }
+}
+
 fn integer(ptype: PType, number: i128) -> VortexResult<Scalar>
     ensures { IfOk result (λ s. s.of_type ≡ primitive ptype Nullability.NonNullable) }
 {
@@ -28,181 +194,47 @@ fn integer(ptype: PType, number: i128) -> VortexResult<Scalar>
 }
 
 #[tactic(auto, using(crate::proofs::Typing::takes_numbers))]
-fn of_numbers(operator: Operator, ptype: PType, x: i128, y: i128) -> VortexResult<Scalar> {
+fn operate(operator: Operator, ptype: PType, x: i128, y: i128) -> VortexResult<Scalar> {
     let lhs = integer(ptype, x)?;
     let rhs = integer(ptype, y)?;
     apply_row(&ScalarFnRef::Binary(operator), &[lhs, rhs])
 }
 
-fn of_booleans(operator: Operator, x: bool, y: bool) -> VortexResult<Scalar>
-    requires { IsTrue (is_comparison operator) }
-{
-    let lhs = Scalar::try_new(BOOL, Some(ScalarValue::Bool(x)))?;
-    let rhs = Scalar::try_new(BOOL, Some(ScalarValue::Bool(y)))?;
-    apply_row(&ScalarFnRef::Binary(operator), &[lhs, rhs])
+fn has_value(row: &(Operator, PType, i128, i128, Option<ScalarValue>)) -> bool {
+    match operate(row.0, row.1, row.2, row.3) {
+        Ok(scalar) => scalar.value() == row.4,
+        Err(e) => row.4.is_none() && e == VortexError::Fault,
+    }
 }
 
-fn is_number(answer: VortexResult<Scalar>, ptype: PType, number: i128) -> bool {
-    match answer {
-        Ok(scalar) => {
-            scalar.as_integer() == Some(number)
-                && *scalar.dtype() == DType::Primitive(ptype, Nullability::NonNullable)
-        }
+fn is_negated(boolean: bool) -> bool {
+    match Scalar::try_new(BOOL, Some(ScalarValue::Bool(boolean))) {
+        Ok(argument) => match apply_row(&ScalarFnRef::Not, &[argument]) {
+            Ok(scalar) => scalar.as_bool() == Some(!boolean),
+            Err(_) => false,
+        },
         Err(_) => false,
-    }
-}
-
-fn is_boolean(answer: VortexResult<Scalar>, boolean: bool) -> bool {
-    match answer {
-        Ok(scalar) => scalar.as_bool() == Some(boolean) && *scalar.dtype() == BOOL,
-        Err(_) => false,
-    }
-}
-
-fn is_fault(answer: VortexResult<Scalar>) -> bool {
-    match answer {
-        Ok(_) => false,
-        Err(e) => e == VortexError::Fault,
-    }
-}
-
-fn is_refused(answer: VortexResult<DType>) -> bool {
-    match answer {
-        Ok(_) => false,
-        Err(e) => e == VortexError::InvalidArgument(ArgKind::NoRow),
     }
 }
 
 #[test]
 fn ids_and_arities(rt: HostRuntime) {
-    let add = ScalarFnRef::Binary(Operator::Add);
-    assert!(rt; add.id() == Id::Binary && ScalarFnRef::Not.id() == Id::Not);
-    assert!(rt; add.arity() == Arity::Exact(2) && ScalarFnRef::Not.arity() == Arity::Exact(1));
-    assert!(rt; add.child_name(0) == Some("lhs") && add.child_name(1) == Some("rhs"));
-    assert!(rt; add.child_name(2) == None && ScalarFnRef::Not.child_name(0) == Some("input"));
-    assert!(rt; add.arity().matches(2) && !add.arity().matches(1) && !add.arity().matches(3));
-    assert!(rt; Operator::Lte.is_comparison() && !Operator::Mul.is_comparison());
+    assert!(rt; has_names(&ADD, Id::Binary, 2, "lhs", Some("rhs")));
+    assert!(rt; has_names(&ScalarFnRef::Not, Id::Not, 1, "input", None));
+    assert!(rt; Arity::Exact(2).matches(2) && Operator::Lte.is_comparison());
 }
 
 #[test]
-fn types_of_results(rt: HostRuntime) -> Result<(), Fail> {
-    let add = ScalarFnRef::Binary(Operator::Add);
-    let less = ScalarFnRef::Binary(Operator::Lt);
-    assert!(rt; add.return_dtype(&[I32, I32])? == I32);
-    assert!(rt; less.return_dtype(&[I32, I32])? == BOOL);
-    assert!(rt; less.return_dtype(&[BOOL, BOOL])? == BOOL);
-    assert!(rt; ScalarFnRef::Not.return_dtype(&[BOOL])? == BOOL);
-    Ok(())
-}
-
-#[test]
-fn types_refused(rt: HostRuntime) {
-    let add = ScalarFnRef::Binary(Operator::Add);
-    let equal = ScalarFnRef::Binary(Operator::Eq);
-    assert!(rt; is_refused(add.return_dtype(&[])) && is_refused(add.return_dtype(&[I32])));
-    assert!(rt; is_refused(add.return_dtype(&[I32, I32, I32])));
-    assert!(rt; is_refused(add.return_dtype(&[I32, U32])));
-    assert!(rt; is_refused(equal.return_dtype(&[I32, U32])));
-    assert!(rt; is_refused(equal.return_dtype(&[BOOL, I32])));
-    assert!(rt; is_refused(add.return_dtype(&[BOOL, BOOL])));
-    assert!(rt; is_refused(add.return_dtype(&[NULLABLE_I32, NULLABLE_I32])));
-    assert!(rt; is_refused(equal.return_dtype(&[NULLABLE_BOOL, NULLABLE_BOOL])));
-    assert!(rt; is_refused(equal.return_dtype(&[I32, NULLABLE_I32])));
-    assert!(rt; is_refused(ScalarFnRef::Not.return_dtype(&[I32])));
-    assert!(rt; is_refused(ScalarFnRef::Not.return_dtype(&[NULLABLE_BOOL])));
-    assert!(rt; is_refused(ScalarFnRef::Not.return_dtype(&[BOOL, BOOL])));
-}
-
-#[test]
-fn numbers(rt: HostRuntime) {
-    for (operator, ptype, x, y, number) in [
-        (Operator::Add, PType::U8, 200, 55, 255),
-        (Operator::Sub, PType::I16, 3, 10, -7),
-        (Operator::Mul, PType::I64, -3, 5, -15),
-        (Operator::Div, PType::I32, -7, 2, -3),
-        (Operator::Div, PType::I32, 7, -2, -3),
-        (Operator::Div, PType::I32, -7, -2, 3),
-        (Operator::Div, PType::U8, 7, 2, 3),
-    ] {
-        let answer = of_numbers(operator, ptype, x, y);
-        assert!(rt; is_number(answer, ptype, number), "{x}, {y}");
-    }
-    for (operator, ptype, x, y) in [
-        (Operator::Add, PType::U8, 200, 100),
-        (Operator::Sub, PType::U8, 0, 1),
-        (Operator::Mul, PType::I16, 256, 128),
-        (Operator::Div, PType::I8, -128, -1),
-        (Operator::Div, PType::I32, 1, 0),
-        (Operator::Div, PType::I32, 0, 0),
-    ] {
-        assert!(rt; is_fault(of_numbers(operator, ptype, x, y)), "{x}, {y}");
+fn types_of_results(rt: HostRuntime) {
+    for row in &TYPES {
+        assert!(rt; has_type(row));
     }
 }
 
 #[test]
-fn numbers_at_the_ends(rt: HostRuntime) {
-    for (ptype, least, greatest) in [
-        (PType::U8, 0, 255),
-        (PType::U16, 0, 65535),
-        (PType::U32, 0, 4294967295),
-        (PType::U64, 0, 18446744073709551615),
-        (PType::I8, -128, 127),
-        (PType::I16, -32768, 32767),
-        (PType::I32, -2147483648, 2147483647),
-        (PType::I64, -9223372036854775808, 9223372036854775807),
-    ] {
-        for (operator, x, y) in [
-            (Operator::Add, greatest, 1),
-            (Operator::Sub, least, 1),
-            (Operator::Mul, greatest, greatest),
-        ] {
-            assert!(rt; is_fault(of_numbers(operator, ptype, x, y)), "{x}, {y}");
-        }
-        if least < 0 {
-            assert!(rt;
-                is_fault(of_numbers(Operator::Div, ptype, least, -1)),
-                "{least}"
-            );
-        }
-        let none = of_numbers(Operator::Sub, ptype, greatest, greatest);
-        assert!(rt; is_number(none, ptype, 0), "{greatest}");
-        let same = of_numbers(Operator::Add, ptype, least, 0);
-        assert!(rt; is_number(same, ptype, least), "{least}");
+fn values_of_rows(rt: HostRuntime) {
+    for row in &VALUES {
+        assert!(rt; has_value(row), "{}, {}", row.2, row.3);
     }
-}
-
-#[test]
-fn comparisons(rt: HostRuntime) {
-    for (operator, below, same, above) in [
-        (Operator::Eq, false, true, false),
-        (Operator::NotEq, true, false, true),
-        (Operator::Gt, false, false, true),
-        (Operator::Gte, false, true, true),
-        (Operator::Lt, true, false, false),
-        (Operator::Lte, true, true, false),
-    ] {
-        for (x, y, holds) in [(-3, 5, below), (5, 5, same), (5, -3, above)] {
-            let answer = of_numbers(operator, PType::I32, x, y);
-            assert!(rt; is_boolean(answer, holds), "{x}, {y}");
-        }
-        for (x, y, holds) in [
-            (false, true, below),
-            (true, true, same),
-            (true, false, above),
-        ] {
-            if operator.is_comparison() {
-                assert!(rt; is_boolean(of_booleans(operator, x, y), holds), "{x}, {y}");
-            }
-        }
-    }
-}
-
-#[test]
-fn negation(rt: HostRuntime) -> Result<(), Fail> {
-    for boolean in [false, true] {
-        let argument = Scalar::try_new(BOOL, Some(ScalarValue::Bool(boolean)))?;
-        let answer = apply_row(&ScalarFnRef::Not, &[argument]);
-        assert!(rt; is_boolean(answer, !boolean), "{boolean}");
-    }
-    Ok(())
+    assert!(rt; is_negated(true) && is_negated(false));
 }

@@ -1,4 +1,4 @@
-//! Bits in words of 64, in shared storage, of which a bit buffer shows a range.
+//! Bit buffers: ranges of bits in shared words.
 
 ghost use Rattle.std.specs.Prelude.{◌≡◌, ◌+◌, ◌-◌, ◌*◌, ◌%◌, ◌<◌, ◌≤◌, ◌↔◌, ◌==◌, ℕ, if◌then◌else◌, nat_lt, IsTrue, IfOk, Some, length, replicate, slice_range, slice_get, take, vec_len};
 ghost use Rattle.std.specs.Int.{bit_at};
@@ -11,8 +11,9 @@ use std::marker::Model;
 use std::ops::Range;
 use std::rc::Rc;
 
-/// Bits in shared storage, 64 in a word, the first one lowest. Clones and slices share the words,
-/// and each shows a range of their bits, which may begin and end within a word.
+/// A range of bits in shared storage of 64-bit words, with the first bit of a word in its lowest place.
+///
+/// Clones and slices share the words. A range may begin and end within a word.
 #[derive(Drop)]
 pub struct BitBuffer {
     words: Rc<Vec<u64>>,
@@ -31,7 +32,7 @@ impl Model for BitBuffer {
     ghost invariant = { λ b. (b.start + b.len ≤ 64 * vec_len b.words.value) × (b.start + b.len < 2 ^ 64) };
 }
 
-/// Whether bit `place` of `word` is set, counted from the lowest one.
+/// Checks whether bit `place` of `word` is set, counted from the lowest one.
 #[inline]
 #[tactic(auto, using(std::proofs::lemmas::Nat::Bits::shr_and_one))]
 fn is_bit_set(word: u64, place: usize) -> bool
@@ -41,7 +42,7 @@ fn is_bit_set(word: u64, place: usize) -> bool
     (word >> place) & 1 == 1
 }
 
-/// A word whose 64 bits are all `bit`.
+/// Returns a word whose 64 bits are all `bit`.
 #[inline]
 pub(crate) fn filled_word(bit: bool) -> u64
     ensures { result ≡ (if bit then u64.MAX else 0) }
@@ -49,7 +50,7 @@ pub(crate) fn filled_word(bit: bool) -> u64
     if bit { u64::MAX } else { 0 }
 }
 
-/// 64 bits of two words, from bit `by` of the lower one on.
+/// Returns the 64 bits from bit `by` of `low` on, continued in `high`.
 #[inline]
 #[tactic(auto, using(crate::proofs::Words::joined_bit))]
 fn joined(low: u64, high: u64, by: usize) -> u64
@@ -66,7 +67,7 @@ fn joined(low: u64, high: u64, by: usize) -> u64
 
 #[tactic(auto, using(crate::proofs::Places::length_part))]
 impl BitBuffer {
-    /// The first `len` bits of `words`. (own)
+    /// Makes a buffer of the first `len` bits of `words`.
     pub(crate) fn from_words(
         alloc: Global,
         words: Vec<u64>,
@@ -83,8 +84,7 @@ impl BitBuffer {
         })
     }
 
-    /// `len` times `bit`, in storage of its own. The error means that there is no memory for them.
-    /// (own)
+    /// Makes a buffer of `len` bits that are all `bit`. Fails only if there is no memory for them. (own)
     #[tactic(auto, using(crate::proofs::Places::repeated))]
     pub fn repeat(alloc: Global, bit: bool, len: usize) -> Result<BitBuffer, AllocError>
         ensures { IfOk result (λ b. b ≡ replicate len bit) }
@@ -93,7 +93,7 @@ impl BitBuffer {
         BitBuffer::from_words(alloc, words, len)
     }
 
-    /// How many bits the buffer shows.
+    /// Returns the length in bits.
     #[inline]
     pub fn len(&self) -> usize
         ensures { result ≡ length self.now }
@@ -101,15 +101,14 @@ impl BitBuffer {
         self.len
     }
 
-    /// Whether the buffer shows no bit.
+    /// Checks whether the buffer has no bits.
     pub fn is_empty(&self) -> bool
         ensures { IsTrue result ↔ (length self.now ≡ 0) }
     {
         self.len == 0
     }
 
-    /// The bit at `index`, counted from the first one that the buffer shows, and `None` past the
-    /// last one. (own)
+    /// Returns the bit at `index`, counted from the start of the range, or `None` past the end. (own)
     #[inline]
     pub fn get(&self, index: usize) -> Option<bool>
         ensures { result ≡ slice_get self.now index }
@@ -121,7 +120,7 @@ impl BitBuffer {
         }
     }
 
-    /// The bit at `index`, counted from the first one that the buffer shows.
+    /// Returns the bit at `index`, counted from the start of the range.
     #[inline]
     #[tactic(auto, using(crate::proofs::Places::bit_within, crate::proofs::Places::length_part))]
     pub fn value(&self, index: usize) -> bool
@@ -132,8 +131,8 @@ impl BitBuffer {
         is_bit_set(self.words.as_ref()[place / 64], place % 64)
     }
 
-    /// The 64 bits from `64 * k` on, the first one lowest. What stands past the last bit is left
-    /// open. (own)
+    /// Returns the 64 bits from index `64 * k` on, with the first one in the lowest place. Bits past the end are
+    /// unspecified. (own)
     #[inline]
     pub fn word(&self, k: usize) -> u64
         requires { 64 * k < length self.now }
@@ -150,7 +149,7 @@ impl BitBuffer {
         joined(words[place], high, from % 64)
     }
 
-    /// The bits at `range`, in the same storage: nothing is copied. The error means that the storage
+    /// Returns the bits at `range` without copying them: the result shares the storage. Fails only if the storage
     /// can't be shared once more.
     pub fn slice(&self, range: Range<usize>) -> Result<BitBuffer, AllocError>
         requires order { range.start ≤ range.end }
@@ -166,7 +165,7 @@ impl BitBuffer {
     }
 }
 
-/// Shares the storage. The error means that it can't be shared once more.
+/// Shares the storage. Fails only if it can't be shared once more.
 impl Clone for BitBuffer {
     ghost is_clone = { λ a b. b ≡ a };
 

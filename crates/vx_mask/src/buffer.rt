@@ -1,4 +1,4 @@
-//! Items in shared storage, of which a buffer shows a range.
+//! Buffers: ranges of items in shared storage.
 
 ghost use Rattle.std.specs.Prelude.{◌≡◌, ◌≤◌, ◌↔◌, IsTrue, IfOk, length, slice_range, slice_get};
 ghost use Rattle.std.specs.Option.{option_copied};
@@ -9,8 +9,7 @@ use std::marker::Model;
 use std::ops::Range;
 use std::rc::Rc;
 
-/// Items in shared storage. Clones and slices of a buffer share one `Vec`, and each shows a range
-/// of it.
+/// A range of items in shared storage. Clones and slices of a buffer share one `Vec`.
 #[derive(Drop)]
 pub struct Buffer<T> {
     storage: Rc<Vec<T>>,
@@ -29,7 +28,7 @@ impl<T> Model for Buffer<T> {
 }
 
 impl<T> Buffer<T> {
-    /// How many items the buffer shows.
+    /// Returns the length in items.
     #[inline]
     pub fn len(&self) -> usize
         ensures { result ≡ length self.now }
@@ -37,14 +36,14 @@ impl<T> Buffer<T> {
         self.len
     }
 
-    /// Whether the buffer shows no item.
+    /// Checks whether the buffer has no items.
     pub fn is_empty(&self) -> bool
         ensures { IsTrue result ↔ (length self.now ≡ 0) }
     {
         self.len == 0
     }
 
-    /// The items as one slice.
+    /// Returns the items as a slice.
     #[inline]
     pub fn as_slice(&self) -> &[T]
         ensures { result.now ≡ self.now }
@@ -53,8 +52,7 @@ impl<T> Buffer<T> {
         &all[self.start..self.start + self.len]
     }
 
-    /// The item at `index`, counted from the first one that the buffer shows, and `None` past the
-    /// last one.
+    /// Returns the item at `index`, counted from the start of the range, or `None` past the end.
     pub fn get(&self, index: usize) -> Option<&T>
         ensures { option_copied result ≡ slice_get self.now index }
     {
@@ -63,8 +61,8 @@ impl<T> Buffer<T> {
 }
 
 impl<T: Drop> Buffer<T> {
-    /// All items of `items`, which become shared storage without a copy. The error means that there
-    /// is no memory for the count of sharers, and `items` is dropped. (own)
+    /// Makes a buffer of `items` without copying them. Fails only if there is no memory for the reference count, and
+    /// then drops `items`. (own)
     pub fn from_vec(alloc: Global, items: Vec<T>) -> Result<Buffer<T>, AllocError>
         ensures { IfOk result (λ b. b ≡ items.items) }
     {
@@ -77,8 +75,8 @@ impl<T: Drop> Buffer<T> {
         })
     }
 
-    /// The items at `range`, in the same storage: nothing is copied. The error means that the
-    /// storage can't be shared once more.
+    /// Returns the items at `range` without copying them: the result shares the storage. Fails only if the storage
+    /// can't be shared once more.
     pub fn slice(&self, range: Range<usize>) -> Result<Buffer<T>, AllocError>
         requires order { range.start ≤ range.end }
         requires bounds { range.end ≤ length self.now }
@@ -93,7 +91,7 @@ impl<T: Drop> Buffer<T> {
     }
 }
 
-/// Shares the storage. The error means that it can't be shared once more.
+/// Shares the storage. Fails only if it can't be shared once more.
 impl<T: Drop> Clone for Buffer<T> {
     ghost is_clone = { λ a b. b ≡ a };
 
@@ -107,7 +105,7 @@ impl<T: Drop> Clone for Buffer<T> {
     }
 }
 
-/// Prints the items, as a slice does.
+/// Prints the items as a slice's are printed.
 impl<T: fmt::Debug> fmt::Debug for Buffer<T> {
     fn fmt<W: fmt::Write>(&self, f: &mut fmt::Formatter<W>) -> fmt::Result {
         f.debug_list().entries(self.as_slice()).finish()

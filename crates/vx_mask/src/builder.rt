@@ -1,4 +1,4 @@
-//! A bit buffer that is being built, bit by bit.
+//! Building bit buffers bit by bit.
 
 ghost use Rattle.std.specs.Prelude.{◌≡◌, ◌∷◌, [], ◌++◌, IfOk, OnOk, OnErr};
 
@@ -6,7 +6,7 @@ use crate::bits::BitBuffer;
 use std::alloc::{AllocError, Global};
 use std::marker::Model;
 
-/// The bits of a bit buffer to come: the full words, and the bits that do not fill a word yet. (own)
+/// Builds a `BitBuffer`: holds the full words, and the bits that don't fill a word yet. (own)
 #[derive(Debug, Drop)]
 pub struct BitBuilder {
     words: Vec<u64>,
@@ -26,8 +26,7 @@ impl Model for BitBuilder {
 }
 
 impl BitBuilder {
-    /// No bits yet, with room for `bits` of them. The error means that there is no memory for that
-    /// room.
+    /// Makes an empty builder with room for `bits` bits. Fails only if there is no memory for them.
     pub fn with_capacity(alloc: Global, bits: usize) -> Result<BitBuilder, AllocError>
         ensures { IfOk result (λ b. b ≡ []) }
     {
@@ -40,7 +39,7 @@ impl BitBuilder {
         })
     }
 
-    /// Adds `bit` at the end. The error means that there is no memory for one more word.
+    /// Appends `bit`. Fails only if there is no memory for one more word.
     #[inline]
     #[tactic(auto, using(crate::proofs::Pushes::next_fits))]
     pub fn push(&mut self, bit: bool) -> Result<(), AllocError>
@@ -59,8 +58,8 @@ impl BitBuilder {
         Ok(())
     }
 
-    /// The bits, in a buffer. The error means that there is no memory for the last word or for the
-    /// count of sharers, or that the bits are too many to be counted by a `usize`.
+    /// Returns the bits in a buffer. Fails only if there is no memory for the last word or for the reference count, or
+    /// if a `usize` can't count the bits.
     pub fn finish(self, alloc: Global) -> Result<BitBuffer, AllocError>
         ensures { IfOk result (λ b. b ≡ self) }
     {

@@ -1,4 +1,4 @@
-//! Shared buffers of items and of bits, each seen as the list of what it shows.
+//! Shared buffers of items and of bits. In contracts a buffer is the list of the items or bits in its range.
 #![tactic(auto)]
 
 mod bits;

@@ -1,4 +1,4 @@
-//! Operations on bits, 64 rows at a time.
+//! Operations on bits, 64 at a time.
 
 ghost use Rattle.std.specs.Prelude.{◌≡◌, ◌<◌, ◌==◌, ℕ, Bool, IfOk, length, map, not};
 ghost use Rattle.std.specs.Int.{bit_at};
@@ -9,16 +9,16 @@ ghost use Rattle.vx_mask.specs.Logic.{bit_row};
 use crate::bits::{BitBuffer, filled_word};
 use std::alloc::{AllocError, Global};
 
-/// An operation on two bits, carried out on 64 of them at once. (own)
+/// An operation on two bits, applied to 64 pairs of bits at once. (own)
 pub trait BitOperation {
     ghost bit: { Bool → Bool → Bool };
 
-    /// What the operation gives on each bit of `lhs` and the one of `rhs` at its place.
+    /// Applies the operation to each bit of `lhs` and the bit of `rhs` in the same place.
     fn word(lhs: u64, rhs: u64) -> u64
         ensures { (i : ℕ) → i < 64 → (bit_at result i == 1) ≡ bit (bit_at lhs i == 1) (bit_at rhs i == 1) };
 }
 
-/// Whether the two bits are the same. (own)
+/// The operation `a == b` on bits. (own)
 #[derive(Clone, Copy, Debug)]
 pub struct BitEq;
 
@@ -32,7 +32,7 @@ impl BitOperation for BitEq {
     }
 }
 
-/// Whether the two bits differ. (own)
+/// The operation `a != b` on bits. (own)
 #[derive(Clone, Copy, Debug)]
 pub struct BitNotEq;
 
@@ -46,7 +46,7 @@ impl BitOperation for BitNotEq {
     }
 }
 
-/// Whether the first bit is below the second one, where false comes before true. (own)
+/// The operation `a < b` on bits: `false` is less than `true`. (own)
 #[derive(Clone, Copy, Debug)]
 pub struct BitLt;
 
@@ -60,7 +60,7 @@ impl BitOperation for BitLt {
     }
 }
 
-/// Whether the first bit is at most the second one, where false comes before true. (own)
+/// The operation `a <= b` on bits: `false` is less than `true`. (own)
 #[derive(Clone, Copy, Debug)]
 pub struct BitLte;
 
@@ -74,7 +74,7 @@ impl BitOperation for BitLte {
     }
 }
 
-/// Whether the first bit is above the second one, where false comes before true. (own)
+/// The operation `a > b` on bits: `false` is less than `true`. (own)
 #[derive(Clone, Copy, Debug)]
 pub struct BitGt;
 
@@ -88,7 +88,7 @@ impl BitOperation for BitGt {
     }
 }
 
-/// Whether the first bit is at least the second one, where false comes before true. (own)
+/// The operation `a >= b` on bits: `false` is less than `true`. (own)
 #[derive(Clone, Copy, Debug)]
 pub struct BitGte;
 
@@ -103,8 +103,8 @@ impl BitOperation for BitGte {
 }
 
 impl BitBuffer {
-    /// Row by row, what the operation gives on the two bits. The error means that there is no memory
-    /// for the bits. (own)
+    /// Applies the operation to each bit and the bit of `other` at the same index. `other` must have the same length.
+    /// Fails only if there is no memory for the result. (own)
     pub fn zip<O: BitOperation>(
         &self,
         alloc: Global,
@@ -124,8 +124,7 @@ impl BitBuffer {
         BitBuffer::from_words(alloc, words, len)
     }
 
-    /// Row by row, what the operation gives on the bit and one that is the same in all rows. The
-    /// error means that there is no memory for the bits. (own)
+    /// Applies the operation to each bit and `bit`. Fails only if there is no memory for the result. (own)
     pub fn zip_bit<O: BitOperation>(
         &self,
         alloc: Global,
@@ -144,7 +143,7 @@ impl BitBuffer {
         BitBuffer::from_words(alloc, words, len)
     }
 
-    /// Row by row the other bit. The error means that there is no memory for the bits. (own)
+    /// Negates each bit. Fails only if there is no memory for the result. (own)
     pub fn negate(&self, alloc: Global) -> Result<BitBuffer, AllocError>
         ensures { IfOk result (λ b. b ≡ map (λ i. not (bit_row self.now i)) (range_with_len 0 (length self.now))) }
     {

@@ -1,133 +1,138 @@
-use crate::{BitBuffer, BitBuilder, BitEq, BitGt, BitGte, BitLt, BitLte, BitNotEq, Buffer};
-use std::test::Fail;
+ghost use Rattle.std.specs.Prelude.{◌<◌};
 
-#[test]
-fn items_of_a_slice_of_a_slice(rt: HostRuntime) -> Result<(), Fail> {
-    let alloc = rt.alloc();
-    let buffer = Buffer::from_vec(alloc, vec![in alloc; 10, 20, 30, 40, 50, 60]?)?;
-    let outer = buffer.slice(1..5)?;
-    let inner = outer.slice(1..3)?;
-    assert!(rt; inner.as_slice() == [30, 40].as_slice());
-    assert_eq!(rt; buffer.clone()?.len(), 6);
-    assert_eq!(rt; inner.get(1), Some(&40));
-    assert!(rt; inner.get(2).is_none());
-    assert!(rt; outer.slice(2..2)?.is_empty());
-    assert!(rt; !inner.is_empty());
-    assert_eq!(rt; format!(in alloc; "{inner:?}")?.as_str(), "[30, 40]");
-    Ok(())
+use crate::{
+    BitBuffer, BitBuilder, BitEq, BitGt, BitGte, BitLt, BitLte, BitNotEq, BitOperation, Buffer,
+};
+use std::alloc::{AllocError, Global};
+use std::fmt::Debug;
+
+fn is_printed_as<T: Debug>(alloc: Global, value: &T, text: &str) -> bool {
+    match format!(in alloc; "{value:?}") {
+        Ok(printed) => printed.as_str() == text,
+        Err(_) => false,
+    }
 }
 
-#[test]
-fn bits_of_a_slice_of_a_slice(rt: HostRuntime) -> Result<(), Fail> {
-    let alloc = rt.alloc();
-    let mut builder = BitBuilder::with_capacity(alloc, 130)?;
-    for i in 0..130 {
-        builder.push(i % 3 == 0)?;
-    }
-    let whole = builder.finish(alloc)?;
-    assert!(rt; whole.len() == 130);
-    let outer = whole.slice(61..130)?;
-    assert!(rt; outer.len() == 69);
-    for i in 0..outer.len() {
-        assert!(rt; outer.value(i) == ((i + 61) % 3 == 0), "{i}");
-    }
-    let inner = outer.slice(3..66)?;
-    for i in 0..63 {
-        assert!(rt; inner.get(i) == Some((i + 64) % 3 == 0), "{i}");
-    }
-    assert!(rt; inner.get(63).is_none());
-    assert!(rt; inner.clone()?.len() == 63);
-    assert!(rt; inner.slice(63..63)?.is_empty());
-    let few = inner.slice(0..3)?;
-    assert_eq!(rt;
-        format!(in alloc; "{few:?}")?.as_str(),
-        "[false, false, true]"
-    );
-    Ok(())
+fn items(alloc: Global) -> Result<Buffer<i32>, AllocError> {
+    let items = vec![in alloc; 10, 20, 30, 40, 50, 60]?;
+    Buffer::from_vec(alloc, items)?.slice(2..4)?.clone()
 }
 
-#[test]
-fn bits_that_are_all_the_same(rt: HostRuntime) -> Result<(), Fail> {
-    for len in [0, 1, 64, 65] {
-        for bit in [true, false] {
-            let bits = BitBuffer::repeat(rt.alloc(), bit, len)?;
-            assert_eq!(rt; bits.len(), len);
-            for i in 0..len {
-                assert!(rt; bits.get(i) == Some(bit), "{i} of {len}");
-            }
-            assert!(rt; bits.get(len).is_none());
+fn are_items(alloc: Global, items: Result<Buffer<i32>, AllocError>) -> bool {
+    match items {
+        Ok(items) => {
+            items.as_slice() == [30, 40].as_slice()
+                && items.len() == 2
+                && !items.is_empty()
+                && items.get(1) == Some(&40)
+                && is_printed_as(alloc, &items, "[30, 40]")
         }
+        Err(_) => false,
     }
-    Ok(())
+}
+
+/// The bits from `start` to `stop` of 200 bits, of which bit `i` is set if `i % period < set`.
+fn pattern(
+    alloc: Global,
+    period: usize,
+    set: usize,
+    start: usize,
+    stop: usize,
+) -> Result<BitBuffer, AllocError>
+    requires { 0 < period }
+{
+    let mut builder = BitBuilder::with_capacity(alloc, 200)?;
+    for i in 0..200 {
+        builder.push(i % period < set)?;
+    }
+    let bits = builder.finish(alloc)?;
+    if start <= stop && stop <= bits.len() {
+        bits.slice(start..stop)?.clone()
+    } else {
+        Err(AllocError)
+    }
+}
+
+fn are_bits(alloc: Global, bits: Result<BitBuffer, AllocError>) -> bool {
+    match bits {
+        Ok(bits) => {
+            bits.len() == 3
+                && !bits.is_empty()
+                && bits.get(2) == Some(true)
+                && is_printed_as(alloc, &bits, "[false, false, true]")
+        }
+        Err(_) => false,
+    }
+}
+
+/// Checks whether there are the 128 bits of the words `low` and `high`.
+fn are_words(bits: Result<BitBuffer, AllocError>, low: u64, high: u64) -> bool {
+    match bits {
+        Ok(bits) => bits.len() == 128 && bits.word(0) == low && bits.word(1) == high,
+        Err(_) => false,
+    }
+}
+
+fn are_zipped<O: BitOperation>(
+    alloc: Global,
+    lhs: &BitBuffer,
+    rhs: &BitBuffer,
+    low: u64,
+    high: u64,
+) -> bool {
+    lhs.len() == rhs.len() && are_words(lhs.zip::<O>(alloc, rhs), low, high)
+}
+
+fn are_compared(alloc: Global, lhs: &BitBuffer, rhs: &BitBuffer) -> bool {
+    are_zipped::<BitEq>(alloc, lhs, rhs, 0xae1d5c3ab87570ea, 0xeae1d5c3ab87570e)
+        && are_zipped::<BitNotEq>(alloc, lhs, rhs, 0x51e2a3c5478a8f15, 0x151e2a3c5478a8f1)
+        && are_zipped::<BitLt>(alloc, lhs, rhs, 0x10c2218443088611, 0x110c221844308861)
+        && are_zipped::<BitLte>(alloc, lhs, rhs, 0xbedf7dbefb7df6fb, 0xfbedf7dbefb7df6f)
+        && are_zipped::<BitGt>(alloc, lhs, rhs, 0x4120824104820904, 0x0412082410482090)
+        && are_zipped::<BitGte>(alloc, lhs, rhs, 0xef3dde7bbcf779ee, 0xeef3dde7bbcf779e)
+}
+
+fn are_compared_to_one_bit(alloc: Global, bits: &BitBuffer) -> bool {
+    are_words(
+        bits.zip_bit::<BitLt>(alloc, true),
+        0xb6db6db6db6db6db,
+        0xdb6db6db6db6db6d,
+    ) && are_words(bits.zip_bit::<BitGte>(alloc, false), u64::MAX, u64::MAX)
+        && are_words(bits.negate(alloc), 0xb6db6db6db6db6db, 0xdb6db6db6db6db6d)
+}
+
+fn compare(alloc: Global) -> Result<bool, AllocError> {
+    let lhs = pattern(alloc, 3, 1, 4, 132)?;
+    let rhs = pattern(alloc, 5, 2, 61, 189)?;
+    Ok(are_compared(alloc, &lhs, &rhs) && are_compared_to_one_bit(alloc, &lhs))
 }
 
 #[test]
-fn more_bits_than_memory(rt: HostRuntime) {
-    assert!(rt; BitBuffer::repeat(rt.alloc(), true, usize::MAX).is_err());
-    assert!(rt; BitBuffer::repeat(rt.alloc(), false, usize::MAX).is_err());
+fn items_of_a_slice(rt: HostRuntime) {
+    assert!(rt; are_items(rt.alloc(), items(rt.alloc())));
+}
+
+#[test]
+fn bits_that_begin_within_a_word(rt: HostRuntime) {
+    assert!(rt; are_bits(rt.alloc(), pattern(rt.alloc(), 3, 1, 64, 67)));
+    assert!(rt;
+        are_words(
+            pattern(rt.alloc(), 3, 1, 4, 132),
+            0x4924924924924924,
+            0x2492492492492492
+        )
+    );
     assert!(rt; BitBuilder::with_capacity(rt.alloc(), usize::MAX).is_err());
 }
 
 #[test]
-fn operations_on_bits_that_begin_within_a_word(rt: HostRuntime) -> Result<(), Fail> {
-    let alloc = rt.alloc();
-    let mut threes = BitBuilder::with_capacity(alloc, 200)?;
-    let mut fives = BitBuilder::with_capacity(alloc, 200)?;
-    for i in 0..200 {
-        threes.push(i % 3 == 0)?;
-        fives.push(i % 5 < 2)?;
-    }
-    let threes = threes.finish(alloc)?;
-    let fives = fives.finish(alloc)?;
-    assert!(rt; threes.len() == 200 && fives.len() == 200);
-    for len in [0, 1, 63, 64, 65, 130] {
-        assert!(rt; len <= 130);
-        let lhs = threes.slice(4..4 + len)?;
-        let rhs = fives.slice(61..61 + len)?;
-        assert!(rt; lhs.len() == len && rhs.len() == len);
-        let eq = lhs.zip::<BitEq>(alloc, &rhs)?;
-        let not_eq = lhs.zip::<BitNotEq>(alloc, &rhs)?;
-        let lt = lhs.zip::<BitLt>(alloc, &rhs)?;
-        let lte = lhs.zip::<BitLte>(alloc, &rhs)?;
-        let gt = lhs.zip::<BitGt>(alloc, &rhs)?;
-        let gte = lhs.zip::<BitGte>(alloc, &rhs)?;
-        for i in 0..len {
-            let a = (i + 4) % 3 == 0;
-            let b = (i + 61) % 5 < 2;
-            assert!(rt; eq.get(i) == Some(a == b), "{i} of {len}");
-            assert!(rt; not_eq.get(i) == Some(a != b), "{i} of {len}");
-            assert!(rt; lt.get(i) == Some(a < b), "{i} of {len}");
-            assert!(rt; lte.get(i) == Some(a <= b), "{i} of {len}");
-            assert!(rt; gt.get(i) == Some(a > b), "{i} of {len}");
-            assert!(rt; gte.get(i) == Some(a >= b), "{i} of {len}");
-        }
-        assert!(rt; eq.len() == len && eq.get(len).is_none());
-    }
-    Ok(())
+fn bits_that_are_all_the_same(rt: HostRuntime) {
+    assert!(rt; are_words(BitBuffer::repeat(rt.alloc(), true, 128), u64::MAX, u64::MAX));
+    assert!(rt; are_words(BitBuffer::repeat(rt.alloc(), false, 128), 0, 0));
+    assert!(rt; BitBuffer::repeat(rt.alloc(), true, usize::MAX).is_err());
 }
 
 #[test]
-fn operations_with_one_bit(rt: HostRuntime) -> Result<(), Fail> {
-    let alloc = rt.alloc();
-    let mut builder = BitBuilder::with_capacity(alloc, 200)?;
-    for i in 0..200 {
-        builder.push(i % 3 == 0)?;
-    }
-    let threes = builder.finish(alloc)?;
-    assert!(rt; threes.len() == 200);
-    for len in [0, 1, 63, 64, 65, 130] {
-        assert!(rt; len <= 130);
-        let bits = threes.slice(5..5 + len)?;
-        let others = bits.negate(alloc)?;
-        let lt = bits.zip_bit::<BitLt>(alloc, true)?;
-        let gte = bits.zip_bit::<BitGte>(alloc, false)?;
-        for i in 0..len {
-            let a = (i + 5) % 3 == 0;
-            assert!(rt; others.get(i) == Some(!a), "{i} of {len}");
-            assert!(rt; lt.get(i) == Some(a < true), "{i} of {len}");
-            assert!(rt; gte.get(i) == Some(a >= false), "{i} of {len}");
-        }
-        assert!(rt; others.len() == len && others.get(len).is_none());
-    }
-    Ok(())
+fn comparisons(rt: HostRuntime) {
+    assert!(rt; compare(rt.alloc()) == Ok(true));
 }

@@ -1,4 +1,4 @@
-//! Equality, hashes and the order of scalars, as in the original's `scalar` module.
+//! Equality, hashing and ordering of scalars, as in the original's `scalar` module.
 
 ghost use Rattle.std.specs.Prelude.{◌≡◌, ◌↔◌, IsTrue, IsSome, fold};
 ghost use Rattle.std.specs.Cmp.{decided, partial_equiv_from_equiv};
@@ -13,7 +13,7 @@ use crate::{DType, Scalar, ScalarValue};
 use std::cmp::Ordering;
 use std::hash::{Hash, Hasher};
 
-/// Of one type and of one value. Null equals null of the same type.
+/// Scalars are equal if their types and their values are equal. Null equals null of the same type.
 impl PartialEq for Scalar {
     ghost eq = { same_scalar };
 
@@ -43,8 +43,8 @@ impl Hash for Scalar {
     }
 }
 
-/// None where the types differ. Within a type null comes first, false before true, and numbers
-/// go by size.
+/// Orders scalars of one type: null first, then `false` before `true`, and integers by size.
+/// Returns `None` if the types differ.
 impl PartialOrd for Scalar {
     ghost partial_cmp = { scalar_cmp };
 
@@ -64,22 +64,23 @@ impl PartialOrd for Scalar {
     }
 }
 
-/// Whether the two types are the same, nullability included.
+/// Checks whether two types are the same, including their nullability.
 fn same_type(left: &DType, right: &DType) -> bool
     ensures { result ≡ same_type (type_of left.now) (type_of right.now) }
 {
     left == right
 }
 
-/// Whether the two values are the same; None is null.
+/// Checks whether two values are the same. `None` is null.
 fn same_value(left: Option<ScalarValue>, right: Option<ScalarValue>) -> bool
     ensures { result ≡ same_value (cell_of left) (cell_of right) }
 {
     left == right
 }
 
-/// Which value comes first, None being null. A boolean and a number, which no type has both of,
-/// have an order too, so that it is total.
+/// Compares two values. `None` is null.
+///
+/// No type has both booleans and integers. Booleans come first, so that the order is total.
 fn value_order(left: Option<ScalarValue>, right: Option<ScalarValue>) -> Ordering
     ensures { result ≡ value_cmp (cell_of left) (cell_of right) }
 {

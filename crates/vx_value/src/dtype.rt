@@ -4,7 +4,7 @@ ghost use Rattle.std.specs.Prelude.{◌≡◌, ◌↔◌, IsTrue};
 ghost use Rattle.vx_value.specs.View.{type_of};
 ghost use Rattle.vx_value.specs.Types.{nullability_of, is_nullable};
 
-/// Whether a value of the type may be null.
+/// The nullability of a type: whether null is one of its values.
 #[derive(Clone, Copy, Debug, PartialEq, Eq, Hash)]
 pub enum Nullability {
     NonNullable,
@@ -12,7 +12,7 @@ pub enum Nullability {
 }
 
 impl Nullability {
-    /// Whether null is among the values.
+    /// Checks whether null is one of the values.
     pub fn is_nullable(self) -> bool
         ensures { result ≡ is_nullable self }
     {
@@ -23,7 +23,7 @@ impl Nullability {
     }
 }
 
-/// The integers of a primitive column, by sign and width in bits.
+/// The type of the integers in a primitive column, by sign and width in bits.
 #[derive(Clone, Copy, Debug, PartialEq, Eq, Hash)]
 pub enum PType {
     U8,
@@ -36,7 +36,7 @@ pub enum PType {
     I64,
 }
 
-/// What the rows of an array are.
+/// The logical type of an array's rows.
 #[derive(Clone, Debug, PartialEq, Eq, Hash, Drop)]
 pub enum DType {
     Bool(Nullability),
@@ -44,7 +44,7 @@ pub enum DType {
 }
 
 impl DType {
-    /// The nullability of the type itself, its parts' apart.
+    /// Returns the nullability of the type itself, apart from that of its nested types.
     pub fn nullability(&self) -> Nullability
         ensures { result ≡ nullability_of (type_of self.now) }
     {
@@ -54,7 +54,7 @@ impl DType {
         }
     }
 
-    /// Whether a row may be null.
+    /// Checks whether null is one of the type's values.
     pub fn is_nullable(&self) -> bool
         ensures { result ≡ is_nullable (nullability_of (type_of self.now)) }
     {

@@ -6,40 +6,40 @@ ghost use Rattle.std.specs.Prelude.{◌≡◌};
 use std::alloc::{AllocError, AllocFailed};
 use thiserror::Error;
 
-/// What an invalid argument breaks. A slot is named by its place among the node's slots, from 0.
+/// What is wrong with an invalid argument. A node's slots are numbered from 0.
 #[derive(Clone, Copy, Debug, PartialEq, Eq, Error)]
 pub enum ArgKind {
-    /// The node has another number of slots.
+    /// The node doesn't have as many slots as its encoding requires.
     #[error("slot count")]
     SlotCount,
-    /// A slot that its encoding needs has no tree.
+    /// Slot `slot` is empty, and the encoding requires a tree there.
     #[error("slot {slot} must be present")]
     SlotMissing { slot: usize },
-    /// A slot's tree is of a type that its encoding doesn't take there.
+    /// The tree in a slot has a type that the encoding doesn't accept there.
     #[error("slot type")]
     SlotType { slot: usize },
-    /// A function is given another number of arguments than it takes.
+    /// The function takes `want` arguments, and there are `got`.
     #[error("ScalarFnArray requires {want} children, got {got}")]
     Arity { want: usize, got: usize },
-    /// The arguments of a function are of another length, in rows, than its node.
+    /// An argument of a function differs in length, in rows, from the function's node.
     #[error("ScalarFnArray must have children equal to the array length")]
     ChildLen,
-    /// An argument of a function has no tree.
+    /// An argument slot of a function's node is empty.
     #[error("ScalarFnArray requires every child slot to be present")]
     FnSlotMissing,
-    /// No argument tells how many rows there are.
+    /// A function's node has no arguments to take its length from.
     #[error("ScalarFnArray length cannot be inferred without children")]
     NoChildren,
-    /// No function of this name takes arguments of these types.
+    /// The function doesn't accept arguments of these types.
     #[error("no row")]
     NoRow,
-    /// The node's type isn't the one that its parts give.
+    /// The node's type differs from the one that its parts determine.
     #[error("node type")]
     NodeType,
-    /// The node's length, in rows, isn't the one that its parts give.
+    /// The node's length, in rows, differs from the one that its parts determine.
     #[error("node len")]
     NodeLen,
-    /// No column of that type can be made.
+    /// Columns of this type can't be made.
     #[error("bad type")]
     BadType,
     /// The value isn't of the type.
@@ -47,33 +47,33 @@ pub enum ArgKind {
     BadValue,
 }
 
-/// Why a call has no answer.
+/// Why a call failed.
 #[derive(Clone, Copy, Debug, PartialEq, Eq, Error)]
 pub enum VortexError {
-    /// The allocator refused.
+    /// The allocator refused memory.
     #[error("out of memory")]
     OutOfMemory,
-    /// The turns of an execution, counted from 0, stand at their limit.
+    /// An execution wasn't done after `limit` turns.
     #[error("Exceeded maximum execution iterations ({limit}) while executing array")]
     IterationLimit {
         limit: u64,
     },
-    /// A row has no value, as a sum that its type doesn't have.
+    /// A row has no value: a result is out of its type's range, or a divisor is 0.
     #[error("fault")]
     Fault,
-    /// The rows `start..stop` aren't rows of a tree of `len` rows. Of one row both ends are its index.
+    /// The rows `start..stop` aren't within a tree of `len` rows. For a single row, both are its index.
     #[error("OutOfBounds: {start}..{stop} of length {len}")]
     OutOfBounds {
         start: usize,
         stop: usize,
         len: usize,
     },
-    /// An argument breaks a condition of the call.
+    /// An argument is invalid.
     #[error("{0}")]
     InvalidArgument(ArgKind),
 }
 
-/// What a call answers that can fail.
+/// The result of a fallible call.
 pub type VortexResult<T> = Result<T, VortexError>;
 
 impl From<AllocError> for VortexError {

@@ -1,4 +1,4 @@
-//! Whether a column's parts can be counted.
+//! Which columns can be made.
 
 ghost use Rattle.std.specs.Prelude.{◌≡◌, ◌↔◌, IsTrue};
 ghost use Rattle.vx_value.specs.View.{type_of};
@@ -6,7 +6,7 @@ ghost use Rattle.vx_value.specs.Fits.{Fits};
 
 use crate::DType;
 
-/// Whether a column of so many rows can be made, with all that nests in it. (own)
+/// Checks whether a column of type `dtype` and `rows` rows can be made, with all of its nested columns. (own)
 pub fn fits(dtype: &DType, rows: usize) -> bool
     ensures { IsTrue result ↔ Fits (type_of dtype.now) rows }
 {

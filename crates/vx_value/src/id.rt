@@ -3,7 +3,7 @@
 ghost use Rattle.std.specs.Prelude.{◌≡◌, MatchOption};
 ghost use Rattle.vx_value.specs.Ids.{id_text, IsNoId};
 
-/// The id of an encoding, or of a function: a function's node goes by the function's id.
+/// The id of an encoding or of a function. A function's node has the function's id.
 #[derive(Clone, Copy, Debug, PartialEq, Eq, Hash)]
 pub enum Id {
     Constant,
@@ -15,7 +15,7 @@ pub enum Id {
 }
 
 impl Id {
-    /// The text of the id, as `vortex.primitive`.
+    /// Returns the id as text, for example `vortex.primitive`.
     pub fn as_str(self) -> &'static str
         ensures { result.now ≡ id_text self }
     {
@@ -29,7 +29,7 @@ impl Id {
         }
     }
 
-    /// The id with that text.
+    /// Returns the id that `text` spells, or `None` if it spells none.
     pub fn parse(text: &str) -> Option<Id>
         ensures { MatchOption result (IsNoId text.now) (λ id. id_text id ≡ text.now) }
     {

@@ -1,4 +1,4 @@
-//! One value with its type, as in the original's `scalar` module.
+//! Scalars, as in the original's `scalar` module.
 
 ghost use Rattle.std.specs.Prelude.{◌≡◌, ◌↔◌, IfOk, IfErr, IsErrOf, OnOk, true, false, option_copied};
 ghost use Rattle.vx_value.specs.View.{type_of, value_of, cell_of};
@@ -12,15 +12,15 @@ use crate::{ArgKind, DType, PType, VortexError, VortexResult};
 use std::alloc::AllocError;
 use std::marker::Model;
 
-/// A value that isn't null. Of which type it is, a `Scalar` says.
+/// A value that isn't null. `Scalar` holds its type.
 #[derive(Clone, Copy, Debug, PartialEq, Eq, Hash)]
 pub enum ScalarValue {
     Bool(bool),
-    /// A whole number, of whichever integer type.
+    /// An integer of any of the integer types.
     Integer(i128),
 }
 
-/// A value of a type. Where the type is nullable, null is one.
+/// A value with its type. The value may be null if the type is nullable.
 #[derive(Debug, Drop)]
 pub struct Scalar {
     dtype: DType,
@@ -54,9 +54,10 @@ impl Clone for Scalar {
 }
 
 impl Scalar {
-    /// The value as one of the type, null where there is none. It takes no memory.
+    /// Makes a scalar of type `dtype` from `value`, without allocating. `None` is null.
     ///
-    /// `InvalidArgument` with `BadValue` exactly where the value isn't of the type.
+    /// Returns `InvalidArgument` with `BadValue` exactly if `value` isn't of type `dtype`: it is of another kind,
+    /// out of the type's range, or null and the type isn't nullable.
     pub fn try_new(dtype: DType, value: Option<ScalarValue>) -> VortexResult<Scalar>
         ensures ok { IfOk result (λ s. (s.of_type ≡ type_of dtype) × (s.value ≡ cell_of value)) }
         ensures valid { OnOk result (is_of (type_of dtype) (cell_of value) ≡ true) }
@@ -71,7 +72,7 @@ impl Scalar {
         }
     }
 
-    /// The null of a type, which must be nullable.
+    /// Returns the null of type `dtype`, which must be nullable.
     pub fn null(dtype: DType) -> Scalar
         requires { is_nullable (nullability_of (type_of dtype)) ≡ true }
         ensures { result ≡ record { of_type = type_of dtype; value = null } }
@@ -79,7 +80,7 @@ impl Scalar {
         Scalar { dtype, value: None }
     }
 
-    /// The zero value of a type: `false`, or 0.
+    /// Returns the zero value of type `dtype`: `false` or 0.
     #[tactic(auto, using(crate::proofs::Defaulting::zero_typed))]
     pub fn zero_value(dtype: DType) -> Scalar
         ensures { result ≡ record { of_type = type_of dtype; value = zero_of (type_of dtype) } }
@@ -94,7 +95,7 @@ impl Scalar {
         }
     }
 
-    /// The value of a type where none is given: null where the type is nullable, else its zero value.
+    /// Returns the default value of type `dtype`: null if the type is nullable, else its zero value.
     pub fn default_value(dtype: DType) -> Scalar
         ensures { result ≡ record { of_type = type_of dtype; value = default_of (type_of dtype) } }
     {
@@ -105,7 +106,7 @@ impl Scalar {
         }
     }
 
-    /// The type that the value is of.
+    /// Returns the type of the value.
     pub fn dtype(&self) -> &DType
         ensures dtype { type_of result.now ≡ self.now.of_type }
         ensures typed { is_of self.now.of_type self.now.value ≡ true }
@@ -113,7 +114,7 @@ impl Scalar {
         &self.dtype
     }
 
-    /// The value, None where it is null.
+    /// Returns the value, or `None` if it is null.
     pub fn value(&self) -> Option<ScalarValue>
         ensures value { cell_of result ≡ self.now.value }
         ensures typed { is_of self.now.of_type self.now.value ≡ true }
@@ -121,7 +122,7 @@ impl Scalar {
         self.value
     }
 
-    /// The boolean, None where the value is null or a number.
+    /// Returns the boolean, or `None` if the value is null or an integer.
     pub fn as_bool(&self) -> Option<bool>
         ensures { result ≡ boolean_in self.now.value }
     {
@@ -131,7 +132,7 @@ impl Scalar {
         }
     }
 
-    /// The number, None where the value is null or a boolean.
+    /// Returns the integer, or `None` if the value is null or a boolean.
     pub fn as_integer(&self) -> Option<i128>
         ensures { result ≡ integer_in self.now.value }
     {
@@ -141,7 +142,7 @@ impl Scalar {
         }
     }
 
-    /// Whether the value is null.
+    /// Checks whether the value is null.
     pub fn is_null(&self) -> bool
         ensures { result ≡ is_null self.now.value }
     {
@@ -149,7 +150,7 @@ impl Scalar {
     }
 }
 
-/// Whether the type has the number.
+/// Checks whether `number` is in the range of `ptype`.
 fn in_range(ptype: PType, number: i128) -> bool
     ensures { result ≡ in_range ptype number }
 {
@@ -165,7 +166,7 @@ fn in_range(ptype: PType, number: i128) -> bool
     }
 }
 
-/// Whether the value, or null, is of the type.
+/// Checks whether `value` is of type `dtype`. `None` is null.
 fn is_of(dtype: &DType, value: Option<ScalarValue>) -> bool
     ensures { result ≡ is_of (type_of dtype.now) (cell_of value) }
 {

@@ -2,23 +2,203 @@ use crate::{
     ArgKind, DType, Id, Nullability, PType, Scalar, ScalarValue, VortexError, VortexResult, fits,
     type_text,
 };
+use std::alloc::AllocError;
+use std::cmp::Ordering;
 use std::hash::{DefaultHasher, Hash, Hasher};
-use std::test::Fail;
 
 const BOOL: DType = DType::Bool(Nullability::NonNullable);
 
+const U8: DType = DType::Primitive(PType::U8, Nullability::NonNullable);
+
+const U16: DType = DType::Primitive(PType::U16, Nullability::NonNullable);
+
+const U32: DType = DType::Primitive(PType::U32, Nullability::NonNullable);
+
+const U64: DType = DType::Primitive(PType::U64, Nullability::NonNullable);
+
+const I8: DType = DType::Primitive(PType::I8, Nullability::NonNullable);
+
+const I16: DType = DType::Primitive(PType::I16, Nullability::NonNullable);
+
 const I32: DType = DType::Primitive(PType::I32, Nullability::NonNullable);
+
+const I64: DType = DType::Primitive(PType::I64, Nullability::NonNullable);
 
 const NULLABLE_BOOL: DType = DType::Bool(Nullability::Nullable);
 
 const NULLABLE_I32: DType = DType::Primitive(PType::I32, Nullability::Nullable);
 
-fn integer(dtype: DType, number: i128) -> VortexResult<Scalar> {
-    Scalar::try_new(dtype, Some(ScalarValue::Integer(number)))
+const FALSE: Option<ScalarValue> = Some(ScalarValue::Bool(false));
+
+const TRUE: Option<ScalarValue> = Some(ScalarValue::Bool(true));
+
+const MINUS_ONE: Option<ScalarValue> = Some(ScalarValue::Integer(-1));
+
+const ZERO: Option<ScalarValue> = Some(ScalarValue::Integer(0));
+
+const ONE: Option<ScalarValue> = Some(ScalarValue::Integer(1));
+
+const TYPE_TEXTS: [(DType, &str); 11] = [
+    (BOOL, "bool"),
+    (NULLABLE_BOOL, "bool?"),
+    (NULLABLE_I32, "i32?"),
+    (U8, "u8"),
+    (U16, "u16"),
+    (U32, "u32"),
+    (U64, "u64"),
+    (I8, "i8"),
+    (I16, "i16"),
+    (I32, "i32"),
+    (I64, "i64"),
+];
+
+/// A type, a value, and whether the value is of the type.
+const VALUES: [(DType, Option<ScalarValue>, bool); 38] = [
+    (U8, Some(ScalarValue::Integer(-1)), false),
+    (U8, Some(ScalarValue::Integer(0)), true),
+    (U8, Some(ScalarValue::Integer(255)), true),
+    (U8, Some(ScalarValue::Integer(256)), false),
+    (U16, Some(ScalarValue::Integer(-1)), false),
+    (U16, Some(ScalarValue::Integer(0)), true),
+    (U16, Some(ScalarValue::Integer(65535)), true),
+    (U16, Some(ScalarValue::Integer(65536)), false),
+    (U32, Some(ScalarValue::Integer(-1)), false),
+    (U32, Some(ScalarValue::Integer(0)), true),
+    (U32, Some(ScalarValue::Integer(4294967295)), true),
+    (U32, Some(ScalarValue::Integer(4294967296)), false),
+    (U64, Some(ScalarValue::Integer(-1)), false),
+    (U64, Some(ScalarValue::Integer(0)), true),
+    (U64, Some(ScalarValue::Integer(18446744073709551615)), true),
+    (U64, Some(ScalarValue::Integer(18446744073709551616)), false),
+    (I8, Some(ScalarValue::Integer(-129)), false),
+    (I8, Some(ScalarValue::Integer(-128)), true),
+    (I8, Some(ScalarValue::Integer(127)), true),
+    (I8, Some(ScalarValue::Integer(128)), false),
+    (I16, Some(ScalarValue::Integer(-32769)), false),
+    (I16, Some(ScalarValue::Integer(-32768)), true),
+    (I16, Some(ScalarValue::Integer(32767)), true),
+    (I16, Some(ScalarValue::Integer(32768)), false),
+    (I32, Some(ScalarValue::Integer(-2147483649)), false),
+    (I32, Some(ScalarValue::Integer(-2147483648)), true),
+    (I32, Some(ScalarValue::Integer(2147483647)), true),
+    (I32, Some(ScalarValue::Integer(2147483648)), false),
+    (I64, Some(ScalarValue::Integer(-9223372036854775809)), false),
+    (I64, Some(ScalarValue::Integer(-9223372036854775808)), true),
+    (I64, Some(ScalarValue::Integer(9223372036854775807)), true),
+    (I64, Some(ScalarValue::Integer(9223372036854775808)), false),
+    (NULLABLE_BOOL, TRUE, true),
+    (NULLABLE_BOOL, None, true),
+    (BOOL, None, false),
+    (BOOL, ONE, false),
+    (I32, None, false),
+    (I32, TRUE, false),
+];
+
+const LESS: Option<Ordering> = Some(Ordering::Less);
+
+const EQUAL: Option<Ordering> = Some(Ordering::Equal);
+
+const GREATER: Option<Ordering> = Some(Ordering::Greater);
+
+/// Two scalars, by type and value, and how they compare.
+const ORDERS: [(
+    DType,
+    Option<ScalarValue>,
+    DType,
+    Option<ScalarValue>,
+    Option<Ordering>,
+); 10] = [
+    (NULLABLE_I32, None, NULLABLE_I32, ZERO, LESS),
+    (NULLABLE_I32, None, NULLABLE_I32, ONE, LESS),
+    (NULLABLE_I32, ZERO, NULLABLE_I32, ONE, LESS),
+    (NULLABLE_I32, ONE, NULLABLE_I32, MINUS_ONE, GREATER),
+    (NULLABLE_I32, ONE, NULLABLE_I32, ONE, EQUAL),
+    (NULLABLE_I32, None, NULLABLE_I32, None, EQUAL),
+    (BOOL, FALSE, BOOL, TRUE, LESS),
+    (U8, ONE, I8, ONE, None),
+    (I32, ONE, NULLABLE_I32, ONE, None),
+    (NULLABLE_BOOL, None, NULLABLE_I32, None, None),
+];
+
+const ERROR_TEXTS: [(VortexError, &str); 16] = [
+    (VortexError::OutOfMemory, "out of memory"),
+    (
+        VortexError::IterationLimit { limit: 4 },
+        "Exceeded maximum execution iterations (4) while executing array",
+    ),
+    (VortexError::Fault, "fault"),
+    (
+        VortexError::OutOfBounds {
+            start: 2,
+            stop: 1,
+            len: 3,
+        },
+        "OutOfBounds: 2..1 of length 3",
+    ),
+    (
+        VortexError::InvalidArgument(ArgKind::SlotCount),
+        "slot count",
+    ),
+    (
+        VortexError::InvalidArgument(ArgKind::SlotMissing { slot: 0 }),
+        "slot 0 must be present",
+    ),
+    (
+        VortexError::InvalidArgument(ArgKind::SlotType { slot: 0 }),
+        "slot type",
+    ),
+    (
+        VortexError::InvalidArgument(ArgKind::Arity { want: 2, got: 1 }),
+        "ScalarFnArray requires 2 children, got 1",
+    ),
+    (
+        VortexError::InvalidArgument(ArgKind::ChildLen),
+        "ScalarFnArray must have children equal to the array length",
+    ),
+    (
+        VortexError::InvalidArgument(ArgKind::FnSlotMissing),
+        "ScalarFnArray requires every child slot to be present",
+    ),
+    (
+        VortexError::InvalidArgument(ArgKind::NoChildren),
+        "ScalarFnArray length cannot be inferred without children",
+    ),
+    (VortexError::InvalidArgument(ArgKind::NoRow), "no row"),
+    (VortexError::InvalidArgument(ArgKind::NodeType), "node type"),
+    (VortexError::InvalidArgument(ArgKind::NodeLen), "node len"),
+    (VortexError::InvalidArgument(ArgKind::BadType), "bad type"),
+    (VortexError::InvalidArgument(ArgKind::BadValue), "bad value"),
+];
+
+const IDS: [(&str, Option<Id>); 10] = [
+    ("vortex.constant", Some(Id::Constant)),
+    ("vortex.slice", Some(Id::Slice)),
+    ("vortex.binary", Some(Id::Binary)),
+    ("vortex.not", Some(Id::Not)),
+    ("vortex.bool", Some(Id::Bool)),
+    ("vortex.primitive", Some(Id::Primitive)),
+    ("", None),
+    ("vortex", None),
+    ("vortex.slices", None),
+    ("Vortex.bool", None),
+];
+
+fn is_text(written: Result<String, AllocError>, text: &str) -> bool {
+    match written {
+        Ok(written) => written.as_str() == text,
+        Err(_) => false,
+    }
 }
 
-fn boolean(dtype: DType, boolean: bool) -> VortexResult<Scalar> {
-    Scalar::try_new(dtype, Some(ScalarValue::Bool(boolean)))
+fn scalar(dtype: &DType, value: Option<ScalarValue>) -> VortexResult<Scalar> {
+    Ok(Scalar::try_new(dtype.clone()?, value)?.clone()?)
+}
+
+fn is_taken(row: &(DType, Option<ScalarValue>, bool)) -> bool {
+    match scalar(&row.0, row.1) {
+        Ok(scalar) => row.2 && scalar.value() == row.1,
+        Err(e) => !row.2 && e == VortexError::InvalidArgument(ArgKind::BadValue),
+    }
 }
 
 fn hash_of(scalar: &Scalar) -> u64 {
@@ -27,187 +207,78 @@ fn hash_of(scalar: &Scalar) -> u64 {
     state.finish()
 }
 
-#[test]
-fn type_texts(rt: HostRuntime) -> Result<(), Fail> {
-    assert_eq!(rt; type_text(rt.alloc(), &BOOL)?.as_str(), "bool");
-    assert_eq!(rt; type_text(rt.alloc(), &NULLABLE_BOOL)?.as_str(), "bool?");
-    assert_eq!(rt; type_text(rt.alloc(), &NULLABLE_I32)?.as_str(), "i32?");
-    assert!(rt; I32 != NULLABLE_I32);
-    assert!(rt; fits(&I32, usize::MAX) && fits(&NULLABLE_BOOL, usize::MAX));
-    Ok(())
+/// Checks the order of two scalars, and that they are equal and hash alike only if it is `Equal`.
+fn is_ordered(left: &Scalar, right: &Scalar, order: Option<Ordering>) -> bool {
+    let equal = order == Some(Ordering::Equal);
+    left.partial_cmp(right) == order
+        && (left == right) == equal
+        && (hash_of(left) == hash_of(right)) == equal
 }
 
-#[test]
-fn integer_types(rt: HostRuntime) -> Result<(), Fail> {
-    for (ptype, text, [below, least, greatest, above]) in [
-        (PType::U8, "u8", [-1, 0, 255, 256]),
-        (PType::U16, "u16", [-1, 0, 65535, 65536]),
-        (PType::U32, "u32", [-1, 0, 4294967295, 4294967296]),
-        (
-            PType::U64,
-            "u64",
-            [-1, 0, 18446744073709551615, 18446744073709551616],
-        ),
-        (PType::I8, "i8", [-129, -128, 127, 128]),
-        (PType::I16, "i16", [-32769, -32768, 32767, 32768]),
-        (
-            PType::I32,
-            "i32",
-            [-2147483649, -2147483648, 2147483647, 2147483648],
-        ),
-        (
-            PType::I64,
-            "i64",
-            [
-                -9223372036854775809,
-                -9223372036854775808,
-                9223372036854775807,
-                9223372036854775808,
-            ],
-        ),
-    ] {
-        let dtype = DType::Primitive(ptype, Nullability::NonNullable);
-        assert_eq!(rt; type_text(rt.alloc(), &dtype)?.as_str(), text);
-        for number in [least, greatest] {
-            let scalar = integer(dtype.clone()?, number)?;
-            assert!(rt;
-                scalar.value() == Some(ScalarValue::Integer(number)),
-                "{number}"
-            );
-            assert!(rt; *scalar.dtype() == dtype, "{number}");
-        }
-        for number in [below, above] {
-            assert!(rt; integer(dtype.clone()?, number).is_err(), "{number}");
-        }
+fn has_order(
+    row: &(
+        DType,
+        Option<ScalarValue>,
+        DType,
+        Option<ScalarValue>,
+        Option<Ordering>,
+    ),
+) -> bool {
+    match (scalar(&row.0, row.1), scalar(&row.2, row.3)) {
+        (Ok(left), Ok(right)) => is_ordered(&left, &right, row.4),
+        _ => false,
     }
-    Ok(())
 }
 
-#[test]
-fn values_of_another_kind(rt: HostRuntime) -> Result<(), Fail> {
-    let refused = VortexError::InvalidArgument(ArgKind::BadValue);
-    for scalar in [
-        boolean(I32, true),
-        integer(BOOL, 1),
-        Scalar::try_new(I32, None),
-        Scalar::try_new(BOOL, None),
-    ] {
-        match scalar {
-            Ok(_) => assert!(rt; false),
-            Err(e) => assert!(rt; e == refused),
+fn is_id(text: &str, id: Option<Id>) -> bool {
+    Id::parse(text) == id
+        && match id {
+            Some(id) => id.as_str() == text,
+            None => true,
         }
-    }
-    let null = Scalar::try_new(NULLABLE_BOOL, None)?;
-    assert!(rt; null.is_null() && null.as_bool() == None && null.as_integer() == None);
-    let yes = boolean(NULLABLE_BOOL, true)?;
-    assert!(rt; !yes.is_null() && yes.as_bool() == Some(true) && yes.as_integer() == None);
-    let seven = integer(I32, 7)?;
-    assert!(rt; !seven.is_null() && seven.as_bool() == None && seven.as_integer() == Some(7));
-    Ok(())
 }
 
 #[test]
-fn scalars_in_order(rt: HostRuntime) -> Result<(), Fail> {
-    let null = Scalar::try_new(NULLABLE_I32, None)?;
-    let zero = integer(NULLABLE_I32, 0)?;
-    let one = integer(NULLABLE_I32, 1)?;
-    assert!(rt; null < zero && zero < one && null < one && one > integer(NULLABLE_I32, -1)?);
-    assert!(rt; boolean(BOOL, false)? < boolean(BOOL, true)?);
-    assert!(rt; one == integer(NULLABLE_I32, 1)? && one != zero && zero != null);
-    assert!(rt; null == Scalar::try_new(NULLABLE_I32, None)?);
-    assert!(rt; hash_of(&one) == hash_of(&integer(NULLABLE_I32, 1)?));
-    assert!(rt; hash_of(&one) != hash_of(&zero));
-    let unsigned = integer(DType::Primitive(PType::U8, Nullability::NonNullable), 1)?;
-    let signed = integer(DType::Primitive(PType::I8, Nullability::NonNullable), 1)?;
-    assert!(rt; unsigned != signed && unsigned.partial_cmp(&signed) == None);
-    assert!(rt; hash_of(&unsigned) != hash_of(&signed));
-    assert!(rt; integer(I32, 1)? != one && Scalar::try_new(NULLABLE_BOOL, None)? != null);
-    Ok(())
+fn type_texts(rt: HostRuntime) {
+    for row in &TYPE_TEXTS {
+        assert!(rt; is_text(type_text(rt.alloc(), &row.0), row.1), "{}", row.1);
+    }
+    assert!(rt; NULLABLE_BOOL.is_nullable() && fits(&BOOL, usize::MAX));
 }
 
 #[test]
-fn error_texts(rt: HostRuntime) -> Result<(), Fail> {
-    let range = VortexError::OutOfBounds {
-        start: 2,
-        stop: 1,
-        len: 3,
-    };
-    for (error, text) in [
-        (VortexError::OutOfMemory, "out of memory"),
-        (
-            VortexError::IterationLimit { limit: 4 },
-            "Exceeded maximum execution iterations (4) while executing array",
-        ),
-        (VortexError::Fault, "fault"),
-        (range, "OutOfBounds: 2..1 of length 3"),
-        (
-            VortexError::InvalidArgument(ArgKind::SlotCount),
-            "slot count",
-        ),
-        (
-            VortexError::InvalidArgument(ArgKind::SlotMissing { slot: 0 }),
-            "slot 0 must be present",
-        ),
-        (
-            VortexError::InvalidArgument(ArgKind::SlotType { slot: 0 }),
-            "slot type",
-        ),
-        (
-            VortexError::InvalidArgument(ArgKind::Arity { want: 2, got: 1 }),
-            "ScalarFnArray requires 2 children, got 1",
-        ),
-        (
-            VortexError::InvalidArgument(ArgKind::ChildLen),
-            "ScalarFnArray must have children equal to the array length",
-        ),
-        (
-            VortexError::InvalidArgument(ArgKind::FnSlotMissing),
-            "ScalarFnArray requires every child slot to be present",
-        ),
-        (
-            VortexError::InvalidArgument(ArgKind::NoChildren),
-            "ScalarFnArray length cannot be inferred without children",
-        ),
-        (VortexError::InvalidArgument(ArgKind::NoRow), "no row"),
-        (VortexError::InvalidArgument(ArgKind::NodeType), "node type"),
-        (VortexError::InvalidArgument(ArgKind::NodeLen), "node len"),
-        (VortexError::InvalidArgument(ArgKind::BadType), "bad type"),
-        (VortexError::InvalidArgument(ArgKind::BadValue), "bad value"),
-    ] {
-        assert_eq!(rt; error.to_string(rt.alloc())?.as_str(), text);
+fn error_texts(rt: HostRuntime) {
+    for row in &ERROR_TEXTS {
+        assert!(rt; is_text(row.0.to_string(rt.alloc()), row.1), "{}", row.1);
     }
-    Ok(())
+}
+
+#[test]
+fn values_of_types(rt: HostRuntime) {
+    for row in &VALUES {
+        assert!(rt; is_taken(row));
+    }
+}
+
+#[test]
+fn defaults_of_types(rt: HostRuntime) {
+    assert!(rt; Scalar::default_value(BOOL).as_bool() == Some(false));
+    assert!(rt; Scalar::default_value(I32).as_integer() == Some(0));
+    assert!(rt; Scalar::default_value(NULLABLE_I32).is_null());
+    assert!(rt; Scalar::zero_value(NULLABLE_BOOL).as_bool() == Some(false));
+    assert!(rt; Scalar::null(NULLABLE_I32).value() == None);
+}
+
+#[test]
+fn scalars_in_order(rt: HostRuntime) {
+    for row in &ORDERS {
+        assert!(rt; has_order(row));
+    }
 }
 
 #[test]
 fn ids(rt: HostRuntime) {
-    for (id, text) in [
-        (Id::Constant, "vortex.constant"),
-        (Id::Slice, "vortex.slice"),
-        (Id::Binary, "vortex.binary"),
-        (Id::Not, "vortex.not"),
-        (Id::Bool, "vortex.bool"),
-        (Id::Primitive, "vortex.primitive"),
-    ] {
-        assert_eq!(rt; id.as_str(), text);
-        assert!(rt; Id::parse(text) == Some(id), "{text}");
+    for row in &IDS {
+        assert!(rt; is_id(row.0, row.1), "{}", row.0);
     }
-    for text in ["", "vortex", "vortex.slices", "Vortex.bool"] {
-        assert!(rt; Id::parse(text) == None, "{text}");
-    }
-}
-
-#[test]
-fn defaults_of_types(rt: HostRuntime) -> Result<(), Fail> {
-    assert_eq!(rt;
-        Scalar::default_value(BOOL).value(),
-        Some(ScalarValue::Bool(false))
-    );
-    assert_eq!(rt;
-        Scalar::default_value(I32).value(),
-        Some(ScalarValue::Integer(0))
-    );
-    assert!(rt; Scalar::default_value(NULLABLE_I32) == Scalar::null(NULLABLE_I32));
-    assert_eq!(rt; Scalar::zero_value(NULLABLE_BOOL).as_bool(), Some(false));
-    Ok(())
 }

@@ -1,4 +1,4 @@
-//! The texts of types.
+//! Types as text.
 
 ghost use Rattle.std.specs.Prelude.{◌≡◌, ◌++◌, OnOk, IfOk, string_bytes};
 ghost use Rattle.vx_value.specs.View.{type_of};
@@ -7,7 +7,9 @@ ghost use Rattle.vx_value.specs.Text.{type_text, mark, ptype_text};
 use crate::{DType, Nullability, PType};
 use std::alloc::{AllocError, Global};
 
-/// The text of a type, as `i32`, with a final `?` where it is nullable. (own)
+/// Returns the text of `dtype`, for example `i32`, followed by `?` if the type is nullable.
+///
+/// Fails only if there is no memory for the text. (own)
 pub fn type_text(alloc: Global, dtype: &DType) -> Result<String, AllocError>
     ensures { IfOk result (λ s. string_bytes s ≡ type_text (type_of dtype.now)) }
 {
