@@ -18,7 +18,8 @@ use crate::top::status::Status;
 use crate::top::words::{Command, HELP, VERSION, read_command};
 use std::alloc::Global;
 
-/// Runs the command in `words`: reads the tree in `source`, executes it to a column and writes the column's text into `sink`.
+/// Runs the command in `words`: reads the tree in `source`, executes it to a column and writes the column's text into
+/// `sink`.
 ///
 /// The text is complete before the first write. `source` and `sink` count their own faults.
 pub fn run<S: Source, K: Sink>(
@@ -28,8 +29,8 @@ pub fn run<S: Source, K: Sink>(
     sink: &mut K,
     session: &mut VortexSession,
 ) -> Status
-    // What is done: the input spells a tree, which is executed within the turns of the command, and the sink has its type, the
-    // encoding of its column and its rows.
+    // What is done: the input spells a tree, which is executed within the turns of the command, and the sink has its
+    // type, the encoding of its column and its rows.
     ensures headline { (c : CommandOf) → command_of (texts words.now.items) ≡ Some c → result ≡ Status.Done
         → Writes c (S.left source.old) (K.held sink.old) (K.held sink.new) }
     ensures read_whole { reads_tree (command_of (texts words.now.items)) ≡ true → result ≡ Status.Done
