@@ -1,4 +1,4 @@
--- What a function reads of a column: a value for each row.
+-- The argument of a function: a value for each row.
 use Rattle.std.specs.Prelude.{◌≡◌, ◌⊎◌, ◌<◌, ℕ, List, [], ◌∷◌, map, length, Bool, true, false, Some, slice_index_or}
 use Rattle.std.specs.List.{range_with_len}
 use Rattle.vx_value.specs.Types as type
@@ -21,7 +21,7 @@ use Rattle.vx_column.specs.Rows.{integer_at}
 use Rattle.vx_column.specs.declared.argument.Argument.{Argument}
 use Rattle.vx_column.specs.declared.argument.Argument.TheVariants.{Bits, Bit, Integers, Integer}
 
--- the value of row i
+-- the value at row i
 abbrev pub value_at : Argument → ℕ → Value
 value_at (Bits bs) i = boolean (bit_row bs.now i)
 value_at (Bit b) i = boolean b
@@ -34,42 +34,42 @@ type_of_argument (Bit b) = type.bool NonNullable
 type_of_argument (Integers vs) = type.primitive (ptype_of vs.now) NonNullable
 type_of_argument (Integer p z) = type.primitive p NonNullable
 
--- one value, for each row
+-- whether it is one value for every row
 abbrev pub is_repeated : Argument → Bool
 is_repeated (Bits bs) = false
 is_repeated (Bit b) = true
 is_repeated (Integers vs) = false
 is_repeated (Integer p z) = true
 
--- a column has n rows, and a number is of its type
+-- a column has n rows, and a number is in the range of its type
 abbrev pub IsSized : Argument → ℕ → Type 0
 IsSized (Bits bs) n = length bs.now ≡ n
 IsSized (Bit b) n = Unit {0}
 IsSized (Integers vs) n = length (values_of vs.now) ≡ n
 IsSized (Integer p z) n = in_range p z ≡ true
 
--- the argument is what the tree's rows are
+-- a has the type and the rows of the tree t, and is one value for every row if and only if t is a constant
 pub record IsArgument (a : Argument) (t : Tree) : Type 0 where
   pub typed : dtype t ≡ type_of_argument a
   pub shown : (i : ℕ) → i < len t → slice_index_or (rows t) i fault ≡ value (value_at a i)
   pub repeated : is_constant (datum t) ≡ is_repeated a
   pub sized : IsSized a (len t)
 
--- row by row what an operator gives, where the result is of the type
+-- row i of op applied to a and b, with a result of type ty
 abbrev pub operated_row : Operator → DataType → Argument → Argument → ℕ → Cell
 operated_row op ty a b i = operated op ty (value_at a i) (value_at b i)
 
 abbrev pub operated_rows : Operator → DataType → Argument → Argument → ℕ → List Cell
 operated_rows op ty a b n = map (operated_row op ty a b) (range_with_len 0 n)
 
--- whether an operator holds, row by row
+-- whether the comparison op holds at row i
 abbrev pub held_row : Operator → Argument → Argument → ℕ → Bool
 held_row op a b i = holds op (value_cmp (value_at a i) (value_at b i))
 
 abbrev pub held_rows : Operator → Argument → Argument → ℕ → List Bool
 held_rows op a b n = map (held_row op a b) (range_with_len 0 n)
 
--- the column of what an operator gives
+-- u is the canonical column of op applied to a and b, n rows long
 pub record IsOperated (op : Operator) (a b : Argument) (n : ℕ) (u : Tree) : Type 0 where
   pub typed : binary_type op (type_of_argument a ∷ type_of_argument b ∷ []) ≡ Some (dtype u)
   pub counted : len u ≡ n
@@ -77,7 +77,7 @@ pub record IsOperated (op : Operator) (a b : Argument) (n : ℕ) (u : Tree) : Ty
   pub canonical : is_canonical (datum u) ≡ true
   pub bare : slots u ≡ absent no_slots
 
--- why there is none
+-- why there is no such column: out of memory, or a fault in one of its rows
 abbrev pub IsNotOperated : Operator → Argument → Argument → ℕ → VortexError → Type 0
 IsNotOperated op a b n e =
     (e ≡ OutOfMemory) ⊎ ((e ≡ Fault) × ((ty : DataType) → binary_type op (type_of_argument a ∷ type_of_argument b ∷ []) ≡ Some ty → ¬ (HasNoFault (operated_rows op ty a b n))))

@@ -10,12 +10,12 @@ HaveRow i no_slots = Unit {0}
 HaveRow i (absent ss) = ⊥
 HaveRow i (slot t ss) = (i < len t) × HaveRow i ss
 
--- one slot that does
+-- one slot holds a tree that has row i
 abbrev pub HasRow : ℕ → Option Tree → Type 0
 HasRow i None = ⊥
 HasRow i (Some t) = i < len t
 
--- row i of one slot; a fault where it has none
+-- row i of one slot, or a fault if it has none
 abbrev pub cell_in : ℕ → Option Tree → Cell
 cell_in i None = fault
 cell_in i (Some t) = slice_index_or (rows t) i fault

@@ -1,4 +1,4 @@
--- What an operator gives, row by row, where each argument is a number for each row.
+-- An operator applied to numbers, row by row.
 use Rattle.std.specs.Prelude.{ℕ, ℤ, pos, Bool, List, map, slice_index_or}
 use Rattle.std.specs.List.{range_with_len}
 use Rattle.std.specs.Ordering.{int_cmp}
@@ -7,7 +7,7 @@ use Rattle.vx_value.specs.declared.dtype.PType.{PType}
 use Rattle.vx_fn.specs.declared.function.Operator.{Operator}
 use Rattle.vx_fn.specs.Apply.{calculated, holds}
 
--- row i of a column, and 0 past the last one
+-- row i of a column, or 0 past the last one
 abbrev pub integer_at : List ℤ → ℕ → ℤ
 integer_at zs i = slice_index_or zs i (pos 0)
 

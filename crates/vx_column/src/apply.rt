@@ -1,4 +1,4 @@
-//! A function of whole columns.
+//! Functions applied to whole columns.
 
 ghost use Rattle.std.specs.Prelude.{◌≡◌, ◌∷◌, [], map, length, not, IfOk, IfErr, false};
 ghost use Rattle.std.specs.List.{range_with_len};
@@ -20,10 +20,12 @@ use vx_mask::BitBuffer;
 use vx_tree::{BoolArray, Canonical, Columnar};
 use vx_value::{DType, Nullability, VortexError, VortexResult};
 
-/// A function of columns of so many rows each, which it takes, row by row: in one pass and one allocation for the rows,
-/// and without a row being made of a constant. It is a constant where there is a row and each column is one. (own)
+/// Applies `function` to `arguments`, each `len` rows long, in one pass and one allocation for the rows; constants
+/// aren't expanded. The result is a constant if `len > 0` and every argument is one, else canonical. (own)
 ///
-/// `Fault` exactly where a row has no value.
+/// # Errors
+///
+/// `Fault` if a row has no value; `OutOfMemory`.
 pub fn apply_fn(
     alloc: Global,
     function: &ScalarFnRef,
@@ -49,7 +51,7 @@ pub fn apply_fn(
     }
 }
 
-/// The types of some columns. (own)
+/// Returns the types of `columns`.
 fn types_of(alloc: Global, columns: &[Columnar]) -> Result<Vec<DType>, AllocError>
     ensures { IfOk result (λ types. map type_of types.items ≡ map dtype (map columnar_tree columns.now)) }
 {
@@ -60,7 +62,7 @@ fn types_of(alloc: Global, columns: &[Columnar]) -> Result<Vec<DType>, AllocErro
     Ok(types)
 }
 
-/// The column without rows that a function gives on columns without rows. The only error is `OutOfMemory`. (own)
+/// Applies `function` to columns without rows. The only error is `OutOfMemory`.
 fn apply_to_no_rows(
     alloc: Global,
     function: &ScalarFnRef,
@@ -80,7 +82,7 @@ fn apply_to_no_rows(
     }
 }
 
-/// A function of columns that aren't all constants. `Fault` exactly where a row has no value. (own)
+/// Applies `function` to columns that aren't all constants. `Fault` if a row has no value.
 fn apply_to_columns(
     alloc: Global,
     function: &ScalarFnRef,
@@ -106,7 +108,7 @@ fn apply_to_columns(
     }
 }
 
-/// An operator of two columns that aren't both constants. `Fault` exactly where a row has no value. (own)
+/// Applies `operator` to two columns that aren't both constants. `Fault` if a row has no value.
 fn operate_columns(
     alloc: Global,
     operator: Operator,
@@ -125,7 +127,7 @@ fn operate_columns(
     }
 }
 
-/// The other boolean of each row of a column that is no constant. The only error is `OutOfMemory`. (own)
+/// Negates each row of `column`, which isn't a constant. The only error is `OutOfMemory`.
 fn negate_column(alloc: Global, column: &Columnar, len: usize) -> VortexResult<Canonical>
     requires call { IsCall Not (columnar_tree column.now ∷ []) len }
     requires open { all_constant (columnar_tree column.now ∷ []) ≡ false }
@@ -142,7 +144,7 @@ fn negate_column(alloc: Global, column: &Columnar, len: usize) -> VortexResult<C
     }
 }
 
-/// The other boolean of each row. The only error is `OutOfMemory`. (own)
+/// Returns the negation of `bits` as a column. The only error is `OutOfMemory`.
 fn negate(alloc: Global, bits: &BitBuffer) -> VortexResult<Canonical>
     ensures ok { IfOk result (λ c. canonical_tree c ≡ node (type.bool NonNullable) (length bits.now) (bool (map (λ i. not (bit_row bits.now i)) (range_with_len 0 (length bits.now)))) (absent no_slots)) }
     ensures err { IfErr result (λ e. e ≡ VortexError.OutOfMemory) }

@@ -1,4 +1,4 @@
-//! What a function reads of a column.
+//! Columns as the arguments of a function.
 
 ghost use Rattle.vx_tree.specs.Columns.{columnar_tree};
 ghost use Rattle.vx_column.specs.Arguments.{IsArgument};
@@ -7,20 +7,20 @@ use vx_mask::BitBuffer;
 use vx_tree::{ArrayKind, Columnar, PrimitiveValues};
 use vx_value::{DType, PType, ScalarValue};
 
-/// A value for each row, by type: those of a column, or one for all rows. (own)
+/// The values of an argument: a column's rows, or one value for every row.
 #[derive(Clone, Copy)]
 pub(crate) enum Argument<'a> {
     /// A column of booleans.
     Bits(&'a BitBuffer),
-    /// One boolean.
+    /// One boolean for every row.
     Bit(bool),
     /// A column of integers.
     Integers(&'a PrimitiveValues),
-    /// One integer, of its type.
+    /// One integer for every row, in the range of its type.
     Integer(PType, i128),
 }
 
-/// The rows of a column. (own)
+/// Returns the values of `column`.
 pub(crate) fn argument_of(column: &Columnar) -> Argument<'_>
     ensures { IsArgument result (columnar_tree column.now) }
 {

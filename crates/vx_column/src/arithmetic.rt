@@ -1,4 +1,4 @@
-//! Calculations with whole columns.
+//! Arithmetic on whole columns.
 
 ghost use Rattle.std.specs.Prelude.{◌≡◌, ◌<◌, ◌⊎◌, ℕ, map, length, true, false, IfOk, IfErr, MatchOption};
 ghost use Rattle.vx_value.specs.Values.{integer};
@@ -20,19 +20,19 @@ use vx_mask::Buffer;
 use vx_tree::{NativeInteger, PrimitiveValues, native_of};
 use vx_value::{VortexError, VortexResult};
 
-/// An operator that gives a number. (own)
+/// An arithmetic operator.
 pub(crate) trait Arithmetic {
-    // which operator it is
+    // its variant of `Operator`
     ghost operator: { OperatorOf };
 
-    /// The number that it gives, None where that is none of the type.
+    /// Computes one row; `None` if its value isn't in the range of `T`, or the divisor is 0.
     fn row<T: NativeInteger>(lhs: T, rhs: T) -> Option<T>
         ensures { MatchOption result
             (calculated operator T.kind (T.value lhs) (T.value rhs) ≡ fault)
             (λ r. calculated operator T.kind (T.value lhs) (T.value rhs) ≡ value (integer (T.value r))) };
 }
 
-/// The sum. (own)
+/// `x + y`.
 pub(crate) struct Sum;
 
 impl Arithmetic for Sum {
@@ -44,7 +44,7 @@ impl Arithmetic for Sum {
     }
 }
 
-/// The first less the second. (own)
+/// `x - y`.
 pub(crate) struct Difference;
 
 impl Arithmetic for Difference {
@@ -56,7 +56,7 @@ impl Arithmetic for Difference {
     }
 }
 
-/// The product. (own)
+/// `x * y`.
 pub(crate) struct Product;
 
 impl Arithmetic for Product {
@@ -68,7 +68,7 @@ impl Arithmetic for Product {
     }
 }
 
-/// The first by the second, toward zero. (own)
+/// `x / y` truncated toward zero.
 pub(crate) struct Quotient;
 
 impl Arithmetic for Quotient {
@@ -83,8 +83,7 @@ impl Arithmetic for Quotient {
     }
 }
 
-/// The numbers that an operator gives for the first rows of its arguments. `Fault` where it gives none for one of them.
-/// (own)
+/// Applies `O` to the first `len` rows of `lhs` and `rhs`. `Fault` if a row has no value.
 #[tactic(auto, using(crate::proofs::ColumnSteps::rows_more, crate::proofs::ColumnSteps::fault_among))]
 pub(crate) fn calculate_rows<T: NativeInteger, O: Arithmetic, L: Operand<T>, R: Operand<T>>(
     alloc: Global,
@@ -109,8 +108,7 @@ pub(crate) fn calculate_rows<T: NativeInteger, O: Arithmetic, L: Operand<T>, R: 
     Ok(numbers)
 }
 
-/// The numbers that an operator gives for the first rows of its arguments. `Fault` where it gives none for one of them.
-/// (own)
+/// Applies `operator` to the first `len` rows of `lhs` and `rhs`. `Fault` if a row has no value.
 pub(crate) fn calculate_operands<T: NativeInteger, L: Operand<T>, R: Operand<T>>(
     alloc: Global,
     operator: Operator,
@@ -136,7 +134,7 @@ pub(crate) fn calculate_operands<T: NativeInteger, L: Operand<T>, R: Operand<T>>
     }
 }
 
-/// The column of these numbers.
+/// Makes a column of `numbers`. The only error is `OutOfMemory`.
 #[tactic(auto, using(crate::proofs::ColumnSteps::cells_read))]
 fn column_of<T: NativeInteger>(alloc: Global, numbers: Vec<T>) -> VortexResult<PrimitiveValues>
     ensures kind { IfOk result (λ v. ptype_of v ≡ T.kind) }
@@ -146,8 +144,7 @@ fn column_of<T: NativeInteger>(alloc: Global, numbers: Vec<T>) -> VortexResult<P
     Ok(T::wrap(Buffer::from_vec(alloc, numbers)?))
 }
 
-/// The column of the numbers that an operator gives for the first rows of its arguments. `Fault` where it gives none for
-/// one of them.
+/// Applies `operator` to the first `len` rows of `lhs` and `rhs`, and returns a column. `Fault` if a row has no value.
 fn calculate_typed<T: NativeInteger, L: Operand<T>, R: Operand<T>>(
     alloc: Global,
     operator: Operator,
@@ -173,7 +170,7 @@ fn calculate_typed<T: NativeInteger, L: Operand<T>, R: Operand<T>>(
     }
 }
 
-/// The same for each row of two columns. (own)
+/// Applies `operator` to `lhs` and `rhs`, row by row. `Fault` if a row has no value.
 pub(crate) fn calculate_buffers<T: NativeInteger>(
     alloc: Global,
     operator: Operator,
@@ -200,7 +197,7 @@ pub(crate) fn calculate_buffers<T: NativeInteger>(
     }
 }
 
-/// The same for each row of a column with one number. (own)
+/// Applies `operator` to each row of `lhs` and the number `rhs`. `Fault` if a row has no value.
 pub(crate) fn calculate_buffer_with_number<T: NativeInteger>(
     alloc: Global,
     operator: Operator,
@@ -227,7 +224,7 @@ pub(crate) fn calculate_buffer_with_number<T: NativeInteger>(
     }
 }
 
-/// The same for each row of one number with a column. (own)
+/// Applies `operator` to the number `lhs` and each row of `rhs`. `Fault` if a row has no value.
 pub(crate) fn calculate_number_with_buffer<T: NativeInteger>(
     alloc: Global,
     operator: Operator,

@@ -1,4 +1,4 @@
-//! An operator of two columns.
+//! Operators applied to two columns.
 
 ghost use Rattle.std.specs.Prelude.{◌≡◌, ◌⊎◌, ◌&&◌, ◌∷◌, [], map, length, IfOk, IfErr, IsSome, true, false};
 ghost use Rattle.std.specs.List.{range_with_len};
@@ -28,9 +28,8 @@ use vx_mask::BitBuffer;
 use vx_tree::{BoolArray, Canonical, Columnar, PrimitiveArray, PrimitiveValues};
 use vx_value::{DType, Nullability, VortexError, VortexResult};
 
-/// What an operator gives, row by row, on two columns that it takes, of which one at least is no constant. (own)
-///
-/// `Fault` exactly where a row has no value.
+/// Applies `operator` to `lhs` and `rhs`, `len` rows each, of which at least one is a column. `Fault` if a row has no
+/// value.
 pub(crate) fn operate(
     alloc: Global,
     operator: Operator,
@@ -52,7 +51,7 @@ pub(crate) fn operate(
     }
 }
 
-/// Whether an operator holds, row by row, as a column. The only error is `OutOfMemory`.
+/// Applies the comparison `operator`, and returns a column. The only error is `OutOfMemory`.
 #[tactic(auto, using(crate::proofs::Operating::compared_done))]
 fn compare(
     alloc: Global,
@@ -74,7 +73,7 @@ fn compare(
     Ok(Canonical::Bool(column))
 }
 
-/// Whether an operator holds, row by row.
+/// Applies the comparison `operator`, row by row.
 fn compare_rows(
     alloc: Global,
     operator: Operator,
@@ -117,7 +116,7 @@ fn compare_rows(
     }
 }
 
-/// The numbers that an operator gives, row by row, as a column. `Fault` where it gives none for one of them.
+/// Applies the arithmetic `operator`, and returns a column. `Fault` if a row has no value.
 #[tactic(auto, using(crate::proofs::Operating::calculated_done, crate::proofs::Operating::calculated_not))]
 fn calculate(
     alloc: Global,
@@ -144,7 +143,7 @@ fn calculate(
     }
 }
 
-/// The numbers that an operator gives, row by row. `Fault` where it gives none for one of them.
+/// Applies the arithmetic `operator`, row by row. `Fault` if a row has no value.
 fn calculate_rows(
     alloc: Global,
     operator: Operator,

@@ -1,4 +1,4 @@
-//! Comparisons of whole columns.
+//! Comparisons of whole columns of integers.
 
 ghost use Rattle.std.specs.Prelude.{◌≡◌, ◌<◌, ℕ, map, length, true, IfOk};
 ghost use Rattle.std.specs.Ordering.{int_cmp};
@@ -15,17 +15,17 @@ use vx_fn::Operator;
 use vx_mask::{BitBuffer, BitBuilder, Buffer};
 use vx_tree::{NativeInteger, native_of};
 
-/// An operator that compares. (own)
+/// A comparison operator.
 pub(crate) trait Comparison {
-    // which operator it is
+    // its variant of `Operator`
     ghost operator: { OperatorOf };
 
-    /// Whether it holds of two numbers.
+    /// Compares one row.
     fn row<T: NativeInteger>(lhs: T, rhs: T) -> bool
         ensures { result ≡ holds operator (int_cmp (T.value lhs) (T.value rhs)) };
 }
 
-/// Whether they are equal. (own)
+/// `x == y`.
 pub(crate) struct Equal;
 
 impl Comparison for Equal {
@@ -37,7 +37,7 @@ impl Comparison for Equal {
     }
 }
 
-/// Whether they differ. (own)
+/// `x != y`.
 pub(crate) struct Different;
 
 impl Comparison for Different {
@@ -49,7 +49,7 @@ impl Comparison for Different {
     }
 }
 
-/// Whether the first is above the second. (own)
+/// `x > y`.
 pub(crate) struct Above;
 
 impl Comparison for Above {
@@ -61,7 +61,7 @@ impl Comparison for Above {
     }
 }
 
-/// Whether the first isn't below the second. (own)
+/// `x >= y`.
 pub(crate) struct NotBelow;
 
 impl Comparison for NotBelow {
@@ -73,7 +73,7 @@ impl Comparison for NotBelow {
     }
 }
 
-/// Whether the first is below the second. (own)
+/// `x < y`.
 pub(crate) struct Below;
 
 impl Comparison for Below {
@@ -85,7 +85,7 @@ impl Comparison for Below {
     }
 }
 
-/// Whether the first isn't above the second. (own)
+/// `x <= y`.
 pub(crate) struct NotAbove;
 
 impl Comparison for NotAbove {
@@ -97,7 +97,7 @@ impl Comparison for NotAbove {
     }
 }
 
-/// Whether an operator holds, for the first rows of its arguments. (own)
+/// Applies `C` to the first `len` rows of `lhs` and `rhs`.
 #[tactic(auto, using(crate::proofs::ColumnSteps::bits_more))]
 pub(crate) fn compare_rows<T: NativeInteger, C: Comparison, L: Operand<T>, R: Operand<T>>(
     alloc: Global,
@@ -116,7 +116,7 @@ pub(crate) fn compare_rows<T: NativeInteger, C: Comparison, L: Operand<T>, R: Op
     bits.finish(alloc)
 }
 
-/// Whether an operator holds, for the first rows of its arguments. (own)
+/// Applies the comparison `operator` to the first `len` rows of `lhs` and `rhs`.
 pub(crate) fn compare_operands<T: NativeInteger, L: Operand<T>, R: Operand<T>>(
     alloc: Global,
     operator: Operator,
@@ -140,7 +140,7 @@ pub(crate) fn compare_operands<T: NativeInteger, L: Operand<T>, R: Operand<T>>(
     }
 }
 
-/// The same for each row of two columns. (own)
+/// Applies the comparison `operator` to `lhs` and `rhs`, row by row.
 pub(crate) fn compare_buffers<T: NativeInteger>(
     alloc: Global,
     operator: Operator,
@@ -163,7 +163,7 @@ pub(crate) fn compare_buffers<T: NativeInteger>(
     }
 }
 
-/// The same for each row of a column with one number. (own)
+/// Applies the comparison `operator` to each row of `lhs` and the number `rhs`.
 pub(crate) fn compare_buffer_with_number<T: NativeInteger>(
     alloc: Global,
     operator: Operator,
@@ -186,7 +186,7 @@ pub(crate) fn compare_buffer_with_number<T: NativeInteger>(
     }
 }
 
-/// The same for each row of one number with a column. (own)
+/// Applies the comparison `operator` to the number `lhs` and each row of `rhs`.
 pub(crate) fn compare_number_with_buffer<T: NativeInteger>(
     alloc: Global,
     operator: Operator,

@@ -1,4 +1,4 @@
-//! Functions of constant columns.
+//! Functions applied to constants.
 
 ghost use Rattle.std.specs.Prelude.{◌≡◌, map, IfOk, IfErr, IfSome, IfNone, IsSome, MatchOption, false};
 ghost use Rattle.vx_tree.specs.Tree.{datum, is_constant};
@@ -12,7 +12,7 @@ use vx_fn::{ScalarFnRef, apply_row};
 use vx_tree::{ArrayKind, Columnar};
 use vx_value::{Scalar, VortexError, VortexResult};
 
-/// The values of columns that are all constants, None where one isn't. (own)
+/// Returns the scalars of `columns` if all are constants, else `None`.
 pub(crate) fn constants(
     alloc: Global,
     columns: &[Columnar],
@@ -30,7 +30,7 @@ pub(crate) fn constants(
     Ok(Some(scalars))
 }
 
-/// The value of a column that is a constant, None where it is none. (own)
+/// Returns the scalar of `column` if it is a constant, else `None`.
 fn constant_of(column: &Columnar) -> Result<Option<Scalar>, AllocError>
     ensures { IfOk result (λ scalar. MatchOption scalar (is_constant (datum (columnar_tree column.now)) ≡ false) (Repeats (columnar_tree column.now))) }
 {
@@ -42,7 +42,7 @@ fn constant_of(column: &Columnar) -> Result<Option<Scalar>, AllocError>
     }
 }
 
-/// What a function gives on these values, so many times. `Fault` exactly where it gives none. (own)
+/// Applies `function` to `scalars` once, and returns a constant of `len` rows. `Fault` if there is no value.
 #[tactic(auto, using(crate::proofs::Repeats::never_null))]
 pub(crate) fn apply_constants(
     alloc: Global,

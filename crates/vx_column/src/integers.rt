@@ -1,4 +1,4 @@
-//! The kernels for a column of any of the eight types.
+//! The kernels for columns of any of the eight integer types.
 
 ghost use Rattle.std.specs.Prelude.{◌≡◌, ◌<◌, ◌⊎◌, ℕ, map, length, true, false, IfOk, IfErr};
 ghost use Rattle.vx_value.specs.Values.{integer};
@@ -19,7 +19,7 @@ use vx_mask::BitBuffer;
 use vx_tree::PrimitiveValues;
 use vx_value::{VortexError, VortexResult};
 
-// One expression over the buffer, for each of the eight types.
+// Matches on the type of `$values`, with `$body` over its buffer in each of the eight arms.
 macro_rules! by_type {
     ($values:expr, |$buffer:ident| $body:expr) => {
         match $values {
@@ -35,7 +35,7 @@ macro_rules! by_type {
     };
 }
 
-// One expression over the buffers of two columns of one type, for each of the eight types.
+// The same for two columns of one type.
 macro_rules! by_one_type {
     ($lhs:expr, $rhs:expr, |$left:ident, $right:ident| $body:expr) => {
         match ($lhs, $rhs) {
@@ -52,8 +52,7 @@ macro_rules! by_one_type {
     };
 }
 
-/// The numbers that an operator gives for each row of two columns. `Fault` where it gives none for one of
-/// them. (own)
+/// Applies `operator` to `lhs` and `rhs`, row by row. `Fault` if a row has no value.
 pub fn calculate_columns(
     alloc: Global,
     operator: Operator,
@@ -76,8 +75,7 @@ pub fn calculate_columns(
     )
 }
 
-/// The numbers that an operator gives for each row of a column with one number. `Fault` where it gives none for one of
-/// them. (own)
+/// Applies `operator` to each row of `lhs` and the number `rhs`. `Fault` if a row has no value.
 pub fn calculate_column_with_number(
     alloc: Global,
     operator: Operator,
@@ -98,8 +96,7 @@ pub fn calculate_column_with_number(
     )
 }
 
-/// The numbers that an operator gives for each row of one number with a column. `Fault` where it gives none for one of
-/// them. (own)
+/// Applies `operator` to the number `lhs` and each row of `rhs`. `Fault` if a row has no value.
 pub fn calculate_number_with_column(
     alloc: Global,
     operator: Operator,
@@ -120,7 +117,7 @@ pub fn calculate_number_with_column(
     )
 }
 
-/// Whether an operator holds, for each row of two columns. (own)
+/// Applies the comparison `operator` to `lhs` and `rhs`, row by row.
 pub fn compare_columns(
     alloc: Global,
     operator: Operator,
@@ -139,7 +136,7 @@ pub fn compare_columns(
     )
 }
 
-/// Whether an operator holds, for each row of a column with one number. (own)
+/// Applies the comparison `operator` to each row of `lhs` and the number `rhs`.
 pub fn compare_column_with_number(
     alloc: Global,
     operator: Operator,
@@ -156,7 +153,7 @@ pub fn compare_column_with_number(
     )
 }
 
-/// Whether an operator holds, for each row of one number with a column. (own)
+/// Applies the comparison `operator` to the number `lhs` and each row of `rhs`.
 pub fn compare_number_with_column(
     alloc: Global,
     operator: Operator,

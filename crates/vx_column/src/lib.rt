@@ -1,4 +1,4 @@
-//! Operations on whole columns, and the single rows of a tree.
+//! Applies functions to whole columns, and reads single rows of a tree.
 #![tactic(auto)]
 
 mod apply;

@@ -11,7 +11,7 @@ use std::alloc::{AllocError, Global};
 use vx_fn::Operator;
 use vx_mask::{BitBuffer, BitEq, BitGt, BitGte, BitLt, BitLte, BitNotEq};
 
-/// Whether an operator holds, for each row of two columns. (own)
+/// Applies the comparison `operator` to `lhs` and `rhs`, row by row.
 pub(crate) fn compare_bits(
     alloc: Global,
     operator: Operator,
@@ -33,7 +33,7 @@ pub(crate) fn compare_bits(
     }
 }
 
-/// Whether an operator holds, for each row of a column with one boolean. (own)
+/// Applies the comparison `operator` to each row of `lhs` and the boolean `rhs`.
 pub(crate) fn compare_bits_with_bit(
     alloc: Global,
     operator: Operator,
@@ -54,7 +54,7 @@ pub(crate) fn compare_bits_with_bit(
     }
 }
 
-/// The operator that says the same with its arguments exchanged. (own)
+/// Returns the operator for swapped operands: `a < b` is `b > a`.
 #[tactic(auto, using(crate::proofs::Operating::below_above, crate::proofs::Operating::above_below, crate::proofs::Operating::equal_back, crate::proofs::Operating::unequal_back, crate::proofs::Operating::at_most_back, crate::proofs::Operating::at_least_back))]
 fn mirrored(operator: Operator) -> Operator
     requires { is_comparison operator ≡ true }
@@ -72,7 +72,7 @@ fn mirrored(operator: Operator) -> Operator
     }
 }
 
-/// Whether an operator holds, for each row of one boolean with a column. (own)
+/// Applies the comparison `operator` to the boolean `lhs` and each row of `rhs`.
 #[tactic(auto, using(crate::proofs::Operating::exchanged))]
 pub(crate) fn compare_bit_with_bits(
     alloc: Global,

@@ -1,16 +1,16 @@
-//! What a kernel reads: a number for each row.
+//! The operands of a kernel.
 
 ghost use Rattle.std.specs.Prelude.{◌≡◌, ◌<◌, ⊤, ℕ, ℤ, length, map};
 ghost use Rattle.vx_column.specs.Rows.{integer_at};
 
 use vx_tree::NativeInteger;
 
-/// An argument of a kernel: a number for each row. (own)
+/// An operand of a kernel: a number for each row.
 pub(crate) trait Operand<T: NativeInteger> {
-    // the number of a row
+    // the number at a row
     ghost number: { Self → ℕ → ℤ };
 
-    // which rows there are
+    // whether a row exists
     ghost HasRow: { Self → ℕ → Type 0 };
 
     fn row(&self, index: usize) -> T
@@ -18,7 +18,7 @@ pub(crate) trait Operand<T: NativeInteger> {
         ensures { T.value result ≡ number self.now index };
 }
 
-/// A column, whose rows are its items. (own)
+/// A column, with `items` as its rows.
 #[derive(Clone, Copy)]
 pub(crate) struct Items<'a, T> {
     pub items: &'a [T],
@@ -35,7 +35,7 @@ impl<'a, T: NativeInteger> Operand<T> for Items<'a, T> {
     }
 }
 
-/// One number, for any number of rows. (own)
+/// One number for every row.
 #[derive(Clone, Copy)]
 pub(crate) struct Repeated<T> {
     pub number: T,

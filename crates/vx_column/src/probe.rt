@@ -1,4 +1,4 @@
-//! One row of a tree.
+//! Single rows of a tree.
 
 ghost use Rattle.std.specs.Prelude.{◌≡◌, ◌⊎◌, ◌≤◌, ◌<◌, ◌++◌, ◌∷◌, [], map, IfOk, IfErr, OnOk, IsSome, slice_get, Some};
 ghost use Rattle.std.specs.List.{Contains};
@@ -17,9 +17,11 @@ use vx_fn::{ScalarFnRef, apply_row};
 use vx_tree::{ArrayKind, ArrayRef};
 use vx_value::{Scalar, ScalarValue, VortexError, VortexResult};
 
-/// The value of one row, counted from 0. It takes no turns.
+/// Returns the value of row `index`, counted from 0. Takes no turns.
 ///
-/// `OutOfBounds` exactly where the tree has no such row, and `Fault` where that row has no value.
+/// # Errors
+///
+/// `OutOfBounds` if `array` has no such row; `Fault` if that row has no value; `OutOfMemory`.
 pub fn execute_scalar(alloc: Global, array: &ArrayRef, index: usize) -> VortexResult<Scalar>
     ensures ok { IfOk result (λ s. (slice_get (rows array.now) index ≡ Some (value s.value)) × (s.of_type ≡ dtype array.now)) }
     ensures bounds { OnOk result (index < len array.now) }
@@ -40,7 +42,7 @@ pub fn execute_scalar(alloc: Global, array: &ArrayRef, index: usize) -> VortexRe
     }
 }
 
-/// The value of a row that is there. (own)
+/// Returns the value of row `index`, which must exist.
 #[cycle(scalar_at)]
 fn scalar_at(alloc: Global, array: &ArrayRef, index: usize) -> VortexResult<Scalar>
     requires { index < len array.now }
@@ -64,7 +66,7 @@ fn scalar_at(alloc: Global, array: &ArrayRef, index: usize) -> VortexResult<Scal
     }
 }
 
-/// The value of a function on one row of these slots. (own)
+/// Applies `function` to row `index` of `slots`.
 #[cycle(scalar_at)]
 fn function_at(
     alloc: Global,
@@ -86,7 +88,7 @@ fn function_at(
     }
 }
 
-/// The values of one row of these slots. (own)
+/// Returns the values at row `index` of `slots`.
 #[cycle(scalar_at)]
 fn scalars_at(alloc: Global, slots: &[Option<ArrayRef>], index: usize) -> VortexResult<Vec<Scalar>>
     requires { HaveRow index (slots_of slots.now) }
@@ -105,7 +107,7 @@ fn scalars_at(alloc: Global, slots: &[Option<ArrayRef>], index: usize) -> Vortex
     Ok(scalars)
 }
 
-/// Adds the value of one row of the tree in a slot. (own)
+/// Appends the value at row `index` of the tree in `slot`.
 #[cycle(scalar_at)]
 #[tactic(auto, using(crate::proofs::Probing::child_faulted))]
 fn push_scalar(

@@ -1,4 +1,4 @@
--- What a contract sees of an `ExecutionCtx`: the turns that a call may take, and those that the last one took.
+-- What a contract sees of an `ExecutionCtx`: the limit of turns, and the turns that the last call took.
 use Rattle.std.specs.Prelude.{ℕ}
 
 pub record Budget : Type 0 where

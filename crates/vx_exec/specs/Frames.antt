@@ -11,7 +11,7 @@ abbrev pub filled : List Frame → Tree → Tree
 filled [] t = t
 filled (f ∷ fs) t = put f.slot (filled fs t) f.parent
 
--- t may be put into the frame's slot
+-- t fits the open slot of the frame
 pub record IsFrame (f : Frame) (t : Tree) : Type 0 where
   pub hole : IsHole f.slot f.parent
   pub fits : IsNodeOf (put f.slot t f.parent)
@@ -21,7 +21,7 @@ abbrev pub AreFrames : List Frame → Tree → Type 0
 AreFrames [] t = Unit {0}
 AreFrames (f ∷ fs) t = IsFrame f (filled fs t) × AreFrames fs t
 
--- the turns that are left at the suspended parents
+-- the turns left at the suspended parents
 abbrev pub frames_top : List Frame → ℕ
 frames_top [] = 0
 frames_top (f ∷ fs) = top f.parent + frames_top fs

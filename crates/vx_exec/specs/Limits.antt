@@ -1,4 +1,4 @@
--- The limit of turns that stands where none is given.
+-- The default limit of turns.
 use Rattle.std.specs.Prelude.{ℕ}
 
 abbrev pub default_turns : ℕ

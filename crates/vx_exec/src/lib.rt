@@ -1,4 +1,4 @@
-//! Execution: trees into columns, by turns over an explicit stack of suspended parents.
+//! Executes trees to columns, turn by turn, over an explicit stack of suspended parents.
 #![tactic(auto)]
 
 mod context;

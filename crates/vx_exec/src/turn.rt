@@ -28,8 +28,8 @@ pub enum Turn {
     Return(ArrayRef),
 }
 
-/// Whether `current` has reached its target: the last frame's, or the root's if there is no frame. A canonical node always
-/// has.
+/// Whether `current` has reached its target: the last frame's, or the root's if there is no frame. A canonical node
+/// always has.
 fn is_reached<M: Matcher>(frames: &[Frame], current: &ArrayRef) -> bool
     ensures { result ≡ is_reached M.fits frames.now current.now }
 {
@@ -69,8 +69,8 @@ fn advance<M: Matcher>(
     }
 }
 
-/// Takes one turn: puts `current` back if it has reached its target, or else takes its step or enters a slot. `frames` has
-/// the outermost parent first. (own)
+/// Takes one turn: puts `current` back if it has reached its target, or else takes its step or enters a slot. `frames`
+/// has the outermost parent first. (own)
 ///
 /// The errors are `OutOfMemory`, and `Fault` only if a row of the whole tree, or of a node in it, has no value.
 pub fn take_turn<M: Matcher>(

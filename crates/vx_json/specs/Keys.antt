@@ -1,4 +1,4 @@
--- The keys under which trees stand.
+-- The keys that hold trees.
 use Rattle.std.specs.Prelude.{ℕ, List, codes}
 use Rattle.vx_json.specs.declared.key.Key.{Key}
 use Rattle.vx_json.specs.declared.key.Key.TheVariants.{Child, Args}

@@ -18,11 +18,11 @@ use Rattle.vx_json.specs.SpelledFunctions.{function_named}
 use Rattle.vx_json.specs.SpelledTypes.{type_spelled}
 use Rattle.vx_json.specs.SpelledValues.{integer_spelled, value_spelled, all_read}
 
--- the type that the text under `type` names
+-- the type named under `type`
 abbrev pub type_at : Data → Option DataType
 type_at d = option_and_then type_spelled (text_at (codes "type") d)
 
--- `{"enc":"col","type":T,"rows":[..]}` and `{"enc":"flat","type":T,"values":[..]}`: a column, a value for each row
+-- `{"enc":"col","type":T,"rows":[..]}` and `{"enc":"flat","type":T,"values":[..]}`: a column with a value for each row
 abbrev pub boolean_column : List Bool → Tree
 boolean_column bs = node (type.bool NonNullable) (length bs) (bool bs) (absent no_slots)
 
@@ -37,7 +37,7 @@ abbrev pub column_of : List ℕ → Data → Option Tree
 column_of key d =
     if member_count d == 3 then option_and_then (λ ty. option_and_then (column_of_items ty) (items_at key d)) (type_at d) else None
 
--- `{"enc":"constant","type":T,"value":v,"len":n}`: the value v, n times
+-- `{"enc":"constant","type":T,"value":v,"len":n}`: n rows of the value v
 abbrev pub repeated : DataType → Value → ℕ → Tree
 repeated ty v n = node ty n (constant (record { of_type = ty; value = v })) no_slots
 
@@ -48,7 +48,7 @@ abbrev pub constant_of : Data → Option Tree
 constant_of d =
     if member_count d == 4 then option_and_then (λ ty. option_and_then (λ v. option_map (repeated ty v) (number_at (codes "len") d)) (value_at ty d)) (type_at d) else None
 
--- `{"enc":"slice","start":a,"stop":b,"child":{..}}`: the rows a to b of the child, b exclusive
+-- `{"enc":"slice","start":a,"stop":b,"child":{..}}`: rows `a..b` of the child
 abbrev pub sliced : Tree → ℕ → ℕ → Option Tree
 sliced t a b = if nat_le a b && nat_le b (len t) then Some (node (dtype t) (b - a) (slice a b) (slot t no_slots)) else None
 
@@ -56,7 +56,7 @@ abbrev pub slice_of : Data → Tree → Option Tree
 slice_of d t =
     if member_count d == 4 then option_and_then (λ a. option_and_then (sliced t a) (number_at (codes "stop") d)) (number_at (codes "start") d) else None
 
--- `{"enc":"fn","fn":"add","args":[{..},{..}]}`: the function of the trees, row by row, where it takes them
+-- `{"enc":"fn","fn":"add","args":[{..},{..}]}`: the function over the trees, if it accepts them
 abbrev pub function_at : Data → Option ScalarFnRef
 function_at d = option_and_then function_named (text_at (codes "fn") d)
 
@@ -66,8 +66,7 @@ applied ts f = if is_none (inferred_refusal f ts) then inferred f ts else None
 abbrev pub function_of : Data → List Tree → Option Tree
 function_of d ts = if member_count d == 3 then option_and_then (applied ts) (function_at d) else None
 
--- the tree of an object with this `enc`, from its fields, from the tree under each key and from the list of trees under
--- each key: a line for each encoding
+-- the tree of an object by its `enc`, given the tree and the list of trees under each key: a line for each encoding
 abbrev pub node_of : Data → (List ℕ → Option Tree) → (List ℕ → Option (List Tree)) → List ℕ → Option Tree
 node_of d child children enc =
     if bytes_eq enc (codes "col") then column_of (codes "rows") d
@@ -77,11 +76,11 @@ node_of d child children enc =
     else (if bytes_eq enc (codes "fn") then option_and_then (function_of d) (children (codes "args"))
     else None))))
 
--- one tree more
+-- a tree in front of a list of trees
 abbrev pub tree_first : Option Tree → Option (List Tree) → Option (List Tree)
 tree_first tree trees = option_and_then (λ t. option_map (λ ts. t ∷ ts) trees) tree
 
--- the tree that a value spells, those that a list of values spells, and the tree and the trees under a key
+-- the tree that a value spells, the trees that a list spells, and the tree and the trees under a key
 abbrev mutual
   pub tree_spelled : Data → Option Tree
   tree_spelled null = None
@@ -112,14 +111,14 @@ abbrev mutual
   trees_under k (member l d ms) =
       match_ordering (slice_cmp nat_cmp k l) (trees_under k ms) (trees_listed d) (trees_under k ms)
 
--- the bytes are JSON, and its value spells this tree
+-- the bytes are JSON in UTF-8 that spells the tree t
 abbrev pub Spells : List ℕ → Tree → Type 0
 Spells bytes t = IsUtf8 bytes × (option_and_then tree_spelled (read bytes) ≡ Some t)
 
 abbrev pub SpellsNone : List ℕ → Type 0
 SpellsNone bytes = (t : Tree) → ¬ (Spells bytes t)
 
--- ---- the same by look-ups, as the reader goes
+-- ---- the same by look-ups of keys, as the reader does it
 
 abbrev pub tree_at : List ℕ → Data → Option Tree
 tree_at k d = option_and_then tree_spelled (get k d)

@@ -4,7 +4,7 @@ use Rattle.vx_value.specs.Types.{DataType, bool, primitive}
 use Rattle.vx_value.specs.declared.dtype.Nullability.TheVariants.{NonNullable}
 use Rattle.vx_value.specs.declared.dtype.PType.TheVariants.{U8, U16, U32, U64, I8, I16, I32, I64}
 
--- null is among the values of none: a line for each type
+-- only non-nullable types so far: a line for each
 abbrev pub type_spelled : List ℕ → Option DataType
 type_spelled text =
     if bytes_eq text (codes "bool") then Some (bool NonNullable)

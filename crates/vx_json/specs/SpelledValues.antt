@@ -1,4 +1,4 @@
--- The value of a type that a JSON value spells, and the values that a list spells.
+-- The value that JSON spells, by type, and the values that a list spells.
 use Rattle.std.specs.Prelude.{ℤ, List, [], ◌∷◌, if◌then◌else◌, Option, Some, None, option_map, option_and_then}
 use Rattle.serde_json.specs.Data.{Data, Items, no_items, item}
 use Rattle.serde_json.specs.Find.{as_bool, as_number, as_integer}
@@ -7,11 +7,11 @@ use Rattle.vx_value.specs.Values.{Value, boolean, integer}
 use Rattle.vx_value.specs.IsOf.{in_range}
 use Rattle.vx_value.specs.declared.dtype.PType.{PType}
 
--- the number, where the type has it
+-- the number, if it is in the range of the type
 abbrev pub within : PType → ℤ → Option ℤ
 within p z = if in_range p z then Some z else None
 
--- a whole number that the type has
+-- a whole number in the range of the type
 abbrev pub integer_spelled : PType → Data → Option ℤ
 integer_spelled p d = option_and_then (within p) (option_and_then as_integer (as_number d))
 
@@ -20,7 +20,7 @@ abbrev pub value_spelled : DataType → Data → Option Value
 value_spelled (bool n) d = option_map boolean (as_bool d)
 value_spelled (primitive p n) d = option_map integer (integer_spelled p d)
 
--- the items, each read alike, and none of them where one can't be read
+-- all items of a list, or None if one can't be read
 abbrev pub all_read : {A : Type 0} → (Data → Option A) → Items → Option (List A)
 all_read read no_items = Some []
 all_read read (item d ds) = option_and_then (λ a. option_map (λ rest. a ∷ rest) (all_read read ds)) (read d)

@@ -1,11 +1,11 @@
-//! The functions, as texts name them.
+//! The names of functions.
 
 ghost use Rattle.std.specs.Prelude.{◌≡◌};
 ghost use Rattle.vx_json.specs.SpelledFunctions.{function_named};
 
 use vx_fn::{Operator, ScalarFnRef};
 
-/// The function that a text names.
+/// Returns the function named `text`.
 pub(crate) fn function_named(text: &str) -> Option<ScalarFnRef>
     ensures { result ≡ function_named text.now }
 {

@@ -1,9 +1,9 @@
-//! The keys under which trees stand.
+//! The keys that hold trees.
 
 ghost use Rattle.std.specs.Prelude.{◌≡◌};
 ghost use Rattle.vx_json.specs.Keys.{key_text};
 
-/// A key under which a tree stands. (own)
+/// A key that holds a tree, or a list of trees.
 #[derive(Clone, Copy)]
 pub(crate) enum Key {
     Child,
@@ -11,7 +11,7 @@ pub(crate) enum Key {
 }
 
 impl Key {
-    /// The key as it is spelled.
+    /// Returns the key as it is spelled.
     pub(crate) fn text(self) -> &'static str
         ensures { result.now ≡ key_text self }
     {

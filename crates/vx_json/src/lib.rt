@@ -1,4 +1,4 @@
-//! Trees from JSON, and the text of a row.
+//! Reads trees from JSON, and writes rows as text.
 #![tactic(auto)]
 
 mod fields;
@@ -13,5 +13,5 @@ pub use rows::{push_row, row_text};
 pub use tree::{tree_of, tree_of_bytes};
 use vx_value::{ArgKind, VortexError};
 
-/// The refusal of a value that spells nothing.
+/// The error for a value that spells no tree.
 const BAD_VALUE: VortexError = VortexError::InvalidArgument(ArgKind::BadValue);

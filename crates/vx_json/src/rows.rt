@@ -7,8 +7,8 @@ use std::alloc::{AllocError, Global};
 use std::fmt::Write;
 use vx_value::{Scalar, ScalarValue, VortexResult};
 
-/// Appends the text of a row: `null`, `true`, `false`, or an integer in decimal. What is appended before want of memory
-/// stays. (own)
+/// Appends the text of a row: `null`, `true`, `false`, or an integer in decimal. If memory runs out, part of it may
+/// have been appended. (own)
 pub fn push_row(text: &mut String, scalar: &Scalar) -> Result<(), AllocError>
     ensures { OnOk result (string_bytes text.new ≡ string_bytes text.old ++ row_text scalar.now.value) }
 {
@@ -16,7 +16,7 @@ pub fn push_row(text: &mut String, scalar: &Scalar) -> Result<(), AllocError>
         None => text.push_str("null"),
         Some(ScalarValue::Bool(true)) => text.push_str("true"),
         Some(ScalarValue::Bool(false)) => text.push_str("false"),
-        // An integer of its type fits 64 bits, and is written faster so.
+        // Every integer type fits in 64 bits, which are written faster than 128.
         Some(ScalarValue::Integer(number)) => if number < 0 {
             write!(text, "{}", number as i64)
         } else {
@@ -25,7 +25,7 @@ pub fn push_row(text: &mut String, scalar: &Scalar) -> Result<(), AllocError>
     }
 }
 
-/// The text of a row. (own)
+/// Returns the text of a row: `null`, `true`, `false`, or an integer in decimal. The only error is `OutOfMemory`. (own)
 pub fn row_text(alloc: Global, scalar: &Scalar) -> VortexResult<String>
     ensures { IfOk result (λ s. string_bytes s ≡ row_text scalar.now.value) }
 {

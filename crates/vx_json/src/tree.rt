@@ -28,7 +28,7 @@ use vx_tree::{
 };
 use vx_value::{ArgKind, DType, Nullability, VortexError, VortexResult};
 
-/// The type that the text under `type` names.
+/// Returns the type named under `type`, which isn't nullable.
 fn dtype_of(value: &Value) -> Option<DType>
     ensures named { option_map type_of result ≡ type_at (view value.now) }
     ensures never_null { IfSome result (λ t. nullability_of (type_of t) ≡ NonNullable) }
@@ -36,7 +36,7 @@ fn dtype_of(value: &Value) -> Option<DType>
     type_named(text(value, "type")?)
 }
 
-/// The column of a list's values, without nulls.
+/// Reads a column of `dtype` with the values in `list`; null isn't accepted.
 fn column_of_items(alloc: Global, dtype: DType, list: &Vec<Value>) -> VortexResult<ArrayRef>
     ensures ok { IfOk result (λ t. column_of_items (type_of dtype) (items_view list.now.items) ≡ Some t) }
     ensures err { IfErr result (IsRefused (column_of_items (type_of dtype) (items_view list.now.items) ≡ None)) }
@@ -54,7 +54,7 @@ fn column_of_items(alloc: Global, dtype: DType, list: &Vec<Value>) -> VortexResu
     }
 }
 
-/// A column, a value for each row, in the list under a key.
+/// Reads a column with the values in the list under `key`.
 fn column(alloc: Global, value: &Value, key: &str) -> VortexResult<ArrayRef>
     ensures ok { IfOk result (λ t. column_of key.now (view value.now) ≡ Some t) }
     ensures err { IfErr result (IsRefused (column_of key.now (view value.now) ≡ None)) }
@@ -68,7 +68,7 @@ fn column(alloc: Global, value: &Value, key: &str) -> VortexResult<ArrayRef>
     column_of_items(alloc, dtype, list)
 }
 
-/// One value, for each row.
+/// Reads a constant: `len` rows of one value.
 fn constant(alloc: Global, value: &Value) -> VortexResult<ArrayRef>
     ensures ok { IfOk result (λ t. constant_of (view value.now) ≡ Some t) }
     ensures err { IfErr result (IsRefused (constant_of (view value.now) ≡ None)) }
@@ -89,7 +89,7 @@ fn constant(alloc: Global, value: &Value) -> VortexResult<ArrayRef>
     Ok(ConstantArray::new(alloc, scalar, len as usize)?.into_array())
 }
 
-/// A range of the child's rows.
+/// Reads a lazy slice of `child`.
 fn slice(alloc: Global, value: &Value, child: ArrayRef) -> VortexResult<ArrayRef>
     ensures ok { IfOk result (λ t. slice_of (view value.now) child ≡ Some t) }
     ensures err { IfErr result (IsRefused (slice_of (view value.now) child ≡ None)) }
@@ -106,14 +106,14 @@ fn slice(alloc: Global, value: &Value, child: ArrayRef) -> VortexResult<ArrayRef
     Ok(SliceArray::new(alloc, child, start as usize..stop as usize)?.into_array())
 }
 
-/// The function that the text under `fn` names.
+/// Returns the function named under `fn`.
 fn function_at(value: &Value) -> Option<ScalarFnRef>
     ensures { result ≡ function_at (view value.now) }
 {
     function_named(text(value, "fn")?)
 }
 
-/// The function of the trees, where it takes them.
+/// Makes the lazy node of `scalar_fn` over `children`, if it accepts them.
 fn applied(alloc: Global, scalar_fn: ScalarFnRef, children: Vec<ArrayRef>) -> VortexResult<ArrayRef>
     ensures ok { IfOk result (λ t. applied children.items scalar_fn ≡ Some t) }
     ensures err { IfErr result (IsRefused (applied children.items scalar_fn ≡ None)) }
@@ -125,7 +125,7 @@ fn applied(alloc: Global, scalar_fn: ScalarFnRef, children: Vec<ArrayRef>) -> Vo
     }
 }
 
-/// A function of trees, row by row.
+/// Reads a lazy function of `children`.
 fn function(alloc: Global, value: &Value, children: Vec<ArrayRef>) -> VortexResult<ArrayRef>
     ensures ok { IfOk result (λ t. function_of (view value.now) children.items ≡ Some t) }
     ensures err { IfErr result (IsRefused (function_of (view value.now) children.items ≡ None)) }
@@ -136,7 +136,7 @@ fn function(alloc: Global, value: &Value, children: Vec<ArrayRef>) -> VortexResu
     }
 }
 
-/// The trees that the values of a list spell.
+/// Reads the trees in `list`.
 #[cycle(tree_of)]
 fn trees_of(alloc: Global, list: &Vec<Value>) -> VortexResult<Vec<ArrayRef>>
     ensures ok { IfOk result (λ v. trees_spelled (items_view list.now.items) ≡ Some v.items) }
@@ -152,7 +152,7 @@ fn trees_of(alloc: Global, list: &Vec<Value>) -> VortexResult<Vec<ArrayRef>>
     Ok(trees)
 }
 
-/// The trees in the list under a key.
+/// Reads the trees in the list under `key`.
 #[cycle(tree_of)]
 fn children(alloc: Global, value: &Value, key: Key) -> VortexResult<Vec<ArrayRef>>
     ensures ok { IfOk result (λ v. trees_at (key_text key) (view value.now) ≡ Some v.items) }
@@ -164,7 +164,7 @@ fn children(alloc: Global, value: &Value, key: Key) -> VortexResult<Vec<ArrayRef
     }
 }
 
-/// The tree under a key.
+/// Reads the tree under `key`.
 #[cycle(tree_of)]
 fn child(alloc: Global, value: &Value, key: Key) -> VortexResult<ArrayRef>
     ensures ok { IfOk result (λ t. tree_at (key_text key) (view value.now) ≡ Some t) }
@@ -176,7 +176,11 @@ fn child(alloc: Global, value: &Value, key: Key) -> VortexResult<ArrayRef>
     }
 }
 
-/// The tree that a value spells. `InvalidArgument` with `BadValue` exactly where it spells none. (own)
+/// Reads the tree that `value` spells. (own)
+///
+/// # Errors
+///
+/// `InvalidArgument(BadValue)` if `value` spells no tree; `OutOfMemory`.
 #[cycle(tree_of)]
 #[tactic(auto, using(crate::proofs::Lookups::spelled_by))]
 pub fn tree_of(alloc: Global, value: &Value) -> VortexResult<ArrayRef>
@@ -201,7 +205,11 @@ pub fn tree_of(alloc: Global, value: &Value) -> VortexResult<ArrayRef>
     }
 }
 
-/// The tree that a JSON text spells. `InvalidArgument` with `BadValue` exactly where it spells none. (own)
+/// Reads the tree that the JSON text in `bytes` spells. (own)
+///
+/// # Errors
+///
+/// `InvalidArgument(BadValue)` if `bytes` aren't JSON or spell no tree; `OutOfMemory`.
 pub fn tree_of_bytes(alloc: Global, bytes: &[u8]) -> VortexResult<ArrayRef>
     ensures ok { IfOk result (λ t. Spells bytes.now t) }
     ensures err { IfErr result (λ e. (e ≡ VortexError.OutOfMemory)

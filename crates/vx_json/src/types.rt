@@ -1,4 +1,4 @@
-//! The types, as texts name them.
+//! The names of types.
 
 ghost use Rattle.std.specs.Prelude.{◌≡◌, option_map, IfSome};
 ghost use Rattle.vx_value.specs.View.{type_of};
@@ -8,7 +8,7 @@ ghost use Rattle.vx_json.specs.SpelledTypes.{type_spelled};
 
 use vx_value::{DType, Nullability, PType};
 
-/// The type that a text names. Null isn't among the values of any.
+/// Returns the type named `text`. Only non-nullable types are accepted so far.
 pub(crate) fn type_named(text: &str) -> Option<DType>
     ensures named { option_map type_of result ≡ type_spelled text.now }
     ensures never_null { IfSome result (λ t. nullability_of (type_of t) ≡ NonNullable) }

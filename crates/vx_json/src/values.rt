@@ -1,4 +1,4 @@
-//! Values of a type, and the values of a list.
+//! Single values of a type, and lists of them.
 
 ghost use Rattle.std.specs.Prelude.{◌≡◌, Some, None, option_map, option_and_then, IfOk, IfErr, IfSome};
 ghost use Rattle.serde_json.specs.View.{view, items_view};
@@ -15,21 +15,21 @@ use vx_mask::{BitBuffer, BitBuilder, Buffer};
 use vx_tree::{NativeInteger, PrimitiveValues};
 use vx_value::{DType, PType, Scalar, ScalarValue, VortexResult};
 
-/// A whole number of at most 64 bits.
+/// Reads an integer in the range of `i64` or `u64`.
 fn integer(value: &Value) -> Option<i128>
     ensures { result ≡ option_and_then as_integer (as_number (view value.now)) }
 {
     value.as_number()?.as_i128()
 }
 
-/// A whole number that the type has.
+/// Reads an integer in the range of `T`.
 fn native<T: NativeInteger>(value: &Value) -> Option<T>
     ensures { option_map T.value result ≡ integer_spelled T.kind (view value.now) }
 {
     T::from_wide(integer(value)?)
 }
 
-/// The integers of a list, in a type that the caller names. `InvalidArgument` with `BadValue` exactly where one isn't of it.
+/// Reads a list of integers in the range of `T`. `InvalidArgument(BadValue)` if an item isn't one.
 fn natives<T: NativeInteger>(alloc: Global, list: &Vec<Value>) -> VortexResult<PrimitiveValues>
     ensures kind { IfOk result (λ v. ptype_of v ≡ T.kind) }
     ensures ok { IfOk result (λ v. all_read (integer_spelled T.kind) (items_view list.now.items) ≡ Some (values_of v)) }
@@ -45,7 +45,7 @@ fn natives<T: NativeInteger>(alloc: Global, list: &Vec<Value>) -> VortexResult<P
     Ok(T::wrap(Buffer::from_vec(alloc, values)?))
 }
 
-/// The integers of a list. `InvalidArgument` with `BadValue` exactly where one isn't of the type.
+/// Reads a list of integers in the range of `ptype`. `InvalidArgument(BadValue)` if an item isn't one.
 pub(crate) fn integers(
     alloc: Global,
     ptype: PType,
@@ -67,7 +67,7 @@ pub(crate) fn integers(
     }
 }
 
-/// The booleans of a list. `InvalidArgument` with `BadValue` exactly where one is something else.
+/// Reads a list of booleans. `InvalidArgument(BadValue)` if an item isn't one.
 pub(crate) fn booleans(alloc: Global, list: &Vec<Value>) -> VortexResult<BitBuffer>
     ensures ok { IfOk result (λ bits. all_read as_bool (items_view list.now.items) ≡ Some bits) }
     ensures err { IfErr result (IsRefused (all_read as_bool (items_view list.now.items) ≡ None)) }
@@ -82,7 +82,7 @@ pub(crate) fn booleans(alloc: Global, list: &Vec<Value>) -> VortexResult<BitBuff
     Ok(bits.finish(alloc)?)
 }
 
-/// The value of the type that a JSON value spells, never null.
+/// Reads a scalar of `dtype`, never null.
 pub(crate) fn scalar(dtype: DType, value: &Value) -> Option<Scalar>
     ensures value { option_map (λ s. s.value) result ≡ value_spelled (type_of dtype) (view value.now) }
     ensures typed { IfSome result (λ s. s.of_type ≡ type_of dtype) }

@@ -1,11 +1,11 @@
--- Counts of faults that never fall, and errors that come only where one rose.
+-- Counts of faults, which never fall, and the errors that raise them.
 use Rattle.std.specs.Prelude.{◌≡◌, ℕ, ◌+◌, ◌-◌, ◌≤◌, ◌^◌, min, Result, OnOk, OnErr}
 
--- a count of 64 bits rose, or stands at its last value
+-- the count rose, or stands at 2^64 - 1
 abbrev pub Rose : ℕ → ℕ → Type 0
 Rose before now = min (before + 1) (2 ^ 64 - 1) ≤ now
 
--- a count of faults rose where there is an error, and else is as it was; it never falls
+-- the count of faults rose if the result is an error, and stayed if it isn't; it never falls
 pub record HasCause {T E : Type 0} (before now : ℕ) (result : Result T E) : Type 0 where
   pub later : before ≤ now
   pub kept : OnOk result (now ≡ before)

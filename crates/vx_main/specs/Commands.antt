@@ -1,4 +1,4 @@
--- The command that the words are.
+-- The command in the words.
 use Rattle.std.specs.Prelude.{ℕ, ◌+◌, ◌-◌, ◌*◌, ◌^◌, ◌==◌, ◌&&◌, nat_le, nat_lt, List, [], ◌∷◌, Bool, true, false, if◌then◌else◌, codes, bytes_eq, map, String, string_bytes, Option, Some, None, option_map}
 use Rattle.std.specs.declared.alloc.Global.{Global}
 use Rattle.vx_exec.specs.Limits.{default_turns}
@@ -8,12 +8,12 @@ use Rattle.vx_main.specs.declared.top.words.Command.TheVariants.{Run, Help, Vers
 abbrev pub texts : List (String Global) → List (List ℕ)
 texts words = map string_bytes words
 
--- the number that the digits so far and these digits are, below 2^64
+-- the number n with the digits of cs after its own, if it is below 2^64
 abbrev pub read_on : ℕ → List ℕ → Option ℕ
 read_on n [] = Some n
 read_on n (c ∷ cs) = if nat_le 48 c && nat_le c 57 && nat_lt (n * 10 + (c - 48)) (2 ^ 64) then read_on (n * 10 + (c - 48)) cs else None
 
--- decimal digits, with no 0 before another
+-- a decimal number below 2^64, without a leading zero
 abbrev pub number_of : List ℕ → Option ℕ
 number_of [] = None
 number_of (c ∷ []) = read_on 0 (c ∷ [])
@@ -24,7 +24,7 @@ abbrev pub word_command : List ℕ → Option Command
 word_command w =
     if bytes_eq w (codes "run") then Some (Run default_turns) else (if bytes_eq w (codes "--help") then Some Help else (if bytes_eq w (codes "--version") then Some Version else None))
 
--- and one of a word and a number
+-- a command of a word and a number
 abbrev pub numbered_command : List ℕ → List ℕ → Option Command
 numbered_command w n = if bytes_eq w (codes "run") then option_map (λ limit. Run limit) (number_of n) else None
 

@@ -1,6 +1,6 @@
 -- The limits of a run.
 use Rattle.std.specs.Prelude.{ℕ}
 
--- the most bytes that an input may have
+-- the largest input, in bytes
 abbrev pub input_limit : ℕ
 input_limit = 67108864

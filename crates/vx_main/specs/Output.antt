@@ -9,19 +9,19 @@ use Rattle.vx_value.specs.declared.id.Id.TheVariants as id
 use Rattle.vx_value.specs.Cell.{Cell, value}
 use Rattle.vx_json.specs.RowText.{row_text}
 
--- a line ends with a newline
+-- a line of text, with its newline
 abbrev pub line : List ℕ → List ℕ
 line text = text ++ 10 ∷ []
 
--- the lines of the type and of the encoding
+-- the lines of the type and the encoding
 abbrev pub head_lines : DataType → Id → List ℕ
 head_lines ty id = line (codes "type " ++ type_text ty) ++ line (codes "encoding " ++ id_text id)
 
--- and a line for each value
+-- those, and a line for each value
 abbrev pub output : DataType → Id → List Value → List ℕ
 output ty id values = head_lines ty id ++ flat_map (λ v. line (row_text v)) values
 
--- the text shows these cells: each is a value, and has its line
+-- the text shows the cells: each is a value, and has its line
 pub record Shows (ty : DataType) (id : Id) (cells : List Cell) (text : List ℕ) : Type 0 where
   pub values : List Value
   pub own : cells ≡ map value values
@@ -32,7 +32,6 @@ abbrev pub canonical_id : DataType → Id
 canonical_id (bool n) = id.Bool
 canonical_id (primitive p n) = id.Primitive
 
--- a column of these cells may have the encoding: the canonical one of the type, or that of a constant where one value
--- is in all rows
+-- a column of these cells may have the encoding i: the type's canonical one, or constant if all rows are one value
 abbrev pub IsLawful : Id → DataType → List Cell → Type 0
 IsLawful i ty cells = (i ≡ canonical_id ty) ⊎ ((i ≡ id.Constant) × (v : Value) × (cells ≡ replicate (length cells) (value v)))

@@ -1,4 +1,4 @@
--- What a run owes, and why one has no answer.
+-- What a run must write, and why it has no answer.
 use Rattle.std.specs.Prelude.{◌≡◌, ℕ, ◌≤◌, ◌<◌, List, length, Bool, true, Option, Some, None, IfSome, ◌⊎◌}
 use Rattle.std.specs.Io.KnownBytes.{Appends}
 use Rattle.vx_tree.specs.Tree.{Tree, dtype, datum, id_of, is_columnar}
@@ -15,12 +15,12 @@ use Rattle.vx_main.specs.declared.top.words.TheConstants.{HELP, VERSION}
 use Rattle.vx_main.specs.declared.top.status.Status.{Status}
 use Rattle.vx_main.specs.declared.top.status.Status.TheVariants.{BadInput, Fault, TurnLimit, Memory}
 
--- what a tree is executed to: a column
+-- whether a tree is a column, the target of a run
 abbrev pub is_column : Tree → Bool
 is_column t = is_columnar (datum t)
 
--- the bytes spell a tree, which is executed to a column in at most so many turns; the text is the tree's type, the column's
--- encoding, which is a lawful one, and the tree's rows
+-- the bytes spell a tree, which is executed to a column in at most `limit` turns; the text has the tree's type, the
+-- column's encoding, which is lawful, and the tree's rows
 pub record Answers (bytes : List ℕ) (limit : ℕ) (text : List ℕ) : Type 0 where
   pub tree : Tree
   pub spelled : Spells bytes tree
@@ -32,21 +32,21 @@ pub record Answers (bytes : List ℕ) (limit : ℕ) (text : List ℕ) : Type 0 w
   pub lawful : IsLawful (id_of (datum column)) (dtype tree) (rows tree)
   pub shown : Shows (dtype tree) (id_of (datum column)) (rows tree) text
 
--- the text that a command owes for the input, as far as the input is told
+-- the text that a command must write for the input, if the input is known
 abbrev pub Owes : Command → Option (List ℕ) → List ℕ → Type 0
 Owes (Run limit) input text = IfSome input (λ bytes. Answers bytes limit text)
 Owes Help input text = text ≡ HELP.now
 Owes Version input text = text ≡ VERSION.now
 
--- the sink holds what it held, and then what the command owes
+-- the text that the command must write was appended to the sink
 abbrev pub Writes : Command → Option (List ℕ) → Option (List ℕ) → Option (List ℕ) → Type 0
 Writes c input old new = (text : List ℕ) × Owes c input text × Appends old new text
 
--- the same, but only a prefix of what the command owes
+-- a prefix of that text was appended
 abbrev pub WritesPrefix : Command → Option (List ℕ) → Option (List ℕ) → Option (List ℕ) → Type 0
 WritesPrefix c input old new = (text : List ℕ) × Owes c input text × AppendsPrefix old new text
 
--- the bytes spell a tree whose cost is above the limit, and whose execution goes on after so many turns
+-- the bytes spell a tree that costs more than `limit` turns, and isn't executed after as many
 pub record IsCostly (bytes : List ℕ) (limit : ℕ) : Type 0 where
   pub tree : Tree
   pub spelled : Spells bytes tree
@@ -63,7 +63,7 @@ pub record IsFaulty (bytes : List ℕ) : Type 0 where
 abbrev pub HasNoAnswer : List ℕ → ℕ → Status → Type 0
 HasNoAnswer bytes turns s = (s ≡ Memory) ⊎ ((s ≡ BadInput) × SpellsNone bytes) ⊎ ((s ≡ Fault) × IsFaulty bytes) ⊎ ((s ≡ TurnLimit turns turns) × IsCostly bytes turns)
 
--- nothing in the input keeps the command from its answer
+-- what a run needs of its input: it isn't too large, and spells a tree without faults that costs at most `limit` turns
 abbrev pub Suffices : Command → Option (List ℕ) → Type 0
 Suffices (Run limit) None = ⊥
 Suffices (Run limit) (Some bytes) = (length bytes ≤ input_limit) × (t : Tree) × Spells bytes t × IsClean t × (cost t ≤ limit)

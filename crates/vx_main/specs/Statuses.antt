@@ -1,4 +1,4 @@
--- The code and the text of each status, and which come before which.
+-- The code and the text of each status, and which may come before the input or the tree is there.
 use Rattle.std.specs.Prelude.{ℕ, List, codes, Bool, true, false}
 use Rattle.vx_value.specs.declared.error.VortexError.{VortexError}
 use Rattle.vx_value.specs.declared.error.VortexError.TheVariants.{OutOfMemory, Fault, IterationLimit, OutOfBounds, InvalidArgument}
@@ -28,7 +28,7 @@ text_of ReadFault = codes "read fault"
 text_of WriteFault = codes "write fault"
 text_of (TooLarge bytes) = codes "input too large"
 
--- a run that ended so has not its whole input
+-- whether a run with this status may have ended without its whole input
 abbrev pub has_no_input : Status → Bool
 has_no_input Done = false
 has_no_input Usage = false
@@ -40,7 +40,7 @@ has_no_input ReadFault = true
 has_no_input WriteFault = false
 has_no_input (TooLarge bytes) = true
 
--- a run that ended so has no tree
+-- whether a run with this status may have ended without a tree
 abbrev pub has_no_tree : Status → Bool
 has_no_tree Done = false
 has_no_tree Usage = false
@@ -52,7 +52,7 @@ has_no_tree ReadFault = true
 has_no_tree WriteFault = false
 has_no_tree (TooLarge bytes) = true
 
--- the status that an error of a layer below is told by
+-- the status for an error of the crates below
 abbrev pub status_of : VortexError → Status
 status_of OutOfMemory = Memory
 status_of Fault = status.Fault

@@ -1,4 +1,4 @@
-//! The program `vx`: a tree in, its rows out.
+//! The program `vx`: reads a tree, executes it and prints its rows.
 #![tactic(auto)]
 
 ghost use Rattle.std.specs.Prelude.{◌≡◌, ◌↔◌, None, drop};
@@ -19,7 +19,7 @@ pub use stream::{
 };
 pub use top::{Command, HELP, Status, VERSION, VortexSession, run, status_text};
 
-/// Reads the arguments of the process, the first of which is the program's name.
+/// Reads the arguments of the process, with the program's name first.
 fn read_arguments(rt: &HostRuntime) -> io::Result<Vec<String>> {
     let mut arguments = Vec::new(rt.alloc());
     for argument in env::args(rt)? {
@@ -38,7 +38,7 @@ fn words_of(mut arguments: Vec<String>) -> Vec<String>
     arguments
 }
 
-/// Returns the status for arguments that can't be read: want of memory, or else words that are no command.
+/// Returns the status for arguments that can't be read: `Memory` if memory ran out, else `Usage`.
 fn status_of(error: &io::Error) -> Status
     ensures memory { error_kind error.now ≡ failure.OutOfMemory → result ≡ Status.Memory }
     ensures usage { ¬ (error_kind error.now ≡ failure.OutOfMemory) → result ≡ Status.Usage }

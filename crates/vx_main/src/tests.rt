@@ -12,11 +12,11 @@ use vx_json::{row_text, tree_of_bytes};
 use vx_tree::AnyCanonical;
 use vx_value::{DType, Nullability, Scalar, VortexResult};
 
-/// 141 bytes: nine pieces of 16, and a read that finds the end.
+/// 141 bytes: nine reads of up to 16, and one that finds the end.
 const INPUT: &str =
     r#"{"enc":"slice","start":1,"stop":4,"child":{"enc":"slice","start":2,"stop":8,"child":{"enc":"col","type":"i32","rows":[0,1,2,3,4,5,6,7,8,9]}}}"#;
 
-/// 41 bytes: eleven pieces of 4.
+/// 41 bytes: eleven writes of up to 4.
 const OUTPUT: &str = "type i32\nencoding vortex.primitive\n3\n4\n5\n";
 
 const CONSTANT: &str = r#"{"enc":"constant","type":"i32","value":7,"len":3}"#;
@@ -32,7 +32,7 @@ fn run_five<S: Source, K: Sink>(
     Ok(run(alloc, &words, source, sink, &mut VortexSession::empty()))
 }
 
-/// Whether a run of the source's bytes writes `OUTPUT`, or else nothing, and ends with the status.
+/// Checks that a run on `source` ends with `status`, and writes `OUTPUT` if that is `Done`, else nothing.
 fn is_read<S: Source>(alloc: Global, source: &mut S, status: Status) -> Result<bool, Fail> {
     let mut sink = PlainSink::new(alloc);
     let ended = run_five(alloc, source, &mut sink)?;
@@ -40,7 +40,8 @@ fn is_read<S: Source>(alloc: Global, source: &mut S, status: Status) -> Result<b
     Ok(ended == status && sink.held() == written.as_bytes())
 }
 
-/// Whether a run of `INPUT` into pieces of 4 bytes, of which the `call`th fails, ends so.
+/// Checks that a run that writes 4 bytes a call and fails at call `call`, counted from 0, leaves a prefix of `OUTPUT`
+/// and ends with `WriteFault`, or with `Done` if it makes fewer calls.
 fn is_written(alloc: Global, call: usize) -> Result<bool, Fail> {
     let mut sink = MemSink::new(alloc, 4, [call as u64].to_vec(alloc)?);
     let ended = run_five(alloc, &mut PlainSource::new(INPUT.as_bytes()), &mut sink)?;
@@ -79,7 +80,7 @@ fn sinks_in_pieces_and_failing(rt: HostRuntime) -> Result<(), Fail> {
     Ok(())
 }
 
-/// A reader and a writer that fail once and would go on from there.
+/// A reader and writer that fails once, and would go on if tried again.
 #[derive(Drop)]
 struct FailsOnce<'a> {
     bytes: &'a [u8],
@@ -142,7 +143,7 @@ fn a_writer_without_room_fails(rt: HostRuntime) -> Result<(), Fail> {
     Ok(())
 }
 
-/// The turns that the tree in `input` takes to its column, and to a canonical one, which is left out of a constant.
+/// Returns the turns that the tree in `input` takes to a column, and to a canonical column.
 fn turns_of(alloc: Global, input: &str) -> VortexResult<(u64, u64)> {
     let array = tree_of_bytes(alloc, input.as_bytes())?;
     let mut ctx = ExecutionCtx::new(alloc);
@@ -159,7 +160,7 @@ fn turns_are_told(rt: HostRuntime) -> Result<(), Fail> {
     Ok(())
 }
 
-/// Whether a tree that was executed through another handle still has its rows.
+/// Checks that a tree still has its three rows, of which `row` is the last, after a clone of it was executed.
 fn is_kept(alloc: Global, input: &str, row: &str) -> VortexResult<bool> {
     let array = tree_of_bytes(alloc, input.as_bytes())?;
     let _column = execute(array.clone()?, &mut ExecutionCtx::new(alloc))?;

@@ -1,4 +1,4 @@
--- What a step answers.
+-- The result of a step.
 use Rattle.std.specs.Prelude.{◌≡◌, ◌⊎◌, ℕ, zero, suc, ◌<◌, Bool, true, false, ◌&&◌, nat_lt}
 use Rattle.vx_tree.specs.Tree.{Tree, Slots, node, no_slots, absent, slot, datum, is_constant, is_function, is_columnar}
 use Rattle.vx_value.specs.declared.error.VortexError.{VortexError}
@@ -10,7 +10,7 @@ use Rattle.vx_step.specs.declared.steps.SlotTarget.{SlotTarget}
 use Rattle.vx_step.specs.declared.steps.ExecutionStep.{ExecutionStep}
 use Rattle.vx_step.specs.declared.steps.ExecutionStep.TheVariants.{ExecuteSlot, Done}
 
--- slot i is the first whose tree isn't at its target
+-- slot i is the first whose tree hasn't reached the target g
 abbrev pub AwaitsAt : SlotTarget → ℕ → Slots → Type 0
 AwaitsAt g i no_slots = ⊥
 AwaitsAt g zero (absent ss) = ⊥
@@ -21,7 +21,7 @@ AwaitsAt g (suc i) (slot t ss) = (meets g t ≡ true) × AwaitsAt g i ss
 abbrev pub Awaits : ℕ → Tree → Type 0
 Awaits i (node ty n d ss) = AwaitsAt (slot_target d) i ss
 
--- the tree of each slot is at its target: none is awaited
+-- the tree of each slot has reached the target g
 abbrev pub AreReady : SlotTarget → Slots → Type 0
 AreReady g no_slots = Unit {0}
 AreReady g (absent ss) = AreReady g ss
@@ -36,15 +36,15 @@ are_constant no_slots = true
 are_constant (absent ss) = false
 are_constant (slot t ss) = is_constant (datum t) && are_constant ss
 
--- whether the step of a node gives one value for all rows: that of a function of constants does, where there is a row
+-- whether a node steps to a constant: a function of constants does, if there is a row
 abbrev pub gives_constant : Tree → Bool
 gives_constant (node ty n d ss) = is_function d && (nat_lt 0 n && are_constant ss)
 
--- why a step, a turn or an execution of the tree has no answer: the memory, or a fault in one of its nodes
+-- why a step, a turn or an execution of the tree fails: out of memory, or a fault in one of its nodes
 abbrev pub IsStopped : Tree → VortexError → Type 0
 IsStopped t e = (e ≡ OutOfMemory) ⊎ ((e ≡ Fault) × (¬ (IsClean t)))
 
--- u is the column that stands for t exactly, whose slots are ready; it has fewer turns left
+-- the slots of t are ready, and u is a column that stands for t exactly and has fewer turns left
 pub record IsDone (t u : Tree) : Type 0 where
   pub ready : IsReady t
   pub exactly : KeepsExactly t u

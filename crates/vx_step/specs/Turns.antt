@@ -1,11 +1,11 @@
--- What slots are executed to, and the turns that a node in work has left.
+-- The targets of slots, and the turns left at a node.
 use Rattle.std.specs.Prelude.{ℕ, ◌+◌, Bool, true, false}
 use Rattle.vx_tree.specs.Tree.{Tree, Data, Slots, node, constant, slice, function, bool, primitive, no_slots, absent, slot, datum, is_canonical, is_columnar}
 use Rattle.vx_tree.specs.Cost.{cost}
 use Rattle.vx_step.specs.declared.steps.SlotTarget.{SlotTarget}
 use Rattle.vx_step.specs.declared.steps.SlotTarget.TheVariants.{Canonical, Columnar}
 
--- whether a tree is what a slot is executed to
+-- whether a tree has reached a target
 abbrev pub data_meets : SlotTarget → Data → Bool
 data_meets Canonical d = is_canonical d
 data_meets Columnar d = is_columnar d
@@ -13,7 +13,7 @@ data_meets Columnar d = is_columnar d
 abbrev pub meets : SlotTarget → Tree → Bool
 meets g t = data_meets g (datum t)
 
--- what a node's slots are executed to: a line for each encoding
+-- the target of a node's slots: a line for each encoding
 abbrev pub slot_target : Data → SlotTarget
 slot_target (constant v) = Canonical
 slot_target (slice a b) = Canonical
@@ -32,7 +32,7 @@ base_top (function f) = 3
 base_top (bool bs) = 1
 base_top (primitive p zs) = 1
 
--- a slot of that cost weighs it and a turn, and nothing once it is done
+-- the turns left for a slot: its cost and one more, or none once it has reached its target
 abbrev pub slot_top : Bool → ℕ → ℕ
 slot_top true c = 0
 slot_top false c = c + 1
@@ -42,6 +42,6 @@ slots_top d no_slots = 0
 slots_top d (absent ss) = slots_top d ss
 slots_top d (slot t ss) = slot_top (meets (slot_target d) t) (cost t) + slots_top d ss
 
--- the turns that are left at a node in work, the current one or a suspended one
+-- the turns left at a node, current or suspended
 abbrev pub top : Tree → ℕ
 top (node ty n d ss) = base_top d + slots_top d ss

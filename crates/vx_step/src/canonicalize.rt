@@ -1,4 +1,4 @@
-//! Constants, written out as columns.
+//! Constants expanded to canonical columns.
 
 ghost use Rattle.std.specs.Prelude.{◌≡◌, IfOk, IfErr, true, replicate};
 ghost use Rattle.vx_value.specs.Types as type;
@@ -13,8 +13,8 @@ use vx_mask::BitBuffer;
 use vx_tree::{ArrayRef, BoolArray, IntoArray, PrimitiveArray, PrimitiveValues};
 use vx_value::{DType, Nullability, PType, Scalar, ScalarValue, VortexError, VortexResult};
 
-/// The canonical column of a value that is never null, so many times. The rows take one allocation, which is asked for
-/// before any is written. The only error is `OutOfMemory`.
+/// Expands `scalar`, whose type isn't nullable, to a canonical column of `len` rows. The rows take one allocation,
+/// which is made before any is written. The only error is `OutOfMemory`.
 pub fn constant_canonicalize(alloc: Global, scalar: &Scalar, len: usize) -> VortexResult<ArrayRef>
     requires { nullability_of scalar.now.of_type ≡ NonNullable }
     ensures ok { IfOk result (λ u. IsDone (node scalar.now.of_type len (constant scalar.now) no_slots) u) }
@@ -30,7 +30,7 @@ pub fn constant_canonicalize(alloc: Global, scalar: &Scalar, len: usize) -> Vort
     }
 }
 
-/// The column of a boolean so many times. (own)
+/// Returns a column of `len` rows of `bit`.
 fn repeat_bool(alloc: Global, bit: bool, len: usize) -> VortexResult<ArrayRef>
     ensures ok { IfOk result (λ u. u ≡ node (type.bool NonNullable) len (bool (replicate len bit)) (absent no_slots)) }
     ensures err { IfErr result (λ e. e ≡ VortexError.OutOfMemory) }
@@ -40,7 +40,7 @@ fn repeat_bool(alloc: Global, bit: bool, len: usize) -> VortexResult<ArrayRef>
     Ok(column.into_array())
 }
 
-/// The column of an integer of the type so many times. (own)
+/// Returns a column of `len` rows of `number`, which must be in the range of `ptype`.
 fn repeat_integer(alloc: Global, ptype: PType, number: i128, len: usize) -> VortexResult<ArrayRef>
     requires { in_range ptype number ≡ true }
     ensures ok { IfOk result (λ u. u ≡ node (type.primitive ptype NonNullable) len (primitive ptype (replicate len number)) (absent no_slots)) }

@@ -1,4 +1,4 @@
-//! One step of a function's node.
+//! One step of a function node.
 
 ghost use Rattle.std.specs.Prelude.{◌≡◌, ◌++◌, ◌∷◌, [], map, IfOk, IfErr, OnOk, MatchOption, true, Some};
 ghost use Rattle.vx_tree.specs.Tree.{Tree, dtype, len, datum, node, function, slots_of, filled_slots, is_columnar};
@@ -16,7 +16,7 @@ use vx_fn::ScalarFnRef;
 use vx_tree::{AnyColumnar, ArrayRef, Columnar, IntoArray};
 use vx_value::VortexResult;
 
-/// The first slot that is no column yet is to be executed to one; where there is none, the function is applied. (own)
+/// Requests the first slot that isn't a column yet; applies `scalar_fn` once all are.
 #[tactic(auto, using(crate::proofs::Applying::slots_present, crate::proofs::Applying::may_call, crate::proofs::Applying::applied_done, crate::proofs::Applying::unapplied_stopped))]
 pub(crate) fn apply_or_wait(
     alloc: Global,
@@ -44,7 +44,7 @@ pub(crate) fn apply_or_wait(
     }
 }
 
-/// The first slot whose tree is no column, counted from 0. (own)
+/// Returns the first slot that isn't a column yet, counted from 0.
 fn first_waiting(slots: &[Option<ArrayRef>]) -> Option<usize>
     requires { all_present (shapes (slots_of slots.now)) ≡ true }
     ensures { MatchOption result (AreColumns (slots_of slots.now)) (λ i. AwaitsAt target.Columnar i (slots_of slots.now)) }
@@ -57,7 +57,7 @@ fn first_waiting(slots: &[Option<ArrayRef>]) -> Option<usize>
     None
 }
 
-/// Whether the tree of a slot is no column yet. (own)
+/// Checks whether `slot` holds a tree that isn't a column yet.
 fn is_waiting(slot: &Option<ArrayRef>) -> bool
     ensures { result ≡ waits slot.now }
 {
@@ -67,7 +67,7 @@ fn is_waiting(slot: &Option<ArrayRef>) -> bool
     }
 }
 
-/// The columns in the slots, which share the storage. (own)
+/// Returns the columns in `slots`, which share their storage.
 fn columns_of(alloc: Global, slots: &[Option<ArrayRef>]) -> Result<Vec<Columnar>, AllocError>
     requires { AreColumns (slots_of slots.now) }
     ensures { IfOk result (λ columns. filled_slots (map columnar_tree columns.items) ≡ slots_of slots.now) }
@@ -79,7 +79,7 @@ fn columns_of(alloc: Global, slots: &[Option<ArrayRef>]) -> Result<Vec<Columnar>
     Ok(columns)
 }
 
-/// Adds the column in a slot. (own)
+/// Appends the column in `slot`.
 fn push_column(columns: &mut Vec<Columnar>, slot: &Option<ArrayRef>) -> Result<(), AllocError>
     requires { HoldsColumn slot.now }
     ensures { OnOk result (map columnar_tree columns.new.items ≡ map columnar_tree columns.old.items ++ trees_of slot.now) }

@@ -1,4 +1,4 @@
-//! One step of an encoding.
+//! One step of a node, by its encoding.
 
 ghost use Rattle.std.specs.Prelude.{◌≡◌, ◌-◌, ◌≤◌, IfOk, IfErr, true, false};
 ghost use Rattle.vx_tree.specs.Tree.{dtype, len, datum, is_canonical, node, slice, slot, no_slots};
@@ -13,17 +13,17 @@ use vx_tree::{
 };
 use vx_value::{VortexError, VortexResult};
 
-/// What a slot is executed to. (own)
+/// The form that a slot is executed to. (own)
 #[derive(Clone, Copy)]
 pub enum SlotTarget {
-    /// The canonical column of its type.
+    /// A canonical column.
     Canonical,
-    /// That, or one value for each row.
+    /// A canonical column or a constant.
     Columnar,
 }
 
 impl SlotTarget {
-    /// Whether the tree is what the slot is executed to.
+    /// Checks whether `array` has this form.
     pub fn is_met_by(self, array: &ArrayRef) -> bool
         ensures { result ≡ meets self array.now }
     {
@@ -34,16 +34,21 @@ impl SlotTarget {
     }
 }
 
-/// What a step asks for, or gives.
+/// The result of a step.
 #[derive(Drop)]
 pub enum ExecutionStep {
-    /// The slot, counted from 0, is to be executed first.
+    /// Requests that the slot, counted from 0, be executed to the target first.
     ExecuteSlot(usize, SlotTarget),
-    /// The tree that stands for the node.
+    /// The column that replaces the node.
     Done(ArrayRef),
 }
 
-/// One step of a node that isn't canonical. `Fault` only where a row of the node, or of one of its slots, has no value.
+/// Takes one step of `array`, whose root isn't canonical: requests the first slot that isn't ready, or returns a
+/// column.
+///
+/// # Errors
+///
+/// `Fault` only if a row of `array`, or of a node in it, has no value; `OutOfMemory`.
 pub fn step(alloc: Global, array: &ArrayRef) -> VortexResult<ExecutionStep>
     requires { is_canonical (datum array.now) ≡ false }
     ensures ok { IfOk result (λ s. IsStep array.now s) }
@@ -67,8 +72,8 @@ pub fn step(alloc: Global, array: &ArrayRef) -> VortexResult<ExecutionStep>
     }
 }
 
-/// The rows of a canonical column from a start, inclusive, to a stop, exclusive, as a canonical column that shares the
-/// storage. (own)
+/// Returns the rows `start..stop` of a canonical column, as a canonical column that shares its storage. The only error
+/// is `OutOfMemory`.
 fn slice_canonical(
     alloc: Global,
     column: &ArrayRef,

@@ -26,7 +26,7 @@ impl Model for Suspended {
     ghost view = { λ a. tree_of a.node };
 }
 
-/// Takes the child out of a slot, counted from 0. Nothing is copied where no one else holds the node. (own)
+/// Takes the child out of `slot`, counted from 0. Copies the parts of the root only if it is shared. (own)
 pub fn take_slot(
     alloc: Global,
     array: ArrayRef,
@@ -43,7 +43,7 @@ pub fn take_slot(
 }
 
 impl Suspended {
-    /// Fills the empty slot, counted from 0. Nothing is copied. (own)
+    /// Puts `child` into the empty `slot`, counted from 0. Copies nothing. (own)
     pub fn put(self, alloc: Global, slot: usize, child: ArrayRef) -> Result<ArrayRef, AllocError>
         requires hole { IsHole slot self }
         requires fits { IsNodeOf (put slot child self) }

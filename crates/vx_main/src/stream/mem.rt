@@ -1,4 +1,4 @@
-//! Streams in memory that move a few bytes at a time, and fail where they are told to.
+//! Streams in memory that move few bytes a call, and fail at chosen calls.
 
 ghost use Rattle.std.specs.Prelude.{◌≡◌, ℕ, [], Some};
 
@@ -6,7 +6,7 @@ use crate::stream::{Failed, Sink, Source};
 use std::alloc::Global;
 use std::marker::Model;
 
-/// Bytes that lie in memory, and the calls of `read` that are to fail. (own)
+/// A source in memory that fails at chosen calls of `read`. (own)
 #[derive(Drop)]
 pub struct MemSource {
     bytes: Vec<u8>,
@@ -29,8 +29,8 @@ impl Model for MemSource {
 }
 
 impl MemSource {
-    /// A source of these bytes, which gives at most `most` of them a call (where it is 0, one),
-    /// and fails at the calls in `fails`, counted from 0.
+    /// Creates a source of `bytes`. It gives at most `most` of them a call (1 if `most` is 0), and fails at the calls
+    /// in `fails`, counted from 0.
     pub fn new(bytes: Vec<u8>, most: usize, fails: Vec<u64>) -> MemSource
         ensures { result ≡ record { bytes = bytes.items; faults = 0 } }
     {
@@ -65,7 +65,7 @@ impl Source for MemSource {
     }
 }
 
-/// Bytes that are kept in memory, and the calls of `write` that are to fail. (own)
+/// A sink in memory that fails at chosen calls of `write`. (own)
 #[derive(Drop)]
 pub struct MemSink {
     bytes: Vec<u8>,
@@ -84,8 +84,8 @@ impl Model for MemSink {
 }
 
 impl MemSink {
-    /// A sink that holds nothing yet. It takes at most `most` bytes a call (where it is 0, one),
-    /// and fails at the calls in `fails`, counted from 0, and where memory is refused.
+    /// Creates an empty sink. It takes at most `most` bytes a call (1 if `most` is 0), and fails at the calls in
+    /// `fails`, counted from 0, or if memory runs out.
     pub fn new(alloc: Global, most: usize, fails: Vec<u64>) -> MemSink
         ensures { result ≡ record { bytes = []; faults = 0 } }
     {
@@ -98,7 +98,7 @@ impl MemSink {
         }
     }
 
-    /// What was written so far.
+    /// Returns the bytes written so far.
     pub fn held(&self) -> &[u8]
         ensures { result.now ≡ self.now.bytes }
     {

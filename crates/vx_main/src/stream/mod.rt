@@ -1,4 +1,4 @@
-//! Streams of bytes that count their faults. (own)
+//! Streams of bytes that count their faults.
 
 mod mem;
 mod plain;

@@ -1,4 +1,4 @@
-//! Streams in memory that take and give all that they can.
+//! Streams in memory that move as many bytes as they can.
 
 ghost use Rattle.std.specs.Prelude.{◌≡◌, ℕ, List, [], Some};
 
@@ -6,7 +6,7 @@ use crate::stream::{Failed, Sink, Source};
 use std::alloc::Global;
 use std::marker::Model;
 
-/// Bytes that lie in memory. Reading them never fails. A clause sees the bytes that are left. (own)
+/// A source in memory that never fails. A contract sees the bytes left. (own)
 #[derive(Drop)]
 pub struct PlainSource<'a> {
     bytes: &'a [u8],
@@ -19,7 +19,7 @@ impl<'a> Model for PlainSource<'a> {
 }
 
 impl<'a> PlainSource<'a> {
-    /// A source of these bytes.
+    /// Creates a source of `bytes`.
     pub fn new(bytes: &'a [u8]) -> PlainSource<'a>
         ensures { result ≡ bytes.now }
     {
@@ -41,7 +41,7 @@ impl Source for PlainSource<'_> {
     }
 }
 
-/// Bytes that are kept in memory. Writing them fails only where memory is refused. (own)
+/// A sink in memory that fails only if memory runs out. (own)
 #[derive(Drop)]
 pub struct PlainSink {
     bytes: Vec<u8>,
@@ -57,7 +57,7 @@ impl Model for PlainSink {
 }
 
 impl PlainSink {
-    /// A sink that holds nothing yet.
+    /// Creates an empty sink.
     pub fn new(alloc: Global) -> PlainSink
         ensures { result ≡ record { bytes = []; faults = 0 } }
     {
@@ -67,7 +67,7 @@ impl PlainSink {
         }
     }
 
-    /// What was written so far.
+    /// Returns the bytes written so far.
     pub fn held(&self) -> &[u8]
         ensures { result.now ≡ self.now.bytes }
     {

@@ -1,4 +1,4 @@
-//! Reading a source to its end.
+//! Reads a source to its end.
 
 ghost use Rattle.std.specs.Prelude.{◌≡◌, ◌≢◌, ◌≤◌, ◌<◌, ℕ, List, length, Some, Err, IsErr, IfOk, IsErrOf};
 ghost use Rattle.vx_main.specs.Limits.{input_limit};
@@ -8,18 +8,18 @@ ghost use Rattle.vx_main.specs.Streams.{TakesAll, TakesSome};
 use crate::stream::{Failed, Source};
 use std::alloc::{AllocError, Global};
 
-/// The most bytes that an input may have.
+/// The largest input, in bytes. (own)
 pub const INPUT_LIMIT: usize = 67_108_864;
 
-/// The most bytes that are asked of a source at once.
+/// The largest read, in bytes.
 const PIECE: usize = 65_536;
 
-/// Why an input was not read. (own)
+/// The error of `read_all`.
 #[derive(Clone, Copy, Debug, PartialEq, Eq)]
 pub enum ReadError {
     /// A read failed.
     Failed,
-    /// The input has more than `INPUT_LIMIT` bytes. So many were read of it.
+    /// The input exceeds `INPUT_LIMIT`. Holds the number of bytes read so far.
     TooLarge(usize),
     OutOfMemory,
 }
@@ -44,12 +44,16 @@ impl From<Failed> for ReadError {
     }
 }
 
-/// All the bytes of a source, read to its end. (own)
+/// Reads `source` to its end and returns all its bytes.
+///
+/// # Errors
+///
+/// `Failed` if a read fails; `TooLarge` if more than `INPUT_LIMIT` bytes come; `OutOfMemory`.
 pub fn read_all<S: Source>(alloc: Global, source: &mut S) -> Result<Vec<u8>, ReadError>
     ensures all { IfOk result (λ bytes. TakesAll (S.left source.old) (S.left source.new) bytes.items) }
     ensures fits { IfOk result (λ bytes. length bytes.items ≤ input_limit) }
 
-    // Each error has its cause, but for memory that is refused.
+    // Each error but `OutOfMemory` has its cause.
     ensures too_large { (n : ℕ) → IsErrOf result (ReadError.TooLarge n)
         → (input_limit < n) × TakesSome (S.left source.old) (S.left source.new) n }
     ensures too_large_comes { (bytes : List ℕ) → S.left source.old ≡ Some bytes

@@ -1,4 +1,4 @@
-//! The readers and writers of the system as streams that count their faults.
+//! Readers and writers as streams that count their faults.
 
 ghost use Rattle.std.specs.Prelude.{◌≡◌, ℕ};
 
@@ -6,8 +6,8 @@ use crate::stream::{Failed, Sink, Source};
 use std::io::{Read, Write};
 use std::marker::Model;
 
-/// A reader, as the standard input, and how many of its reads failed. It tells the bytes that the
-/// reader tells: of a real stream none. (own)
+/// A source over a reader, such as standard input. A contract sees the bytes left if it sees the reader's, which it
+/// doesn't for a real stream. (own)
 #[derive(Drop)]
 pub struct StdinSource<R: Read> {
     reader: R,
@@ -23,7 +23,7 @@ impl<R: Read> Model for StdinSource<R> {
 }
 
 impl<R: Read> StdinSource<R> {
-    /// A source of what the reader gives.
+    /// Creates a source over `reader`.
     pub fn new(reader: R) -> StdinSource<R>
         ensures { result ≡ record { bytes = R.remaining reader; faults = 0 } }
     {
@@ -47,8 +47,8 @@ impl<R: Read> Source for StdinSource<R> {
     }
 }
 
-/// A writer, as the standard output, and how many of its writes failed. It tells the bytes that the
-/// writer tells: of a real stream none. (own)
+/// A sink over a writer, such as standard output. A write that takes none of a piece's bytes counts as a fault. A
+/// contract sees the bytes held if it sees the writer's, which it doesn't for a real stream. (own)
 #[derive(Drop)]
 pub struct StdoutSink<W: Write> {
     writer: W,
@@ -64,7 +64,7 @@ impl<W: Write> Model for StdoutSink<W> {
 }
 
 impl<W: Write> StdoutSink<W> {
-    /// A sink that hands what it takes to the writer.
+    /// Creates a sink over `writer`.
     pub fn new(writer: W) -> StdoutSink<W>
         ensures { result ≡ record { bytes = W.contents writer; faults = 0 } }
     {

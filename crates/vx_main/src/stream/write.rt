@@ -1,4 +1,4 @@
-//! Writing bytes to a sink until it has taken them all.
+//! Writes bytes to a sink until it has taken them all.
 
 ghost use Rattle.std.specs.Prelude.{OnOk, OnErr};
 ghost use Rattle.std.specs.Io.KnownBytes.{Appends};
@@ -7,7 +7,7 @@ ghost use Rattle.vx_main.specs.Streams.{AppendsPrefix};
 
 use crate::stream::{Failed, Sink};
 
-/// Writes all the bytes, piece by piece. Where a write fails, what was taken before stays. (own)
+/// Writes all of `bytes`, piece by piece. If a write fails, the bytes that `sink` took before stay.
 pub fn write_all<K: Sink>(sink: &mut K, bytes: &[u8]) -> Result<(), Failed>
     ensures written { OnOk result (Appends (K.held sink.old) (K.held sink.new) bytes.now) }
     ensures cut_short { OnErr result (AppendsPrefix (K.held sink.old) (K.held sink.new) bytes.now) }

@@ -1,4 +1,4 @@
-//! The text for an input. (own)
+//! The output for an input.
 
 ghost use Rattle.std.specs.Prelude.{◌≡◌, IfOk, IfErr, string_bytes};
 ghost use Rattle.vx_main.specs.Statuses.{status_of};
@@ -11,7 +11,7 @@ use vx_exec::{ExecutionCtx, execute};
 use vx_json::tree_of_bytes;
 use vx_value::VortexError;
 
-/// The status for an error of a layer below.
+/// Returns the status for an error of the crates below.
 fn status_of(error: VortexError) -> Status
     ensures { result ≡ status_of error }
 {

@@ -1,4 +1,4 @@
-//! The text of a column. (own)
+//! The text of a column.
 
 ghost use Rattle.std.specs.Prelude.{◌≡◌, ◌<◌, Some, slice_get, true, IfOk, IfErr, OnOk, string_bytes};
 ghost use Rattle.vx_value.specs.Cell.{value};
@@ -12,7 +12,7 @@ use vx_json::push_row;
 use vx_tree::ArrayRef;
 use vx_value::{Scalar, VortexError, VortexResult, type_text};
 
-/// The lines of the type and of the encoding.
+/// Returns the lines of the type and the encoding.
 fn head_text(alloc: Global, array: &ArrayRef) -> Result<String, AllocError>
     ensures { IfOk result (λ s. string_bytes s ≡ head_lines (dtype array.now) (id_of (datum array.now))) }
 {
@@ -24,7 +24,7 @@ fn head_text(alloc: Global, array: &ArrayRef) -> Result<String, AllocError>
     Ok(text)
 }
 
-/// The value of a row of a column, counted from 0.
+/// Returns the value of row `index` of a column, counted from 0. The only error is `OutOfMemory`.
 fn row_of(alloc: Global, array: &ArrayRef, index: usize) -> VortexResult<Scalar>
     requires column { is_columnar (datum array.now) ≡ true }
     requires within { index < len array.now }
@@ -37,7 +37,7 @@ fn row_of(alloc: Global, array: &ArrayRef, index: usize) -> VortexResult<Scalar>
     }
 }
 
-/// The lines of the type and of the encoding, and then a line for each row.
+/// Returns the lines of the type and the encoding, and a line for each row. The only error is `OutOfMemory`.
 #[tactic(auto, using(crate::proofs::Printing::lawful_column))]
 pub(crate) fn column_text(alloc: Global, array: &ArrayRef) -> VortexResult<String>
     requires { is_columnar (datum array.now) ≡ true }
@@ -47,7 +47,7 @@ pub(crate) fn column_text(alloc: Global, array: &ArrayRef) -> VortexResult<Strin
 {
     array.well();
     let mut text = head_text(alloc, array)?;
-    // A row takes two bytes at least: a column that can't be held as text is refused at once.
+    // A row takes at least two bytes, so a column too long for memory is refused at once.
     text.reserve(array.len().saturating_mul(2))?;
     for index in 0..array.len() {
         push_row(&mut text, &row_of(alloc, array, index)?)?;

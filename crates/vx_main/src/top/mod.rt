@@ -1,4 +1,4 @@
-//! The top call: from words and bytes to the text.
+//! The run of the program: from words and input to output and status.
 
 mod answer;
 mod column_text;

@@ -1,4 +1,4 @@
-//! The call of the program. (own)
+//! The call of the program.
 
 ghost use Rattle.std.specs.Prelude.{◌≡◌, ◌≢◌, ◌≤◌, ◌<◌, ◌↔◌, ◌⊎◌, ℕ, Some, None, true, false, [], length, IfSome};
 ghost use Rattle.std.specs.Io.KnownBytes.{Appends};
@@ -18,9 +18,10 @@ use crate::top::status::Status;
 use crate::top::words::{Command, HELP, VERSION, read_command};
 use std::alloc::Global;
 
-/// Runs the command in `words`: reads the tree in `source`, executes it to a column and writes the column's text into `sink`.
+/// Runs the command in `words`: reads the tree in `source`, executes it to a column and writes the column's text into
+/// `sink`.
 ///
-/// The text is complete before the first write. `source` and `sink` count their own faults.
+/// The text is complete before the first write. `source` and `sink` count their own faults. (own)
 pub fn run<S: Source, K: Sink>(
     alloc: Global,
     words: &Vec<String>,
@@ -28,14 +29,14 @@ pub fn run<S: Source, K: Sink>(
     sink: &mut K,
     session: &mut VortexSession,
 ) -> Status
-    // What is done: the input spells a tree, which is executed within the turns of the command, and the sink has its type, the
-    // encoding of its column and its rows.
+    // What is done: the input spells a tree, which is executed within the turns of the command, and the sink has its
+    // type, the encoding of its column and its rows.
     ensures headline { (c : CommandOf) → command_of (texts words.now.items) ≡ Some c → result ≡ Status.Done
         → Writes c (S.left source.old) (K.held sink.old) (K.held sink.new) }
     ensures read_whole { reads_tree (command_of (texts words.now.items)) ≡ true → result ≡ Status.Done
         → IfSome (S.left source.old) (λ _. S.left source.new ≡ Some []) }
 
-    // Why it isn't done: each status only where its cause is.
+    // Why it isn't done: each status only from its cause.
     ensures usage { (result ≡ Status.Usage) ↔ (command_of (texts words.now.items) ≡ None) }
     ensures read_fault { result ≡ Status.ReadFault
         → (reads_tree (command_of (texts words.now.items)) ≡ true) × Rose (S.faults source.old) (S.faults source.new) }

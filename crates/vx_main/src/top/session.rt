@@ -1,11 +1,11 @@
-//! What a run is handed beside its input.
+//! The session of a run.
 
-/// The entries that rewriting and execution ask. It holds none yet.
+/// The entries that rewriting and execution look up. There are none so far.
 #[derive(Debug, Drop)]
 pub struct VortexSession {}
 
 impl VortexSession {
-    /// A session without entries.
+    /// Creates a session without entries.
     pub fn empty() -> VortexSession {
         VortexSession {}
     }

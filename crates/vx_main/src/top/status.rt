@@ -1,9 +1,9 @@
-//! How a run ends. (own)
+//! The outcome of a run.
 
 ghost use Rattle.std.specs.Prelude.{◌≡◌};
 ghost use Rattle.vx_main.specs.Statuses.{code_of, text_of};
 
-/// How a run ended: with its output written, or why not.
+/// The outcome of a run: done, or why not. (own)
 #[derive(Clone, Copy, Debug, PartialEq, Eq)]
 pub enum Status {
     /// The output was written.
@@ -12,22 +12,22 @@ pub enum Status {
     Usage,
     /// The input spells no tree.
     BadInput,
-    /// A row of the tree, or of a part of it, has no value.
+    /// A row of the tree, or of a node in it, has no value.
     Fault,
-    /// The turns stood at the limit.
+    /// The tree wasn't executed within `limit` turns; `turns` were taken.
     TurnLimit { limit: u64, turns: u64 },
-    /// The allocator refused.
+    /// Memory ran out.
     Memory,
-    /// The source failed.
+    /// A read failed.
     ReadFault,
-    /// The sink failed; what it took before is a prefix of the output.
+    /// A write failed. A prefix of the output was written.
     WriteFault,
-    /// More bytes came than are read: so many when the reading stopped.
+    /// The input exceeds the limit; `bytes` had arrived when reading stopped.
     TooLarge { bytes: u64 },
 }
 
 impl Status {
-    /// The exit code of the program.
+    /// Returns the exit code of the program.
     pub fn code(self) -> u8
         ensures { result ≡ code_of self }
     {
@@ -45,7 +45,7 @@ impl Status {
     }
 }
 
-/// What is said of the status on standard error: nothing where it is `Done`.
+/// Returns the text of `status` for standard error, empty if it is `Done`. (own)
 pub fn status_text(status: Status) -> &'static str
     ensures { result.now ≡ text_of status }
 {

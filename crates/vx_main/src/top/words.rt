@@ -1,38 +1,38 @@
-//! The command that the words of a run are. (own)
+//! The commands of the program.
 
 ghost use Rattle.std.specs.Prelude.{◌≡◌};
 ghost use Rattle.vx_main.specs.Commands.{texts, command_of, word_command, numbered_command, number_of};
 
 use vx_exec::DEFAULT_TURNS;
 
-/// What `--help` prints.
+/// The text that `--help` prints. (own)
 pub const HELP: &str = "usage: vx run [TURNS] < TREE.json
        vx --help
        vx --version
 
-Reads a tree as JSON on standard input, executes it to a column in at most so
-many turns, 4194304 where none are given, and prints the type, the encoding and
-one line for each row.
+Reads a tree as JSON on standard input, executes it to a column in at most TURNS
+turns (4194304 by default), and prints the type, the encoding and one line for
+each row.
 
 status 0: done, 2: usage, 3: bad input, 4: fault in a row, 5: turn limit,
 9: out of memory, 10: read fault, 11: write fault, 12: input too large
 ";
 
-/// What `--version` prints.
+/// The text that `--version` prints. (own)
 pub const VERSION: &str = "vx 0.1.0\n";
 
-/// What a run is asked for.
+/// A command of the program. (own)
 #[derive(Clone, Copy, Debug, PartialEq, Eq)]
 pub enum Command {
-    /// To execute the tree, in at most so many turns, and print its rows.
+    /// Executes the tree, in at most `limit` turns, and prints the column.
     Run { limit: u64 },
-    /// To say how the program is used.
+    /// Prints `HELP`.
     Help,
-    /// To say which version it is.
+    /// Prints `VERSION`.
     Version,
 }
 
-/// The number that decimal digits spell, None where a digit 0 leads another, a byte is no digit, or it isn't below 2^64.
+/// Reads a decimal number below 2^64; `None` for any other text, and for a leading zero.
 fn read_number(text: &[u8]) -> Option<u64>
     ensures { result ≡ number_of text.now }
 {
@@ -51,7 +51,7 @@ fn read_number(text: &[u8]) -> Option<u64>
     Some(number)
 }
 
-/// The command of one word.
+/// Reads a command of one word.
 fn read_word(word: &str) -> Option<Command>
     ensures { result ≡ word_command word.now }
 {
@@ -68,7 +68,7 @@ fn read_word(word: &str) -> Option<Command>
     }
 }
 
-/// The command of a word and a number.
+/// Reads a command of a word and a number.
 fn read_numbered(word: &str, number: &str) -> Option<Command>
     ensures { result ≡ numbered_command word.now number.now }
 {
@@ -81,7 +81,7 @@ fn read_numbered(word: &str, number: &str) -> Option<Command>
     }
 }
 
-/// The command, None where the words are none.
+/// Reads the command in `words`; `None` if they aren't one.
 pub(crate) fn read_command(words: &Vec<String>) -> Option<Command>
     ensures { result ≡ command_of (texts words.now.items) }
 {
