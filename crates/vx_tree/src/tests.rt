@@ -24,6 +24,10 @@ const I8: DType = DType::Primitive(PType::I8, Nullability::NonNullable);
 
 const BOOL: DType = DType::Bool(Nullability::NonNullable);
 
+// A column and a view of 7 and -7, as they print.
+const PRINTED: &str =
+    "Canonical(Primitive(Array { array: ArrayRef { node: Node { dtype: Primitive(I32, NonNullable), len: 2, encoding: Primitive(PrimitiveData { values: I32([7, -7]) }), slots: [None] } }, .. })) ArrayView { array: ArrayRef { node: Node { dtype: Primitive(I32, NonNullable), len: 2, encoding: Primitive(PrimitiveData { values: I32([7, -7]) }), slots: [None] } }, .. }";
+
 const ADD: ScalarFnRef = ScalarFnRef::Binary(Operator::Add);
 
 fn is_refused<T: Drop>(answer: VortexResult<T>, kind: ArgKind) -> bool {
@@ -173,21 +177,6 @@ fn call_of(
     ScalarFnArray::try_new(alloc, function, children(alloc, columns)?)
 }
 
-// Whether Add of these columns is refused for that reason, with that text.
-fn sum_is_refused(alloc: Global, columns: &[(DType, usize)], kind: ArgKind, text: &str) -> bool {
-    match call_of(alloc, ADD, columns) {
-        Ok(_) => false,
-        Err(e) => e == VortexError::InvalidArgument(kind) && prints(alloc, e, text),
-    }
-}
-
-fn prints(alloc: Global, e: VortexError, text: &str) -> bool {
-    match e.to_string(alloc) {
-        Ok(printed) => printed.as_str() == text,
-        Err(_) => false,
-    }
-}
-
 // Whether a tree reads as these 3 rows, under an id and with the name of its first slot.
 fn reads_as(array: &ArrayRef, dtype: &DType, id: Id, name: Option<&str>) -> bool {
     array.len() == 3
@@ -207,10 +196,8 @@ fn views_node(view: ArrayView<'_, Slice>) -> bool {
     view.encoding_id() == Id::Slice
         && view.slots().len() == 1
         && view.as_ref().len() == view.array().len()
-}
-
-fn views_data(view: ArrayView<'_, Slice>) -> bool {
-    view.data().len() == 3 && view.slice_range().start == 1
+        && view.data().len() == 3
+        && view.slice_range().start == 1
 }
 
 fn matches_only<M: Matcher>(matched: &ArrayRef, other: &ArrayRef) -> bool {
@@ -229,23 +216,17 @@ fn slices_only_in_bounds(rt: HostRuntime) -> Result<(), Fail> {
     }
     let slice = slice_of(alloc, &[10, 20, 30, 40], 1..4)?;
     assert!(rt; views_rows(slice.as_view(), &I32));
-    assert!(rt; views_node(slice.as_view()) && views_data(slice.as_view()));
+    assert!(rt; views_node(slice.as_view()));
     let slice = slice.as_view().into_owned()?.into_array();
     assert!(rt; reads_as(&slice, &I32, Id::Slice, Some("child")));
     Ok(())
 }
 
 #[test]
-fn data_of_a_slice(rt: HostRuntime) -> Result<(), Fail> {
-    let alloc = rt.alloc();
+fn data_of_a_slice(rt: HostRuntime) {
     let data = SliceData::new(2..5);
     assert!(rt; data.len() == 3 && !data.is_empty() && data.slice_range().start == 2);
-    assert_eq!(rt;
-        format!(in alloc; "{data:?}")?.as_str(),
-        "SliceData { range: 2..5 }"
-    );
     assert!(rt; data.into_parts().range.end == 5 && SliceData::new(5..2).is_empty());
-    Ok(())
 }
 
 #[test]
@@ -298,21 +279,6 @@ fn reads_back(values: &PrimitiveValues, index: usize, number: i128) -> bool {
     index < values.len() && values.wide_at(index) == number
 }
 
-// Whether the last two of three values are -7 and 9, of their type.
-fn slices_values(values: &PrimitiveValues) -> bool {
-    if values.len() != 3 {
-        return false;
-    }
-    match values.slice(1..3) {
-        Ok(part) => reads_as_i32(&part),
-        Err(_) => false,
-    }
-}
-
-fn reads_as_i32(part: &PrimitiveValues) -> bool {
-    part.ptype() == PType::I32 && reads_back(part, 0, -7) && reads_back(part, 1, 9)
-}
-
 // Whether zeros of the type read as a column of it.
 fn reads_as_zeros(alloc: Global, ptype: PType) -> bool {
     let dtype = DType::Primitive(ptype, Nullability::NonNullable);
@@ -338,9 +304,12 @@ fn values_of_each_type(rt: HostRuntime) {
     }
 }
 
-fn reads_values(alloc: Global) -> bool {
-    match values(alloc, &[7, -7, 9]) {
-        Ok(all) => reads_back(&all, 1, -7) && slices_values(&all),
+fn slices_values(all: &PrimitiveValues) -> bool {
+    if all.len() != 3 {
+        return false;
+    }
+    match all.slice(1..3) {
+        Ok(part) => part.ptype() == PType::I32 && reads_back(&part, 0, -7),
         Err(_) => false,
     }
 }
@@ -353,9 +322,11 @@ fn reads_the_greatest(alloc: Global) -> bool {
 }
 
 #[test]
-fn values_are_read_and_sliced(rt: HostRuntime) {
-    assert!(rt; reads_values(rt.alloc()) && reads_the_greatest(rt.alloc()));
-    assert!(rt; native_of::<i8>(-128) == -128);
+fn values_are_read_and_sliced(rt: HostRuntime) -> Result<(), Fail> {
+    let alloc = rt.alloc();
+    assert!(rt; slices_values(&values(alloc, &[7, -7, 9])?));
+    assert!(rt; reads_the_greatest(alloc) && native_of::<i8>(-128) == -128);
+    Ok(())
 }
 
 fn is_empty_column(alloc: Global, dtype: &DType) -> bool {
@@ -409,21 +380,13 @@ fn matchers_test_the_root(rt: HostRuntime) -> Result<(), Fail> {
     Ok(())
 }
 
-// Whether the tree comes back as a column, and as no column of another encoding.
-fn is_column_again(array: ArrayRef) -> bool {
-    match BoolArray::try_from_array_ref(array) {
-        Ok(_) => false,
-        Err(array) => match Columnar::try_from_array_ref(array) {
-            Ok(column) => column.as_array().is::<AnyCanonical>() && column.len() == 2,
-            Err(_) => false,
-        },
-    }
-}
-
-// The parts of a column if it has no other owner.
-fn has_parts(column: PrimitiveArray) -> bool {
-    match column.try_into_parts() {
-        Ok(parts) => parts.len == 2 && parts.slots.len() == 1,
+// Whether the tree comes back as a column.
+fn is_column(array: Option<ArrayRef>) -> bool {
+    let Some(array) = array else {
+        return false;
+    };
+    match Columnar::try_from_array_ref(array) {
+        Ok(column) => column.as_array().is::<AnyCanonical>() && column.len() == 2,
         Err(_) => false,
     }
 }
@@ -443,39 +406,29 @@ fn shared_with(owner: Rc<PrimitiveArray>) -> Option<ArrayRef> {
     }
 }
 
-fn has_node(alloc: Global, array: Option<ArrayRef>) -> bool {
-    match array {
-        Some(array) => match array.into_node(alloc) {
-            Ok(node) => node.len == 2 && node.slots.len() == 1,
-            Err(_) => false,
-        },
-        None => false,
+fn has_node(alloc: Global, array: ArrayRef) -> bool {
+    match array.into_node(alloc) {
+        Ok(node) => node.len == 2 && node.slots.len() == 1,
+        Err(_) => false,
     }
 }
 
 #[test]
-fn parts_come_back_if_not_shared(rt: HostRuntime) -> Result<(), Fail> {
+fn shared_nodes_are_copied(rt: HostRuntime) -> Result<(), Fail> {
     let alloc = rt.alloc();
     let column = column(alloc, &[7, -7])?;
-    assert!(rt; !has_parts(column.clone()?));
-    assert!(rt; has_node(alloc, shared(alloc, column.clone()?)));
-    assert!(rt; is_column_again(column.as_array().clone()?));
-    assert!(rt; has_parts(column));
+    assert!(rt; has_node(alloc, column.as_array().clone()?));
+    assert!(rt; is_column(shared(alloc, column)));
     Ok(())
 }
 
 #[test]
 fn handles_print_their_node(rt: HostRuntime) -> Result<(), Fail> {
     let alloc = rt.alloc();
-    let numbers = column(alloc, &[7, -7])?;
-    let view = format!(in alloc; "{:?}", numbers.as_view())?;
-    assert!(rt;
-        view.starts_with(
-            "ArrayView { array: ArrayRef { node: Node { dtype: Primitive(I32, NonNullable), len: 2"
-        )
-    );
-    let text = format!(in alloc; "{:?}", Columnar::Canonical(Canonical::Primitive(numbers)))?;
-    assert!(rt; text.starts_with("Canonical(Primitive(Array { array: ArrayRef { node: "));
+    let view = column(alloc, &[7, -7])?;
+    let column = Columnar::Canonical(Canonical::Primitive(view.clone()?));
+    let text = format!(in alloc; "{column:?} {:?}", view.as_view())?;
+    assert_eq!(rt; text.as_str(), PRINTED);
     Ok(())
 }
 
@@ -504,44 +457,23 @@ fn functions_are_lazy(rt: HostRuntime) {
 }
 
 #[test]
-fn functions_are_refused_in_order(rt: HostRuntime) -> Result<(), Fail> {
+fn functions_are_refused_in_order(rt: HostRuntime) {
     let alloc = rt.alloc();
-    let cases: [(&[(DType, usize)], ArgKind, &str); 7] = [
-        (
-            &[],
-            ArgKind::NoChildren,
-            "ScalarFnArray length cannot be inferred without children",
-        ),
-        (
-            &[(BOOL, 3)],
-            ArgKind::Arity { want: 2, got: 1 },
-            "ScalarFnArray requires 2 children, got 1",
-        ),
+    let cases: [(&[(DType, usize)], ArgKind); 7] = [
+        (&[], ArgKind::NoChildren),
+        (&[(BOOL, 3)], ArgKind::Arity { want: 2, got: 1 }),
         (
             &[(I32, 3), (I32, 2), (BOOL, 1)],
             ArgKind::Arity { want: 2, got: 3 },
-            "ScalarFnArray requires 2 children, got 3",
         ),
-        (
-            &[(I32, 3), (I32, 2)],
-            ArgKind::ChildLen,
-            "ScalarFnArray must have children equal to the array length",
-        ),
-        (
-            &[(U8, 3), (I8, 2)],
-            ArgKind::ChildLen,
-            "ScalarFnArray must have children equal to the array length",
-        ),
-        (&[(U8, 3), (I8, 3)], ArgKind::NoRow, "no row"),
-        (&[(BOOL, 3), (BOOL, 3)], ArgKind::NoRow, "no row"),
+        (&[(I32, 3), (I32, 2)], ArgKind::ChildLen),
+        (&[(U8, 3), (I8, 2)], ArgKind::ChildLen),
+        (&[(U8, 3), (I8, 3)], ArgKind::NoRow),
+        (&[(BOOL, 3), (BOOL, 3)], ArgKind::NoRow),
     ];
-    for (columns, kind, text) in cases {
-        assert!(rt; sum_is_refused(alloc, columns, kind, text), "{kind:?}");
+    for (columns, kind) in cases {
+        assert!(rt; is_refused(call_of(alloc, ADD, columns), kind), "{kind:?}");
     }
-    let flags = children(alloc, &[(BOOL, 3)])?;
-    let not = ScalarFnArray::try_new_with_len(alloc, ScalarFnRef::Not, flags, 2);
-    assert!(rt; is_refused(not, ArgKind::ChildLen));
-    Ok(())
 }
 
 #[test]
@@ -576,20 +508,23 @@ fn parts_of_a_function_are_refused_in_order(rt: HostRuntime) {
     }
 }
 
+// Whether the parts come back, of a node that is not shared.
+fn has_parts(sum: ScalarFnArray) -> bool {
+    match sum.try_into_parts() {
+        Ok(parts) => parts.vtable.id == Id::Binary && parts.slots.len() == 2,
+        Err(_) => false,
+    }
+}
+
 #[test]
-fn parts_of_a_function_come_back(rt: HostRuntime) -> Result<(), Fail> {
+fn parts_of_a_function_come_back_if_not_shared(rt: HostRuntime) -> Result<(), Fail> {
     let alloc = rt.alloc();
-    let sum = sum_of_parts(alloc, Id::Binary, I32, 3, &[Some((I32, 3)), Some((I32, 3))])?;
+    let sum = call_of(alloc, ADD, &[(I32, 3), (I32, 3)])?;
     match sum.as_array().kind() {
-        ArrayKind::ScalarFn(function, slots) => {
-            assert!(rt; *function == ADD && slots.len() == 2);
-        }
+        ArrayKind::ScalarFn(_, slots) => assert!(rt; slots.len() == 2),
         _ => panic!(rt; "a function"),
     }
-    let Ok(parts) = sum.try_into_parts() else {
-        panic!(rt; "the only owner");
-    };
-    assert!(rt; parts.vtable.id == Id::Binary && parts.payload.scalar_fn == ADD);
-    assert!(rt; parts.len == 3 && parts.slots.len() == 2);
+    assert!(rt; !has_parts(sum.clone()?));
+    assert!(rt; has_parts(sum));
     Ok(())
 }
