@@ -528,3 +528,29 @@ fn parts_of_a_function_come_back_if_not_shared(rt: HostRuntime) -> Result<(), Fa
     assert!(rt; has_parts(sum));
     Ok(())
 }
+
+fn reads_three_flags(flags: &BoolArray) -> bool {
+    flags.as_ref().len() == 3
+        && !flags.is_empty()
+        && *flags.dtype() == BOOL
+        && flags.slots().len() == 1
+        && flags.bits.get(2) == Some(true)
+}
+
+#[test]
+fn handles_read_their_node(rt: HostRuntime) -> Result<(), Fail> {
+    let alloc = rt.alloc();
+    let flags = booleans(alloc, 3)?;
+    assert!(rt; reads_three_flags(&flags));
+    let name = ScalarFnRef::Not.child_name(0);
+    let not = ScalarFnArray::try_new_with_len(
+        alloc,
+        ScalarFnRef::Not,
+        children(alloc, &[(BOOL, 3)])?,
+        3,
+    )?;
+    assert!(rt; reads_as(&ArrayRef::from(not), &BOOL, Id::Not, name));
+    let flags = ArrayRef::from(Canonical::Bool(flags));
+    assert!(rt; reads_as(&flags, &BOOL, Id::Bool, Some("validity")));
+    Ok(())
+}
