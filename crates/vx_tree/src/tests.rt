@@ -1,8 +1,8 @@
 use crate::{
-    AnyArray, AnyCanonical, AnyColumnar, AnyScalarFn, Array, ArrayKind, ArrayParts, ArrayRef,
-    ArrayView, Bool, BoolArray, Canonical, Columnar, Constant, ConstantArray, ConstantData,
-    IntoArray, Matcher, Primitive, PrimitiveArray, PrimitiveData, PrimitiveValues, ScalarFn,
-    ScalarFnArray, ScalarFnData, Slice, SliceArray, SliceData, native_of,
+    AnyCanonical, AnyColumnar, Array, ArrayKind, ArrayParts, ArrayRef, ArrayView, BoolArray,
+    Canonical, Columnar, Constant, ConstantArray, ConstantData, IntoArray, Primitive,
+    PrimitiveArray, PrimitiveData, PrimitiveValues, ScalarFn, ScalarFnArray, ScalarFnData, Slice,
+    SliceArray, SliceData,
 };
 use std::alloc::Global;
 use std::ops::Range;
@@ -23,10 +23,6 @@ const U8: DType = DType::Primitive(PType::U8, Nullability::NonNullable);
 const I8: DType = DType::Primitive(PType::I8, Nullability::NonNullable);
 
 const BOOL: DType = DType::Bool(Nullability::NonNullable);
-
-// A column and a view of 7 and -7, as they print.
-const PRINTED: &str =
-    "Canonical(Primitive(Array { array: ArrayRef { node: Node { dtype: Primitive(I32, NonNullable), len: 2, encoding: Primitive(PrimitiveData { values: I32([7, -7]) }), slots: [None] } }, .. })) ArrayView { array: ArrayRef { node: Node { dtype: Primitive(I32, NonNullable), len: 2, encoding: Primitive(PrimitiveData { values: I32([7, -7]) }), slots: [None] } }, .. }";
 
 const ADD: ScalarFnRef = ScalarFnRef::Binary(Operator::Add);
 
@@ -200,10 +196,6 @@ fn views_node(view: ArrayView<'_, Slice>) -> bool {
         && view.slice_range().start == 1
 }
 
-fn matches_only<M: Matcher>(matched: &ArrayRef, other: &ArrayRef) -> bool {
-    matched.is::<M>() && !other.is::<M>()
-}
-
 #[test]
 fn slices_only_in_bounds(rt: HostRuntime) -> Result<(), Fail> {
     let alloc = rt.alloc();
@@ -219,14 +211,8 @@ fn slices_only_in_bounds(rt: HostRuntime) -> Result<(), Fail> {
     assert!(rt; views_node(slice.as_view()));
     let slice = slice.as_view().into_owned()?.into_array();
     assert!(rt; reads_as(&slice, &I32, Id::Slice, Some("child")));
+    assert!(rt; slice.is::<Slice>() && !slice.is::<AnyColumnar>());
     Ok(())
-}
-
-#[test]
-fn data_of_a_slice(rt: HostRuntime) {
-    let data = SliceData::new(2..5);
-    assert!(rt; data.len() == 3 && !data.is_empty() && data.slice_range().start == 2);
-    assert!(rt; data.into_parts().range.end == 5 && SliceData::new(5..2).is_empty());
 }
 
 #[test]
@@ -275,60 +261,6 @@ fn constants_of_any_length(rt: HostRuntime) -> Result<(), Fail> {
     Ok(())
 }
 
-fn reads_back(values: &PrimitiveValues, index: usize, number: i128) -> bool {
-    index < values.len() && values.wide_at(index) == number
-}
-
-// Whether zeros of the type read as a column of it.
-fn reads_as_zeros(alloc: Global, ptype: PType) -> bool {
-    let dtype = DType::Primitive(ptype, Nullability::NonNullable);
-    match zeros(alloc, &dtype, 3) {
-        Ok(column) => reads_as(&column, &dtype, Id::Primitive, Some("validity")),
-        Err(_) => false,
-    }
-}
-
-#[test]
-fn values_of_each_type(rt: HostRuntime) {
-    for ptype in [
-        PType::U8,
-        PType::U16,
-        PType::U32,
-        PType::U64,
-        PType::I8,
-        PType::I16,
-        PType::I32,
-        PType::I64,
-    ] {
-        assert!(rt; reads_as_zeros(rt.alloc(), ptype), "{ptype:?}");
-    }
-}
-
-fn slices_values(all: &PrimitiveValues) -> bool {
-    if all.len() != 3 {
-        return false;
-    }
-    match all.slice(1..3) {
-        Ok(part) => part.ptype() == PType::I32 && reads_back(&part, 0, -7),
-        Err(_) => false,
-    }
-}
-
-fn reads_the_greatest(alloc: Global) -> bool {
-    match PrimitiveValues::repeat(alloc, PType::U64, 18446744073709551615, 3) {
-        Ok(all) => reads_back(&all, 2, 18446744073709551615),
-        Err(_) => false,
-    }
-}
-
-#[test]
-fn values_are_read_and_sliced(rt: HostRuntime) -> Result<(), Fail> {
-    let alloc = rt.alloc();
-    assert!(rt; slices_values(&values(alloc, &[7, -7, 9])?));
-    assert!(rt; reads_the_greatest(alloc) && native_of::<i8>(-128) == -128);
-    Ok(())
-}
-
 fn is_empty_column(alloc: Global, dtype: &DType) -> bool {
     match Canonical::empty(alloc, dtype) {
         Ok(empty) => empty.is_empty() && empty.len() == 0 && empty.dtype() == dtype,
@@ -349,34 +281,6 @@ fn canonical_columns(rt: HostRuntime) -> Result<(), Fail> {
     assert!(rt; numbers.as_primitive().is_some() && numbers.as_bool().is_none());
     assert!(rt; numbers.clone()?.into_bool().is_none());
     assert!(rt; numbers.into_primitive().is_some());
-    Ok(())
-}
-
-#[test]
-fn matchers_test_the_root(rt: HostRuntime) -> Result<(), Fail> {
-    let alloc = rt.alloc();
-    let numbers = zeros(alloc, &I32, 3)?;
-    let flags = zeros(alloc, &BOOL, 3)?;
-    let constant = sevens(alloc, Nullability::NonNullable, 3)?.into_array();
-    let slice = slice_of(alloc, &[7, 8], 0..1)?.into_array();
-    let sum = call_of(alloc, ADD, &[(I32, 3), (I32, 3)])?.into_array();
-    assert!(rt;
-        matches_only::<Bool>(&flags, &numbers) && matches_only::<Primitive>(&numbers, &flags)
-    );
-    assert!(rt;
-        matches_only::<Constant>(&constant, &slice) && matches_only::<Slice>(&slice, &constant)
-    );
-    assert!(rt;
-        matches_only::<ScalarFn>(&sum, &flags) && matches_only::<AnyScalarFn>(&sum, &slice)
-    );
-    assert!(rt;
-        matches_only::<AnyCanonical>(&flags, &constant)
-            && matches_only::<AnyCanonical>(&numbers, &sum)
-    );
-    assert!(rt;
-        matches_only::<AnyColumnar>(&constant, &slice) && matches_only::<AnyColumnar>(&flags, &sum)
-    );
-    assert!(rt; sum.is::<AnyArray>() && slice.is::<AnyArray>());
     Ok(())
 }
 
@@ -419,16 +323,6 @@ fn shared_nodes_are_copied(rt: HostRuntime) -> Result<(), Fail> {
     let column = column(alloc, &[7, -7])?;
     assert!(rt; has_node(alloc, column.as_array().clone()?));
     assert!(rt; is_column(shared(alloc, column)));
-    Ok(())
-}
-
-#[test]
-fn handles_print_their_node(rt: HostRuntime) -> Result<(), Fail> {
-    let alloc = rt.alloc();
-    let view = column(alloc, &[7, -7])?;
-    let column = Columnar::Canonical(Canonical::Primitive(view.clone()?));
-    let text = format!(in alloc; "{column:?} {:?}", view.as_view())?;
-    assert_eq!(rt; text.as_str(), PRINTED);
     Ok(())
 }
 
@@ -526,31 +420,5 @@ fn parts_of_a_function_come_back_if_not_shared(rt: HostRuntime) -> Result<(), Fa
     }
     assert!(rt; !has_parts(sum.clone()?));
     assert!(rt; has_parts(sum));
-    Ok(())
-}
-
-fn reads_three_flags(flags: &BoolArray) -> bool {
-    flags.as_ref().len() == 3
-        && !flags.is_empty()
-        && *flags.dtype() == BOOL
-        && flags.slots().len() == 1
-        && flags.bits.get(2) == Some(true)
-}
-
-#[test]
-fn handles_read_their_node(rt: HostRuntime) -> Result<(), Fail> {
-    let alloc = rt.alloc();
-    let flags = booleans(alloc, 3)?;
-    assert!(rt; reads_three_flags(&flags));
-    let name = ScalarFnRef::Not.child_name(0);
-    let not = ScalarFnArray::try_new_with_len(
-        alloc,
-        ScalarFnRef::Not,
-        children(alloc, &[(BOOL, 3)])?,
-        3,
-    )?;
-    assert!(rt; reads_as(&ArrayRef::from(not), &BOOL, Id::Not, name));
-    let flags = ArrayRef::from(Canonical::Bool(flags));
-    assert!(rt; reads_as(&flags, &BOOL, Id::Bool, Some("validity")));
     Ok(())
 }
