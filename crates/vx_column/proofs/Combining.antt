@@ -56,10 +56,7 @@ column_exactly t u ty n e bare = record {
 
 canonical_open : (d : Data) → is_canonical d ≡ true → is_constant d ≡ false
 canonical_open (constant v) h = absurd (cc)
-canonical_open (slice a b) h = refl
-canonical_open (function f) h = refl
-canonical_open (bool bs) h = refl
-canonical_open (primitive p zs) h = refl
+canonical_open _ h = refl
 
 neither : (a b : Bool) → b ≡ false → (a && b) ≡ false
 neither true b h = h

@@ -35,7 +35,6 @@ pub(crate) fn argument_of(column: &Columnar) -> Argument<'_>
             (DType::Bool(_), Some(ScalarValue::Integer(_)) | None) => unreachable!(),
             (DType::Primitive(_, _), Some(ScalarValue::Bool(_)) | None) => unreachable!(),
         },
-        ArrayKind::Slice(_, _, _) => unreachable!(),
-        ArrayKind::ScalarFn(_, _) => unreachable!(),
+        _ => unreachable!(),
     }
 }

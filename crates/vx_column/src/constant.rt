@@ -36,9 +36,7 @@ fn constant_of(column: &Columnar) -> Result<Option<Scalar>, AllocError>
 {
     match column.as_array().kind() {
         ArrayKind::Constant(scalar) => Ok(Some(scalar.clone()?)),
-        ArrayKind::Bool(_) | ArrayKind::Primitive(_) => Ok(None),
-        ArrayKind::Slice(_, _, _) => unreachable!(),
-        ArrayKind::ScalarFn(_, _) => unreachable!(),
+        _ => Ok(None),
     }
 }
 

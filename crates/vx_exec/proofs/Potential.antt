@@ -1,6 +1,6 @@
 -- The turns that are left: they are at most the cost, and fall where a slot is taken out and where it is put back.
 use Rattle.std.proofs.Common.{◌≡◌, ℕ, zero, suc, ◌+◌, ◌<◌, ◌≤◌, Bool, true, false, refl, ap, arith}
-use Rattle.vx_tree.specs.Tree.{Tree, Data, Slots, node, constant, slice, function, bool, primitive, no_slots, absent, slot}
+use Rattle.vx_tree.specs.Tree.{Tree, Data, Slots, node, constant, no_slots, absent, slot}
 use Rattle.vx_tree.specs.Slots.{set_slot, put, IsAbsentAt, IsHole}
 use Rattle.vx_tree.specs.Cost.{cost, base_cost, slot_cost, slots_cost, extra}
 use Rattle.vx_step.specs.Turns.{meets, slot_target, target_of, base_top, slot_top, slots_top, top}
@@ -11,24 +11,14 @@ use Rattle.vx_step.specs.declared.steps.SlotTarget.{SlotTarget}
 
 base_positive : (d : Data) → 0 < base_top d
 base_positive (constant v) = omega arith
-base_positive (slice a b) = omega arith
-base_positive (function f) = omega arith
-base_positive (bool bs) = omega arith
-base_positive (primitive p zs) = omega arith
+base_positive _ = omega arith
 
 base_paid : (d : Data) → base_top d ≤ base_cost d
-base_paid (constant v) = omega arith
-base_paid (slice a b) = omega arith
-base_paid (function f) = omega arith
-base_paid (bool bs) = omega arith
-base_paid (primitive p zs) = omega arith
+base_paid d = omega arith
 
 slot_paid : (d : Data) (c e : ℕ) → c + 1 ≤ slot_cost d c e
 slot_paid (constant v) c e = omega arith
-slot_paid (slice a b) c e = omega arith
-slot_paid (function f) c e = omega arith
-slot_paid (bool bs) c e = omega arith
-slot_paid (primitive p zs) c e = omega arith
+slot_paid _ c e = omega arith
 
 -- whatever the encodings
 

@@ -10,7 +10,7 @@ use Rattle.vx_value.specs.Cell.{Cell, value, fault}
 use Rattle.vx_tree.specs.Cells.{rows}
 use Rattle.vx_json.specs.RowText.{row_text}
 use Rattle.std.proofs.lemmas.List.{length-replicate}
-use Rattle.vx_tree.specs.Tree.{Tree, node, constant, slice, function, bool, primitive, dtype, len, datum, id_of, is_columnar}
+use Rattle.vx_tree.specs.Tree.{Tree, node, constant, bool, primitive, dtype, len, datum, id_of, is_columnar}
 use Rattle.vx_tree.specs.Well.{IsWell}
 use Rattle.vx_tree.specs.Keeps.{KeepsExactly}
 use Rattle.vx_main.specs.Output.{IsLawful, canonical_id, Shows, head_lines, line}
@@ -64,10 +64,9 @@ items_whole f (x ∷ xs) (suc i) h = items_whole f xs i h
 
 column_whole : (t : Tree) (i : ℕ) → is_columnar (datum t) ≡ true → slice_get (rows t) i ≡ Some fault → ⊥
 column_whole (node ty n (constant v) ss) i c h = copies_whole n i v.value h
-column_whole (node ty n (slice a b) ss) i c h = absurd (cc)
-column_whole (node ty n (function f) ss) i c h = absurd (cc)
 column_whole (node ty n (bool bs) ss) i c h = items_whole boolean bs i h
 column_whole (node ty n (primitive p zs) ss) i c h = items_whole integer zs i h
+column_whole _ i c h = absurd (cc)
 
 -- so that a row that is there is read
 pub column_stopped : (t : Tree) (i : ℕ) (e : VortexError) → is_columnar (datum t) ≡ true → i < len t
@@ -80,10 +79,9 @@ column_stopped t i e c lt (inr (inr f)) = absurd (column_whole t i c f.1)
 pub lawful_column : (t : Tree) → IsWell t → is_columnar (datum t) ≡ true → IsLawful (id_of (datum t)) (dtype t) (rows t)
 lawful_column (node ty n (constant v) ss) w h =
     inr (refl, v.value, ap (λ m. replicate m (value v.value)) (sym (length-replicate n (value v.value))))
-lawful_column (node ty n (slice a b) ss) w h = absurd (cc)
-lawful_column (node ty n (function f) ss) w h = absurd (cc)
 lawful_column (node ty n (bool bs) ss) w h = inl (sym (ap canonical_id w.0.0))
 lawful_column (node ty n (primitive p zs) ss) w h = inl (sym (ap canonical_id w.0.0))
+lawful_column _ w h = absurd (cc)
 
 -- the column that a tree is executed to shows the answer for the bytes that spell the tree
 pub answers_of : (bytes text : List ℕ) (limit turns : ℕ) (t u : Tree) → Spells bytes t → KeepsExactly t u → IsExecuted is_column t turns u → (1 ≤ turns) × (turns ≤ limit) → (is_column t ≡ true → u ≡ t)

@@ -4,7 +4,7 @@ use Rattle.vx_value.specs.Types.{DataType}
 use Rattle.vx_value.specs.declared.error.VortexError.{VortexError}
 use Rattle.vx_fn.specs.ReturnTypes.{return_type}
 use Rattle.vx_fn.specs.declared.function.ScalarFnRef.{ScalarFnRef}
-use Rattle.vx_tree.specs.Tree.{Tree, Slots, node, constant, slice, function, bool, primitive, no_slots, absent, slot, filled_slots, dtype, len, datum, is_columnar, is_constant}
+use Rattle.vx_tree.specs.Tree.{Tree, Slots, node, constant, function, bool, primitive, no_slots, absent, slot, filled_slots, dtype, len, datum, is_columnar, is_constant}
 use Rattle.vx_tree.specs.Cells.{rows, HasNoFault, IsClean}
 use Rattle.vx_tree.specs.Well.{IsNode, IsWell, shapes}
 use Rattle.vx_tree.specs.Refusals.{types_in, all_present}
@@ -34,10 +34,9 @@ one_empty (slot t ss) h = absurd (cc)
 
 column_top : (u : Tree) → IsWell u → is_columnar (datum u) ≡ true → top u < 3
 column_top (node ty n (constant v) ss) w h = omega (arith, ap (slots_top (constant v)) (no_shapes ss w.0.3))
-column_top (node ty n (slice a b) ss) w h = absurd (cc)
-column_top (node ty n (function f) ss) w h = absurd (cc)
 column_top (node ty n (bool bs) ss) w h = omega (arith, ap (slots_top (bool bs)) (one_empty ss w.0.2))
 column_top (node ty n (primitive p zs) ss) w h = omega (arith, ap (slots_top (primitive p zs)) (one_empty ss w.0.2))
+column_top _ w h = absurd (cc)
 
 -- slots that are columns are ready for a function, and it gives a constant where each is one
 columns_ready : (ss : Slots) → AreColumns ss → AreReady Columnar ss

@@ -1,7 +1,7 @@
 -- The targets of slots, and the turns left at a node.
 use Rattle.std.specs.Prelude.{ℕ, ◌+◌, Bool, true, false}
-use Rattle.vx_tree.specs.Tree.{Tree, Data, Slots, node, constant, slice, function, bool, primitive, no_slots, absent, slot, datum, is_canonical, is_columnar}
-use Rattle.vx_tree.specs.Cost.{cost}
+use Rattle.vx_tree.specs.Tree.{Tree, Data, Slots, node, function, no_slots, absent, slot, datum, is_canonical, is_columnar}
+use Rattle.vx_tree.specs.Cost.{cost, base_cost}
 use Rattle.vx_step.specs.declared.steps.SlotTarget.{SlotTarget}
 use Rattle.vx_step.specs.declared.steps.SlotTarget.TheVariants.{Canonical, Columnar}
 
@@ -15,22 +15,15 @@ meets g t = data_meets g (datum t)
 
 -- the target of a node's slots: a line for each encoding
 abbrev pub slot_target : Data → SlotTarget
-slot_target (constant v) = Canonical
-slot_target (slice a b) = Canonical
 slot_target (function f) = Columnar
-slot_target (bool bs) = Canonical
-slot_target (primitive p zs) = Canonical
+slot_target _ = Canonical
 
 abbrev pub target_of : Tree → SlotTarget
 target_of t = slot_target (datum t)
 
 -- the turns that a node takes itself, once its slots are done: a line for each encoding
 abbrev pub base_top : Data → ℕ
-base_top (constant v) = 2
-base_top (slice a b) = 2
-base_top (function f) = 3
-base_top (bool bs) = 1
-base_top (primitive p zs) = 1
+base_top d = base_cost d
 
 -- the turns left for a slot: its cost and one more, or none once it has reached its target
 abbrev pub slot_top : Bool → ℕ → ℕ

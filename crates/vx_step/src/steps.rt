@@ -86,9 +86,6 @@ fn slice_canonical(
     ensures err { IfErr result (λ e. e ≡ VortexError.OutOfMemory) }
 {
     match column.kind() {
-        ArrayKind::Constant(_) => unreachable!(),
-        ArrayKind::Slice(_, _, _) => unreachable!(),
-        ArrayKind::ScalarFn(_, _) => unreachable!(),
         ArrayKind::Bool(bits) => {
             let kept = bits.slice(start..stop)?;
             Ok(BoolArray::try_new(alloc, column.dtype().clone()?, kept)?.into_array())
@@ -97,5 +94,6 @@ fn slice_canonical(
             let kept = values.slice(start..stop)?;
             Ok(PrimitiveArray::try_new(alloc, column.dtype().clone()?, kept)?.into_array())
         }
+        _ => unreachable!(),
     }
 }

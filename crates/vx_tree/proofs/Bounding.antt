@@ -1,22 +1,20 @@
 -- The bound on turns.
 use Rattle.std.proofs.Common.{◌≡◌, ◌<◌, ◌+◌, ℕ, true, arith, refl}
-use Rattle.vx_tree.specs.Tree.{Tree, Data, Slots, node, constant, slice, function, bool, primitive, no_slots, absent, slot, is_canonical}
+use Rattle.vx_tree.specs.Tree as enc
+use Rattle.vx_tree.specs.Tree.{Tree, Data, Slots, node, no_slots, absent, slot, is_canonical}
 use Rattle.vx_tree.specs.Cost.{cost, base_cost, slots_cost, all_reached, slots_extra, slots_sum, reach}
 use Rattle.vx_value.specs.Types.{DataType}
 use Rattle.vx_fn.specs.declared.function.ScalarFnRef.{ScalarFnRef}
 
 base_positive : (d : Data) → 0 < base_cost d
-base_positive (constant v) = omega arith
-base_positive (slice a b) = omega arith
-base_positive (function f) = omega arith
-base_positive (bool bs) = omega arith
-base_positive (primitive p zs) = omega arith
+base_positive (enc.constant v) = omega arith
+base_positive _ = omega arith
 
 pub cost_positive : (t : Tree) → 0 < cost t
 cost_positive (node ty n d ss) = omega (arith, base_positive d)
 
 -- a function's bounds are sums over its slots
-slots_paid : (f : ScalarFnRef) (ss : Slots) → slots_cost (function f) ss ≡ slots_sum (λ c. 1 + cost c) ss
+slots_paid : (f : ScalarFnRef) (ss : Slots) → slots_cost (enc.function f) ss ≡ slots_sum (λ c. 1 + cost c) ss
 slots_paid f no_slots = omega arith
 slots_paid f (absent ss) = slots_paid f ss
 slots_paid f (slot t ss) = omega (arith, slots_paid f ss)
@@ -26,23 +24,19 @@ slots_reached no_slots = omega arith
 slots_reached (absent ss) = slots_reached ss
 slots_reached (slot t ss) = omega (arith, slots_reached ss)
 
-pub function_cost : (ty : DataType) (n : ℕ) (f : ScalarFnRef) (ss : Slots) → cost (node ty n (function f) ss) ≡ 3 + slots_sum (λ c. 1 + cost c) ss
+pub function_cost : (ty : DataType) (n : ℕ) (f : ScalarFnRef) (ss : Slots) → cost (node ty n (enc.function f) ss) ≡ 3 + slots_sum (λ c. 1 + cost c) ss
 function_cost ty n f ss = omega (arith, slots_paid f ss)
 
-pub function_reach : (ty : DataType) (n : ℕ) (f : ScalarFnRef) (ss : Slots) → reach (node ty n (function f) ss) ≡ 1 + slots_sum reach ss
+pub function_reach : (ty : DataType) (n : ℕ) (f : ScalarFnRef) (ss : Slots) → reach (node ty n (enc.function f) ss) ≡ 1 + slots_sum reach ss
 function_reach ty n f ss = omega (arith, slots_reached ss)
 
 -- a column costs one turn
 pub column_cost : (ty : DataType) (n : ℕ) (d : Data) → is_canonical d ≡ true → cost (node ty n d (absent no_slots)) ≡ 1
-column_cost ty n (constant v) h = absurd (cc)
-column_cost ty n (slice a b) h = absurd (cc)
-column_cost ty n (function f) h = absurd (cc)
-column_cost ty n (bool bs) h = refl
-column_cost ty n (primitive p zs) h = refl
+column_cost ty n (enc.bool bs) h = refl
+column_cost ty n (enc.primitive p zs) h = refl
+column_cost ty n _ h = absurd (cc)
 
 pub column_reach : (ty : DataType) (n : ℕ) (d : Data) → is_canonical d ≡ true → reach (node ty n d (absent no_slots)) ≡ 1
-column_reach ty n (constant v) h = absurd (cc)
-column_reach ty n (slice a b) h = absurd (cc)
-column_reach ty n (function f) h = absurd (cc)
-column_reach ty n (bool bs) h = refl
-column_reach ty n (primitive p zs) h = refl
+column_reach ty n (enc.bool bs) h = refl
+column_reach ty n (enc.primitive p zs) h = refl
+column_reach ty n _ h = absurd (cc)

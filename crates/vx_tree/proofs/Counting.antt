@@ -4,7 +4,8 @@ use Rattle.std.proofs.lemmas.List.{length-take, length-map, length-replicate}
 use Rattle.std.proofs.lemmas.List.FromFn.{length-map-range_with_len}
 use Rattle.vx_value.specs.Types.{DataType}
 use Rattle.vx_value.specs.Values.{boolean, integer}
-use Rattle.vx_tree.specs.Tree.{Tree, Data, Slots, node, constant, slice, function, bool, primitive, no_slots, absent, slot, len}
+use Rattle.vx_tree.specs.Tree as enc
+use Rattle.vx_tree.specs.Tree.{Tree, Data, Slots, node, no_slots, absent, slot, len}
 use Rattle.vx_value.specs.Cell.{Cell, value}
 use Rattle.vx_fn.specs.Apply.{apply}
 use Rattle.vx_tree.specs.Cells.{row_at, rows, slots_rows, node_cells, cells_at}
@@ -27,12 +28,12 @@ cut_counted a b m cs e h k = simp (length-take, length-drop) (omega arith)
 
 -- a line for each encoding
 node_counted : (ty : DataType) (n : ℕ) (d : Data) (css : List (List Cell)) (ss : List (Option Shape)) → IsNode ty n d ss → AreCounted css ss → length (node_cells ty n d css) ≡ n
-node_counted ty n (constant v) css ss h k = length-replicate n (value v.value)
-node_counted ty n (slice a b) css ss h k =
+node_counted ty n (enc.constant v) css ss h k = length-replicate n (value v.value)
+node_counted ty n (enc.slice a b) css ss h k =
     cut_counted a b h.0 (cells_at css 0) (one_counted css ty h.0 (subst (AreCounted css) h.1 k)) h.2 h.3 ∙ sym h.4
-node_counted ty n (function f) css ss h k = length-map-range_with_len (λ i. apply f ty (row_at css i)) 0 n
-node_counted ty n (bool bs) css ss h k = length-map bs (λ b. value (boolean b)) ∙ sym h.1
-node_counted ty n (primitive p zs) css ss h k = length-map zs (λ z. value (integer z)) ∙ sym h.1
+node_counted ty n (enc.function f) css ss h k = length-map-range_with_len (λ i. apply f ty (row_at css i)) 0 n
+node_counted ty n (enc.bool bs) css ss h k = length-map bs (λ b. value (boolean b)) ∙ sym h.1
+node_counted ty n (enc.primitive p zs) css ss h k = length-map zs (λ z. value (integer z)) ∙ sym h.1
 
 mutual
   pub rows_counted : (t : Tree) → IsWell t → length (rows t) ≡ len t

@@ -3,7 +3,8 @@ use Rattle.std.proofs.Common.{◌≡◌, ℕ, zero, suc, ◌-◌, List, [], ◌�
 use Rattle.std.specs.List.{range_with_len}
 use Rattle.vx_value.specs.Types.{DataType}
 use Rattle.vx_value.specs.Values.{Value, boolean, integer}
-use Rattle.vx_tree.specs.Tree.{Tree, Data, Slots, node, constant, slice, function, bool, primitive, no_slots, absent, slot}
+use Rattle.vx_tree.specs.Tree as enc
+use Rattle.vx_tree.specs.Tree.{Tree, Data, Slots, node, no_slots, absent, slot}
 use Rattle.vx_value.specs.Cell.{Cell, value, fault}
 use Rattle.vx_fn.specs.Apply.{on_values, value_of}
 use Rattle.vx_tree.specs.Cells.{row_at, rows, slots_rows, node_cells, cells_at, AreClean, HasNoFault}
@@ -96,12 +97,12 @@ map_keep f g (i ∷ is) h = (h i, map_keep f g is h)
 
 -- a node keeps what its slots keep: a line for each encoding
 pub node_mono : (ty : DataType) (n : ℕ) (d : Data) (css dss : List (List Cell)) → AllKeep css dss → RowsKeep (node_cells ty n d css) (node_cells ty n d dss)
-node_mono ty n (constant v) css dss h = rows_refl (replicate n (value v.value))
-node_mono ty n (slice a b) css dss h = take_keep (b - a) _ _ (drop_keep a _ _ (at_keep css dss 0 h))
-node_mono ty n (function f) css dss h =
+node_mono ty n (enc.constant v) css dss h = rows_refl (replicate n (value v.value))
+node_mono ty n (enc.slice a b) css dss h = take_keep (b - a) _ _ (drop_keep a _ _ (at_keep css dss 0 h))
+node_mono ty n (enc.function f) css dss h =
     map_keep _ _ (range_with_len 0 n) (λ i. values_keep (value_of f ty) _ _ (row_keep i css dss h))
-node_mono ty n (bool bs) css dss h = rows_refl (map (λ b. value (boolean b)) bs)
-node_mono ty n (primitive p zs) css dss h = rows_refl (map (λ z. value (integer z)) zs)
+node_mono ty n (enc.bool bs) css dss h = rows_refl (map (λ b. value (boolean b)) bs)
+node_mono ty n (enc.primitive p zs) css dss h = rows_refl (map (λ z. value (integer z)) zs)
 
 -- the laws, whatever the encodings
 

@@ -1,5 +1,5 @@
 -- Which encodings are columns.
-use Rattle.std.proofs.Common.{◌≡◌, true, pos, refl, sym, ap, ◌∙◌}
+use Rattle.std.proofs.Common.{◌≡◌, Bool, true, false, ◌||◌, pos, refl, sym, ap, ◌∙◌}
 use Rattle.vx_value.specs.Types as type
 use Rattle.vx_value.specs.Types.{DataType, nullability_of}
 use Rattle.vx_value.specs.declared.dtype.Nullability.{Nullability}
@@ -7,35 +7,23 @@ use Rattle.vx_value.specs.declared.dtype.Nullability.TheVariants.{NonNullable}
 use Rattle.vx_value.specs.IsOf.{in_range}
 use Rattle.vx_value.specs.declared.dtype.PType.{PType}
 use Rattle.vx_value.specs.declared.dtype.PType.TheVariants.{U8, U16, U32, U64, I8, I16, I32, I64}
-use Rattle.vx_tree.specs.Tree.{Data, constant, slice, function, bool, primitive, is_bool, is_primitive, is_constant, is_canonical, is_columnar}
+use Rattle.vx_tree.specs.Tree.{Data, is_bool, is_primitive, is_constant, is_canonical, is_columnar}
+
+or_second : (a b : Bool) → b ≡ true → (a || b) ≡ true
+or_second true b h = refl
+or_second false b h = h
 
 pub bool_canonical : (d : Data) → is_bool d ≡ true → is_canonical d ≡ true
-bool_canonical (constant v) h = absurd (cc)
-bool_canonical (slice a b) h = absurd (cc)
-bool_canonical (function f) h = absurd (cc)
-bool_canonical (bool bs) h = refl
-bool_canonical (primitive p zs) h = absurd (cc)
+bool_canonical d h = ap (λ b. b || is_primitive d) h
 
 pub primitive_canonical : (d : Data) → is_primitive d ≡ true → is_canonical d ≡ true
-primitive_canonical (constant v) h = absurd (cc)
-primitive_canonical (slice a b) h = absurd (cc)
-primitive_canonical (function f) h = absurd (cc)
-primitive_canonical (bool bs) h = absurd (cc)
-primitive_canonical (primitive p zs) h = refl
+primitive_canonical d h = or_second (is_bool d) (is_primitive d) h
 
 pub canonical_columnar : (d : Data) → is_canonical d ≡ true → is_columnar d ≡ true
-canonical_columnar (constant v) h = refl
-canonical_columnar (slice a b) h = absurd (cc)
-canonical_columnar (function f) h = absurd (cc)
-canonical_columnar (bool bs) h = refl
-canonical_columnar (primitive p zs) h = refl
+canonical_columnar d h = ap (λ b. b || is_constant d) h
 
 pub constant_columnar : (d : Data) → is_constant d ≡ true → is_columnar d ≡ true
-constant_columnar (constant v) h = refl
-constant_columnar (slice a b) h = absurd (cc)
-constant_columnar (function f) h = absurd (cc)
-constant_columnar (bool bs) h = absurd (cc)
-constant_columnar (primitive p zs) h = absurd (cc)
+constant_columnar d h = or_second (is_canonical d) (is_constant d) h
 
 -- each integer type has 0
 pub zero_in_range : (p : PType) → in_range p (pos 0) ≡ true

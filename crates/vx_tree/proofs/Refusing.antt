@@ -17,7 +17,8 @@ use Rattle.vx_fn.specs.Functions.{arity, function_id}
 use Rattle.vx_fn.specs.ReturnTypes.{return_type}
 use Rattle.vx_fn.specs.declared.function.ScalarFnRef.{ScalarFnRef}
 use Rattle.vx_tree.proofs.Calling.{arity_of_row, shapes_of_types, present_types, types_back, long_types, result_none}
-use Rattle.vx_tree.specs.Tree.{Tree, Data, constant, slice, function, bool, primitive, id_of, slots_of, dtype, len}
+use Rattle.vx_tree.specs.Tree as enc
+use Rattle.vx_tree.specs.Tree.{Tree, Data, id_of, slots_of, dtype, len}
 use Rattle.vx_tree.specs.Well.{Shape, shape, shape_of, shapes, IsNode}
 use Rattle.vx_tree.specs.Refusals.{refusal, column_refusal, constant_refusal, slice_refusal, function_refusal, slots_refusal, types_refusal, lengths_refusal, result_refusal, arity_refusal, all_present, types_in, unless, first_of_both, no_validity}
 use Rattle.vx_value.specs.Types.{same_type_Decides}
@@ -60,13 +61,13 @@ column_kept ty n of_type k (s ∷ []) h =
     ((same_type_Decides ty of_type).0 (unless_none _ _ (first_none _ _ h)), (unsigned_Decides n k).0 (unless_none _ _ (second_none _ _ later)), ap (λ z. z ∷ []) (absent_none s (first_none _ _ later)))
 column_kept ty n of_type k (s ∷ r ∷ ss) h = absurd (cc)
 
-constant_kept : (ty : DataType) (n : ℕ) (v : Typed) (ss : List (Option Shape)) → constant_refusal ty v ss ≡ None → IsNode ty n (constant v) ss
+constant_kept : (ty : DataType) (n : ℕ) (v : Typed) (ss : List (Option Shape)) → constant_refusal ty v ss ≡ None → IsNode ty n (enc.constant v) ss
 constant_kept ty n v [] h =
     let later = second_none _ _ h in
     ((same_type_Decides ty v.of_type).0 (unless_none _ _ (first_none _ _ h)), (same_nullability_Decides (nullability_of ty) NonNullable).0 (unless_none _ _ (first_none _ _ later)), unless_none _ _ (second_none _ _ later), refl)
 constant_kept ty n v (s ∷ ss) h = absurd (cc)
 
-slice_kept : (ty : DataType) (n a b : ℕ) (ss : List (Option Shape)) → slice_refusal ty n a b ss ≡ None → IsNode ty n (slice a b) ss
+slice_kept : (ty : DataType) (n a b : ℕ) (ss : List (Option Shape)) → slice_refusal ty n a b ss ≡ None → IsNode ty n (enc.slice a b) ss
 slice_kept ty n a b [] h = absurd (cc)
 slice_kept ty n a b (None ∷ []) h = absurd (cc)
 slice_kept ty n a b (Some (shape s m) ∷ []) h =
@@ -77,7 +78,7 @@ slice_kept ty n a b (Some (shape s m) ∷ []) h =
 slice_kept ty n a b (None ∷ r ∷ ss) h = absurd (cc)
 slice_kept ty n a b (Some s ∷ r ∷ ss) h = absurd (cc)
 
-function_kept : (i : Id) (ty : DataType) (n : ℕ) (f : ScalarFnRef) (ss : List (Option Shape)) → function_refusal i ty n f ss ≡ None → IsNode ty n (function f) ss
+function_kept : (i : Id) (ty : DataType) (n : ℕ) (f : ScalarFnRef) (ss : List (Option Shape)) → function_refusal i ty n f ss ≡ None → IsNode ty n (enc.function f) ss
 function_kept i ty n f ss h =
     let later : first_of_both (types_refusal i ty f ss) (lengths_refusal n ss) ≡ None = second_none (slots_refusal f ss) _ h in
     let slots : slots_refusal f ss ≡ None = first_none (slots_refusal f ss) (first_of_both (types_refusal i ty f ss) (lengths_refusal n ss)) h in
@@ -89,11 +90,11 @@ function_kept i ty n f ss h =
     (types_in ss, shapes_of_types n ss (unless_none _ _ present) (unless_none _ _ lengths), result_none ty (return_type f (types_in ss)) result)
 
 pub node_unless_refused : (i : Id) (ty : DataType) (n : ℕ) (d : Data) (ss : List (Option Shape)) → refusal i ty n d ss ≡ None → IsNode ty n d ss
-node_unless_refused i ty n (constant v) ss h = constant_kept ty n v ss h
-node_unless_refused i ty n (slice a b) ss h = slice_kept ty n a b ss h
-node_unless_refused i ty n (function f) ss h = function_kept i ty n f ss h
-node_unless_refused i ty n (bool bs) ss h = column_kept ty n (type.bool NonNullable) (length bs) ss h
-node_unless_refused i ty n (primitive p zs) ss h = column_kept ty n (type.primitive p NonNullable) (length zs) ss h
+node_unless_refused i ty n (enc.constant v) ss h = constant_kept ty n v ss h
+node_unless_refused i ty n (enc.slice a b) ss h = slice_kept ty n a b ss h
+node_unless_refused i ty n (enc.function f) ss h = function_kept i ty n f ss h
+node_unless_refused i ty n (enc.bool bs) ss h = column_kept ty n (type.bool NonNullable) (length bs) ss h
+node_unless_refused i ty n (enc.primitive p zs) ss h = column_kept ty n (type.primitive p NonNullable) (length zs) ss h
 
 -- and the parts that meet them aren't refused
 
@@ -102,7 +103,7 @@ column_taken ty n of_type k ss h =
     let e : column_refusal ty n of_type k (None ∷ []) ≡ None = both_none _ _ (none_unless _ _ ((same_type_Decides ty of_type).1 h.0)) (both_none None _ refl (none_unless _ _ ((unsigned_Decides n k).1 h.1))) in
     subst (λ l. column_refusal ty n of_type k l ≡ None) (sym h.2) e
 
-function_taken : (ty : DataType) (n : ℕ) (f : ScalarFnRef) (ss : List (Option Shape)) → IsNode ty n (function f) ss → function_refusal (function_id f) ty n f ss ≡ None
+function_taken : (ty : DataType) (n : ℕ) (f : ScalarFnRef) (ss : List (Option Shape)) → IsNode ty n (enc.function f) ss → function_refusal (function_id f) ty n f ss ≡ None
 function_taken ty n f ss h =
     let tys = h.0 in
     let made = map (λ s. Some (shape s n)) tys in
@@ -115,16 +116,16 @@ function_taken ty n f ss h =
     subst (λ l. function_refusal (function_id f) ty n f l ≡ None) (sym h.1) e
 
 pub refused_unless_node : (ty : DataType) (n : ℕ) (d : Data) (ss : List (Option Shape)) → IsNode ty n d ss → refusal (id_of d) ty n d ss ≡ None
-refused_unless_node ty n (constant v) ss h =
+refused_unless_node ty n (enc.constant v) ss h =
     let e : constant_refusal ty v [] ≡ None = both_none _ _ (none_unless _ _ ((same_type_Decides ty v.of_type).1 h.0)) (both_none _ _ (none_unless _ _ ((same_nullability_Decides (nullability_of ty) NonNullable).1 h.1)) (none_unless _ _ h.2)) in
     subst (λ l. constant_refusal ty v l ≡ None) (sym h.3) e
-refused_unless_node ty n (slice a b) ss h =
+refused_unless_node ty n (enc.slice a b) ss h =
     let range : (nat_le a b && nat_le b h.0) ≡ true = ap (λ x. x && nat_le b h.0) (true_le a b h.2) ∙ true_le b h.0 h.3 in
     let e : slice_refusal ty n a b (Some (shape ty h.0) ∷ []) ≡ None = both_none _ _ (none_unless _ _ ((same_type_Decides ty ty).1 refl)) (both_none _ _ (none_unless _ _ ((unsigned_Decides n (b - a)).1 h.4)) (none_unless _ _ range)) in
     subst (λ l. slice_refusal ty n a b l ≡ None) (sym h.1) e
-refused_unless_node ty n (function f) ss h = function_taken ty n f ss h
-refused_unless_node ty n (bool bs) ss h = column_taken ty n (type.bool NonNullable) (length bs) ss h
-refused_unless_node ty n (primitive p zs) ss h = column_taken ty n (type.primitive p NonNullable) (length zs) ss h
+refused_unless_node ty n (enc.function f) ss h = function_taken ty n f ss h
+refused_unless_node ty n (enc.bool bs) ss h = column_taken ty n (type.bool NonNullable) (length bs) ss h
+refused_unless_node ty n (enc.primitive p zs) ss h = column_taken ty n (type.primitive p NonNullable) (length zs) ss h
 
 true_is_false : true ≡ false → ⊥
 true_is_false h = absurd (cc)
@@ -175,7 +176,7 @@ no_slots_there xs h = ap (λ ys. shapes (slots_of ys)) h
 
 -- the parts that the constructors make
 
-pub slice_is_node : (t : Tree) (a b : ℕ) → a ≤ b → b ≤ len t → IsNode (dtype t) (b - a) (slice a b) (Some (shape_of t) ∷ [])
+pub slice_is_node : (t : Tree) (a b : ℕ) → a ≤ b → b ≤ len t → IsNode (dtype t) (b - a) (enc.slice a b) (Some (shape_of t) ∷ [])
 slice_is_node t a b h k = (len t, refl, h, k, refl)
 
 pub never_null : (n : Nullability) → is_nullable n ≡ false → n ≡ NonNullable

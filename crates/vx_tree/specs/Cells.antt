@@ -5,7 +5,8 @@ use Rattle.vx_value.specs.Types.{DataType}
 use Rattle.vx_value.specs.Values.{boolean, integer}
 use Rattle.vx_value.specs.Cell.{Cell, value, fault}
 use Rattle.vx_fn.specs.Apply.{apply}
-use Rattle.vx_tree.specs.Tree.{Tree, Data, Slots, node, constant, slice, function, bool, primitive, no_slots, absent, slot}
+use Rattle.vx_tree.specs.Tree as enc
+use Rattle.vx_tree.specs.Tree.{Tree, Data, Slots, node, no_slots, absent, slot}
 
 -- the cells of slot k; of an absent one, none
 abbrev pub cells_at : List (List Cell) → ℕ → List Cell
@@ -19,11 +20,11 @@ row_at css i = map (λ cs. slice_index_or cs i fault) css
 
 -- the cells of a node, from those of its slots: a line for each encoding
 abbrev pub node_cells : DataType → ℕ → Data → List (List Cell) → List Cell
-node_cells ty n (constant v) css = replicate n (value v.value)
-node_cells ty n (slice a b) css = take (b - a) (drop a (cells_at css 0))
-node_cells ty n (function f) css = map (λ i. apply f ty (row_at css i)) (range_with_len 0 n)
-node_cells ty n (bool bs) css = map (λ b. value (boolean b)) bs
-node_cells ty n (primitive p zs) css = map (λ z. value (integer z)) zs
+node_cells ty n (enc.constant v) css = replicate n (value v.value)
+node_cells ty n (enc.slice a b) css = take (b - a) (drop a (cells_at css 0))
+node_cells ty n (enc.function f) css = map (λ i. apply f ty (row_at css i)) (range_with_len 0 n)
+node_cells ty n (enc.bool bs) css = map (λ b. value (boolean b)) bs
+node_cells ty n (enc.primitive p zs) css = map (λ z. value (integer z)) zs
 
 abbrev mutual
   pub rows : Tree → List Cell

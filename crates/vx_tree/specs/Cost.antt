@@ -1,6 +1,7 @@
 -- What bounds the turns of an execution.
 use Rattle.std.specs.Prelude.{ℕ, ◌+◌, ◌*◌, List, [], ◌∷◌, sum}
-use Rattle.vx_tree.specs.Tree.{Tree, Data, Slots, node, constant, slice, function, bool, primitive, no_slots, absent, slot}
+use Rattle.vx_tree.specs.Tree as enc
+use Rattle.vx_tree.specs.Tree.{Tree, Data, Slots, node, no_slots, absent, slot}
 
 -- the reach of each slot, added up
 abbrev pub all_reached : List ℕ → ℕ
@@ -9,11 +10,9 @@ all_reached (e ∷ es) = 1 + e + all_reached es
 
 -- how far a slice may have to be pushed down, less one: a line for each encoding
 abbrev pub node_extra : Data → List ℕ → ℕ
-node_extra (constant v) es = 0
-node_extra (slice a b) es = sum es
-node_extra (function f) es = all_reached es
-node_extra (bool bs) es = 0
-node_extra (primitive p zs) es = 0
+node_extra (enc.slice a b) es = sum es
+node_extra (enc.function f) es = all_reached es
+node_extra _ es = 0
 
 abbrev mutual
   pub extra : Tree → ℕ
@@ -29,18 +28,15 @@ reach t = 1 + extra t
 
 -- the turns that a node takes itself, and those for a slot of cost c and reach 1 + e: a line for each encoding
 abbrev pub base_cost : Data → ℕ
-base_cost (constant v) = 2
-base_cost (slice a b) = 2
-base_cost (function f) = 3
-base_cost (bool bs) = 1
-base_cost (primitive p zs) = 1
+base_cost (enc.constant v) = 2
+base_cost (enc.slice a b) = 2
+base_cost (enc.function f) = 3
+base_cost (enc.bool bs) = 1
+base_cost (enc.primitive p zs) = 1
 
 abbrev pub slot_cost : Data → ℕ → ℕ → ℕ
-slot_cost (constant v) c e = c + 1
-slot_cost (slice a b) c e = c + 1 + 3 * e
-slot_cost (function f) c e = c + 1
-slot_cost (bool bs) c e = c + 1
-slot_cost (primitive p zs) c e = c + 1
+slot_cost (enc.slice a b) c e = c + 1 + 3 * e
+slot_cost _ c e = c + 1
 
 -- at most so many turns are taken for the tree
 abbrev mutual

@@ -13,7 +13,8 @@ use Rattle.vx_value.specs.declared.id.Id.{Id}
 use Rattle.vx_fn.specs.Functions.{arity, function_id}
 use Rattle.vx_fn.specs.ReturnTypes.{return_type}
 use Rattle.vx_fn.specs.declared.function.ScalarFnRef.{ScalarFnRef}
-use Rattle.vx_tree.specs.Tree.{Tree, Data, constant, slice, function, bool, primitive, dtype, len}
+use Rattle.vx_tree.specs.Tree as enc
+use Rattle.vx_tree.specs.Tree.{Tree, Data, dtype, len}
 use Rattle.vx_tree.specs.Well.{Shape, shape}
 
 -- no tree may be in the slot of a column without nulls
@@ -105,8 +106,8 @@ function_refusal i ty n f ss =
 
 -- why no node of these parts is made under the id of its tag, None where one is: a line for each encoding
 abbrev pub refusal : Id → DataType → ℕ → Data → List (Option Shape) → Option VortexError
-refusal i ty n (constant v) ss = constant_refusal ty v ss
-refusal i ty n (slice a b) ss = slice_refusal ty n a b ss
-refusal i ty n (function f) ss = function_refusal i ty n f ss
-refusal i ty n (bool bs) ss = column_refusal ty n (type.bool NonNullable) (length bs) ss
-refusal i ty n (primitive p zs) ss = column_refusal ty n (type.primitive p NonNullable) (length zs) ss
+refusal i ty n (enc.constant v) ss = constant_refusal ty v ss
+refusal i ty n (enc.slice a b) ss = slice_refusal ty n a b ss
+refusal i ty n (enc.function f) ss = function_refusal i ty n f ss
+refusal i ty n (enc.bool bs) ss = column_refusal ty n (type.bool NonNullable) (length bs) ss
+refusal i ty n (enc.primitive p zs) ss = column_refusal ty n (type.primitive p NonNullable) (length zs) ss

@@ -1,9 +1,9 @@
 -- What an array is: a tree of nodes. Each has a type, a length in rows, data of its encoding, and slots.
-use Rattle.std.specs.Prelude.{◌≡◌, ℕ, ℤ, ◌+◌, List, [], ◌∷◌, max, Option, Some, None, Bool, true, false, ◌⊎◌, refl}
+use Rattle.std.specs.Prelude.{◌≡◌, ℕ, ℤ, ◌+◌, List, [], ◌∷◌, max, Option, Some, None, Bool, true, false, ◌||◌, ◌⊎◌, refl}
 use Rattle.std.specs.Coded.{Coded, code_by, coded_ℕ, coded_ℤ, coded_bool, coded_list, coded×, coded⊎}
 use Rattle.std.proofs.Common.{ap, inl, inr}
 use base.Stored.{Gv, gnil, gnum, gcons}
-use Rattle.vx_value.specs.Types.{DataType, coded_type, ptype_number, ptype_at, ptype_back}
+use Rattle.vx_value.specs.Types.{DataType, coded_type, coded_ptype}
 use Rattle.vx_value.specs.Typed.{Typed, coded_typed}
 use Rattle.vx_value.specs.declared.dtype.PType.{PType}
 use Rattle.vx_value.specs.declared.id.Id.{Id}
@@ -72,81 +72,70 @@ id_of (primitive p zs) = id.Primitive
 -- which encoding a node has
 abbrev pub is_constant : Data → Bool
 is_constant (constant v) = true
-is_constant (slice a b) = false
-is_constant (function f) = false
-is_constant (bool bs) = false
-is_constant (primitive p zs) = false
+is_constant _ = false
 
 abbrev pub is_slice : Data → Bool
-is_slice (constant v) = false
 is_slice (slice a b) = true
-is_slice (function f) = false
-is_slice (bool bs) = false
-is_slice (primitive p zs) = false
+is_slice _ = false
 
 abbrev pub is_function : Data → Bool
-is_function (constant v) = false
-is_function (slice a b) = false
 is_function (function f) = true
-is_function (bool bs) = false
-is_function (primitive p zs) = false
+is_function _ = false
 
 abbrev pub is_bool : Data → Bool
-is_bool (constant v) = false
-is_bool (slice a b) = false
-is_bool (function f) = false
 is_bool (bool bs) = true
-is_bool (primitive p zs) = false
+is_bool _ = false
 
 abbrev pub is_primitive : Data → Bool
-is_primitive (constant v) = false
-is_primitive (slice a b) = false
-is_primitive (function f) = false
-is_primitive (bool bs) = false
 is_primitive (primitive p zs) = true
+is_primitive _ = false
 
 -- the encodings that hold their rows themselves
 abbrev pub is_canonical : Data → Bool
-is_canonical (constant v) = false
-is_canonical (slice a b) = false
-is_canonical (function f) = false
-is_canonical (bool bs) = true
-is_canonical (primitive p zs) = true
+is_canonical d = is_bool d || is_primitive d
 
 -- the canonical encodings, and those that repeat one value
 abbrev pub is_columnar : Data → Bool
-is_columnar (constant v) = true
-is_columnar (slice a b) = false
-is_columnar (function f) = false
-is_columnar (bool bs) = true
-is_columnar (primitive p zs) = true
+is_columnar d = is_canonical d || is_constant d
 
--- ---- the code of a tree: of node data, a line for each encoding in each of three definitions
+-- ---- the code of a tree: of node data, a line for each encoding in each of four definitions
 
-abbrev pub data_split : Data → Typed ⊎ ((ℕ × ℕ) ⊎ (ScalarFnRef ⊎ (List Bool ⊎ (ℕ × List ℤ))))
+abbrev pub DataParts : Type 0
+DataParts =
+    Typed
+    ⊎ ((ℕ × ℕ)
+    ⊎ (ScalarFnRef
+    ⊎ (List Bool
+    ⊎ (PType × List ℤ))))
+
+abbrev pub coded_parts : Coded DataParts
+coded_parts =
+    coded⊎ coded_typed (
+    coded⊎ (coded× coded_ℕ coded_ℕ) (
+    coded⊎ coded_function (
+    coded⊎ (coded_list coded_bool) (
+    coded× coded_ptype (coded_list coded_ℤ)))))
+
+abbrev pub data_split : Data → DataParts
 data_split (constant v) = inl v
 data_split (slice a b) = inr (inl (a, b))
 data_split (function f) = inr (inr (inl f))
 data_split (bool bs) = inr (inr (inr (inl bs)))
-data_split (primitive p zs) = inr (inr (inr (inr (ptype_number p, zs))))
+data_split (primitive p zs) = inr (inr (inr (inr (p, zs))))
 
-abbrev pub data_join : Typed ⊎ ((ℕ × ℕ) ⊎ (ScalarFnRef ⊎ (List Bool ⊎ (ℕ × List ℤ)))) → Data
+abbrev pub data_join : DataParts → Data
 data_join (inl v) = constant v
 data_join (inr (inl p)) = slice p.0 p.1
 data_join (inr (inr (inl f))) = function f
 data_join (inr (inr (inr (inl bs)))) = bool bs
-data_join (inr (inr (inr (inr p)))) = primitive (ptype_at p.0) p.1
+data_join (inr (inr (inr (inr p)))) = primitive p.0 p.1
 
 pub data_join_split : (d : Data) → data_join (data_split d) ≡ d
 data_join_split (constant v) = refl
-data_join_split (slice a b) = refl
-data_join_split (function f) = refl
-data_join_split (bool bs) = refl
-data_join_split (primitive p zs) = ap (λ q. primitive q zs) (ptype_back p)
+data_join_split _ = refl
 
 abbrev pub coded_data : Coded Data
-coded_data =
-    code_by (Typed ⊎ ((ℕ × ℕ) ⊎ (ScalarFnRef ⊎ (List Bool ⊎ (ℕ × List ℤ))))) (coded⊎ coded_typed (coded⊎ (coded× coded_ℕ coded_ℕ) (coded⊎ coded_function (coded⊎ (coded_list coded_bool) (coded× coded_ℕ (coded_list coded_ℤ)))))) data_split data_join data_join_split
+coded_data = code_by DataParts coded_parts data_split data_join data_join_split
 
 abbrev head : Gv → Gv
 head gnil = gnil

@@ -1,17 +1,18 @@
 -- The tree that a node of the program stands for.
 use Rattle.vx_value.specs.View.{type_of}
 use Rattle.vx_tree.specs.Natives.{values_of, ptype_of}
-use Rattle.vx_tree.specs.Tree.{Tree, node, Data, constant, slice, function, bool, primitive, slots_of}
+use Rattle.vx_tree.specs.Tree as enc
+use Rattle.vx_tree.specs.Tree.{Tree, node, Data, slots_of}
 use Rattle.vx_tree.specs.declared.array.node.Node.{Node}
 use Rattle.vx_tree.specs.declared.array.node.Encoding.{Encoding}
-use Rattle.vx_tree.specs.declared.array.node.Encoding.TheVariants.{Constant, Slice, ScalarFn, Bool, Primitive}
+use Rattle.vx_tree.specs.declared.array.node.Encoding.TheVariants as encoding
 
 abbrev pub data_of : Encoding → Data
-data_of (Constant c) = constant c.scalar
-data_of (Slice s) = slice s.range.start s.range.end
-data_of (ScalarFn f) = function f.scalar_fn
-data_of (Bool b) = bool b.bits
-data_of (Primitive p) = primitive (ptype_of p.values) (values_of p.values)
+data_of (encoding.Constant c) = enc.constant c.scalar
+data_of (encoding.Slice s) = enc.slice s.range.start s.range.end
+data_of (encoding.ScalarFn f) = enc.function f.scalar_fn
+data_of (encoding.Bool b) = enc.bool b.bits
+data_of (encoding.Primitive p) = enc.primitive (ptype_of p.values) (values_of p.values)
 
 abbrev pub tree_of : Node → Tree
 tree_of n = node (type_of n.dtype) n.len (data_of n.encoding) (slots_of n.slots.items)

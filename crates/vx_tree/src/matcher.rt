@@ -3,7 +3,11 @@
 ghost use Rattle.std.specs.Prelude.{◌≡◌, Bool, true};
 ghost use Rattle.vx_tree.specs.Tree.{Tree, datum, is_canonical, is_columnar, is_function};
 
-use crate::array::{ArrayRef, Encoding, VTable};
+use crate::array::{ArrayRef, VTable};
+use crate::arrays::boolean::Bool;
+use crate::arrays::constant::Constant;
+use crate::arrays::primitive::Primitive;
+use crate::arrays::scalar_fn::ScalarFn;
 
 /// Tests on the root of a tree.
 pub trait Matcher {
@@ -34,13 +38,7 @@ impl Matcher for AnyCanonical {
     ghost fits = { λ t. is_canonical (datum t) };
 
     fn matches(array: &ArrayRef) -> bool {
-        match array.encoding() {
-            Encoding::Constant(_) => false,
-            Encoding::Slice(_) => false,
-            Encoding::ScalarFn(_) => false,
-            Encoding::Bool(_) => true,
-            Encoding::Primitive(_) => true,
-        }
+        Bool::matches(array) || Primitive::matches(array)
     }
 }
 
@@ -52,13 +50,7 @@ impl Matcher for AnyColumnar {
     ghost fits = { λ t. is_columnar (datum t) };
 
     fn matches(array: &ArrayRef) -> bool {
-        match array.encoding() {
-            Encoding::Constant(_) => true,
-            Encoding::Slice(_) => false,
-            Encoding::ScalarFn(_) => false,
-            Encoding::Bool(_) => true,
-            Encoding::Primitive(_) => true,
-        }
+        AnyCanonical::matches(array) || Constant::matches(array)
     }
 }
 
@@ -70,13 +62,7 @@ impl Matcher for AnyScalarFn {
     ghost fits = { λ t. is_function (datum t) };
 
     fn matches(array: &ArrayRef) -> bool {
-        match array.encoding() {
-            Encoding::Constant(_) => false,
-            Encoding::Slice(_) => false,
-            Encoding::ScalarFn(_) => true,
-            Encoding::Bool(_) => false,
-            Encoding::Primitive(_) => false,
-        }
+        ScalarFn::matches(array)
     }
 }
 

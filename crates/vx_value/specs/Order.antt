@@ -1,23 +1,23 @@
 -- When two values with their types are the same, and which comes first.
-use Rattle.std.specs.Prelude.{Bool, Option, Some, None, ◌&&◌, if◌then◌else◌}
+use Rattle.std.specs.Prelude.{ℕ, Bool, Option, Some, None, ◌&&◌, if◌then◌else◌}
 use Rattle.std.specs.declared.cmp.Ordering.{Ordering}
-use Rattle.std.specs.declared.cmp.Ordering.TheVariants.{Less, Equal, Greater}
-use Rattle.std.specs.Ordering.{bool_cmp, int_cmp, is_eq}
+use Rattle.std.specs.declared.cmp.Ordering.TheVariants.{Equal}
+use Rattle.std.specs.Ordering.{bool_cmp, int_cmp, nat_cmp, is_eq}
 use Rattle.vx_value.specs.Types.{same_type}
 use Rattle.vx_value.specs.Values.{Value, null, boolean, integer}
 use Rattle.vx_value.specs.Typed.{Typed}
 
 -- null, then false, then true; numbers by size; no type has both booleans and numbers
+abbrev pub value_kind : Value → ℕ
+value_kind null = 0
+value_kind (boolean b) = 1
+value_kind (integer z) = 2
+
 abbrev pub value_cmp : Value → Value → Ordering
 value_cmp null null = Equal
-value_cmp null (boolean b) = Less
-value_cmp null (integer z) = Less
-value_cmp (boolean a) null = Greater
 value_cmp (boolean a) (boolean b) = bool_cmp a b
-value_cmp (boolean a) (integer z) = Less
-value_cmp (integer y) null = Greater
-value_cmp (integer y) (boolean b) = Greater
 value_cmp (integer y) (integer z) = int_cmp y z
+value_cmp v w = nat_cmp (value_kind v) (value_kind w)
 
 -- neither comes first
 abbrev pub same_value : Value → Value → Bool

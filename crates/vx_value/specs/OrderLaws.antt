@@ -9,56 +9,38 @@ use Rattle.std.proofs.Common.{ap, sym, ◌∙◌, subst}
 use Rattle.vx_value.specs.Types.{same_type, same_type_Decides}
 use Rattle.vx_value.specs.Values.{Value, null, boolean, integer}
 use Rattle.vx_value.specs.Typed.{Typed}
-use Rattle.vx_value.specs.Order.{value_cmp, same_value, same_scalar, scalar_cmp}
+use Rattle.vx_value.specs.Order.{value_kind, value_cmp, same_value, same_scalar, scalar_cmp}
 
 -- ---- values: by kind, and then by size
 
-abbrev kind : Value → ℕ
-kind null = 0
-kind (boolean b) = 1
-kind (integer z) = 2
-
 abbrev size : Value → ℤ
-size null = pos 0
-size (boolean false) = pos 0
 size (boolean true) = pos 1
 size (integer z) = z
+size _ = pos 0
 
 abbrev by_kind_and_size : Value → Value → Ordering
-by_kind_and_size = then_cmp (on kind nat_cmp) (on size int_cmp)
+by_kind_and_size = then_cmp (on value_kind nat_cmp) (on size int_cmp)
 
 value_cmp_ranks : (v w : Value) → by_kind_and_size v w ≡ value_cmp v w
 value_cmp_ranks null null = refl
-value_cmp_ranks null (boolean b) = refl
-value_cmp_ranks null (integer z) = refl
-value_cmp_ranks (boolean a) null = refl
 value_cmp_ranks (boolean false) (boolean false) = refl
 value_cmp_ranks (boolean false) (boolean true) = refl
 value_cmp_ranks (boolean true) (boolean false) = refl
 value_cmp_ranks (boolean true) (boolean true) = refl
-value_cmp_ranks (boolean a) (integer z) = refl
-value_cmp_ranks (integer y) null = refl
-value_cmp_ranks (integer y) (boolean b) = refl
 value_cmp_ranks (integer y) (integer z) = refl
+value_cmp_ranks _ _ = refl
 
 pub value_cmp_total : IsTotalOrder value_cmp
 value_cmp_total =
-    subst IsTotalOrder (λ i v w. value_cmp_ranks v w i) (then_total (on_total kind nat_cmp_total) (on_total size int_cmp_total))
+    subst IsTotalOrder (λ i v w. value_cmp_ranks v w i) (then_total (on_total value_kind nat_cmp_total) (on_total size int_cmp_total))
 
 -- what comes neither before nor after is the same
 value_alike : (v w : Value) → same_value v w ≡ true → v ≡ w
 value_alike null null h = refl
-value_alike null (boolean b) h = absurd (cc)
-value_alike null (integer z) h = absurd (cc)
-value_alike (boolean a) null h = absurd (cc)
 value_alike (boolean false) (boolean false) h = refl
-value_alike (boolean false) (boolean true) h = absurd (cc)
-value_alike (boolean true) (boolean false) h = absurd (cc)
 value_alike (boolean true) (boolean true) h = refl
-value_alike (boolean a) (integer z) h = absurd (cc)
-value_alike (integer y) null h = absurd (cc)
-value_alike (integer y) (boolean b) h = absurd (cc)
 value_alike (integer y) (integer z) h = ap integer ((signed_Decides y z).0 h)
+value_alike _ _ h = absurd (cc)
 
 pub same_value_Decides : (v w : Value) → Decides (same_value v w) (v ≡ w)
 same_value_Decides v w =

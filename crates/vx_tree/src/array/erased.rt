@@ -71,8 +71,7 @@ impl ArrayRef {
             (Encoding::Bool(_), 0) => Some("validity"),
             (Encoding::Primitive(_), 0) => Some("validity"),
             (Encoding::ScalarFn(data), _) => data.scalar_fn.child_name(index),
-            (Encoding::Constant(_), _) => None,
-            (Encoding::Slice(_) | Encoding::Bool(_) | Encoding::Primitive(_), _) => None,
+            _ => None,
         }
     }
 

@@ -10,6 +10,7 @@ use vx_mask::BitBuffer;
 use vx_value::Scalar;
 
 /// The root of a tree, with its data and children by their roles. (own)
+#[derive(Clone, Copy)]
 pub enum ArrayKind<'a> {
     /// The value of each row.
     Constant(&'a Scalar),

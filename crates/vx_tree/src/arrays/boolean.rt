@@ -56,23 +56,18 @@ impl VTable for Bool {
     }
 
     fn project(encoding: &Encoding) -> Option<&BoolData> {
-        match encoding {
-            Encoding::Bool(data) => Some(data),
-            Encoding::Constant(_) => None,
-            Encoding::Slice(_) => None,
-            Encoding::ScalarFn(_) => None,
-            Encoding::Primitive(_) => None,
+        if let Encoding::Bool(data) = encoding {
+            Some(data)
+        } else {
+            None
         }
     }
 
     fn into_data(encoding: Encoding) -> Option<BoolData> {
-        match encoding {
-            Encoding::Bool(data) => Some(data),
-            Encoding::Constant(_) => None,
-            Encoding::Slice(_) => None,
-            Encoding::ScalarFn(_) => None,
-            Encoding::Primitive(_) => None,
-        }
+        let Encoding::Bool(data) = encoding else {
+            return None;
+        };
+        Some(data)
     }
 
     fn wrap(payload: BoolData) -> Encoding {

@@ -69,23 +69,18 @@ impl VTable for Constant {
     }
 
     fn project(encoding: &Encoding) -> Option<&ConstantData> {
-        match encoding {
-            Encoding::Constant(data) => Some(data),
-            Encoding::Slice(_) => None,
-            Encoding::ScalarFn(_) => None,
-            Encoding::Bool(_) => None,
-            Encoding::Primitive(_) => None,
+        if let Encoding::Constant(data) = encoding {
+            Some(data)
+        } else {
+            None
         }
     }
 
     fn into_data(encoding: Encoding) -> Option<ConstantData> {
-        match encoding {
-            Encoding::Constant(data) => Some(data),
-            Encoding::Slice(_) => None,
-            Encoding::ScalarFn(_) => None,
-            Encoding::Bool(_) => None,
-            Encoding::Primitive(_) => None,
-        }
+        let Encoding::Constant(data) = encoding else {
+            return None;
+        };
+        Some(data)
     }
 
     fn wrap(payload: ConstantData) -> Encoding {

@@ -57,23 +57,18 @@ impl VTable for Primitive {
     }
 
     fn project(encoding: &Encoding) -> Option<&PrimitiveData> {
-        match encoding {
-            Encoding::Primitive(data) => Some(data),
-            Encoding::Constant(_) => None,
-            Encoding::Slice(_) => None,
-            Encoding::ScalarFn(_) => None,
-            Encoding::Bool(_) => None,
+        if let Encoding::Primitive(data) = encoding {
+            Some(data)
+        } else {
+            None
         }
     }
 
     fn into_data(encoding: Encoding) -> Option<PrimitiveData> {
-        match encoding {
-            Encoding::Primitive(data) => Some(data),
-            Encoding::Constant(_) => None,
-            Encoding::Slice(_) => None,
-            Encoding::ScalarFn(_) => None,
-            Encoding::Bool(_) => None,
-        }
+        let Encoding::Primitive(data) = encoding else {
+            return None;
+        };
+        Some(data)
     }
 
     fn wrap(payload: PrimitiveData) -> Encoding {

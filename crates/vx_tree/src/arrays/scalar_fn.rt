@@ -77,23 +77,18 @@ impl VTable for ScalarFn {
     }
 
     fn project(encoding: &Encoding) -> Option<&ScalarFnData> {
-        match encoding {
-            Encoding::ScalarFn(data) => Some(data),
-            Encoding::Constant(_) => None,
-            Encoding::Slice(_) => None,
-            Encoding::Bool(_) => None,
-            Encoding::Primitive(_) => None,
+        if let Encoding::ScalarFn(data) = encoding {
+            Some(data)
+        } else {
+            None
         }
     }
 
     fn into_data(encoding: Encoding) -> Option<ScalarFnData> {
-        match encoding {
-            Encoding::ScalarFn(data) => Some(data),
-            Encoding::Constant(_) => None,
-            Encoding::Slice(_) => None,
-            Encoding::Bool(_) => None,
-            Encoding::Primitive(_) => None,
-        }
+        let Encoding::ScalarFn(data) = encoding else {
+            return None;
+        };
+        Some(data)
     }
 
     fn wrap(payload: ScalarFnData) -> Encoding {

@@ -96,23 +96,18 @@ impl VTable for Slice {
     }
 
     fn project(encoding: &Encoding) -> Option<&SliceData> {
-        match encoding {
-            Encoding::Slice(data) => Some(data),
-            Encoding::Constant(_) => None,
-            Encoding::ScalarFn(_) => None,
-            Encoding::Bool(_) => None,
-            Encoding::Primitive(_) => None,
+        if let Encoding::Slice(data) = encoding {
+            Some(data)
+        } else {
+            None
         }
     }
 
     fn into_data(encoding: Encoding) -> Option<SliceData> {
-        match encoding {
-            Encoding::Slice(data) => Some(data),
-            Encoding::Constant(_) => None,
-            Encoding::ScalarFn(_) => None,
-            Encoding::Bool(_) => None,
-            Encoding::Primitive(_) => None,
-        }
+        let Encoding::Slice(data) = encoding else {
+            return None;
+        };
+        Some(data)
     }
 
     fn wrap(payload: SliceData) -> Encoding {
