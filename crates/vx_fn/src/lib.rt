@@ -4,8 +4,6 @@
 mod apply;
 mod function;
 mod return_type;
-#[cfg(test)]
-mod tests;
 
 pub use apply::apply_row;
 pub use function::{Arity, Operator, ScalarFnRef};

@@ -5,8 +5,6 @@ mod bits;
 mod buffer;
 mod builder;
 mod logic;
-#[cfg(test)]
-mod tests;
 
 pub use bits::BitBuffer;
 pub use buffer::Buffer;

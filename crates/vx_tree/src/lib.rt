@@ -7,8 +7,6 @@ mod canonical;
 mod columnar;
 mod laws;
 mod matcher;
-#[cfg(test)]
-mod tests;
 
 pub use array::{
     Array, ArrayId, ArrayKind, ArrayParts, ArrayRef, ArraySlots, ArrayVTable, ArrayView, Encoded,

@@ -7,8 +7,6 @@ mod error;
 mod fitting;
 mod id;
 mod scalar;
-#[cfg(test)]
-mod tests;
 mod text;
 
 pub use dtype::{DType, Nullability, PType};

@@ -1,7 +1,7 @@
 ghost use Rattle.std.specs.Prelude.{◌≡◌, IfOk};
 ghost use Rattle.vx_value.specs.Types.{primitive};
 
-use crate::{Arity, Operator, ScalarFnRef, apply_row};
+use vx_fn::{Arity, Operator, ScalarFnRef, apply_row};
 use vx_value::{
     ArgKind, DType, Id, Nullability, PType, Scalar, ScalarValue, VortexError, VortexResult,
 };
@@ -193,7 +193,7 @@ fn integer(ptype: PType, number: i128) -> VortexResult<Scalar>
     )
 }
 
-#[tactic(auto, using(crate::proofs::Typing::takes_numbers))]
+#[tactic(auto, using(crate::proofs::Taking::takes_numbers))]
 fn operate(operator: Operator, ptype: PType, x: i128, y: i128) -> VortexResult<Scalar> {
     let lhs = integer(ptype, x)?;
     let rhs = integer(ptype, y)?;

@@ -1,10 +1,10 @@
 ghost use Rattle.std.specs.Prelude.{◌<◌};
 
-use crate::{
-    BitBuffer, BitBuilder, BitEq, BitGt, BitGte, BitLt, BitLte, BitNotEq, BitOperation, Buffer,
-};
 use std::alloc::{AllocError, Global};
 use std::fmt::Debug;
+use vx_mask::{
+    BitBuffer, BitBuilder, BitEq, BitGt, BitGte, BitLt, BitLte, BitNotEq, BitOperation, Buffer,
+};
 
 fn is_printed_as<T: Debug>(alloc: Global, value: &T, text: &str) -> bool {
     match format!(in alloc; "{value:?}") {

@@ -1,10 +1,10 @@
-use crate::{
-    ArgKind, DType, Id, Nullability, PType, Scalar, ScalarValue, VortexError, VortexResult, fits,
-    type_text,
-};
 use std::alloc::AllocError;
 use std::cmp::Ordering;
 use std::hash::{DefaultHasher, Hash, Hasher};
+use vx_value::{
+    ArgKind, DType, Id, Nullability, PType, Scalar, ScalarValue, VortexError, VortexResult, fits,
+    type_text,
+};
 
 const BOOL: DType = DType::Bool(Nullability::NonNullable);
 

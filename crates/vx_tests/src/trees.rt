@@ -1,15 +1,15 @@
-use crate::{
-    AnyCanonical, AnyColumnar, Array, ArrayKind, ArrayParts, ArrayRef, ArrayView, BoolArray,
-    Canonical, Columnar, Constant, ConstantArray, ConstantData, IntoArray, Primitive,
-    PrimitiveArray, PrimitiveData, PrimitiveValues, ScalarFn, ScalarFnArray, ScalarFnData, Slice,
-    SliceArray, SliceData,
-};
 use std::alloc::Global;
 use std::ops::Range;
 use std::rc::Rc;
 use std::test::Fail;
 use vx_fn::{Operator, ScalarFnRef};
 use vx_mask::{BitBuffer, Buffer};
+use vx_tree::{
+    AnyCanonical, AnyColumnar, Array, ArrayKind, ArrayParts, ArrayRef, ArrayView, BoolArray,
+    Canonical, Columnar, Constant, ConstantArray, ConstantData, IntoArray, Primitive,
+    PrimitiveArray, PrimitiveData, PrimitiveValues, ScalarFn, ScalarFnArray, ScalarFnData, Slice,
+    SliceArray, SliceData,
+};
 use vx_value::{
     ArgKind, DType, Id, Nullability, PType, Scalar, ScalarValue, VortexError, VortexResult,
 };
@@ -74,8 +74,8 @@ fn slice_of(alloc: Global, items: &[i32], range: Range<usize>) -> VortexResult<S
     }
 }
 
-// Zeros of a type, so many.
-#[tactic(auto, using(crate::proofs::Kinding::zero_in_range))]
+// A column of `len` zeros.
+#[tactic(auto, using(crate::proofs::Taking::zero_in_range))]
 fn zeros(alloc: Global, dtype: &DType, len: usize) -> VortexResult<ArrayRef> {
     match dtype {
         DType::Bool(_) => Ok(booleans(alloc, len)?.into_array()),

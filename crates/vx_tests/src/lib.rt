@@ -1,0 +1,13 @@
+//! Tests of the crates below vx_main: what their contracts and the program don't show.
+//!
+//! A crate with tests is proved once more for them, so they stand here together.
+#![tactic(auto)]
+
+#[cfg(test)]
+mod buffers;
+#[cfg(test)]
+mod functions;
+#[cfg(test)]
+mod trees;
+#[cfg(test)]
+mod values;
