@@ -9,3 +9,6 @@ pub mod SpelledTypes
 pub mod SpelledValues
 pub mod Spelled
 pub mod RowText
+pub mod Limits
+pub mod Causes
+pub mod Streams

@@ -1,2 +1,1 @@
-pub mod StreamSteps
 pub mod Printing

@@ -6,10 +6,10 @@ pub use Rattle.vx_tree.specs.Cost
 pub use Rattle.vx_tree.specs.Columns
 pub use Rattle.vx_json.specs.RowText
 pub use Rattle.vx_json.specs.Spelled
+pub use Rattle.vx_json.specs.Limits
+pub use Rattle.vx_json.specs.Causes
+pub use Rattle.vx_json.specs.Streams
 pub use Rattle.vx_exec.specs.Moves
-pub mod Limits
-pub mod Causes
-pub mod Streams
 pub mod Commands
 pub mod Statuses
 pub mod Output

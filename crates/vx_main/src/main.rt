@@ -6,18 +6,15 @@ ghost use Rattle.std.specs.IoError.{error_kind};
 ghost use Rattle.vx_main.specs.Commands.{texts, command_of};
 ghost use Rattle.std.specs.declared.io.ErrorKind.TheVariants as failure;
 
-mod stream;
-#[cfg(test)]
-mod tests;
 mod top;
 
 use std::process::ExitCode;
 use std::{env, io};
-pub use stream::{
+pub use top::{Command, HELP, Status, VERSION, VortexSession, run, status_text};
+pub use vx_json::{
     Failed, INPUT_LIMIT, MemSink, MemSource, PlainSink, PlainSource, Sink, Source, StdinSource,
     StdoutSink,
 };
-pub use top::{Command, HELP, Status, VERSION, VortexSession, run, status_text};
 
 /// Reads the arguments of the process, with the program's name first.
 fn read_arguments(rt: &HostRuntime) -> io::Result<Vec<String>> {

@@ -8,6 +8,8 @@ mod buffers;
 #[cfg(test)]
 mod functions;
 #[cfg(test)]
+mod streams;
+#[cfg(test)]
 mod trees;
 #[cfg(test)]
 mod values;

@@ -49,7 +49,7 @@ pub struct PlainSink {
 }
 
 impl Model for PlainSink {
-    ghost use Rattle.vx_main.specs.Streams.{Told};
+    ghost use Rattle.vx_json.specs.Streams.{Told};
 
     ghost Value = { Told };
 

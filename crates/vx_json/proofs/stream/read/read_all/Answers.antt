@@ -1,7 +1,7 @@
 use Rattle.std.proofs.Common.{◌≡◌, ◌+◌, ◌≤◌, length, arith, subst}
-use Rattle.vx_main.specs.Streams.{TakesSome}
-use Rattle.vx_main.proofs.StreamSteps.{takes_more}
-use Rattle.vx_main.proofs.stream.read.read_all.Goals as goal
+use Rattle.vx_json.specs.Streams.{TakesSome}
+use Rattle.vx_json.proofs.StreamSteps.{takes_more}
+use Rattle.vx_json.proofs.stream.read.read_all.Goals as goal
 
 pub returns-then-count-len-clause-too_large : goal.returns-then-count-len-clause-too_large
 returns-then-count-len-clause-too_large g c n told =

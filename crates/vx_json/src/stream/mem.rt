@@ -19,7 +19,7 @@ pub struct MemSource {
 
 impl Model for MemSource {
     ghost use Rattle.std.specs.Prelude.{◌≤◌, drop, length};
-    ghost use Rattle.vx_main.specs.Streams.{Told};
+    ghost use Rattle.vx_json.specs.Streams.{Told};
 
     ghost Value = { Told };
 
@@ -76,7 +76,7 @@ pub struct MemSink {
 }
 
 impl Model for MemSink {
-    ghost use Rattle.vx_main.specs.Streams.{Told};
+    ghost use Rattle.vx_json.specs.Streams.{Told};
 
     ghost Value = { Told };
 

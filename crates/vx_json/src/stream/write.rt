@@ -2,8 +2,8 @@
 
 ghost use Rattle.std.specs.Prelude.{OnOk, OnErr};
 ghost use Rattle.std.specs.Io.KnownBytes.{Appends};
-ghost use Rattle.vx_main.specs.Causes.{HasCause};
-ghost use Rattle.vx_main.specs.Streams.{AppendsPrefix};
+ghost use Rattle.vx_json.specs.Causes.{HasCause};
+ghost use Rattle.vx_json.specs.Streams.{AppendsPrefix};
 
 use crate::stream::{Failed, Sink};
 

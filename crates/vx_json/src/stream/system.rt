@@ -15,7 +15,7 @@ pub struct StdinSource<R: Read> {
 }
 
 impl<R: Read> Model for StdinSource<R> {
-    ghost use Rattle.vx_main.specs.Streams.{MayTell};
+    ghost use Rattle.vx_json.specs.Streams.{MayTell};
 
     ghost Value = { MayTell };
 
@@ -56,7 +56,7 @@ pub struct StdoutSink<W: Write> {
 }
 
 impl<W: Write> Model for StdoutSink<W> {
-    ghost use Rattle.vx_main.specs.Streams.{MayTell};
+    ghost use Rattle.vx_json.specs.Streams.{MayTell};
 
     ghost Value = { MayTell };
 
