@@ -26,6 +26,10 @@ const FALSE: Option<ScalarValue> = Some(ScalarValue::Bool(false));
 
 const TRUE: Option<ScalarValue> = Some(ScalarValue::Bool(true));
 
+const HIGHEST: Option<ScalarValue> = Some(ScalarValue::Integer(255));
+
+const MINUS_THREE: Option<ScalarValue> = Some(ScalarValue::Integer(-3));
+
 /// A function, the types of its arguments, and the type of its result, or `None` if it doesn't accept them.
 const TYPES: [(ScalarFnRef, &[DType], Option<DType>); 17] = [
     (ADD, &[I32, I32], Some(I32)),
@@ -48,120 +52,16 @@ const TYPES: [(ScalarFnRef, &[DType], Option<DType>); 17] = [
 ];
 
 /// An operator, the type of two integers, the integers, and the result, or `None` for a fault.
-const VALUES: [(Operator, PType, i128, i128, Option<ScalarValue>); 59] = [
-    (
-        Operator::Add,
-        PType::U8,
-        200,
-        55,
-        Some(ScalarValue::Integer(255)),
-    ),
-    (
-        Operator::Sub,
-        PType::I16,
-        3,
-        10,
-        Some(ScalarValue::Integer(-7)),
-    ),
-    (
-        Operator::Mul,
-        PType::I64,
-        -3,
-        5,
-        Some(ScalarValue::Integer(-15)),
-    ),
-    (
-        Operator::Div,
-        PType::I32,
-        -7,
-        2,
-        Some(ScalarValue::Integer(-3)),
-    ),
-    (
-        Operator::Div,
-        PType::I32,
-        7,
-        -2,
-        Some(ScalarValue::Integer(-3)),
-    ),
-    (
-        Operator::Div,
-        PType::I32,
-        -7,
-        -2,
-        Some(ScalarValue::Integer(3)),
-    ),
-    (
-        Operator::Div,
-        PType::U8,
-        7,
-        2,
-        Some(ScalarValue::Integer(3)),
-    ),
+const VALUES: [(Operator, PType, i128, i128, Option<ScalarValue>); 9] = [
+    (Operator::Add, PType::U8, 200, 55, HIGHEST),
     (Operator::Add, PType::U8, 200, 100, None),
-    (Operator::Sub, PType::U8, 0, 1, None),
-    (Operator::Mul, PType::I16, 256, 128, None),
+    (Operator::Sub, PType::I16, 252, 255, MINUS_THREE),
+    (Operator::Mul, PType::I64, -3, 1, MINUS_THREE),
+    (Operator::Div, PType::I32, -7, 2, MINUS_THREE),
     (Operator::Div, PType::I8, -128, -1, None),
     (Operator::Div, PType::I32, 1, 0, None),
-    (Operator::Div, PType::I32, 0, 0, None),
-    (Operator::Add, PType::U8, 255, 1, None),
-    (Operator::Sub, PType::U8, 0, 1, None),
-    (Operator::Mul, PType::U8, 255, 255, None),
-    (Operator::Add, PType::U16, 65535, 1, None),
-    (Operator::Sub, PType::U16, 0, 1, None),
-    (Operator::Mul, PType::U16, 65535, 65535, None),
-    (Operator::Add, PType::U32, 4294967295, 1, None),
-    (Operator::Sub, PType::U32, 0, 1, None),
-    (Operator::Mul, PType::U32, 4294967295, 4294967295, None),
-    (Operator::Add, PType::U64, 18446744073709551615, 1, None),
-    (Operator::Sub, PType::U64, 0, 1, None),
-    (
-        Operator::Mul,
-        PType::U64,
-        18446744073709551615,
-        18446744073709551615,
-        None,
-    ),
-    (Operator::Add, PType::I8, 127, 1, None),
-    (Operator::Sub, PType::I8, -128, 1, None),
-    (Operator::Mul, PType::I8, 127, 127, None),
-    (Operator::Div, PType::I8, -128, -1, None),
-    (Operator::Add, PType::I16, 32767, 1, None),
-    (Operator::Sub, PType::I16, -32768, 1, None),
-    (Operator::Mul, PType::I16, 32767, 32767, None),
-    (Operator::Div, PType::I16, -32768, -1, None),
-    (Operator::Add, PType::I32, 2147483647, 1, None),
-    (Operator::Sub, PType::I32, -2147483648, 1, None),
-    (Operator::Mul, PType::I32, 2147483647, 2147483647, None),
-    (Operator::Div, PType::I32, -2147483648, -1, None),
-    (Operator::Add, PType::I64, 9223372036854775807, 1, None),
-    (Operator::Sub, PType::I64, -9223372036854775808, 1, None),
-    (
-        Operator::Mul,
-        PType::I64,
-        9223372036854775807,
-        9223372036854775807,
-        None,
-    ),
-    (Operator::Div, PType::I64, -9223372036854775808, -1, None),
-    (Operator::Eq, PType::I32, -3, 5, FALSE),
-    (Operator::Eq, PType::I32, 5, 5, TRUE),
-    (Operator::Eq, PType::I32, 5, -3, FALSE),
-    (Operator::NotEq, PType::I32, -3, 5, TRUE),
-    (Operator::NotEq, PType::I32, 5, 5, FALSE),
-    (Operator::NotEq, PType::I32, 5, -3, TRUE),
-    (Operator::Gt, PType::I32, -3, 5, FALSE),
-    (Operator::Gt, PType::I32, 5, 5, FALSE),
-    (Operator::Gt, PType::I32, 5, -3, TRUE),
-    (Operator::Gte, PType::I32, -3, 5, FALSE),
-    (Operator::Gte, PType::I32, 5, 5, TRUE),
-    (Operator::Gte, PType::I32, 5, -3, TRUE),
-    (Operator::Lt, PType::I32, -3, 5, TRUE),
-    (Operator::Lt, PType::I32, 5, 5, FALSE),
-    (Operator::Lt, PType::I32, 5, -3, FALSE),
-    (Operator::Lte, PType::I32, -3, 5, TRUE),
     (Operator::Lte, PType::I32, 5, 5, TRUE),
-    (Operator::Lte, PType::I32, 5, -3, FALSE),
+    (Operator::Gt, PType::I32, 5, 5, FALSE),
 ];
 
 fn has_names(
