@@ -1,4 +1,4 @@
-//! Tests of the crates below vx_main: what their contracts and the program don't show.
+//! Tests of the crates up to vx_tree: what their contracts and the program don't show.
 //!
 //! A crate with tests is proved once more for them, so they stand here together.
 #![tactic(auto)]
@@ -7,8 +7,6 @@
 mod buffers;
 #[cfg(test)]
 mod functions;
-#[cfg(test)]
-mod streams;
 #[cfg(test)]
 mod trees;
 #[cfg(test)]

@@ -1,0 +1,5 @@
+//! Tests of vx_json: streams that come in pieces and fail, and what no row of the program shows.
+#![tactic(auto)]
+
+#[cfg(test)]
+mod streams;
