@@ -31,10 +31,7 @@ fn row_of(alloc: Global, array: &ArrayRef, index: usize) -> VortexResult<Scalar>
     ensures ok { IfOk result (λ s. slice_get (rows array.now) index ≡ Some (value s.value)) }
     ensures err { IfErr result (λ e. e ≡ VortexError.OutOfMemory) }
 {
-    match execute_scalar(alloc, array, index) {
-        Ok(scalar) => Ok(scalar),
-        Err(e) => Err(e),
-    }
+    execute_scalar(alloc, array, index)
 }
 
 /// Returns the lines of the type and the encoding, and a line for each row. The only error is `OutOfMemory`.

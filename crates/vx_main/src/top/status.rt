@@ -3,6 +3,8 @@
 ghost use Rattle.std.specs.Prelude.{◌≡◌};
 ghost use Rattle.vx_main.specs.Statuses.{code_of, text_of};
 
+use vx_value::VortexError;
+
 /// The outcome of a run: done, or why not. (own)
 #[derive(Clone, Copy, Debug, PartialEq, Eq)]
 pub enum Status {
@@ -24,6 +26,25 @@ pub enum Status {
     WriteFault,
     /// The input exceeds the limit; `bytes` had arrived when reading stopped.
     TooLarge { bytes: u64 },
+}
+
+impl From<VortexError> for Status {
+    ghost use Rattle.vx_main.specs.Statuses.{status_of};
+
+    ghost from_gives = { λ error status. status ≡ status_of error };
+
+    fn from(error: VortexError) -> Status {
+        match error {
+            VortexError::OutOfMemory => Status::Memory,
+            VortexError::Fault => Status::Fault,
+            VortexError::IterationLimit { limit } => Status::TurnLimit {
+                limit,
+                turns: limit,
+            },
+            VortexError::OutOfBounds { .. } => Status::BadInput,
+            VortexError::InvalidArgument(_) => Status::BadInput,
+        }
+    }
 }
 
 impl Status {
