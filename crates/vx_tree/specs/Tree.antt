@@ -1,10 +1,12 @@
 -- What an array is: a tree of nodes. Each has a type, a length in rows, data of its encoding, and slots.
-use Rattle.std.specs.Prelude.{◌≡◌, ℕ, ℤ, ◌+◌, List, [], ◌∷◌, max, Option, Some, None, Bool, true, false, ◌||◌, ◌⊎◌, refl}
+use Rattle.std.specs.Prelude.{◌≡◌, ℕ, ℤ, ◌+◌, ◌-◌, List, [], ◌∷◌, length, max, Option, Some, None, Bool, true, false, ◌||◌, ◌⊎◌, refl}
 use Rattle.std.specs.Coded.{Coded, code_by, coded_ℕ, coded_ℤ, coded_bool, coded_list, coded×, coded⊎}
 use Rattle.std.proofs.Common.{ap, inl, inr}
 use base.Stored.{Gv, gnil, gnum, gcons}
+use Rattle.vx_value.specs.Types as type
 use Rattle.vx_value.specs.Types.{DataType, coded_type, coded_ptype}
 use Rattle.vx_value.specs.Typed.{Typed, coded_typed}
+use Rattle.vx_value.specs.declared.dtype.Nullability.TheVariants.{NonNullable}
 use Rattle.vx_value.specs.declared.dtype.PType.{PType}
 use Rattle.vx_value.specs.declared.id.Id.{Id}
 use Rattle.vx_value.specs.declared.id.Id.TheVariants as id
@@ -60,6 +62,31 @@ datum (node ty n d ss) = d
 
 abbrev pub slots : Tree → Slots
 slots (node ty n d ss) = ss
+
+-- ---- the trees that recur
+
+-- a column: rows of its own, and the validity, absent as long as no row may be null
+abbrev pub column : DataType → ℕ → Data → Option Tree → Tree
+column ty n d validity = node ty n d (slots_of (validity ∷ []))
+
+-- a column of booleans, and of integers, without nulls
+abbrev pub booleans : List Bool → Tree
+booleans bs = column (type.bool NonNullable) (length bs) (bool bs) None
+
+abbrev pub integers : PType → List ℤ → Tree
+integers p zs = column (type.primitive p NonNullable) (length zs) (primitive p zs) None
+
+-- n rows of one value
+abbrev pub constant_of : Typed → ℕ → Tree
+constant_of v n = node v.of_type n (constant v) no_slots
+
+-- the rows of t from a, inclusive, to b, exclusive
+abbrev pub slice_of : ℕ → ℕ → Tree → Tree
+slice_of a b t = node (dtype t) (b - a) (slice a b) (slot t no_slots)
+
+-- f on the rows of the trees, n of each
+abbrev pub call_of : ScalarFnRef → DataType → ℕ → List Tree → Tree
+call_of f ty n ts = node ty n (function f) (filled_slots ts)
 
 -- the id of an encoding
 abbrev pub id_of : Data → Id

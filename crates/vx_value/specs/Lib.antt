@@ -12,3 +12,4 @@ pub mod OrderLaws
 pub mod Fits
 pub mod Text
 pub mod Ids
+pub mod ScalarKinds

@@ -7,8 +7,11 @@ ghost use Rattle.vx_value.specs.Types.{nullability_of, is_nullable};
 ghost use Rattle.vx_value.specs.Defaults.{zero_of, default_of};
 ghost use Rattle.vx_value.specs.IsOf.{is_of, in_range, is_null};
 ghost use Rattle.vx_value.specs.Parts.{boolean_in, integer_in};
+ghost use Rattle.vx_value.specs.ScalarKinds.{scalar_of};
+ghost use Rattle.vx_value.specs.Types as type;
+ghost use Rattle.vx_value.specs.Values.{boolean, integer};
 
-use crate::{ArgKind, DType, PType, VortexError, VortexResult};
+use crate::{ArgKind, DType, Nullability, PType, VortexError, VortexResult};
 use std::alloc::AllocError;
 use std::marker::Model;
 
@@ -18,6 +21,17 @@ pub enum ScalarValue {
     Bool(bool),
     /// An integer of any of the integer types.
     Integer(i128),
+}
+
+/// The type and the value of a scalar, together. (own)
+#[derive(Clone, Copy)]
+pub enum ScalarKind<'a> {
+    /// The null of a nullable type.
+    Null(&'a DType),
+    /// A boolean, of a type with this nullability.
+    Bool(bool, Nullability),
+    /// An integer in the range of its type, which has this nullability.
+    Primitive(i128, PType, Nullability),
 }
 
 /// A value with its type. The value may be null if the type is nullable.
@@ -72,6 +86,27 @@ impl Scalar {
         }
     }
 
+    /// Returns a boolean.
+    pub fn bool(value: bool, nullability: Nullability) -> Scalar
+        ensures { result ≡ record { of_type = type.bool nullability; value = boolean value } }
+    {
+        Scalar {
+            dtype: DType::Bool(nullability),
+            value: Some(ScalarValue::Bool(value)),
+        }
+    }
+
+    /// Returns an integer, which must be in the range of `ptype`.
+    pub fn primitive(value: i128, ptype: PType, nullability: Nullability) -> Scalar
+        requires { in_range ptype value ≡ true }
+        ensures { result ≡ record { of_type = type.primitive ptype nullability; value = integer value } }
+    {
+        Scalar {
+            dtype: DType::Primitive(ptype, nullability),
+            value: Some(ScalarValue::Integer(value)),
+        }
+    }
+
     /// Returns the null of type `dtype`, which must be nullable.
     pub fn null(dtype: DType) -> Scalar
         requires { is_nullable (nullability_of (type_of dtype)) ≡ true }
@@ -120,6 +155,24 @@ impl Scalar {
         ensures typed { is_of self.now.of_type self.now.value ≡ true }
     {
         self.value
+    }
+
+    /// Returns the type and the value together, so that a `match` on both has one arm per type. (own)
+    pub fn kind(&self) -> ScalarKind<'_>
+        ensures whole { scalar_of result ≡ self.now }
+        ensures typed { is_of self.now.of_type self.now.value ≡ true }
+    {
+        match (&self.dtype, self.value) {
+            (dtype, None) => ScalarKind::Null(dtype),
+            (DType::Bool(nullability), Some(ScalarValue::Bool(value))) => {
+                ScalarKind::Bool(value, *nullability)
+            }
+            (DType::Primitive(ptype, nullability), Some(ScalarValue::Integer(value))) => {
+                ScalarKind::Primitive(value, *ptype, *nullability)
+            }
+            (DType::Bool(_), Some(ScalarValue::Integer(_))) => unreachable!(),
+            (DType::Primitive(_, _), Some(ScalarValue::Bool(_))) => unreachable!(),
+        }
     }
 
     /// Returns the boolean, or `None` if the value is null or an integer.

@@ -1,6 +1,7 @@
 //! The eight native integer types of columns.
 
-ghost use Rattle.std.specs.Prelude.{◌≡◌, ◌↔◌, ℤ, pos, map, Some, None, true, option_map, if◌then◌else◌};
+ghost use Rattle.std.specs.Prelude.{◌≡◌, ◌↔◌, ℤ, pos, map, Some, None, true, option_map, is_some, IfSome, if◌then◌else◌};
+ghost use Rattle.vx_value.specs.Types.{same_ptype};
 ghost use Rattle.vx_value.specs.IsOf.{in_range};
 ghost use Rattle.vx_value.specs.declared.dtype.PType.{PType as PTypeOf};
 ghost use Rattle.vx_value.specs.declared.dtype.PType.TheVariants as ptype;
@@ -34,6 +35,11 @@ pub trait NativeInteger: PrimInt {
         ensures same_kind { ptype_of result ≡ kind }
         ensures values { values_of result ≡ map Self.value values };
 
+    /// Returns the buffer of `values`, or `None` if they are of another type.
+    fn project(values: &PrimitiveValues) -> Option<&Buffer<Self>>
+        ensures which { is_some result ≡ same_ptype (ptype_of values.now) kind }
+        ensures value { IfSome result (λ b. map Self.value b.now ≡ values_of values.now) };
+
     // a clone is the number itself
     ghost clones_same: { (x y : Self) → Self.is_clone x y → y ≡ x };
 
@@ -66,6 +72,14 @@ impl NativeInteger for u8 {
         PrimitiveValues::U8(values)
     }
 
+    fn project(values: &PrimitiveValues) -> Option<&Buffer<u8>> {
+        if let PrimitiveValues::U8(buffer) = values {
+            Some(buffer)
+        } else {
+            None
+        }
+    }
+
     ghost clones_same = { λ x y e. e };
 
     ghost fits_kind = { unsigned_range 8 };
@@ -94,6 +108,14 @@ impl NativeInteger for u16 {
         ensures values { values_of result ≡ map (λ n. pos n) values }
     {
         PrimitiveValues::U16(values)
+    }
+
+    fn project(values: &PrimitiveValues) -> Option<&Buffer<u16>> {
+        if let PrimitiveValues::U16(buffer) = values {
+            Some(buffer)
+        } else {
+            None
+        }
     }
 
     ghost clones_same = { λ x y e. e };
@@ -126,6 +148,14 @@ impl NativeInteger for u32 {
         PrimitiveValues::U32(values)
     }
 
+    fn project(values: &PrimitiveValues) -> Option<&Buffer<u32>> {
+        if let PrimitiveValues::U32(buffer) = values {
+            Some(buffer)
+        } else {
+            None
+        }
+    }
+
     ghost clones_same = { λ x y e. e };
 
     ghost fits_kind = { unsigned_range 32 };
@@ -154,6 +184,14 @@ impl NativeInteger for u64 {
         ensures values { values_of result ≡ map (λ n. pos n) values }
     {
         PrimitiveValues::U64(values)
+    }
+
+    fn project(values: &PrimitiveValues) -> Option<&Buffer<u64>> {
+        if let PrimitiveValues::U64(buffer) = values {
+            Some(buffer)
+        } else {
+            None
+        }
     }
 
     ghost clones_same = { λ x y e. e };
@@ -186,6 +224,14 @@ impl NativeInteger for i8 {
         PrimitiveValues::I8(values)
     }
 
+    fn project(values: &PrimitiveValues) -> Option<&Buffer<i8>> {
+        if let PrimitiveValues::I8(buffer) = values {
+            Some(buffer)
+        } else {
+            None
+        }
+    }
+
     ghost clones_same = { λ x y e. e };
 
     ghost fits_kind = { signed_range_8 };
@@ -214,6 +260,14 @@ impl NativeInteger for i16 {
         ensures values { values_of result ≡ map (λ n. n) values }
     {
         PrimitiveValues::I16(values)
+    }
+
+    fn project(values: &PrimitiveValues) -> Option<&Buffer<i16>> {
+        if let PrimitiveValues::I16(buffer) = values {
+            Some(buffer)
+        } else {
+            None
+        }
     }
 
     ghost clones_same = { λ x y e. e };
@@ -246,6 +300,14 @@ impl NativeInteger for i32 {
         PrimitiveValues::I32(values)
     }
 
+    fn project(values: &PrimitiveValues) -> Option<&Buffer<i32>> {
+        if let PrimitiveValues::I32(buffer) = values {
+            Some(buffer)
+        } else {
+            None
+        }
+    }
+
     ghost clones_same = { λ x y e. e };
 
     ghost fits_kind = { signed_range_32 };
@@ -274,6 +336,14 @@ impl NativeInteger for i64 {
         ensures values { values_of result ≡ map (λ n. n) values }
     {
         PrimitiveValues::I64(values)
+    }
+
+    fn project(values: &PrimitiveValues) -> Option<&Buffer<i64>> {
+        if let PrimitiveValues::I64(buffer) = values {
+            Some(buffer)
+        } else {
+            None
+        }
     }
 
     ghost clones_same = { λ x y e. e };
