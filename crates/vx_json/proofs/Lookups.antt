@@ -19,14 +19,10 @@ count_view [] = refl
 count_view (e ∷ es) = omega (arith, count_view es)
 
 pub member_count-object : (d : Data) (es : List (String Global × Value)) → as_object d ≡ Some (members_view es) → member_count d ≡ length es
-member_count-object null es p = absurd (cc)
-member_count-object (boolean b) es p = absurd (cc)
-member_count-object (number n) es p = absurd (cc)
-member_count-object (string s) es p = absurd (cc)
-member_count-object (array ds) es p = absurd (cc)
 member_count-object (object ms) es p =
     let same : ms ≡ members_view es = cc in
     omega (arith, ap members_count same, count_view es)
+member_count-object _ es p = absurd (cc)
 
 -- what stands under a key is less deep than the whole
 less_by : (o : Ordering) (d e : Data) (found : Option Data) (n : ℕ) → (found ≡ Some e → depth e ≤ n) → match_ordering o found (Some d) found ≡ Some e → depth e ≤ max (depth d) n
@@ -39,21 +35,13 @@ member_less k no_members e p = absurd (cc)
 member_less k (member l d ms) e p = less_by (slice_cmp nat_cmp k l) d e (get_member k ms) (members_depth ms) (member_less k ms e) p
 
 pub get_less : (k : List ℕ) (d e : Data) → get k d ≡ Some e → depth e < depth d
-get_less k null e p = absurd (cc)
-get_less k (boolean b) e p = absurd (cc)
-get_less k (number n) e p = absurd (cc)
-get_less k (string s) e p = absurd (cc)
-get_less k (array ds) e p = absurd (cc)
 get_less k (object ms) e p = omega (arith, member_less k ms e p)
+get_less k _ e p = absurd (cc)
 
 -- a list under a key is less deep by two, and its values no deeper than it
 array_less : (e : Data) (ds : Items) → as_array e ≡ Some ds → items_depth ds < depth e
-array_less null ds p = absurd (cc)
-array_less (boolean b) ds p = absurd (cc)
-array_less (number n) ds p = absurd (cc)
-array_less (string s) ds p = absurd (cc)
 array_less (array es) ds p = let same : es ≡ ds = cc in omega (arith, ap items_depth same)
-array_less (object ms) ds p = absurd (cc)
+array_less _ ds p = absurd (cc)
 
 list_in : (k : List ℕ) (d : Data) (ds : Items) (found : Option Data) → get k d ≡ found → Some ds ≡ option_and_then as_array found → items_depth ds + 1 < depth d
 list_in k d ds None is p = absurd (cc)
@@ -80,12 +68,8 @@ tree_under-get k (member l d ms) = under_by (slice_cmp nat_cmp k l) d (tree_unde
 
 -- the trees under a key are those that the list under it spells
 listed_by : (d : Data) → trees_listed d ≡ option_and_then trees_spelled (as_array d)
-listed_by null = refl
-listed_by (boolean b) = refl
-listed_by (number n) = refl
-listed_by (string s) = refl
 listed_by (array ds) = refl
-listed_by (object ms) = refl
+listed_by _ = refl
 
 trees_by : (o : Ordering) (d : Data) (ts : Option (List Tree)) (found : Option Data) → ts ≡ option_and_then trees_spelled (option_and_then as_array found)
     → match_ordering o ts (trees_listed d) ts ≡ option_and_then trees_spelled (option_and_then as_array (match_ordering o found (Some d) found))
@@ -103,9 +87,5 @@ node_by ms (Some enc) = λ i. node_of (object ms) (λ k. tree_under-get k ms i) 
 
 -- what a value spells, by its `enc` and what stands under its keys
 pub spelled_by : (d : Data) → tree_spelled d ≡ tree_by d (text_at (codes "enc") d)
-spelled_by null = refl
-spelled_by (boolean b) = refl
-spelled_by (number n) = refl
-spelled_by (string s) = refl
-spelled_by (array ds) = refl
 spelled_by (object ms) = node_by ms (text_at (codes "enc") (object ms))
+spelled_by _ = refl

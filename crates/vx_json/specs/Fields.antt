@@ -1,6 +1,6 @@
 -- The values under the keys of an object.
-use Rattle.std.specs.Prelude.{ℕ, ◌+◌, List, Option, option_and_then}
-use Rattle.serde_json.specs.Data.{Data, null, boolean, number, string, array, object, Items, Members, no_members, member}
+use Rattle.std.specs.Prelude.{ℕ, ◌+◌, ◌==◌, List, if◌then◌else◌, Option, None, option_and_then}
+use Rattle.serde_json.specs.Data.{Data, object, Items, Members, no_members, member}
 use Rattle.serde_json.specs.Find.{get, as_number, as_str, as_array, as_u64}
 
 -- the number of keys of an object, or 0 for another value
@@ -9,12 +9,12 @@ members_count no_members = 0
 members_count (member k d ms) = members_count ms + 1
 
 abbrev pub member_count : Data → ℕ
-member_count null = 0
-member_count (boolean b) = 0
-member_count (number n) = 0
-member_count (string s) = 0
-member_count (array ds) = 0
 member_count (object ms) = members_count ms
+member_count _ = 0
+
+-- the answer for an object of exactly n keys
+abbrev pub keyed : {A : Type 0} → ℕ → Data → Option A → Option A
+keyed n d answer = if member_count d == n then answer else None
 
 -- the text, the unsigned whole number and the list under the key k
 abbrev pub text_at : List ℕ → Data → Option (List ℕ)

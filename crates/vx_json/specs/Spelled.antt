@@ -1,5 +1,5 @@
 -- The tree that a JSON value spells.
-use Rattle.std.specs.Prelude.{◌≡◌, ℕ, ◌-◌, ℤ, ◌&&◌, ◌==◌, List, [], ◌∷◌, length, is_none, Bool, nat_le, if◌then◌else◌, Option, Some, None, option_map, option_and_then, codes, bytes_eq, IsUtf8}
+use Rattle.std.specs.Prelude.{◌≡◌, ℕ, ◌&&◌, List, [], ◌∷◌, is_none, nat_le, if◌then◌else◌, Option, Some, None, option_map, option_and_then, codes, bytes_eq, IsUtf8}
 use Rattle.std.specs.Ordering.{nat_cmp, match_ordering}
 use Rattle.std.specs.Cmp.Lexicographic.{slice_cmp}
 use Rattle.serde_json.specs.Data.{Data, null, boolean, number, string, array, object, Items, no_items, item, Members, no_members, member}
@@ -7,14 +7,12 @@ use Rattle.serde_json.specs.Find.{get, as_bool}
 use Rattle.serde_json.specs.Read.{read}
 use Rattle.vx_value.specs.Types as type
 use Rattle.vx_value.specs.Types.{DataType}
-use Rattle.vx_value.specs.Values.{Value}
-use Rattle.vx_value.specs.declared.dtype.Nullability.TheVariants.{NonNullable}
-use Rattle.vx_value.specs.declared.dtype.PType.{PType}
+use Rattle.vx_value.specs.Typed.{Typed}
 use Rattle.vx_fn.specs.declared.function.ScalarFnRef.{ScalarFnRef}
 use Rattle.vx_tree.specs.Calls.{inferred_refusal, inferred}
-use Rattle.vx_tree.specs.Tree.{Tree, node, constant, slice, bool, primitive, no_slots, absent, slot, dtype, len}
-use Rattle.vx_json.specs.Fields.{member_count, text_at, number_at, items_at}
-use Rattle.vx_json.specs.SpelledFunctions.{function_named}
+use Rattle.vx_tree.specs.Tree.{Tree, booleans, integers, constant_of, slice_of, len}
+use Rattle.vx_json.specs.Fields.{keyed, text_at, number_at, items_at}
+use Rattle.vx_json.specs.SpelledFunctions.{function_at}
 use Rattle.vx_json.specs.SpelledTypes.{type_spelled}
 use Rattle.vx_json.specs.SpelledValues.{integer_spelled, value_spelled, all_read}
 
@@ -23,57 +21,44 @@ abbrev pub type_at : Data → Option DataType
 type_at d = option_and_then type_spelled (text_at (codes "type") d)
 
 -- `{"enc":"col","type":T,"rows":[..]}` and `{"enc":"flat","type":T,"values":[..]}`: a column with a value for each row
-abbrev pub boolean_column : List Bool → Tree
-boolean_column bs = node (type.bool NonNullable) (length bs) (bool bs) (absent no_slots)
-
-abbrev pub integer_column : PType → List ℤ → Tree
-integer_column p zs = node (type.primitive p NonNullable) (length zs) (primitive p zs) (absent no_slots)
-
 abbrev pub column_of_items : DataType → Items → Option Tree
-column_of_items (type.bool n) ds = option_map boolean_column (all_read as_bool ds)
-column_of_items (type.primitive p n) ds = option_map (integer_column p) (all_read (integer_spelled p) ds)
+column_of_items (type.bool n) ds = option_map booleans (all_read as_bool ds)
+column_of_items (type.primitive p n) ds = option_map (integers p) (all_read (integer_spelled p) ds)
 
-abbrev pub column_of : List ℕ → Data → Option Tree
-column_of key d =
-    if member_count d == 3 then option_and_then (λ ty. option_and_then (column_of_items ty) (items_at key d)) (type_at d) else None
+abbrev pub column_spelled : List ℕ → Data → Option Tree
+column_spelled key d = keyed 3 d (option_and_then (λ ty. option_and_then (column_of_items ty) (items_at key d)) (type_at d))
 
 -- `{"enc":"constant","type":T,"value":v,"len":n}`: n rows of the value v
-abbrev pub repeated : DataType → Value → ℕ → Tree
-repeated ty v n = node ty n (constant (record { of_type = ty; value = v })) no_slots
+abbrev pub scalar_at : DataType → Data → Option Typed
+scalar_at ty d = option_map (λ v. record { of_type = ty; value = v }) (option_and_then (value_spelled ty) (get (codes "value") d))
 
-abbrev pub value_at : DataType → Data → Option Value
-value_at ty d = option_and_then (value_spelled ty) (get (codes "value") d)
-
-abbrev pub constant_of : Data → Option Tree
-constant_of d =
-    if member_count d == 4 then option_and_then (λ ty. option_and_then (λ v. option_map (repeated ty v) (number_at (codes "len") d)) (value_at ty d)) (type_at d) else None
+abbrev pub constant_spelled : Data → Option Tree
+constant_spelled d =
+    keyed 4 d (option_and_then (λ ty. option_and_then (λ s. option_map (constant_of s) (number_at (codes "len") d)) (scalar_at ty d)) (type_at d))
 
 -- `{"enc":"slice","start":a,"stop":b,"child":{..}}`: rows `a..b` of the child
-abbrev pub sliced : Tree → ℕ → ℕ → Option Tree
-sliced t a b = if nat_le a b && nat_le b (len t) then Some (node (dtype t) (b - a) (slice a b) (slot t no_slots)) else None
+abbrev pub slice_within : Tree → ℕ → ℕ → Option Tree
+slice_within t a b = if nat_le a b && nat_le b (len t) then Some (slice_of a b t) else None
 
-abbrev pub slice_of : Data → Tree → Option Tree
-slice_of d t =
-    if member_count d == 4 then option_and_then (λ a. option_and_then (sliced t a) (number_at (codes "stop") d)) (number_at (codes "start") d) else None
+abbrev pub slice_spelled : Data → Tree → Option Tree
+slice_spelled d t =
+    keyed 4 d (option_and_then (λ a. option_and_then (slice_within t a) (number_at (codes "stop") d)) (number_at (codes "start") d))
 
 -- `{"enc":"fn","fn":"add","args":[{..},{..}]}`: the function over the trees, if it accepts them
-abbrev pub function_at : Data → Option ScalarFnRef
-function_at d = option_and_then function_named (text_at (codes "fn") d)
+abbrev pub call_on : List Tree → ScalarFnRef → Option Tree
+call_on ts f = if is_none (inferred_refusal f ts) then inferred f ts else None
 
-abbrev pub applied : List Tree → ScalarFnRef → Option Tree
-applied ts f = if is_none (inferred_refusal f ts) then inferred f ts else None
-
-abbrev pub function_of : Data → List Tree → Option Tree
-function_of d ts = if member_count d == 3 then option_and_then (applied ts) (function_at d) else None
+abbrev pub call_spelled : Data → List Tree → Option Tree
+call_spelled d ts = option_and_then (call_on ts) (function_at d)
 
 -- the tree of an object by its `enc`, given the tree and the list of trees under each key: a line for each encoding
 abbrev pub node_of : Data → (List ℕ → Option Tree) → (List ℕ → Option (List Tree)) → List ℕ → Option Tree
 node_of d child children enc =
-    if bytes_eq enc (codes "col") then column_of (codes "rows") d
-    else (if bytes_eq enc (codes "flat") then column_of (codes "values") d
-    else (if bytes_eq enc (codes "constant") then constant_of d
-    else (if bytes_eq enc (codes "slice") then option_and_then (slice_of d) (child (codes "child"))
-    else (if bytes_eq enc (codes "fn") then option_and_then (function_of d) (children (codes "args"))
+    if bytes_eq enc (codes "col") then column_spelled (codes "rows") d
+    else (if bytes_eq enc (codes "flat") then column_spelled (codes "values") d
+    else (if bytes_eq enc (codes "constant") then constant_spelled d
+    else (if bytes_eq enc (codes "slice") then option_and_then (slice_spelled d) (child (codes "child"))
+    else (if bytes_eq enc (codes "fn") then option_and_then (call_spelled d) (children (codes "args"))
     else None))))
 
 -- a tree in front of a list of trees

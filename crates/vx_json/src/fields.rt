@@ -1,10 +1,12 @@
 //! The values under the keys of an object, one function for each kind.
 
-ghost use Rattle.std.specs.Prelude.{◌≡◌, option_map};
+ghost use Rattle.std.specs.Prelude.{◌≡◌, ◌==◌, true, false, option_map, MatchResult};
 ghost use Rattle.serde_json.specs.View.{view, items_view};
 ghost use Rattle.vx_json.specs.Fields.{member_count, text_at, number_at, items_at};
 
+use crate::BAD_VALUE;
 use serde_json::Value;
+use vx_value::{ArgKind, VortexError, VortexResult};
 
 /// Returns the number of keys of an object, or 0 for another value.
 pub(crate) fn count(value: &Value) -> usize
@@ -13,6 +15,19 @@ pub(crate) fn count(value: &Value) -> usize
     match value.as_object() {
         Some(map) => map.len(),
         None => 0,
+    }
+}
+
+/// Checks that `value` is an object of exactly `keys` keys. `InvalidArgument(BadValue)` if it isn't.
+pub(crate) fn check_keys(value: &Value, keys: usize) -> VortexResult<()>
+    ensures { MatchResult result
+        (λ _. (member_count (view value.now) == keys) ≡ true)
+        (λ e. (e ≡ VortexError.InvalidArgument ArgKind.BadValue) × ((member_count (view value.now) == keys) ≡ false)) }
+{
+    if count(value) == keys {
+        Ok(())
+    } else {
+        Err(BAD_VALUE)
     }
 }
 

@@ -1,12 +1,15 @@
-//! The names of functions.
+//! The functions that objects spell.
 
 ghost use Rattle.std.specs.Prelude.{◌≡◌};
-ghost use Rattle.vx_json.specs.SpelledFunctions.{function_named};
+ghost use Rattle.serde_json.specs.View.{view};
+ghost use Rattle.vx_json.specs.SpelledFunctions.{function_named, function_at, key_count};
 
+use crate::fields::{count, text};
+use serde_json::Value;
 use vx_fn::{Operator, ScalarFnRef};
 
 /// Returns the function named `text`.
-pub(crate) fn function_named(text: &str) -> Option<ScalarFnRef>
+fn function_named(text: &str) -> Option<ScalarFnRef>
     ensures { result ≡ function_named text.now }
 {
     let operator = match text {
@@ -24,4 +27,26 @@ pub(crate) fn function_named(text: &str) -> Option<ScalarFnRef>
         _ => return None,
     };
     Some(ScalarFnRef::Binary(operator))
+}
+
+/// Returns the number of keys of `function`'s object: `enc`, `fn`, `args`, and those of its own.
+fn key_count(function: &ScalarFnRef) -> usize
+    ensures { result ≡ key_count function.now }
+{
+    match function {
+        ScalarFnRef::Binary(_) => 3,
+        ScalarFnRef::Not => 3,
+    }
+}
+
+/// Returns the function named under `fn`, if the object has exactly its keys.
+pub(crate) fn function_at(value: &Value) -> Option<ScalarFnRef>
+    ensures { result ≡ function_at (view value.now) }
+{
+    let function = function_named(text(value, "fn")?)?;
+    if count(value) == key_count(&function) {
+        Some(function)
+    } else {
+        None
+    }
 }

@@ -3,25 +3,20 @@
 ghost use Rattle.std.specs.Prelude.{◌≡◌, ◌++◌, OnOk, IfOk, string_bytes};
 ghost use Rattle.vx_json.specs.RowText.{row_text};
 
+use itoa::Buffer;
 use std::alloc::{AllocError, Global};
-use std::fmt::Write;
-use vx_value::{Scalar, ScalarValue, VortexResult};
+use vx_value::{Scalar, ScalarKind, VortexResult};
 
 /// Appends the text of a row: `null`, `true`, `false`, or an integer in decimal. If memory runs out, part of it may
 /// have been appended. (own)
 pub fn push_row(text: &mut String, scalar: &Scalar) -> Result<(), AllocError>
     ensures { OnOk result (string_bytes text.new ≡ string_bytes text.old ++ row_text scalar.now.value) }
 {
-    match scalar.value() {
-        None => text.push_str("null"),
-        Some(ScalarValue::Bool(true)) => text.push_str("true"),
-        Some(ScalarValue::Bool(false)) => text.push_str("false"),
-        // Every integer type fits in 64 bits, which are written faster than 128.
-        Some(ScalarValue::Integer(number)) => if number < 0 {
-            write!(text, "{}", number as i64)
-        } else {
-            write!(text, "{}", number as u64)
-        },
+    match scalar.kind() {
+        ScalarKind::Null(_) => text.push_str("null"),
+        ScalarKind::Bool(true, _) => text.push_str("true"),
+        ScalarKind::Bool(false, _) => text.push_str("false"),
+        ScalarKind::Primitive(number, _, _) => text.push_str(Buffer::new().format(number)),
     }
 }
 

@@ -12,17 +12,16 @@ ghost use Rattle.vx_value.specs.Types.{nullability_of};
 ghost use Rattle.vx_value.specs.declared.dtype.Nullability.TheVariants.{NonNullable};
 ghost use Rattle.vx_json.specs.Keys.{key_text};
 ghost use Rattle.vx_json.specs.Refused.{IsRefused};
-ghost use Rattle.vx_json.specs.Spelled.{type_at, column_of_items, column_of, constant_of, slice_of, function_at, applied, function_of, tree_spelled, trees_spelled, tree_at, trees_at, Spells, SpellsNone};
+ghost use Rattle.vx_json.specs.Spelled.{type_at, column_of_items, column_spelled, constant_spelled, slice_spelled, call_spelled, tree_spelled, trees_spelled, tree_at, trees_at, Spells, SpellsNone};
 
 use crate::BAD_VALUE;
-use crate::fields::{count, items, number, text};
-use crate::functions::function_named;
+use crate::fields::{check_keys, items, number, text};
+use crate::functions::function_at;
 use crate::key::Key;
 use crate::types::type_named;
 use crate::values::{booleans, integers, scalar};
 use serde_json::Value;
 use std::alloc::Global;
-use vx_fn::ScalarFnRef;
 use vx_tree::{
     ArrayRef, BoolArray, ConstantArray, IntoArray, PrimitiveArray, ScalarFnArray, SliceArray,
 };
@@ -56,83 +55,52 @@ fn column_of_items(alloc: Global, dtype: DType, list: &Vec<Value>) -> VortexResu
 
 /// Reads a column with the values in the list under `key`.
 fn column(alloc: Global, value: &Value, key: &str) -> VortexResult<ArrayRef>
-    ensures ok { IfOk result (λ t. column_of key.now (view value.now) ≡ Some t) }
-    ensures err { IfErr result (IsRefused (column_of key.now (view value.now) ≡ None)) }
+    ensures ok { IfOk result (λ t. column_spelled key.now (view value.now) ≡ Some t) }
+    ensures err { IfErr result (IsRefused (column_spelled key.now (view value.now) ≡ None)) }
 {
-    if count(value) != 3 {
-        return Err(BAD_VALUE);
-    }
-    let (Some(dtype), Some(list)) = (dtype_of(value), items(value, key)) else {
-        return Err(BAD_VALUE);
-    };
+    check_keys(value, 3)?;
+    let dtype = dtype_of(value).ok_or(BAD_VALUE)?;
+    let list = items(value, key).ok_or(BAD_VALUE)?;
     column_of_items(alloc, dtype, list)
 }
 
 /// Reads a constant: `len` rows of one value.
 fn constant(alloc: Global, value: &Value) -> VortexResult<ArrayRef>
-    ensures ok { IfOk result (λ t. constant_of (view value.now) ≡ Some t) }
-    ensures err { IfErr result (IsRefused (constant_of (view value.now) ≡ None)) }
+    ensures ok { IfOk result (λ t. constant_spelled (view value.now) ≡ Some t) }
+    ensures err { IfErr result (IsRefused (constant_spelled (view value.now) ≡ None)) }
 {
-    if count(value) != 4 {
-        return Err(BAD_VALUE);
-    }
-    let (Some(dtype), Some(spelled), Some(len)) = (
-        dtype_of(value),
-        value.get("value"),
-        number(value, "len"),
-    ) else {
-        return Err(BAD_VALUE);
-    };
-    let Some(scalar) = scalar(dtype, spelled) else {
-        return Err(BAD_VALUE);
-    };
+    check_keys(value, 4)?;
+    let dtype = dtype_of(value).ok_or(BAD_VALUE)?;
+    let spelled = value.get("value").ok_or(BAD_VALUE)?;
+    let scalar = scalar(dtype, spelled).ok_or(BAD_VALUE)?;
+    let len = number(value, "len").ok_or(BAD_VALUE)?;
     Ok(ConstantArray::new(alloc, scalar, len as usize)?.into_array())
 }
 
 /// Reads a lazy slice of `child`.
 fn slice(alloc: Global, value: &Value, child: ArrayRef) -> VortexResult<ArrayRef>
-    ensures ok { IfOk result (λ t. slice_of (view value.now) child ≡ Some t) }
-    ensures err { IfErr result (IsRefused (slice_of (view value.now) child ≡ None)) }
+    ensures ok { IfOk result (λ t. slice_spelled (view value.now) child ≡ Some t) }
+    ensures err { IfErr result (IsRefused (slice_spelled (view value.now) child ≡ None)) }
 {
-    if count(value) != 4 {
-        return Err(BAD_VALUE);
-    }
-    let (Some(start), Some(stop)) = (number(value, "start"), number(value, "stop")) else {
-        return Err(BAD_VALUE);
-    };
+    check_keys(value, 4)?;
+    let start = number(value, "start").ok_or(BAD_VALUE)?;
+    let stop = number(value, "stop").ok_or(BAD_VALUE)?;
     if stop < start || stop > child.len() as u64 {
         return Err(BAD_VALUE);
     }
     Ok(SliceArray::new(alloc, child, start as usize..stop as usize)?.into_array())
 }
 
-/// Returns the function named under `fn`.
-fn function_at(value: &Value) -> Option<ScalarFnRef>
-    ensures { result ≡ function_at (view value.now) }
+/// Reads a lazy function of `children`, if it accepts them.
+fn call(alloc: Global, value: &Value, children: Vec<ArrayRef>) -> VortexResult<ArrayRef>
+    ensures ok { IfOk result (λ t. call_spelled (view value.now) children.items ≡ Some t) }
+    ensures err { IfErr result (IsRefused (call_spelled (view value.now) children.items ≡ None)) }
 {
-    function_named(text(value, "fn")?)
-}
-
-/// Makes the lazy node of `scalar_fn` over `children`, if it accepts them.
-fn applied(alloc: Global, scalar_fn: ScalarFnRef, children: Vec<ArrayRef>) -> VortexResult<ArrayRef>
-    ensures ok { IfOk result (λ t. applied children.items scalar_fn ≡ Some t) }
-    ensures err { IfErr result (IsRefused (applied children.items scalar_fn ≡ None)) }
-{
-    match ScalarFnArray::try_new(alloc, scalar_fn, children) {
+    let function = function_at(value).ok_or(BAD_VALUE)?;
+    match ScalarFnArray::try_new(alloc, function, children) {
         Ok(node) => Ok(node.into_array()),
         Err(VortexError::OutOfMemory) => Err(VortexError::OutOfMemory),
         Err(_) => Err(BAD_VALUE),
-    }
-}
-
-/// Reads a lazy function of `children`.
-fn function(alloc: Global, value: &Value, children: Vec<ArrayRef>) -> VortexResult<ArrayRef>
-    ensures ok { IfOk result (λ t. function_of (view value.now) children.items ≡ Some t) }
-    ensures err { IfErr result (IsRefused (function_of (view value.now) children.items ≡ None)) }
-{
-    match (count(value), function_at(value)) {
-        (3, Some(scalar_fn)) => applied(alloc, scalar_fn, children),
-        _ => Err(BAD_VALUE),
     }
 }
 
@@ -198,7 +166,7 @@ pub fn tree_of(alloc: Global, value: &Value) -> VortexResult<ArrayRef>
             Err(e) => Err(e),
         },
         Some("fn") => match children(alloc, value, Key::Args) {
-            Ok(children) => function(alloc, value, children),
+            Ok(children) => call(alloc, value, children),
             Err(e) => Err(e),
         },
         _ => Err(BAD_VALUE),
