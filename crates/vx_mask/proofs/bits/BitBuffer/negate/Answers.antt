@@ -4,4 +4,4 @@ use Rattle.vx_mask.proofs.Rows.{negated}
 use Rattle.vx_mask.proofs.bits.BitBuffer.negate.Goals as goal
 
 pub returns : goal.returns
-returns c = rw (← negated (bit_row c.args.self.now) (length c.args.self.now)) c.zip_bit.ensures
+returns c = rw (← negated (bit_row c.args.self.now) (length c.args.self.now), ← c.len.ensures) c.zip.ensures
