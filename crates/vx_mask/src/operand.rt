@@ -19,7 +19,7 @@ impl BitOperand<'_> {
     /// Returns the 64 bits from row `64 * k` on, with the first one in the lowest place. Bits past the last row are
     /// unspecified. (own)
     #[inline]
-    #[tactic(auto, using(crate::proofs::Places::bit_of_word))]
+    #[tactic(auto, using(crate::proofs::BitsLemmas::bit_of_word))]
     pub(crate) fn word(self, k: usize) -> u64
         requires { HasRow self (64 * k) }
         ensures { (i : ℕ) → i < 64 → HasRow self.entry (64 * k + i) → (bit_at result i == 1) ≡ bit_in self.entry (64 * k + i) }

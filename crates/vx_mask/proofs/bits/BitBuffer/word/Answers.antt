@@ -1,6 +1,6 @@
 use Rattle.std.proofs.Common.{◌≡◌, ◌+◌, ◌*◌, ◌/◌, ◌<◌, ◌≤◌, length, slice_index, arith, ap, sym, ◌∙◌}
 use Rattle.std.proofs.lemmas.List.{get_or_past}
-use Rattle.vx_mask.proofs.Places.{length_part}
+use Rattle.vx_mask.proofs.BitsLemmas.{length_part}
 use Rattle.vx_mask.proofs.Words.{word_row}
 use Rattle.vx_mask.proofs.bits.BitBuffer.word.Goals as goal
 use Rattle.vx_mask.proofs.bits.BitBuffer.word.Goals.{then-place-words, else-place-words}

@@ -1,7 +1,8 @@
-use Rattle.std.proofs.Common.{ℕ, ◌+◌, ◌*◌, arith}
+use Rattle.std.proofs.Common.{ℕ, ◌<◌, ◌+◌, ◌*◌, arith}
 use Rattle.vx_mask.specs.Operands.{bit_in}
 use Rattle.vx_mask.proofs.OperandsLemmas.{has_row}
-use Rattle.vx_mask.proofs.Rows.{one_more, all_rows}
+use Rattle.vx_mask.proofs.BitsLemmas.{first_bits}
+use Rattle.vx_mask.proofs.Rows.{one_more}
 use Rattle.vx_mask.proofs.bits.BitBuffer.zip.Goals as goal
 
 pub word-left-requires : goal.word-left-requires
@@ -27,4 +28,5 @@ loop-k-preserved g c =
 pub returns : goal.returns
 returns g c =
     let row = λ (i : ℕ). g.O.BitOperation.bit (bit_in c.args.lhs i) (bit_in c.args.rhs i) in
-    rw (← all_rows c.loop-k.words.items c.args.len row (omega arith) c.loop-k.invariant.rows) c.from_words.ensures
+    let held = λ (i : ℕ) (h : i < c.args.len). c.loop-k.invariant.rows i h (omega arith) in
+    rw (← first_bits c.loop-k.words.items c.args.len row (omega arith) held) c.from_words.ensures
