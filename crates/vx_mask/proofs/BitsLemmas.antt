@@ -1,7 +1,7 @@
 -- The bits of words: the first ones, a part of them, and those of one more word.
 use Rattle.std.specs.Prelude.{◌==◌, slice_get, slice_index, Some}
-use Rattle.std.proofs.Common.{◌≡◌, ◌<◌, ◌≤◌, ◌+◌, ◌-◌, ◌*◌, ◌/◌, ◌%◌, ◌^◌, ℕ, Bool, true, false, List, [], ◌∷◌, ◌++◌, length, get_or, take, drop, map, replicate, cond}
-use Rattle.std.proofs.Common.{arith, ◌∙◌, ap, refl}
+use Rattle.std.proofs.Common.{◌≡◌, ◌<◌, ◌≤◌, ◌+◌, ◌-◌, ◌*◌, ◌/◌, ◌%◌, ◌^◌, ℕ, Bool, true, false, List, [], ◌∷◌, ◌++◌, length, get_or, take, drop}
+use Rattle.std.proofs.Common.{map, replicate, cond, arith, ◌∙◌, ap, refl}
 use Rattle.std.specs.Int.{bit_at}
 use Rattle.std.specs.List.{range_with_len}
 use Rattle.std.proofs.Math.ListN.{get_or-append}
@@ -54,5 +54,6 @@ bit_of_word false i h = ap (λ x. x == 1) (bit_at-zero i)
 pub repeated : (b : Bool) (m n : ℕ) → n ≤ 64 * m → take n (bits_of (replicate m (cond b (2 ^ 64 - 1) 0))) ≡ replicate n b
 repeated b m n within =
     let word = cond b (2 ^ 64 - 1) 0 in
-    let bit = λ (i : ℕ) (h : i < n). ap (λ w. bit_at w (i % 64) == 1) (get_or-replicate m (i / 64) word 0 (omega arith)) ∙ bit_of_word b (i % 64) (omega arith) in
+    let bit = λ (i : ℕ) (h : i < n).
+    ap (λ w. bit_at w (i % 64) == 1) (get_or-replicate m (i / 64) word 0 (omega arith)) ∙ bit_of_word b (i % 64) (omega arith) in
     first_bits (replicate m word) n (λ i. b) (omega (arith, length-replicate m word)) bit ∙ all_below n (λ i. b) b (λ i h. refl)

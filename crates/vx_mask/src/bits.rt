@@ -141,11 +141,7 @@ impl BitBuffer {
         let from = self.start + 64 * k;
         let words = self.words.as_ref().as_slice();
         let place = from / 64;
-        let high = if place + 1 < words.len() {
-            words[place + 1]
-        } else {
-            0
-        };
+        let high = words.get(place + 1).copied().unwrap_or(0);
         joined(words[place], high, from % 64)
     }
 
