@@ -1,6 +1,7 @@
-pub mod Parts
-pub mod Places
-pub mod Pushes
+pub mod Lists
+pub mod BitsLemmas
 pub mod Words
+pub mod Pushes
 pub mod Operations
+pub mod OperandsLemmas
 pub mod Rows

@@ -1,17 +1,17 @@
 -- One more bit above the bits that a builder has.
 use Rattle.std.specs.Prelude.{◌==◌}
-use Rattle.std.proofs.Common.{◌≡◌, ◌<◌, ◌≤◌, ◌+◌, ◌-◌, ◌*◌, ◌/◌, ◌%◌, ◌^◌, ℕ, Bool, true, false, List, [], ◌∷◌, ◌++◌, length, get_or, take, map, arith, sym, ◌∙◌, ap, refl, inl, inr, length-append, mul-le-mul_left}
+use Rattle.std.proofs.Common.{◌≡◌, ◌<◌, ◌≤◌, ◌+◌, ◌-◌, ◌*◌, ◌/◌, ◌%◌, ◌^◌, ℕ, Bool, true, false, List, [], ◌∷◌, ◌++◌, length, take}
+use Rattle.std.proofs.Common.{arith, sym, ◌∙◌, ap, refl, inl, inr, mul-le-mul_left}
 use Rattle.std.specs.Int.{bit_at}
-use Rattle.std.specs.List.{range_with_len}
 use Rattle.std.proofs.Math.Nat.{mod-eq_of_lt}
-use Rattle.std.proofs.Math.ListN.{get_or-append}
-use Rattle.std.proofs.Math.Seq.{get_or-append_seam}
 use Rattle.std.proofs.lemmas.Bool.{cases_lt}
+use Rattle.std.proofs.lemmas.List.{length_push}
+use Rattle.std.proofs.lemmas.List.FromFn.{map-range_with_len_more}
 use Rattle.std.proofs.lemmas.Nat.{pow_pos, pow-add}
 use Rattle.std.proofs.lemmas.Nat.Bits.{bit_at_cat_low, bit_at_cat_high}
-use Rattle.std.proofs.lemmas.List.FromFn.{fill_by_all, get_or-map-range_with_len, length-map-range_with_len, take-map-range_with_len, map-range_with_len_more}
 use mir.Val.{bool_byte}
 use Rattle.vx_mask.specs.Bits.{bit_of, bits_of}
+use Rattle.vx_mask.proofs.BitsLemmas.{before, in_last, first_bits}
 
 -- a bit below place 64 is at most half of 2 ^ 64
 half : (fill : ℕ) → fill < 64 → 2 * 2 ^ fill ≤ 2 ^ 64
@@ -37,21 +37,6 @@ next_fits false last fill small h = omega (arith, half fill h, shifted false fil
 flag_bit : (b : Bool) → (bit_at (bool_byte b) 0 == 1) ≡ b
 flag_bit true = refl
 flag_bit false = refl
-
--- the first n bits of two lists of words that agree on them
-same_bits : (us vs : List ℕ) (n : ℕ) → ((p : ℕ) → p < n → bit_of us p ≡ bit_of vs p)
-    → map (bit_of us) (range_with_len 0 n) ≡ map (bit_of vs) (range_with_len 0 n)
-same_bits us vs n e =
-    fill_by_all (bit_of vs) (map (bit_of us) (range_with_len 0 n)) n false (length-map-range_with_len (bit_of us) 0 n)
-    (λ k h. get_or-map-range_with_len (bit_of us) 0 n k k false h (omega arith) ∙ e k h)
-
--- a bit of the words before the last one, and one of the last word
-pub before : (ws tail : List ℕ) (p : ℕ) → p / 64 < length ws → bit_of (ws ++ tail) p ≡ bit_of ws p
-before ws tail p h = ap (λ w. bit_at w (p % 64) == 1) (get_or-append ws tail 0 (p / 64) h)
-
-pub in_last : (ws : List ℕ) (w p : ℕ) → p / 64 ≡ length ws → bit_of (ws ++ w ∷ []) p ≡ (bit_at w (p % 64) == 1)
-in_last ws w p h =
-    ap (λ x. bit_at x (p % 64) == 1) (ap (λ k. get_or (ws ++ w ∷ []) k 0) h ∙ get_or-append_seam ws w [] 0)
 
 -- the bits below the new one stay
 kept : (ws : List ℕ) (b : Bool) (last fill p : ℕ) → fill < 64 → p < 64 * length ws + fill
@@ -80,12 +65,6 @@ added ws b last fill small h =
     ∙ ap (λ x. x == 1) (bit_at_cat_high (bool_byte b) fill last fill small (omega arith) ∙ ap (bit_at (bool_byte b)) lowest)
     ∙ flag_bit b
 
--- the first n bits of the words
-first_bits : (ws : List ℕ) (w n : ℕ) → n ≤ 64 * length ws + 64
-    → take n (bits_of (ws ++ w ∷ [])) ≡ map (bit_of (ws ++ w ∷ [])) (range_with_len 0 n)
-first_bits ws w n h =
-    take-map-range_with_len (bit_of (ws ++ w ∷ [])) 0 (64 * length (ws ++ w ∷ [])) n (omega (arith, length-append ws (w ∷ [])))
-
 -- the last word with the new bit
 pub push_in : (ws : List ℕ) (last fill : ℕ) (b : Bool) → last < 2 ^ fill → fill < 64
     → take (64 * length ws + (fill + 1)) (bits_of (ws ++ (bool_byte b * 2 ^ fill % 2 ^ 64 + last) ∷ []))
@@ -93,12 +72,13 @@ pub push_in : (ws : List ℕ) (last fill : ℕ) (b : Bool) → last < 2 ^ fill �
 push_in ws last fill b small h =
     let n = 64 * length ws + fill in
     let word = bool_byte b * 2 ^ fill + last in
-    let new = ws ++ word ∷ [] in
+    let new = bit_of (ws ++ word ∷ []) in
     let m : 64 * length ws + (fill + 1) ≡ n + 1 = omega arith in
-    rw (shifted b fill h)
-    (first_bits ws word (64 * length ws + (fill + 1)) (omega arith)
-    ∙ ap (λ k. map (bit_of new) (range_with_len 0 k)) m ∙ map-range_with_len_more (bit_of new) 0 n n (omega arith)
-    ∙ ap (λ xs. xs ++ bit_of new n ∷ []) (same_bits new (ws ++ last ∷ []) n (λ p q. kept ws b last fill p h q) ∙ sym (first_bits ws last n (omega arith)))
+    let long = length_push ws word in
+    let short = length_push ws last in
+    rw (shifted b fill h, m)
+    (first_bits (ws ++ word ∷ []) (n + 1) new (omega arith) (λ p q. refl) ∙ map-range_with_len_more new 0 n n (omega arith)
+    ∙ ap (λ xs. xs ++ new n ∷ []) (sym (first_bits (ws ++ last ∷ []) n new (omega arith) (λ p q. sym (kept ws b last fill p h q))))
     ∙ ap (λ x. take n (bits_of (ws ++ last ∷ [])) ++ x ∷ []) (added ws b last fill small h))
 
 -- a last word that is full now, before an empty one
@@ -108,10 +88,10 @@ pub push_full : (ws : List ℕ) (last fill : ℕ) (b : Bool) → last < 2 ^ fill
 push_full ws last fill b small full =
     let word = bool_byte b * 2 ^ fill % 2 ^ 64 + last in
     let new = ws ++ word ∷ [] in
-    let h : fill < 64 = omega arith in
-    let n : 64 * length new + 0 ≡ 64 * length ws + (fill + 1) = omega (arith, length-append ws (word ∷ [])) in
-    ap (λ k. take k (bits_of (new ++ 0 ∷ []))) n
-    ∙ first_bits new 0 (64 * length ws + (fill + 1)) (omega arith)
-    ∙ same_bits (new ++ 0 ∷ []) new (64 * length ws + (fill + 1)) (λ p q. before new (0 ∷ []) p (omega arith))
-    ∙ sym (first_bits ws word (64 * length ws + (fill + 1)) (omega arith))
-    ∙ push_in ws last fill b small h
+    let long = length_push ws word in
+    let longer = length_push new 0 in
+    let n : 64 * length new + 0 ≡ 64 * length ws + (fill + 1) = omega arith in
+    rw n
+    (first_bits (new ++ 0 ∷ []) (64 * length ws + (fill + 1)) (bit_of new) (omega arith) (λ p q. before new (0 ∷ []) p (omega arith))
+    ∙ sym (first_bits new (64 * length ws + (fill + 1)) (bit_of new) (omega arith) (λ p q. refl))
+    ∙ push_in ws last fill b small (omega arith))

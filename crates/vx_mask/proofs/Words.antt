@@ -1,16 +1,16 @@
 -- The 64 bits from a place on, of the two words that hold them.
-use Rattle.std.specs.Prelude.{◌==◌, nat_lt, if◌then◌else◌, bit_or, slice_index}
-use Rattle.std.proofs.Common.{◌≡◌, ◌<◌, ◌≤◌, ◌+◌, ◌-◌, ◌*◌, ◌/◌, ◌%◌, ◌^◌, ℕ, false, List, length, get_or, take, drop, arith, sym, ◌∙◌, ap, refl, inl, inr, mod-lt, add-zero}
+use Rattle.std.specs.Prelude.{◌==◌, bit_or, slice_index}
+use Rattle.std.proofs.Common.{◌≡◌, ◌<◌, ◌≤◌, ◌+◌, ◌-◌, ◌*◌, ◌/◌, ◌%◌, ◌^◌, ℕ, false, List, length, get_or, take, drop}
+use Rattle.std.proofs.Common.{arith, sym, ◌∙◌, ap, refl, inl, inr, mod-lt, add-zero}
 use Rattle.std.specs.Int.{bit_at}
 use Rattle.std.proofs.Math.Nat.{div-div-eq-div-mul}
 use Rattle.std.proofs.Math.Pow.{mod-mod-pow}
 use Rattle.std.proofs.lemmas.Nat.{mod-pow-add, pow_pos, pow-add}
 use Rattle.std.proofs.lemmas.Nat.Bits.{bit_at_lowest, bit_at-zero, bit_at_or, bit_at_above, bit_at_cat_low, bit_at_cat_high}
-use Rattle.std.proofs.lemmas.List.{get_or-drop, get_or-take}
-use Rattle.std.proofs.lemmas.List.FromFn.{get_or-map-range_with_len}
 use Rattle.std.proofs.lemmas.Bool.{cases_lt}
 use Rattle.std.proofs.lemmas.Bool.Decides.{nat_tests}
-use Rattle.vx_mask.specs.Bits.{bit_of, bits_of}
+use Rattle.vx_mask.specs.Bits.{bit_of, bits_of, bit_of_both}
+use Rattle.vx_mask.proofs.BitsLemmas.{bit_of_part}
 
 -- a bit of a number that is shifted down
 shifted_down : (n by i : ℕ) → bit_at (n / 2 ^ by) i ≡ bit_at n (by + i)
@@ -40,51 +40,57 @@ shifted_up_high : (n by w i : ℕ) → by ≤ i → i < w → bit_at (n * 2 ^ by
 shifted_up_high n by w i h within =
     bit_of_rest (n * 2 ^ by) w i within ∙ ap (λ x. bit_at x i) (sym (add-zero (n * 2 ^ by))) ∙ bit_at_cat_high n by 0 i (pow_pos by) h
 
+-- a bit of the lower one of two words, and one of the higher one
+of_low : (low high i : ℕ) → i < 64 → bit_of_both low high i ≡ bit_at low i
+of_low low high i h = grind (arith, nat_tests)
+
+of_high : (low high i : ℕ) → 64 ≤ i → bit_of_both low high i ≡ bit_at high (i - 64)
+of_high low high i h = grind (arith, nat_tests)
+
 -- a bit of two words that are joined at place `by` of the lower one
 pub joined_bit : (low high by i : ℕ) → low < 2 ^ 64 → 0 < by → by < 64 → i < 64
-    → bit_at (bit_or (low / 2 ^ by) (high * 2 ^ (64 - by) % 2 ^ 64)) i ≡ (if nat_lt (by + i) 64 then bit_at low (by + i) else bit_at high (by + i - 64))
+    → bit_at (bit_or (low / 2 ^ by) (high * 2 ^ (64 - by) % 2 ^ 64)) i ≡ bit_of_both low high (by + i)
 joined_bit low high by i fits some by_in i_in =
     let either = bit_at_or (low / 2 ^ by) (high * 2 ^ (64 - by) % 2 ^ 64) i in
     let down = shifted_down low by i in
     elim (cases_lt (by + i) 64) [
       | inl lt ↦
           let up = shifted_up_low high (64 - by) 64 i (omega arith) i_in in
-          grind (arith, nat_tests)
+          let here = of_low low high (by + i) lt in
+          grind arith
       | inr ge ↦
           let up = shifted_up_high high (64 - by) 64 i (omega arith) i_in in
           let none = bit_at_above low 64 (by + i) fits ge in
           let place : i - (64 - by) ≡ by + i - 64 = omega arith in
           let same = ap (bit_at high) place in
-          grind (arith, nat_tests)
+          let here = of_high low high (by + i) ge in
+          grind arith
     ]
+
+-- bit p of the words, by the word that holds it
+held_by : (words : List ℕ) (p place at word : ℕ) → p / 64 ≡ place → p % 64 ≡ at → word ≡ slice_index words place
+    → (bit_at word at == 1) ≡ bit_of words p
+held_by words p place at word p_place p_at is = rw (p_place, p_at, is) refl
 
 -- bit i from place `from` of the words on, by the two words that may hold it
 bit_from : (words : List ℕ) (from i low high : ℕ) → low ≡ slice_index words (from / 64) → high ≡ slice_index words (from / 64 + 1) → i < 64
-    → ((if nat_lt (from % 64 + i) 64 then bit_at low (from % 64 + i) else bit_at high (from % 64 + i - 64)) == 1) ≡ bit_of words (from + i)
+    → (bit_of_both low high (from % 64 + i) == 1) ≡ bit_of words (from + i)
 bit_from words from i low high low_is high_is h =
     elim (cases_lt (from % 64 + i) 64) [
       | inl lt ↦
-          let word : (from + i) / 64 ≡ from / 64 = omega arith in
-          let place : (from + i) % 64 ≡ from % 64 + i = omega arith in
-          let here : bit_at (slice_index words ((from + i) / 64)) ((from + i) % 64) ≡ bit_at low (from % 64 + i) = rw (word, place, low_is) refl in
-          let chosen : (if nat_lt (from % 64 + i) 64 then bit_at low (from % 64 + i) else bit_at high (from % 64 + i - 64)) ≡ bit_at low (from % 64 + i) = grind (arith, nat_tests) in
-          ap (λ x. x == 1) (chosen ∙ sym here)
+          ap (λ x. x == 1) (of_low low high (from % 64 + i) lt)
+          ∙ held_by words (from + i) (from / 64) (from % 64 + i) low (omega arith) (omega arith) low_is
       | inr ge ↦
-          let word : (from + i) / 64 ≡ from / 64 + 1 = omega arith in
-          let place : (from + i) % 64 ≡ from % 64 + i - 64 = omega arith in
-          let here : bit_at (slice_index words ((from + i) / 64)) ((from + i) % 64) ≡ bit_at high (from % 64 + i - 64) = rw (word, place, high_is) refl in
-          let chosen : (if nat_lt (from % 64 + i) 64 then bit_at low (from % 64 + i) else bit_at high (from % 64 + i - 64)) ≡ bit_at high (from % 64 + i - 64) = grind (arith, nat_tests) in
-          ap (λ x. x == 1) (chosen ∙ sym here)
+          ap (λ x. x == 1) (of_high low high (from % 64 + i) ge)
+          ∙ held_by words (from + i) (from / 64 + 1) (from % 64 + i - 64) high (omega arith) (omega arith) high_is
     ]
 
 -- bit i of the word that is joined for the 64 rows from 64 * k on
 pub word_row : (words : List ℕ) (s n k low high joined : ℕ) → s + n ≤ 64 * length words
     → low ≡ slice_index words ((s + 64 * k) / 64) → high ≡ slice_index words ((s + 64 * k) / 64 + 1)
-    → ((i : ℕ) → i < 64 → bit_at joined i ≡ (if nat_lt ((s + 64 * k) % 64 + i) 64 then bit_at low ((s + 64 * k) % 64 + i) else bit_at high ((s + 64 * k) % 64 + i - 64)))
+    → ((i : ℕ) → i < 64 → bit_at joined i ≡ bit_of_both low high ((s + 64 * k) % 64 + i))
     → (i : ℕ) → i < 64 → 64 * k + i < n → (bit_at joined i == 1) ≡ get_or (take n (drop s (bits_of words))) (64 * k + i) false
 word_row words s n k low high joined bounds low_is high_is bits i h within =
-    let row : get_or (take n (drop s (bits_of words))) (64 * k + i) false ≡ bit_of words (s + (64 * k + i)) =
-    get_or-take n (drop s (bits_of words)) (64 * k + i) false within ∙ get_or-drop s (bits_of words) (64 * k + i) false
-    ∙ get_or-map-range_with_len (bit_of words) 0 (64 * length words) (s + (64 * k + i)) (s + (64 * k + i)) false (omega arith) (omega arith) in
     let place : s + 64 * k + i ≡ s + (64 * k + i) = omega arith in
-    ap (λ x. x == 1) (bits i h) ∙ bit_from words (s + 64 * k) i low high low_is high_is h ∙ ap (bit_of words) place ∙ sym row
+    ap (λ x. x == 1) (bits i h) ∙ bit_from words (s + 64 * k) i low high low_is high_is h ∙ ap (bit_of words) place
+    ∙ sym (bit_of_part words s n (64 * k + i) within bounds)

@@ -1,8 +1,9 @@
 //! Bit buffers: ranges of bits in shared words.
 
-ghost use Rattle.std.specs.Prelude.{◌≡◌, ◌+◌, ◌-◌, ◌*◌, ◌%◌, ◌<◌, ◌≤◌, ◌↔◌, ◌==◌, ℕ, if◌then◌else◌, nat_lt, IsTrue, IfOk, Some, length, replicate, slice_range, slice_get, take, vec_len};
+ghost use Rattle.std.specs.Prelude.{◌≡◌, ◌+◌, ◌*◌, ◌<◌, ◌≤◌, ◌↔◌, ◌==◌, ℕ, if◌then◌else◌, IsTrue, IfOk, Some};
+ghost use Rattle.std.specs.Prelude.{length, replicate, slice_range, slice_get, take, vec_len};
 ghost use Rattle.std.specs.Int.{bit_at};
-ghost use Rattle.vx_mask.specs.Bits.{bits_of};
+ghost use Rattle.vx_mask.specs.Bits.{bits_of, bit_of_both};
 ghost use Rattle.vx_mask.specs.Logic.{bit_row};
 
 use std::alloc::{AllocError, Global};
@@ -55,8 +56,7 @@ pub(crate) fn filled_word(bit: bool) -> u64
 #[tactic(auto, using(crate::proofs::Words::joined_bit))]
 fn joined(low: u64, high: u64, by: usize) -> u64
     requires { by < 64 }
-    ensures { (i : ℕ) → i < 64
-        → bit_at result i ≡ (if nat_lt (by + i) 64 then bit_at low (by + i) else bit_at high (by + i - 64)) }
+    ensures { (i : ℕ) → i < 64 → bit_at result i ≡ bit_of_both low high (by + i) }
 {
     if by == 0 {
         low
@@ -65,7 +65,7 @@ fn joined(low: u64, high: u64, by: usize) -> u64
     }
 }
 
-#[tactic(auto, using(crate::proofs::Places::length_part))]
+#[tactic(auto, using(crate::proofs::BitsLemmas::length_part))]
 impl BitBuffer {
     /// Makes a buffer of the first `len` bits of `words`.
     pub(crate) fn from_words(
@@ -85,7 +85,7 @@ impl BitBuffer {
     }
 
     /// Makes a buffer of `len` bits that are all `bit`. Fails only if there is no memory for them. (own)
-    #[tactic(auto, using(crate::proofs::Places::repeated))]
+    #[tactic(auto, using(crate::proofs::BitsLemmas::repeated))]
     pub fn repeat(alloc: Global, bit: bool, len: usize) -> Result<BitBuffer, AllocError>
         ensures { IfOk result (λ b. b ≡ replicate len bit) }
     {
@@ -122,7 +122,7 @@ impl BitBuffer {
 
     /// Returns the bit at `index`, counted from the start of the range.
     #[inline]
-    #[tactic(auto, using(crate::proofs::Places::bit_within, crate::proofs::Places::length_part))]
+    #[tactic(auto, using(crate::proofs::BitsLemmas::bit_within, crate::proofs::BitsLemmas::length_part))]
     pub fn value(&self, index: usize) -> bool
         requires { index < length self.now }
         ensures { slice_get self.now index ≡ Some result }
@@ -141,16 +141,13 @@ impl BitBuffer {
         let from = self.start + 64 * k;
         let words = self.words.as_ref().as_slice();
         let place = from / 64;
-        let high = if place + 1 < words.len() {
-            words[place + 1]
-        } else {
-            0
-        };
+        let high = words.get(place + 1).copied().unwrap_or(0);
         joined(words[place], high, from % 64)
     }
 
     /// Returns the bits at `range` without copying them: the result shares the storage. Fails only if the storage
     /// can't be shared once more.
+    #[tactic(auto, using(crate::proofs::Lists::part_of_part))]
     pub fn slice(&self, range: Range<usize>) -> Result<BitBuffer, AllocError>
         requires order { range.start ≤ range.end }
         requires bounds { range.end ≤ length self.now }
@@ -170,12 +167,7 @@ impl Clone for BitBuffer {
     ghost is_clone = { λ a b. b ≡ a };
 
     fn clone(&self) -> Result<BitBuffer, AllocError> {
-        let words = self.words.clone()?;
-        Ok(BitBuffer {
-            words,
-            start: self.start,
-            len: self.len,
-        })
+        self.slice(0..self.len())
     }
 }
 

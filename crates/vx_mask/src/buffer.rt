@@ -77,6 +77,7 @@ impl<T: Drop> Buffer<T> {
 
     /// Returns the items at `range` without copying them: the result shares the storage. Fails only if the storage
     /// can't be shared once more.
+    #[tactic(auto, using(crate::proofs::Lists::part_of_part))]
     pub fn slice(&self, range: Range<usize>) -> Result<Buffer<T>, AllocError>
         requires order { range.start ≤ range.end }
         requires bounds { range.end ≤ length self.now }
@@ -96,12 +97,7 @@ impl<T: Drop> Clone for Buffer<T> {
     ghost is_clone = { λ a b. b ≡ a };
 
     fn clone(&self) -> Result<Buffer<T>, AllocError> {
-        let storage = self.storage.clone()?;
-        Ok(Buffer {
-            storage,
-            start: self.start,
-            len: self.len,
-        })
+        self.slice(0..self.len())
     }
 }
 

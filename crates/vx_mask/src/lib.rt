@@ -4,9 +4,12 @@
 mod bits;
 mod buffer;
 mod builder;
-mod logic;
+mod operand;
+mod operation;
+mod zip;
 
 pub use bits::BitBuffer;
 pub use buffer::Buffer;
 pub use builder::BitBuilder;
-pub use logic::{BitEq, BitGt, BitGte, BitLt, BitLte, BitNotEq, BitOperation};
+pub use operand::BitOperand;
+pub use operation::{BitEq, BitGt, BitGte, BitLt, BitLte, BitNotEq, BitOperation};

@@ -1,9 +1,10 @@
 ghost use Rattle.std.specs.Prelude.{◌<◌};
+ghost use Rattle.vx_mask.specs.Operands.{HasBits};
 
 use std::alloc::{AllocError, Global};
 use std::fmt::Debug;
 use vx_mask::{
-    BitBuffer, BitBuilder, BitEq, BitGt, BitGte, BitLt, BitLte, BitNotEq, BitOperation, Buffer,
+    BitBuffer, BitBuilder, BitEq, BitGt, BitGte, BitLt, BitLte, BitNotEq, BitOperand, BitOperation, Buffer,
 };
 
 fn is_printed_as<T: Debug>(alloc: Global, value: &T, text: &str) -> bool {
@@ -73,17 +74,24 @@ fn are_words(bits: Result<BitBuffer, AllocError>, low: u64, high: u64) -> bool {
     }
 }
 
+/// Checks whether the operation gives the words `low` and `high` on 128 rows of `lhs` and of `rhs`.
 fn are_zipped<O: BitOperation>(
     alloc: Global,
-    lhs: &BitBuffer,
-    rhs: &BitBuffer,
+    lhs: BitOperand<'_>,
+    rhs: BitOperand<'_>,
     low: u64,
     high: u64,
-) -> bool {
-    lhs.len() == rhs.len() && are_words(lhs.zip::<O>(alloc, rhs), low, high)
+) -> bool
+    requires lhs { HasBits lhs 128 }
+    requires rhs { HasBits rhs 128 }
+{
+    are_words(BitBuffer::zip::<O>(alloc, lhs, rhs, 128), low, high)
 }
 
-fn are_compared(alloc: Global, lhs: &BitBuffer, rhs: &BitBuffer) -> bool {
+fn are_compared(alloc: Global, lhs: BitOperand<'_>, rhs: BitOperand<'_>) -> bool
+    requires lhs { HasBits lhs 128 }
+    requires rhs { HasBits rhs 128 }
+{
     are_zipped::<BitEq>(alloc, lhs, rhs, 0xae1d5c3ab87570ea, 0xeae1d5c3ab87570e)
         && are_zipped::<BitNotEq>(alloc, lhs, rhs, 0x51e2a3c5478a8f15, 0x151e2a3c5478a8f1)
         && are_zipped::<BitLt>(alloc, lhs, rhs, 0x10c2218443088611, 0x110c221844308861)
@@ -92,19 +100,27 @@ fn are_compared(alloc: Global, lhs: &BitBuffer, rhs: &BitBuffer) -> bool {
         && are_zipped::<BitGte>(alloc, lhs, rhs, 0xef3dde7bbcf779ee, 0xeef3dde7bbcf779e)
 }
 
-fn are_compared_to_one_bit(alloc: Global, bits: &BitBuffer) -> bool {
-    are_words(
-        bits.zip_bit::<BitLt>(alloc, true),
-        0xb6db6db6db6db6db,
-        0xdb6db6db6db6db6d,
-    ) && are_words(bits.zip_bit::<BitGte>(alloc, false), u64::MAX, u64::MAX)
-        && are_words(bits.negate(alloc), 0xb6db6db6db6db6db, 0xdb6db6db6db6db6d)
+fn are_compared_to_one_bit(alloc: Global, bits: BitOperand<'_>) -> bool
+    requires { HasBits bits 128 }
+{
+    let set = BitOperand::Bit(true);
+    let unset = BitOperand::Bit(false);
+    are_zipped::<BitLt>(alloc, bits, set, 0xb6db6db6db6db6db, 0xdb6db6db6db6db6d)
+        && are_zipped::<BitLt>(alloc, unset, bits, 0x4924924924924924, 0x2492492492492492)
+        && are_zipped::<BitGte>(alloc, bits, unset, u64::MAX, u64::MAX)
+        && are_zipped::<BitGt>(alloc, unset, set, 0, 0)
 }
 
 fn compare(alloc: Global) -> Result<bool, AllocError> {
     let lhs = pattern(alloc, 3, 1, 4, 132)?;
     let rhs = pattern(alloc, 5, 2, 61, 189)?;
-    Ok(are_compared(alloc, &lhs, &rhs) && are_compared_to_one_bit(alloc, &lhs))
+    if lhs.len() != 128 || rhs.len() != 128 {
+        return Ok(false);
+    }
+    let bits = BitOperand::Bits(&lhs);
+    Ok(are_compared(alloc, bits, BitOperand::Bits(&rhs))
+        && are_compared_to_one_bit(alloc, bits)
+        && are_words(lhs.negate(alloc), 0xb6db6db6db6db6db, 0xdb6db6db6db6db6d))
 }
 
 #[test]

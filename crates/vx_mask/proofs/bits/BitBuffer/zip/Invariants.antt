@@ -1,5 +1,5 @@
-use Rattle.std.proofs.Common.{◌≡◌, ◌≤◌, length, vec_len, vec_capacity}
-use Rattle.vx_mask.specs.Logic.{bit_row}
+use Rattle.std.proofs.Common.{◌≡◌, ◌≤◌, vec_len, vec_capacity}
+use Rattle.vx_mask.specs.Operands.{bit_in}
 use Rattle.vx_mask.proofs.Rows.{HoldRows}
 use Rattle.vx_mask.proofs.bits.BitBuffer.zip.Given as goal
 
@@ -7,5 +7,5 @@ abbrev pub invariant-loop-k : goal.invariant-loop-k
 invariant-loop-k g l = record {
   count : vec_len l.words ≡ l.k;
   room : l.many ≤ vec_capacity l.words;
-  rows : HoldRows l.words.items (λ i. g.O.BitOperation.bit (bit_row l.self i) (bit_row l.other i)) (length l.self);
+  rows : HoldRows l.words.items (λ i. g.O.BitOperation.bit (bit_in l.lhs i) (bit_in l.rhs i)) l.len;
 }
