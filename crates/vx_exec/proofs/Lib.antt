@@ -1,4 +1,2 @@
-pub mod Stacking
-pub mod Turning
-pub mod Faulting
-pub mod Potential
+pub mod FramesLemmas
+pub mod MovesLemmas

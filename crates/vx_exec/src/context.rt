@@ -75,7 +75,7 @@ impl ExecutionCtx {
 ///
 /// `IterationLimit` if as many turns as the limit were taken and the root isn't executed; `Fault` only if a row of
 /// `array`, or of a node in it, has no value; `OutOfMemory`.
-#[tactic(auto, using(crate::proofs::Turning::loop_moves, crate::proofs::Turning::executed, crate::proofs::Turning::reached_root, crate::proofs::Turning::takes_a_turn, crate::proofs::Turning::returned_as_it_is))]
+#[tactic(auto, using(crate::proofs::MovesLemmas::loop_moves, crate::proofs::MovesLemmas::executed, crate::proofs::MovesLemmas::reached_root, crate::proofs::MovesLemmas::takes_a_turn, crate::proofs::MovesLemmas::returned_as_it_is))]
 pub fn execute_until<M: Matcher>(array: ArrayRef, ctx: &mut ExecutionCtx) -> VortexResult<ArrayRef>
     ensures ok { IfOk result
         (λ u. KeepsExactly array u × ((M.fits u ≡ true) ⊎ (is_canonical (datum u) ≡ true))) }

@@ -43,7 +43,7 @@ fn is_reached<M: Matcher>(frames: &[Frame], current: &ArrayRef) -> bool
 }
 
 /// Takes the step of `current`, or suspends it and enters the slot that the step asks for.
-#[tactic(auto, using(crate::proofs::Turning::open_data))]
+#[tactic(auto, using(crate::proofs::MovesLemmas::open_data))]
 fn advance<M: Matcher>(
     alloc: Global,
     frames: &mut Vec<Frame>,

@@ -1,11 +1,10 @@
 -- The text of a column.
-use Rattle.std.specs.Prelude.{◌≡◌, ℕ, List, [], ◌∷◌, ◌++◌, map, codes, flat_map, ◌⊎◌, length, replicate}
-use Rattle.vx_value.specs.Types.{DataType, bool, primitive}
+use Rattle.std.specs.Prelude.{◌≡◌, ℕ, List, [], ◌∷◌, ◌++◌, map, codes, flat_map}
+use Rattle.vx_value.specs.Types.{DataType}
 use Rattle.vx_value.specs.Values.{Value}
 use Rattle.vx_value.specs.Text.{type_text}
 use Rattle.vx_value.specs.Ids.{id_text}
 use Rattle.vx_value.specs.declared.id.Id.{Id}
-use Rattle.vx_value.specs.declared.id.Id.TheVariants as id
 use Rattle.vx_value.specs.Cell.{Cell, value}
 use Rattle.vx_json.specs.RowText.{row_text}
 
@@ -26,12 +25,3 @@ pub record Shows (ty : DataType) (id : Id) (cells : List Cell) (text : List ℕ)
   pub values : List Value
   pub own : cells ≡ map value values
   pub printed : text ≡ output ty id values
-
--- the canonical encoding of a type
-abbrev pub canonical_id : DataType → Id
-canonical_id (bool n) = id.Bool
-canonical_id (primitive p n) = id.Primitive
-
--- a column of these cells may have the encoding i: the type's canonical one, or constant if all rows are one value
-abbrev pub IsLawful : Id → DataType → List Cell → Type 0
-IsLawful i ty cells = (i ≡ canonical_id ty) ⊎ ((i ≡ id.Constant) × (v : Value) × (cells ≡ replicate (length cells) (value v)))

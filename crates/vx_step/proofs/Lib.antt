@@ -1,5 +1,4 @@
-pub mod Applying
-pub mod Slicing
-pub mod Repeating
-pub mod Taking
-pub mod Waiting
+pub mod TurnsLemmas
+pub mod StepsLemmas
+pub mod WaitingLemmas
+pub mod SlotsLemmas

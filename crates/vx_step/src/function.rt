@@ -17,7 +17,7 @@ use vx_tree::{AnyColumnar, ArrayRef, Columnar, IntoArray};
 use vx_value::VortexResult;
 
 /// Requests the first slot that isn't a column yet; applies `scalar_fn` once all are.
-#[tactic(auto, using(crate::proofs::Applying::slots_present, crate::proofs::Applying::may_call, crate::proofs::Applying::applied_done, crate::proofs::Applying::unapplied_stopped))]
+#[tactic(auto, using(crate::proofs::StepsLemmas::slots_present, crate::proofs::StepsLemmas::may_call, crate::proofs::StepsLemmas::applied_done, crate::proofs::StepsLemmas::unapplied_stopped))]
 pub(crate) fn apply_or_wait(
     alloc: Global,
     array: &ArrayRef,
@@ -33,13 +33,9 @@ pub(crate) fn apply_or_wait(
         Some(slot) => Ok(ExecutionStep::ExecuteSlot(slot, SlotTarget::Columnar)),
         None => {
             let columns = columns_of(alloc, slots)?;
-            match apply_fn(alloc, scalar_fn, columns.as_slice(), array.len()) {
-                Ok(column) => {
-                    column.as_array().well();
-                    Ok(ExecutionStep::Done(column.into_array()))
-                }
-                Err(e) => Err(e),
-            }
+            let column = apply_fn(alloc, scalar_fn, columns.as_slice(), array.len())?;
+            column.as_array().well();
+            Ok(ExecutionStep::Done(column.into_array()))
         }
     }
 }

@@ -1,11 +1,9 @@
 //! One execution step of a node, and nodes with a slot taken out.
 #![tactic(auto)]
 
-mod canonicalize;
 mod function;
 mod steps;
 mod suspended;
 
-pub use canonicalize::constant_canonicalize;
 pub use steps::{ExecutionStep, SlotTarget, step};
 pub use suspended::{Suspended, take_slot};

@@ -1,17 +1,18 @@
 //! One step of a node, by its encoding.
 
-ghost use Rattle.std.specs.Prelude.{◌≡◌, ◌-◌, ◌≤◌, IfOk, IfErr, true, false};
-ghost use Rattle.vx_tree.specs.Tree.{dtype, len, datum, is_canonical, node, slice, slot, no_slots};
+ghost use Rattle.std.specs.Prelude.{◌≡◌, IfOk, IfErr, true, false};
+ghost use Rattle.vx_tree.specs.Tree.{datum, is_canonical};
+ghost use Rattle.vx_tree.specs.Columns.{IsColumn, canonical_tree};
 ghost use Rattle.vx_step.specs.Turns.{meets};
-ghost use Rattle.vx_step.specs.Steps.{IsStep, IsDone, IsStopped};
+ghost use Rattle.vx_step.specs.Steps.{IsStep, IsStopped};
 
-use crate::canonicalize::constant_canonicalize;
 use crate::function::apply_or_wait;
 use std::alloc::Global;
+use vx_column::constant_canonicalize;
 use vx_tree::{
-    AnyCanonical, AnyColumnar, ArrayKind, ArrayRef, BoolArray, IntoArray, PrimitiveArray,
+    AnyCanonical, AnyColumnar, ArrayKind, ArrayRef, Canonical, Constant, IntoArray, slice_canonical,
 };
-use vx_value::{VortexError, VortexResult};
+use vx_value::VortexResult;
 
 /// The form that a slot is executed to. (own)
 #[derive(Clone, Copy)]
@@ -49,51 +50,35 @@ pub enum ExecutionStep {
 /// # Errors
 ///
 /// `Fault` only if a row of `array`, or of a node in it, has no value; `OutOfMemory`.
+#[tactic(auto, using(crate::proofs::StepsLemmas::constant_done, crate::proofs::StepsLemmas::slice_done))]
 pub fn step(alloc: Global, array: &ArrayRef) -> VortexResult<ExecutionStep>
     requires { is_canonical (datum array.now) ≡ false }
     ensures ok { IfOk result (λ s. IsStep array.now s) }
     ensures err { IfErr result (IsStopped array.now) }
 {
     match array.kind() {
-        ArrayKind::Constant(scalar) => {
-            let column = constant_canonicalize(alloc, scalar, array.len())?;
-            Ok(ExecutionStep::Done(column))
+        ArrayKind::Constant(_) => {
+            let Some(constant) = array.as_opt::<Constant>() else {
+                unreachable!()
+            };
+            Ok(done(constant_canonicalize(alloc, constant)?))
         }
-        ArrayKind::Slice(child, start, stop) => {
-            if child.is::<AnyCanonical>() {
-                Ok(ExecutionStep::Done(slice_canonical(alloc, child, start, stop)?))
-            } else {
-                Ok(ExecutionStep::ExecuteSlot(0, SlotTarget::Canonical))
-            }
-        }
+        ArrayKind::Slice(child, start, stop) => match Canonical::try_from_array_ref(child.clone()?) {
+            Ok(column) => Ok(done(slice_canonical(alloc, &column, start..stop)?)),
+            Err(_) => Ok(ExecutionStep::ExecuteSlot(0, SlotTarget::Canonical)),
+        },
         ArrayKind::ScalarFn(function, slots) => apply_or_wait(alloc, array, function, slots),
-        ArrayKind::Bool(_) => unreachable!(),
-        ArrayKind::Primitive(_) => unreachable!(),
+        _ => unreachable!(),
     }
 }
 
-/// Returns the rows `start..stop` of a canonical column, as a canonical column that shares its storage. The only error
-/// is `OutOfMemory`.
-fn slice_canonical(
-    alloc: Global,
-    column: &ArrayRef,
-    start: usize,
-    stop: usize,
-) -> VortexResult<ArrayRef>
-    requires canonical { is_canonical (datum column.now) ≡ true }
-    requires range { (start ≤ stop) × (stop ≤ len column.now) }
-    ensures ok { IfOk result (λ u. IsDone (node (dtype column.now) (stop - start) (slice start stop) (slot column.now no_slots)) u) }
-    ensures err { IfErr result (λ e. e ≡ VortexError.OutOfMemory) }
+/// Returns `column` as the result of a step.
+#[tactic(auto, using(vx_tree::proofs::ColumnsLemmas::column_known, vx_tree::proofs::ColumnsLemmas::canonical_columnar))]
+fn done(column: Canonical) -> ExecutionStep
+    ensures done { result ≡ ExecutionStep.Done (canonical_tree column) }
+    ensures canonical { is_canonical (datum (canonical_tree column)) ≡ true }
+    ensures known { IsColumn (canonical_tree column) }
 {
-    match column.kind() {
-        ArrayKind::Bool(bits) => {
-            let kept = bits.slice(start..stop)?;
-            Ok(BoolArray::try_new(alloc, column.dtype().clone()?, kept)?.into_array())
-        }
-        ArrayKind::Primitive(values) => {
-            let kept = values.slice(start..stop)?;
-            Ok(PrimitiveArray::try_new(alloc, column.dtype().clone()?, kept)?.into_array())
-        }
-        _ => unreachable!(),
-    }
+    column.as_array().well();
+    ExecutionStep::Done(column.into_array())
 }

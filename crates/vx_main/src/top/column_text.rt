@@ -3,8 +3,9 @@
 ghost use Rattle.std.specs.Prelude.{◌≡◌, ◌<◌, Some, slice_get, true, IfOk, IfErr, OnOk, string_bytes};
 ghost use Rattle.vx_value.specs.Cell.{value};
 ghost use Rattle.vx_tree.specs.Tree.{dtype, len, datum, id_of, is_columnar};
-ghost use Rattle.vx_tree.specs.Cells.{rows};
-ghost use Rattle.vx_main.specs.Output.{Shows, IsLawful, head_lines};
+ghost use Rattle.vx_tree.specs.Cells.{rows, HasNoFault};
+ghost use Rattle.vx_tree.specs.Columns.{IsLawful};
+ghost use Rattle.vx_main.specs.Output.{Shows, head_lines};
 
 use std::alloc::{AllocError, Global};
 use vx_column::execute_scalar;
@@ -24,9 +25,9 @@ fn head_text(alloc: Global, array: &ArrayRef) -> Result<String, AllocError>
     Ok(text)
 }
 
-/// Returns the value of row `index` of a column, counted from 0. The only error is `OutOfMemory`.
+/// Returns the value of row `index`, counted from 0, of an array without faults. The only error is `OutOfMemory`.
 fn row_of(alloc: Global, array: &ArrayRef, index: usize) -> VortexResult<Scalar>
-    requires column { is_columnar (datum array.now) ≡ true }
+    requires whole { HasNoFault (rows array.now) }
     requires within { index < len array.now }
     ensures ok { IfOk result (λ s. slice_get (rows array.now) index ≡ Some (value s.value)) }
     ensures err { IfErr result (λ e. e ≡ VortexError.OutOfMemory) }
@@ -35,7 +36,7 @@ fn row_of(alloc: Global, array: &ArrayRef, index: usize) -> VortexResult<Scalar>
 }
 
 /// Returns the lines of the type and the encoding, and a line for each row. The only error is `OutOfMemory`.
-#[tactic(auto, using(crate::proofs::Printing::lawful_column))]
+#[tactic(auto, using(vx_tree::proofs::ColumnsLemmas::column_known))]
 pub(crate) fn column_text(alloc: Global, array: &ArrayRef) -> VortexResult<String>
     requires { is_columnar (datum array.now) ≡ true }
     ensures ok { IfOk result (λ s. Shows (dtype array.now) (id_of (datum array.now)) (rows array.now) (string_bytes s)) }

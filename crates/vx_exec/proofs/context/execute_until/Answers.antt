@@ -1,7 +1,7 @@
 use Rattle.std.proofs.Common.{◌≡◌, refl, sym, ◌∙◌, ap, subst, arith}
 use Rattle.vx_exec.specs.Budgets.{Budget}
 use Rattle.vx_exec.specs.Moves.{GoesOn}
-use Rattle.vx_exec.proofs.Turning.{loop_begins, loop_short, goes_on}
+use Rattle.vx_exec.proofs.MovesLemmas.{loop_begins, loop_short, goes_on}
 use Rattle.vx_exec.proofs.context.execute_until.Goals as goal
 
 pub loop-ctx-init : goal.loop-ctx-init

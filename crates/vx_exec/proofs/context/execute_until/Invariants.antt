@@ -1,5 +1,5 @@
 use Rattle.std.proofs.Common.{◌≡◌, ◌≤◌, ◌-◌}
-use Rattle.vx_exec.proofs.Turning.{IsLoop}
+use Rattle.vx_exec.proofs.MovesLemmas.{IsLoop}
 use Rattle.vx_exec.proofs.context.execute_until.Given as goal
 
 abbrev pub invariant-loop-ctx : goal.invariant-loop-ctx

@@ -1,7 +1,7 @@
 use Rattle.std.proofs.Common.{subst}
 use Rattle.vx_step.specs.Steps.{IsStep}
-use Rattle.vx_exec.proofs.Turning.{move_done, move_push, awaited_present}
-use Rattle.vx_exec.proofs.Faulting.{stopped_inside}
+use Rattle.vx_exec.proofs.MovesLemmas.{move_done, move_push, awaited_present}
+use Rattle.vx_exec.proofs.FramesLemmas.{stopped_inside}
 use Rattle.vx_exec.proofs.turn.advance.Goals as goal
 
 pub take_slot-requires : goal.take_slot-requires

@@ -1,5 +1,5 @@
 use Rattle.std.proofs.Common.{sym, ◌∙◌}
-use Rattle.vx_exec.proofs.Turning.{reached_last}
+use Rattle.vx_exec.proofs.MovesLemmas.{reached_last}
 use Rattle.vx_exec.proofs.turn.is_reached.Goals as goal
 
 pub returns-in-Some : goal.returns-in-Some

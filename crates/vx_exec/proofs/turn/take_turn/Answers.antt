@@ -1,7 +1,7 @@
 use Rattle.std.proofs.Common.{◌≡◌, true, ◌∙◌, ap, sym}
 use Rattle.vx_exec.specs.Moves.{is_reached}
-use Rattle.vx_exec.proofs.Stacking.{frame_popped}
-use Rattle.vx_exec.proofs.Turning.{move_pop}
+use Rattle.vx_exec.proofs.FramesLemmas.{frame_popped}
+use Rattle.vx_exec.proofs.MovesLemmas.{move_pop}
 use Rattle.vx_exec.proofs.turn.take_turn.Goals as goal
 
 pub put-requires-clause-hole : goal.put-requires-clause-hole

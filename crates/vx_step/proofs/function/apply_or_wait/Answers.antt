@@ -5,7 +5,7 @@ use Rattle.vx_tree.specs.Well.{IsWell}
 use Rattle.vx_tree.specs.declared.columnar.Columnar.{Columnar}
 use Rattle.vx_step.specs.Steps.{IsDone}
 use Rattle.vx_column.specs.Applied.{IsCall, IsApplied, IsUnapplied}
-use Rattle.vx_step.proofs.Applying.{may_call, applied_done, unapplied_stopped}
+use Rattle.vx_step.proofs.StepsLemmas.{may_call, applied_done, unapplied_stopped}
 use Rattle.vx_step.proofs.function.apply_or_wait.Goals as goal
 
 pub apply_fn-requires : goal.apply_fn-requires

@@ -1,6 +1,6 @@
 use Rattle.std.proofs.Common.{◌≡◌, rules, take, true, false, sym, ap, ◌∙◌}
 use Rattle.std.proofs.lemmas.List.{take_more}
-use Rattle.vx_step.proofs.Waiting.{settled_more, waits_at}
+use Rattle.vx_step.proofs.WaitingLemmas.{settled_more, waits_at}
 use Rattle.vx_step.specs.Waiting.{waits}
 use Rattle.vx_step.proofs.function.first_waiting.Goals as goal
 

@@ -1,6 +1,6 @@
 use Rattle.std.proofs.Common.{ap, arith, ◌∙◌, ◌++◌, ◌∷◌, [], string_bytes}
 use Rattle.vx_tree.specs.Cells.{rows}
-use Rattle.vx_main.proofs.Printing.{shows_none, shows_more, shows_all}
+use Rattle.vx_main.proofs.OutputLemmas.{shows_none, shows_more, shows_all}
 use Rattle.vx_main.proofs.top.column_text.column_text.Goals as goal
 
 pub loop-index-init : goal.loop-index-init

@@ -1,6 +1,6 @@
 -- The turns that are left: they are at most the cost, and fall where a slot is taken out and where it is put back.
 use Rattle.std.proofs.Common.{◌≡◌, ℕ, zero, suc, ◌+◌, ◌<◌, ◌≤◌, Bool, true, false, refl, ap, arith}
-use Rattle.vx_tree.specs.Tree.{Tree, Data, Slots, node, constant, no_slots, absent, slot}
+use Rattle.vx_tree.specs.Tree.{Tree, Data, Slots, node, constant, no_slots, absent, slot, datum}
 use Rattle.vx_tree.specs.Slots.{set_slot, put, IsAbsentAt, IsHole}
 use Rattle.vx_tree.specs.Cost.{cost, base_cost, slot_cost, slots_cost, extra}
 use Rattle.vx_step.specs.Turns.{meets, slot_target, target_of, base_top, slot_top, slots_top, top}
@@ -12,9 +12,6 @@ use Rattle.vx_step.specs.declared.steps.SlotTarget.{SlotTarget}
 base_positive : (d : Data) → 0 < base_top d
 base_positive (constant v) = omega arith
 base_positive _ = omega arith
-
-base_paid : (d : Data) → base_top d ≤ base_cost d
-base_paid d = omega arith
 
 slot_paid : (d : Data) (c e : ℕ) → c + 1 ≤ slot_cost d c e
 slot_paid (constant v) c e = omega arith
@@ -33,10 +30,16 @@ slots_paid d (slot t ss) =
     omega (arith, slots_paid d ss, slot_bound (meets (slot_target d) t) (cost t), slot_paid d (cost t) (extra t))
 
 pub top_paid : (t : Tree) → top t ≤ cost t
-top_paid (node ty n d ss) = omega (arith, base_paid d, slots_paid d ss)
+top_paid (node ty n d ss) = omega (arith, slots_paid d ss)
 
 pub top_positive : (t : Tree) → 0 < top t
 top_positive (node ty n d ss) = omega (arith, base_positive d)
+
+-- and at least those that the node takes itself
+pub top_own : (t : Tree) → base_cost (datum t) ≤ top t
+top_own (node ty n d ss) = omega arith
+
+-- ---- a slot taken out, and put back
 
 put_top : (d : Data) (i : ℕ) (c : Tree) (ss : Slots) → IsAbsentAt i ss → slots_top d (set_slot i c ss) ≡ slot_top (meets (slot_target d) c) (cost c) + slots_top d ss
 put_top d i c no_slots h = absurd h

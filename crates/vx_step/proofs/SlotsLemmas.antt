@@ -4,7 +4,7 @@ use Rattle.vx_value.specs.Types.{DataType}
 use Rattle.vx_tree.specs.Tree.{Tree, Data, node, slots_of}
 use Rattle.vx_tree.specs.Well.{IsNodeOf, IsWell}
 use Rattle.vx_tree.specs.Slots.{put, IsHole, IsPresent}
-use Rattle.vx_tree.proofs.Opening.{put_back, hole_after, put_in}
+use Rattle.vx_tree.proofs.SlotsLemmas.{put_back, hole_after, put_in}
 
 module _ (ty : DataType) (n : ℕ) (d : Data) (xs : List (Option Tree)) (i : ℕ) (c t : Tree) (e : node ty n d (slots_of xs) ≡ t) where
   -- v is what is found in the slot, and s what is left there

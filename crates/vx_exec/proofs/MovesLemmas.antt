@@ -6,8 +6,8 @@ use Rattle.vx_tree.specs.Well.{IsNodeOf, shape, shape_of}
 use Rattle.vx_tree.specs.Slots.{put, IsHole, IsPresent, IsPresentAt}
 use Rattle.vx_tree.specs.Keeps.{KeepsExactly}
 use Rattle.vx_tree.specs.Cost.{cost}
-use Rattle.vx_tree.proofs.Keeping.{exactly_refl, exactly_trans}
-use Rattle.vx_tree.proofs.Kinding.{canonical_columnar}
+use Rattle.vx_tree.proofs.KeepsLemmas.{exactly_refl, exactly_trans}
+use Rattle.vx_tree.proofs.ColumnsLemmas.{canonical_columnar}
 use Rattle.vx_step.specs.Turns.{data_meets, meets, target_of, top}
 use Rattle.vx_exec.specs.Frames.{filled, IsFrame, AreFrames, frames_top}
 use Rattle.vx_step.specs.Steps.{Awaits, AwaitsAt, IsDone}
@@ -15,8 +15,8 @@ use Rattle.vx_exec.specs.Moves.{IsPop, IsPush, IsStepped, IsOneMove, IsMove, is_
 use Rattle.vx_step.specs.declared.steps.SlotTarget.{SlotTarget}
 use Rattle.vx_step.specs.declared.steps.SlotTarget.TheVariants.{Canonical, Columnar}
 use Rattle.vx_exec.specs.declared.turn.Frame.{Frame}
-use Rattle.vx_exec.proofs.Potential.{take_falls, put_falls, top_paid, top_positive}
-use Rattle.vx_exec.proofs.Stacking.{filled_append, frames_top_append, frames_pop, frames_push, filled_exactly, frames_replace}
+use Rattle.vx_step.proofs.TurnsLemmas.{take_falls, put_falls, top_paid, top_positive}
+use Rattle.vx_exec.proofs.FramesLemmas.{filled_append, frames_top_append, frames_pop, frames_push, filled_exactly, frames_replace}
 
 exactly_equal : (t u : Tree) → t ≡ u → KeepsExactly t u
 exactly_equal t u e = subst (λ x. KeepsExactly t x) e (exactly_refl t)

@@ -1,0 +1,53 @@
+-- The text of the rows so far.
+use Rattle.std.proofs.Common.{◌≡◌, ◌⊎◌, ℕ, ◌+◌, ◌<◌, ◌≤◌, List, [], ◌∷◌, ◌++◌, length, zero, suc, add-one, subst, take, map, slice_get, Some, refl, sym, ◌∙◌, ap, append_assoc, arith, flat_map, inl, inr, replicate, true}
+use Rattle.std.proofs.lemmas.Grind.{common_steps, flat_map-append}
+use Rattle.vx_value.specs.Types.{DataType}
+use Rattle.vx_value.specs.Values.{Value}
+use Rattle.vx_value.specs.declared.error.VortexError.{VortexError}
+use Rattle.vx_value.specs.declared.error.VortexError.TheVariants.{OutOfMemory, Fault, OutOfBounds}
+use Rattle.vx_value.specs.declared.id.Id.{Id}
+use Rattle.vx_value.specs.Cell.{Cell, value, fault}
+use Rattle.vx_tree.specs.Cells.{rows, HasNoFault}
+use Rattle.vx_json.specs.RowText.{row_text}
+use Rattle.vx_tree.specs.Tree.{Tree, len}
+use Rattle.vx_tree.proofs.CellsLemmas.{no_fault_at}
+use Rattle.vx_main.specs.Output.{Shows, head_lines, line}
+
+-- before the first row stand the lines of the type and of the encoding
+pub shows_none : (ty : DataType) (id : Id) (text : List ℕ) → text ≡ head_lines ty id → Shows ty id [] text
+shows_none ty id text e = record { values = []; own = refl; printed = grind (arith, common_steps) }
+
+take_suc : (cs : List Cell) (i : ℕ) (c : Cell) → slice_get cs i ≡ Some c → take (suc i) cs ≡ take i cs ++ c ∷ []
+take_suc [] i c e = absurd (cc)
+take_suc (d ∷ cs) zero c e = ap (λ z. z ∷ []) (cc)
+take_suc (d ∷ cs) (suc i) c e = ap (λ l. d ∷ l) (take_suc cs i c e)
+
+map_more : (vs : List Value) (v : Value) → map value (vs ++ v ∷ []) ≡ map value vs ++ value v ∷ []
+map_more [] v = refl
+map_more (w ∷ vs) v = ap (λ cs. value w ∷ cs) (map_more vs v)
+
+append_none : (xs : List ℕ) → xs ++ [] ≡ xs
+append_none [] = refl
+append_none (x ∷ xs) = ap (λ l. x ∷ l) (append_none xs)
+
+lines_more : (f : Value → List ℕ) (h : List ℕ) (vs : List Value) (v : Value) → (h ++ flat_map f vs) ++ f v ≡ h ++ flat_map f (vs ++ v ∷ [])
+lines_more f h vs v = append_assoc h (flat_map f vs) (f v) ∙ ap (λ l. h ++ l) (ap (λ l. flat_map f vs ++ l) (sym (append_none (f v))) ∙ sym (flat_map-append f vs (v ∷ [])))
+
+-- a further row has its line
+pub shows_more : (ty : DataType) (id : Id) (cs : List Cell) (i : ℕ) (v : Value) (text longer : List ℕ) → Shows ty id (take i cs) text → slice_get cs i ≡ Some (value v) → longer ≡ (text ++ row_text v) ++ 10 ∷ [] → Shows ty id (take (i + 1) cs) longer
+shows_more ty id cs i v text longer s e j = record {
+  values = s.values ++ v ∷ [];
+  own = rw add-one (take_suc cs i (value v) e) ∙ ap (λ l. l ++ value v ∷ []) s.own ∙ sym (map_more s.values v);
+  printed = j ∙ append_assoc text (row_text v) (10 ∷ []) ∙ ap (λ l. l ++ line (row_text v)) s.printed ∙ lines_more (λ w. line (row_text w)) (head_lines ty id) s.values v;
+}
+
+-- all rows are shown
+pub shows_all : (ty : DataType) (id : Id) (cs : List Cell) (i : ℕ) (text : List ℕ) → Shows ty id (take i cs) text → length cs ≤ i → Shows ty id cs text
+shows_all ty id cs i text s h = let e : take i cs ≡ cs = grind (arith, common_steps) in subst (λ l. Shows ty id l text) e s
+
+-- a row of a column is read
+pub column_stopped : (t : Tree) (i : ℕ) (e : VortexError) → HasNoFault (rows t) → i < len t
+    → (e ≡ OutOfMemory) ⊎ ((e ≡ OutOfBounds i i (len t)) × (len t ≤ i)) ⊎ ((e ≡ Fault) × (slice_get (rows t) i ≡ Some fault)) → e ≡ OutOfMemory
+column_stopped t i e c lt (inl m) = m
+column_stopped t i e c lt (inr (inl b)) = absurd (omega (arith, b.1))
+column_stopped t i e c lt (inr (inr f)) = absurd (no_fault_at (rows t) i c f.1)
