@@ -37,7 +37,8 @@ put_target : (i : ℕ) (c p : Tree) → target_of (put i c p) ≡ target_of p
 put_target i c (node ty n d ss) = refl
 
 -- a child is taken out of the node, and becomes the current one
-pub move_push : (fits : Tree → Bool) (fs gs : List Frame) (i : ℕ) (t p c : Tree) (g : SlotTarget) → is_reached fits fs t ≡ false → put i c p ≡ t → IsHole i p → IsNodeOf t → Awaits i t → g ≡ target_of t → AreFrames fs t → gs ≡ fs ++ record { parent = p; slot = i; target = g } ∷ [] → IsMove fits fs t gs c
+pub move_push : (fits : Tree → Bool) (fs gs : List Frame) (i : ℕ) (t p c : Tree) (g : SlotTarget) → is_reached fits fs t ≡ false → put i c p ≡ t → IsHole i p
+    → IsNodeOf t → Awaits i t → g ≡ target_of t → AreFrames fs t → gs ≡ fs ++ record { parent = p; slot = i; target = g } ∷ [] → IsMove fits fs t gs c
 move_push fits fs gs i t p c g going e hole formed w aim h join =
     let f : Frame = record { parent = p; slot = i; target = g } in
     let frame : IsFrame f c = record { hole = hole; fits = subst IsNodeOf (sym e) formed; target = aim ∙ ap target_of (sym e) ∙ put_target i c p } in
@@ -62,14 +63,16 @@ awaited_present i (node ty n d ss) h = at_slot _ i ss h
 
 -- what a node is executed to
 
-awaited_at : (fits : Tree → Bool) (fs : List Frame) (f : Frame) (n : ℕ) (t : Tree) → n + 1 ≡ length fs → Some f ≡ slice_get fs n → is_awaited fits fs t ≡ meets f.target t
+awaited_at : (fits : Tree → Bool) (fs : List Frame) (f : Frame) (n : ℕ) (t : Tree) → n + 1 ≡ length fs → Some f ≡ slice_get fs n
+    → is_awaited fits fs t ≡ meets f.target t
 awaited_at fits [] f n t e g = absurd (cc)
 awaited_at fits (h ∷ []) f zero t e g = let q : h ≡ f = cc in ap (λ (x : Frame). meets x.target t) q
 awaited_at fits (h ∷ []) f (suc n) t e g = absurd (cc)
 awaited_at fits (h ∷ k ∷ fs) f zero t e g = absurd (omega arith)
 awaited_at fits (h ∷ k ∷ fs) f (suc n) t e g = awaited_at fits (k ∷ fs) f n t (omega arith) g
 
-pub reached_last : (fits : Tree → Bool) (fs : List Frame) (f : Frame) (t : Tree) → is_canonical (datum t) ≡ false → Some f ≡ slice_get fs (length fs - 1) → meets f.target t ≡ is_reached fits fs t
+pub reached_last : (fits : Tree → Bool) (fs : List Frame) (f : Frame) (t : Tree) → is_canonical (datum t) ≡ false → Some f ≡ slice_get fs (length fs - 1)
+    → meets f.target t ≡ is_reached fits fs t
 reached_last fits fs f t c e =
     let within : length fs - 1 < length fs = slice_get_within fs (length fs - 1) f (sym e) in
     sym (ap (λ b. b || is_awaited fits fs t) c ∙ awaited_at fits fs f (length fs - 1) t (omega arith) e)
@@ -95,7 +98,8 @@ reached_frame fits fs gs f t e h =
     ]
 
 -- the node is put back into its parent
-pub move_pop : (fits : Tree → Bool) (fs gs : List Frame) (f : Frame) (t u : Tree) → is_reached fits fs t ≡ true → fs ≡ gs ++ f ∷ [] → AreFrames fs t → u ≡ put f.slot t f.parent → IsMove fits fs t gs u
+pub move_pop : (fits : Tree → Bool) (fs gs : List Frame) (f : Frame) (t u : Tree) → is_reached fits fs t ≡ true → fs ≡ gs ++ f ∷ [] → AreFrames fs t
+    → u ≡ put f.slot t f.parent → IsMove fits fs t gs u
 move_pop fits fs gs f t u reached split w e =
     let h = frames_pop gs f t (subst (λ x. AreFrames x t) split w) in
     let m : meets f.target t ≡ true = reached_frame fits fs gs f t split reached in
@@ -129,11 +133,13 @@ begins : (fits : Tree → Bool) (t : Tree) → Reaches fits t 0 [] t
 unfolding Reaches
 begins fits t = (refl, refl)
 
-moves_on : (fits : Tree → Bool) (t : Tree) (n : ℕ) (fs gs : List Frame) (u v : Tree) → Reaches fits t n fs u → IsOneMove fits fs u gs v → Reaches fits t (n + 1) gs v
+moves_on : (fits : Tree → Bool) (t : Tree) (n : ℕ) (fs gs : List Frame) (u v : Tree) → Reaches fits t n fs u → IsOneMove fits fs u gs v
+    → Reaches fits t (n + 1) gs v
 unfolding Reaches
 moves_on fits t n fs gs u v h m = rw add-one (fs, u, h, m)
 
-pub executed : (fits : Tree → Bool) (t : Tree) (n : ℕ) (fs : List Frame) (u v : Tree) → Reaches fits t n fs u → fs ≡ [] → u ≡ v → is_reached fits [] v ≡ true → IsExecuted fits t (n + 1) v
+pub executed : (fits : Tree → Bool) (t : Tree) (n : ℕ) (fs : List Frame) (u v : Tree) → Reaches fits t n fs u → fs ≡ [] → u ≡ v → is_reached fits [] v ≡ true
+    → IsExecuted fits t (n + 1) v
 unfolding IsExecuted
 executed fits t n fs u v h bare same reached =
     rw add-one (subst (λ x. Reaches fits t n [] x) same (subst (λ gs. Reaches fits t n gs u) bare h), reached)
@@ -179,9 +185,11 @@ pub record IsLoop (fits : Tree → Bool) (root : Tree) (fs : List Frame) (t : Tr
 
 pub loop_begins : (fits : Tree → Bool) (root : Tree) (fs : List Frame) → fs ≡ [] → IsLoop fits root fs root 0
 loop_begins fits root fs e =
-    subst (λ x. IsLoop fits root x root 0) (sym e) (record { moved = begins fits root; exactly = exactly_refl root; frames = tt; turns = omega (arith, top_paid root) })
+    subst (λ x. IsLoop fits root x root 0) (sym e)
+        (record { moved = begins fits root; exactly = exactly_refl root; frames = tt; turns = omega (arith, top_paid root) })
 
-pub loop_moves : (fits : Tree → Bool) (root : Tree) (fs gs : List Frame) (t u : Tree) (n : ℕ) → IsLoop fits root fs t n → IsMove fits fs t gs u → IsLoop fits root gs u (n + 1)
+pub loop_moves : (fits : Tree → Bool) (root : Tree) (fs gs : List Frame) (t u : Tree) (n : ℕ) → IsLoop fits root fs t n → IsMove fits fs t gs u
+    → IsLoop fits root gs u (n + 1)
 loop_moves fits root fs gs t u n now m = record {
   moved = moves_on fits root n fs gs t u now.moved m.one;
   exactly = exactly_trans root (filled fs t) (filled gs u) now.exactly m.exactly;
@@ -196,6 +204,7 @@ loop_short fits root fs t n now = omega (arith, now.turns, top_positive t)
 pub goes_on : (fits : Tree → Bool) (root : Tree) (fs : List Frame) (t : Tree) (n : ℕ) → IsLoop fits root fs t n → GoesOn fits root n
 goes_on fits root fs t n now = (fs, t, now.moved)
 
-pub returned_as_it_is : (fits : Tree → Bool) (t : Tree) (n : ℕ) (fs : List Frame) (u v : Tree) → Reaches fits t n fs u → fs ≡ [] → u ≡ v → is_reached fits [] v ≡ true → fits t ≡ true → v ≡ t
+pub returned_as_it_is : (fits : Tree → Bool) (t : Tree) (n : ℕ) (fs : List Frame) (u v : Tree) → Reaches fits t n fs u → fs ≡ [] → u ≡ v
+    → is_reached fits [] v ≡ true → fits t ≡ true → v ≡ t
 returned_as_it_is fits t n fs u v moved bare same reached h =
     as_it_is fits t (n + 1) v h (executed fits t n fs u v moved bare same reached)

@@ -150,7 +150,7 @@ fn child(alloc: Global, value: &Value, key: Key) -> VortexResult<ArrayRef>
 ///
 /// `InvalidArgument(BadValue)` if `value` spells no tree; `OutOfMemory`.
 #[cycle(tree_of)]
-#[tactic(auto, using(crate::proofs::Lookups::spelled_by))]
+#[tactic(auto, using(crate::proofs::SpelledLemmas::spelled_by))]
 pub fn tree_of(alloc: Global, value: &Value) -> VortexResult<ArrayRef>
     ensures ok { IfOk result (λ t. tree_spelled (view value.now) ≡ Some t) }
     ensures err { IfErr result (λ e. (e ≡ VortexError.OutOfMemory)

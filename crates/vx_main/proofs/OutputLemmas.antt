@@ -31,14 +31,17 @@ append_none [] = refl
 append_none (x ∷ xs) = ap (λ l. x ∷ l) (append_none xs)
 
 lines_more : (f : Value → List ℕ) (h : List ℕ) (vs : List Value) (v : Value) → (h ++ flat_map f vs) ++ f v ≡ h ++ flat_map f (vs ++ v ∷ [])
-lines_more f h vs v = append_assoc h (flat_map f vs) (f v) ∙ ap (λ l. h ++ l) (ap (λ l. flat_map f vs ++ l) (sym (append_none (f v))) ∙ sym (flat_map-append f vs (v ∷ [])))
+lines_more f h vs v = append_assoc h (flat_map f vs) (f v) ∙ ap (λ l. h ++ l)
+    (ap (λ l. flat_map f vs ++ l) (sym (append_none (f v))) ∙ sym (flat_map-append f vs (v ∷ [])))
 
 -- a further row has its line
-pub shows_more : (ty : DataType) (id : Id) (cs : List Cell) (i : ℕ) (v : Value) (text longer : List ℕ) → Shows ty id (take i cs) text → slice_get cs i ≡ Some (value v) → longer ≡ (text ++ row_text v) ++ 10 ∷ [] → Shows ty id (take (i + 1) cs) longer
+pub shows_more : (ty : DataType) (id : Id) (cs : List Cell) (i : ℕ) (v : Value) (text longer : List ℕ) → Shows ty id (take i cs) text
+    → slice_get cs i ≡ Some (value v) → longer ≡ (text ++ row_text v) ++ 10 ∷ [] → Shows ty id (take (i + 1) cs) longer
 shows_more ty id cs i v text longer s e j = record {
   values = s.values ++ v ∷ [];
   own = rw add-one (take_suc cs i (value v) e) ∙ ap (λ l. l ++ value v ∷ []) s.own ∙ sym (map_more s.values v);
-  printed = j ∙ append_assoc text (row_text v) (10 ∷ []) ∙ ap (λ l. l ++ line (row_text v)) s.printed ∙ lines_more (λ w. line (row_text w)) (head_lines ty id) s.values v;
+  printed = j ∙ append_assoc text (row_text v) (10 ∷ []) ∙ ap (λ l. l ++ line (row_text v)) s.printed
+      ∙ lines_more (λ w. line (row_text w)) (head_lines ty id) s.values v;
 }
 
 -- all rows are shown

@@ -10,7 +10,8 @@ use Rattle.vx_main.specs.Output.{Shows}
 use Rattle.vx_main.specs.Runs.{Answers, is_column}
 
 -- the column that a tree is executed to shows the answer for the bytes that spell the tree
-pub answers_of : (bytes text : List ℕ) (limit turns : ℕ) (t u : Tree) → Spells bytes t → KeepsExactly t u → IsExecuted is_column t turns u → (1 ≤ turns) × (turns ≤ limit) → (is_column t ≡ true → u ≡ t)
+pub answers_of : (bytes text : List ℕ) (limit turns : ℕ) (t u : Tree) → Spells bytes t → KeepsExactly t u → IsExecuted is_column t turns u
+    → (1 ≤ turns) × (turns ≤ limit) → (is_column t ≡ true → u ≡ t)
     → Shows (dtype u) (id_of (datum u)) (rows u) text → IsLawful (id_of (datum u)) (dtype u) (rows u) → Answers bytes limit text
 answers_of bytes text limit turns t u s k executed within as_it_is shown lawful = record {
   tree = t;
@@ -20,6 +21,8 @@ answers_of bytes text limit turns t u s k executed within as_it_is shown lawful 
   executed = executed;
   within = within;
   as_it_is = as_it_is;
-  lawful = subst (λ ty. IsLawful (id_of (datum u)) ty (rows t)) (sym k.keeps.same_type) (subst (λ cs. IsLawful (id_of (datum u)) (dtype u) cs) (sym k.equal) lawful);
-  shown = subst (λ ty. Shows ty (id_of (datum u)) (rows t) text) (sym k.keeps.same_type) (subst (λ cs. Shows (dtype u) (id_of (datum u)) cs text) (sym k.equal) shown);
+  lawful = subst (λ ty. IsLawful (id_of (datum u)) ty (rows t)) (sym k.keeps.same_type)
+      (subst (λ cs. IsLawful (id_of (datum u)) (dtype u) cs) (sym k.equal) lawful);
+  shown = subst (λ ty. Shows ty (id_of (datum u)) (rows t) text) (sym k.keeps.same_type)
+      (subst (λ cs. Shows (dtype u) (id_of (datum u)) cs text) (sym k.equal) shown);
 }

@@ -62,7 +62,8 @@ pub record IsFaulty (bytes : List ℕ) : Type 0 where
 
 -- why an input that was read has no answer
 abbrev pub HasNoAnswer : List ℕ → ℕ → Status → Type 0
-HasNoAnswer bytes turns s = (s ≡ Memory) ⊎ ((s ≡ BadInput) × SpellsNone bytes) ⊎ ((s ≡ Fault) × IsFaulty bytes) ⊎ ((s ≡ TurnLimit turns turns) × IsCostly bytes turns)
+HasNoAnswer bytes turns s = (s ≡ Memory) ⊎ ((s ≡ BadInput) × SpellsNone bytes) ⊎ ((s ≡ Fault) × IsFaulty bytes) ⊎
+    ((s ≡ TurnLimit turns turns) × IsCostly bytes turns)
 
 -- what a run needs of its input: it isn't too large, and spells a tree without faults that costs at most `limit` turns
 abbrev pub Suffices : Command → Option (List ℕ) → Type 0

@@ -61,7 +61,8 @@ constants_filled : (ts : List Tree) → all_constant ts ≡ are_constant (filled
 constants_filled [] = refl
 constants_filled (t ∷ ts) = ap (λ b. is_constant (datum t) && b) (constants_filled ts)
 
-module _ (f : ScalarFnRef) (t : Tree) (ss : Slots) (ts : List Tree) (shown : t ≡ node (dtype t) (len t) (function f) ss) (well : IsNode (dtype t) (len t) (function f) (shapes ss)) (filled : filled_slots ts ≡ ss) where
+module _ (f : ScalarFnRef) (t : Tree) (ss : Slots) (ts : List Tree) (shown : t ≡ node (dtype t) (len t) (function f) ss)
+    (well : IsNode (dtype t) (len t) (function f) (shapes ss)) (filled : filled_slots ts ≡ ss) where
   -- the function takes the columns
   typed : return_type f (map dtype ts) ≡ Some (dtype t)
   typed =

@@ -41,7 +41,8 @@ top_own (node ty n d ss) = omega arith
 
 -- ---- a slot taken out, and put back
 
-put_top : (d : Data) (i : ℕ) (c : Tree) (ss : Slots) → IsAbsentAt i ss → slots_top d (set_slot i c ss) ≡ slot_top (meets (slot_target d) c) (cost c) + slots_top d ss
+put_top : (d : Data) (i : ℕ) (c : Tree) (ss : Slots) → IsAbsentAt i ss → slots_top d (set_slot i c ss) ≡ slot_top (meets (slot_target d) c)
+    (cost c) + slots_top d ss
 put_top d i c no_slots h = absurd h
 put_top d zero c (absent ss) h = refl
 put_top d zero c (slot s ss) h = absurd h

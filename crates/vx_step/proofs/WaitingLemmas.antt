@@ -34,12 +34,14 @@ columns_add (None ∷ xs) s h k = absurd h
 columns_add (Some u ∷ xs) s h k = (h.0, columns_add xs s h.1 k)
 
 -- one slot more that doesn't wait
-pub settled_more : (all xs : List (Option Tree)) (i : ℕ) (s : Option Tree) → all_present (shapes (slots_of all)) ≡ true → i < length all → s ≡ get_or all i s → AreColumns (slots_of xs) → waits s ≡ false → AreColumns (slots_of (xs ++ s ∷ []))
+pub settled_more : (all xs : List (Option Tree)) (i : ℕ) (s : Option Tree) → all_present (shapes (slots_of all)) ≡ true → i < length all → s ≡ get_or all i s
+    → AreColumns (slots_of xs) → waits s ≡ false → AreColumns (slots_of (xs ++ s ∷ []))
 settled_more all xs i s h lt e cols w =
     columns_add xs s cols (holds s (ap is_present e ∙ present_at all i s h lt) w)
 
 -- and one that does
-pub waits_at : (xs : List (Option Tree)) (i : ℕ) (d : Option Tree) → i < length xs → AreColumns (slots_of (take i xs)) → waits (get_or xs i d) ≡ true → AwaitsAt Columnar i (slots_of xs)
+pub waits_at : (xs : List (Option Tree)) (i : ℕ) (d : Option Tree) → i < length xs → AreColumns (slots_of (take i xs)) → waits (get_or xs i d) ≡ true
+    → AwaitsAt Columnar i (slots_of xs)
 waits_at [] i d k cols h = absurd (omega arith)
 waits_at (None ∷ xs) zero d k cols h = absurd (cc)
 waits_at (None ∷ xs) (suc i) d k cols h = absurd cols
@@ -53,6 +55,7 @@ holds_at (Some t ∷ xs) zero d h k = h.0
 holds_at (Some t ∷ xs) (suc i) d h k = holds_at xs i d h.1 (omega arith)
 
 -- the columns of the slots, one more
-pub columns_more : (xs : List (Option Tree)) (s : Option Tree) (ts us : List Tree) → filled_slots ts ≡ slots_of xs → HoldsColumn s → us ≡ ts ++ trees_of s → filled_slots us ≡ slots_of (xs ++ s ∷ [])
+pub columns_more : (xs : List (Option Tree)) (s : Option Tree) (ts us : List Tree) → filled_slots ts ≡ slots_of xs → HoldsColumn s → us ≡ ts ++ trees_of s
+    → filled_slots us ≡ slots_of (xs ++ s ∷ [])
 columns_more xs None ts us h k e = absurd k
 columns_more xs (Some t) ts us h k e = ap filled_slots e ∙ sym (filled_more ts t xs (sym h))

@@ -20,5 +20,6 @@ returns-clause-limit g c = λ l e.
       sym same ∙ c.loop-ctx.invariant.kept ∙ ap (λ (b : Budget). b.limit) c.ctx.view_is,
       omega (arith, c.loop-ctx-test.false),
       omega (arith, c.loop-ctx-test.false),
-      subst (λ n. GoesOn g.M.Matcher.fits c.args.array n) told (goes_on g.M.Matcher.fits c.args.array c.loop-ctx.frames.items c.loop-ctx.current c.loop-ctx.ctx-inside.turns loop),
+      subst (λ n. GoesOn g.M.Matcher.fits c.args.array n) told
+          (goes_on g.M.Matcher.fits c.args.array c.loop-ctx.frames.items c.loop-ctx.current c.loop-ctx.ctx-inside.turns loop),
     )

@@ -6,11 +6,13 @@ use Rattle.vx_exec.proofs.turn.advance.Goals as goal
 
 pub take_slot-requires : goal.take_slot-requires
 take_slot-requires g c =
-    awaited_present c.in-Ok-ExecuteSlot.slot c.args.current (subst (λ s. IsStep c.args.current s) c.in-Ok-ExecuteSlot.field-0-is c.in-Ok-ExecuteSlot.ensures.ok).0
+    awaited_present c.in-Ok-ExecuteSlot.slot c.args.current
+        (subst (λ s. IsStep c.args.current s) c.in-Ok-ExecuteSlot.field-0-is c.in-Ok-ExecuteSlot.ensures.ok).0
 
 pub returns-in-Ok-Done-clause-ok : goal.returns-in-Ok-Done-clause-ok
 returns-in-Ok-Done-clause-ok g c =
-    move_done g.M.Matcher.fits c.args.frames.now.items c.args.current c.in-Ok-Done.next c.requires.open c.requires.frames (subst (λ s. IsStep c.args.current s) c.in-Ok-Done.field-0-is c.in-Ok-Done.ensures.ok)
+    move_done g.M.Matcher.fits c.args.frames.now.items c.args.current c.in-Ok-Done.next c.requires.open c.requires.frames
+        (subst (λ s. IsStep c.args.current s) c.in-Ok-Done.field-0-is c.in-Ok-Done.ensures.ok)
 
 pub returns-in_ok-push-in-Ok-ExecuteSlot-clause-ok : goal.returns-in_ok-push-in-Ok-ExecuteSlot-clause-ok
 returns-in_ok-push-in-Ok-ExecuteSlot-clause-ok g c =

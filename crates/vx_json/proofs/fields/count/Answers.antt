@@ -1,6 +1,6 @@
 use Rattle.std.proofs.Common.{◌∙◌, sym}
 use Rattle.serde_json.specs.View.{view}
-use Rattle.vx_json.proofs.Lookups.{member_count-object}
+use Rattle.vx_json.proofs.SpelledLemmas.{member_count-object}
 use Rattle.vx_json.proofs.fields.count.Goals as goal
 
 pub returns-in-Some : goal.returns-in-Some

@@ -12,7 +12,8 @@ decreases-trees_of l = 2 * items_depth (items_view l.list.now.items) + 2
 
 -- the trees so far, and then those of the values that are left
 abbrev pub invariant-trees_of-loop-value : goal.invariant-trees_of-loop-value
-invariant-trees_of-loop-value l = trees_spelled (items_view l.list.items) ≡ option_map (λ ts. l.trees.items ++ ts) (trees_spelled (items_view (drop l.value-index l.list.items)))
+invariant-trees_of-loop-value l = trees_spelled (items_view l.list.items) ≡ option_map (λ ts. l.trees.items ++ ts)
+    (trees_spelled (items_view (drop l.value-index l.list.items)))
 
 abbrev pub decreases-children : goal.decreases-children
 decreases-children l = 2 * depth (view l.value.now)

@@ -11,15 +11,18 @@ pub piece_read : (items room part : List ℕ) (at count : ℕ) → at + count �
     → drop at items ≡ take count (part ++ drop count room) ++ drop (at + count) items
 piece_read items room part at count h e =
     let l : length part ≡ count = rw e (simp (length-take, length-drop) (omega arith)) in
-    rw (take_at part (drop count room) count l, e) (sym (take-append-drop count (drop at items)) ∙ ap (λ l. take count (drop at items) ++ l) (drop-drop count at items))
+    rw (take_at part (drop count room) count l, e)
+        (sym (take-append-drop count (drop at items)) ∙ ap (λ l. take count (drop at items) ++ l) (drop-drop count at items))
 
 -- some bytes that were taken, and then the first k of a piece, are k more
-pub takes_more : (a b c : Option (List ℕ)) (bs piece : List ℕ) (k : ℕ) → Consumes a b bs → Consumes b c (take k piece) → k ≤ length piece → TakesSome a c (length bs + k)
+pub takes_more : (a b c : Option (List ℕ)) (bs piece : List ℕ) (k : ℕ) → Consumes a b bs → Consumes b c (take k piece) → k ≤ length piece
+    → TakesSome a c (length bs + k)
 takes_more a b c bs piece k p q h =
     (bs ++ take k piece, Consumes-trans a b c bs (take k piece) p q, simp (length-append, length-take) (omega arith))
 
 -- a prefix that was appended, and a prefix of the rest
-pub appends_more : (a b c : Option (List ℕ)) (bs : List ℕ) (k n : ℕ) → Appends a b (take k bs) → Appends b c (take n (drop k bs)) → Appends a c (take (k + n) bs)
+pub appends_more : (a b c : Option (List ℕ)) (bs : List ℕ) (k n : ℕ) → Appends a b (take k bs) → Appends b c (take n (drop k bs))
+    → Appends a c (take (k + n) bs)
 appends_more a b c bs k n p q = rw (take-add k n bs) (Appends-trans a b c _ _ p q)
 
 -- a source that was taken whole stands at its end

@@ -25,7 +25,8 @@ member_count-object (object ms) es p =
 member_count-object _ es p = absurd (cc)
 
 -- what stands under a key is less deep than the whole
-less_by : (o : Ordering) (d e : Data) (found : Option Data) (n : ℕ) → (found ≡ Some e → depth e ≤ n) → match_ordering o found (Some d) found ≡ Some e → depth e ≤ max (depth d) n
+less_by : (o : Ordering) (d e : Data) (found : Option Data) (n : ℕ) → (found ≡ Some e → depth e ≤ n) → match_ordering o found (Some d) found ≡ Some e
+    → depth e ≤ max (depth d) n
 less_by Less d e found n h p = omega (arith, h p)
 less_by Equal d e found n h p = let same : d ≡ e = cc in omega (arith, ap depth same)
 less_by Greater d e found n h p = omega (arith, h p)
@@ -81,7 +82,8 @@ trees_under-get : (k : List ℕ) (ms : Members) → trees_under k ms ≡ option_
 trees_under-get k no_members = refl
 trees_under-get k (member l d ms) = trees_by (slice_cmp nat_cmp k l) d (trees_under k ms) (get_member k ms) (trees_under-get k ms)
 
-node_by : (ms : Members) (enc : Option (List ℕ)) → option_and_then (node_of (object ms) (λ k. tree_under k ms) (λ k. trees_under k ms)) enc ≡ tree_by (object ms) enc
+node_by : (ms : Members) (enc : Option (List ℕ)) → option_and_then (node_of (object ms) (λ k. tree_under k ms) (λ k. trees_under k ms)) enc ≡ tree_by
+    (object ms) enc
 node_by ms None = refl
 node_by ms (Some enc) = λ i. node_of (object ms) (λ k. tree_under-get k ms i) (λ k. trees_under-get k ms i) enc
 
