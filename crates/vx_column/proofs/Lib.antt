@@ -1,7 +1,3 @@
-pub mod ColumnSteps
-pub mod Combining
-pub mod Operating
+pub mod AppliedLemmas
+pub mod ComputedLemmas
 pub mod Probing
-pub mod Reading
-pub mod Repeats
-pub mod Rowwise
