@@ -6,7 +6,7 @@ use Rattle.vx_value.specs.declared.error.VortexError.TheVariants.{InvalidArgumen
 use Rattle.vx_value.specs.declared.error.ArgKind.TheVariants.{ChildLen, NoChildren, NoRow}
 use Rattle.vx_fn.specs.ReturnTypes.{return_type}
 use Rattle.vx_fn.specs.declared.function.ScalarFnRef.{ScalarFnRef}
-use Rattle.vx_tree.specs.Tree.{Tree, node, function, filled_slots, dtype, len}
+use Rattle.vx_tree.specs.Tree.{Tree, dtype, len, call_of}
 use Rattle.vx_tree.specs.Refusals.{first_of_both, unless, arity_refusal}
 
 -- each has so many rows
@@ -22,7 +22,8 @@ row_refusal (Some ty) = None
 -- for so many rows
 abbrev pub call_refusal : ScalarFnRef → List Tree → ℕ → Option VortexError
 call_refusal f ts n =
-    first_of_both (arity_refusal f (length ts)) (first_of_both (unless (all_of_len n ts) (InvalidArgument ChildLen)) (row_refusal (return_type f (map dtype ts))))
+    first_of_both (arity_refusal f (length ts))
+    (first_of_both (unless (all_of_len n ts) (InvalidArgument ChildLen)) (row_refusal (return_type f (map dtype ts))))
 
 -- for as many rows as the first argument has
 abbrev pub inferred_refusal : ScalarFnRef → List Tree → Option VortexError
@@ -31,7 +32,7 @@ inferred_refusal f (t ∷ ts) = call_refusal f (t ∷ ts) (len t)
 
 -- the node, None where the function takes no such arguments
 abbrev pub called : ScalarFnRef → List Tree → ℕ → Option Tree
-called f ts n = option_map (λ ty. node ty n (function f) (filled_slots ts)) (return_type f (map dtype ts))
+called f ts n = option_map (λ ty. call_of f ty n ts) (return_type f (map dtype ts))
 
 -- the node with the first argument's length
 abbrev pub inferred : ScalarFnRef → List Tree → Option Tree

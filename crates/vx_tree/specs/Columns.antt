@@ -1,12 +1,37 @@
--- The tree that a column of the program stands for.
-use Rattle.std.specs.Prelude.{[], Option, Some, None}
+-- What a column is, and the tree that a column of the program stands for.
+use Rattle.std.specs.Prelude.{◌≡◌, ◌⊎◌, ◌≤◌, ℕ, List, [], length, replicate, Option, Some, None, true}
 use Rattle.vx_value.specs.Types as type
 use Rattle.vx_value.specs.Types.{DataType}
-use Rattle.vx_tree.specs.Tree.{Tree, node, bool, primitive, absent, no_slots}
+use Rattle.vx_value.specs.Values.{Value}
+use Rattle.vx_value.specs.Cell.{Cell, value}
+use Rattle.vx_value.specs.declared.id.Id.{Id}
+use Rattle.vx_value.specs.declared.id.Id.TheVariants as id
+use Rattle.vx_tree.specs.Tree as enc
+use Rattle.vx_tree.specs.Tree.{Tree, column, dtype, datum, id_of, is_canonical}
+use Rattle.vx_tree.specs.Cells.{rows, HasNoFault, IsClean}
+use Rattle.vx_tree.specs.Cost.{cost}
 use Rattle.vx_tree.specs.declared.canonical.Canonical.{Canonical}
 use Rattle.vx_tree.specs.declared.canonical.Canonical.TheVariants.{Bool, Primitive}
 use Rattle.vx_tree.specs.declared.columnar.Columnar.{Columnar}
-use Rattle.vx_tree.specs.declared.columnar.Columnar.TheVariants as column
+use Rattle.vx_tree.specs.declared.columnar.Columnar.TheVariants as columnar
+
+-- the canonical encoding of a type
+abbrev pub canonical_id : DataType → Id
+canonical_id (type.bool n) = id.Bool
+canonical_id (type.primitive p n) = id.Primitive
+
+-- a column of these cells may have the encoding i: the type's canonical one, or constant if all rows are one value
+abbrev pub IsLawful : Id → DataType → List Cell → Type 0
+IsLawful i ty cells = (i ≡ canonical_id ty) ⊎ ((i ≡ id.Constant) × (v : Value) × (cells ≡ replicate (length cells) (value v)))
+
+-- what every column is: no row is a fault, and no row of a tree in it; its encoding is lawful; and at most one turn is left, or
+-- two for a constant
+pub record IsColumn (t : Tree) : Type 0 where
+  pub whole : HasNoFault (rows t)
+  pub clean : IsClean t
+  pub lawful : IsLawful (id_of (datum t)) (dtype t) (rows t)
+  pub settled : cost t ≤ 2
+  pub canonical_settled : is_canonical (datum t) ≡ true → cost t ≡ 1
 
 abbrev pub canonical_tree : Canonical → Tree
 canonical_tree (Bool t) = t
@@ -22,10 +47,10 @@ primitive_column (Primitive t) = Some t
 primitive_column _ = None
 
 abbrev pub columnar_tree : Columnar → Tree
-columnar_tree (column.Canonical c) = canonical_tree c
-columnar_tree (column.Constant t) = t
+columnar_tree (columnar.Canonical c) = canonical_tree c
+columnar_tree (columnar.Constant t) = t
 
 -- the column of a type without rows
 abbrev pub empty_of : DataType → Tree
-empty_of (type.bool n) = node (type.bool n) 0 (bool []) (absent no_slots)
-empty_of (type.primitive p n) = node (type.primitive p n) 0 (primitive p []) (absent no_slots)
+empty_of (type.bool n) = column (type.bool n) 0 (enc.bool []) None
+empty_of (type.primitive p n) = column (type.primitive p n) 0 (enc.primitive p []) None

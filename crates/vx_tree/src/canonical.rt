@@ -35,7 +35,7 @@ impl Clone for Canonical {
 
 impl Canonical {
     /// Makes the column of type `dtype` without rows. `InvalidArgument` with `BadType` exactly if `dtype` is nullable.
-    #[tactic(auto, using(crate::proofs::Kinding::zero_in_range, crate::proofs::Kinding::only_nullable))]
+    #[tactic(auto, using(crate::proofs::ColumnsLemmas::zero_in_range, crate::proofs::ColumnsLemmas::only_nullable))]
     pub fn empty(alloc: Global, dtype: &DType) -> VortexResult<Canonical>
         ensures ok { IfOk result (λ c. canonical_tree c ≡ empty_of (type_of dtype.now)) }
         ensures valid { OnOk result (nullability_of (type_of dtype.now) ≡ NonNullable) }
@@ -74,7 +74,7 @@ impl Canonical {
     }
 
     /// Returns the reference of the column. (own)
-    #[tactic(auto, using(crate::proofs::Kinding::bool_canonical, crate::proofs::Kinding::primitive_canonical))]
+    #[tactic(auto, using(crate::proofs::ColumnsLemmas::bool_canonical, crate::proofs::ColumnsLemmas::primitive_canonical))]
     pub fn as_array(&self) -> &ArrayRef
         ensures of { result.now ≡ canonical_tree self.now }
         ensures canonical { is_canonical (datum (canonical_tree self.now)) ≡ true }

@@ -4,7 +4,7 @@ ghost use Rattle.std.specs.Prelude.{◌≡◌, ◌⊎◌, ◌==◌, true, is_ok,
 ghost use Rattle.vx_value.specs.Types.{nullability_of};
 ghost use Rattle.vx_value.specs.declared.dtype.Nullability.TheVariants.{NonNullable};
 ghost use Rattle.vx_value.specs.View.{type_of};
-ghost use Rattle.vx_tree.specs.Tree.{Tree, dtype, len, datum, is_columnar, node, constant, no_slots};
+ghost use Rattle.vx_tree.specs.Tree.{Tree, dtype, len, datum, is_columnar, constant_of};
 ghost use Rattle.vx_tree.specs.Columns.{columnar_tree};
 
 use crate::array::{ArrayRef, IntoArray};
@@ -34,7 +34,7 @@ impl Clone for Columnar {
 impl Columnar {
     /// Makes the constant of `len` rows, each `scalar`. `InvalidArgument` with `BadType` exactly if its type is nullable.
     pub fn constant(alloc: Global, scalar: Scalar, len: usize) -> VortexResult<Columnar>
-        ensures ok { IfOk result (λ c. columnar_tree c ≡ node scalar.of_type len (constant scalar) no_slots) }
+        ensures ok { IfOk result (λ c. columnar_tree c ≡ constant_of scalar len) }
         ensures valid { OnOk result (nullability_of scalar.of_type ≡ NonNullable) }
         ensures refused { IfErr result (λ e. (e ≡ VortexError.OutOfMemory)
             ⊎ ((e ≡ VortexError.InvalidArgument ArgKind.BadType) × (¬ (nullability_of scalar.of_type ≡ NonNullable)))) }
@@ -58,7 +58,7 @@ impl Columnar {
     }
 
     /// Returns the reference of the column. (own)
-    #[tactic(auto, using(crate::proofs::Kinding::canonical_columnar, crate::proofs::Kinding::constant_columnar))]
+    #[tactic(auto, using(crate::proofs::ColumnsLemmas::canonical_columnar, crate::proofs::ColumnsLemmas::constant_columnar))]
     pub fn as_array(&self) -> &ArrayRef
         ensures of { result.now ≡ columnar_tree self.now }
         ensures columnar { is_columnar (datum (columnar_tree self.now)) ≡ true }

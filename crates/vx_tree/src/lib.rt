@@ -7,6 +7,7 @@ mod canonical;
 mod columnar;
 mod laws;
 mod matcher;
+mod slicing;
 
 pub use array::{
     Array, ArrayId, ArrayKind, ArrayParts, ArrayRef, ArraySlots, ArrayVTable, ArrayView, Encoded,
@@ -21,5 +22,6 @@ pub use arrays::slice::{Slice, SliceArray, SliceData, SliceDataParts};
 pub use arrays::values::{PrimitiveValues, native_of};
 pub use canonical::Canonical;
 pub use columnar::Columnar;
-pub use laws::{execution_bounds, keeping_laws, refused_exactly};
+pub use laws::{column_laws, execution_bounds, keeping_laws, refused_exactly};
 pub use matcher::{AnyArray, AnyCanonical, AnyColumnar, AnyScalarFn, Matcher};
+pub use slicing::slice_canonical;

@@ -126,7 +126,7 @@ fn know_slot(slot: &Option<ArrayRef>)
 }
 
 /// States that each child is well formed.
-#[tactic(auto, using(crate::proofs::Opening::well_append))]
+#[tactic(auto, using(crate::proofs::SlotsLemmas::well_append))]
 pub(crate) fn know_well(slots: &[Option<ArrayRef>])
     ensures { AreWell (slots_of slots.now) }
 {

@@ -1,11 +1,11 @@
 //! Boolean columns.
 
-ghost use Rattle.std.specs.Prelude.{◌≡◌, ◌⊎◌, length, IfOk, IfErr, OnOk, true, refl};
+ghost use Rattle.std.specs.Prelude.{◌≡◌, ◌⊎◌, IfOk, IfErr, OnOk, true, refl};
 ghost use Rattle.vx_value.specs.View.{type_of};
 ghost use Rattle.vx_value.specs.Types as type;
 ghost use Rattle.vx_value.specs.declared.dtype.Nullability.TheVariants.{NonNullable};
 ghost use Rattle.vx_value.specs.declared.id.Id.TheVariants as id;
-ghost use Rattle.vx_tree.specs.Tree.{bool, is_bool, node, absent, no_slots};
+ghost use Rattle.vx_tree.specs.Tree.{bool, is_bool, booleans};
 
 use crate::array::{Array, ArrayId, ArrayParts, ArrayRef, Encoded, Encoding, VTable};
 use crate::arrays::column::check_column;
@@ -97,7 +97,7 @@ impl VTable for Bool {
 impl BoolArray {
     /// Makes the column of `bits`. `InvalidArgument` with `BadType` exactly if `dtype` isn't the non-nullable `bool`.
     pub fn try_new(alloc: Global, dtype: DType, bits: BitBuffer) -> VortexResult<BoolArray>
-        ensures ok { IfOk result (λ a. a ≡ node (type.bool NonNullable) (length bits) (bool bits) (absent no_slots)) }
+        ensures ok { IfOk result (λ a. a ≡ booleans bits) }
         ensures valid { OnOk result (type_of dtype ≡ type.bool NonNullable) }
         ensures refused { IfErr result (λ e. (e ≡ VortexError.OutOfMemory)
             ⊎ ((e ≡ VortexError.InvalidArgument ArgKind.BadType) × (¬ (type_of dtype ≡ type.bool NonNullable)))) }

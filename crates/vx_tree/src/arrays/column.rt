@@ -10,7 +10,7 @@ use crate::array::ArrayRef;
 use vx_value::{ArgKind, DType, VortexError, VortexResult};
 
 /// Checks that a node of type `dtype` and length `len` with these slots is a column of `values` values of type `of_type`.
-#[tactic(auto, using(crate::proofs::Refusing::column_slot_count, crate::proofs::Refusing::the_slot))]
+#[tactic(auto, using(crate::proofs::RefusalsLemmas::column_slot_count, crate::proofs::RefusalsLemmas::the_slot))]
 pub(crate) fn check_column(
     dtype: &DType,
     len: usize,

@@ -4,7 +4,7 @@ ghost use Rattle.std.specs.Prelude.{◌≡◌, ◌⊎◌, IfOk, IfErr, OnOk, tru
 ghost use Rattle.vx_value.specs.Types.{nullability_of};
 ghost use Rattle.vx_value.specs.declared.dtype.Nullability.TheVariants.{NonNullable};
 ghost use Rattle.vx_value.specs.declared.id.Id.TheVariants as id;
-ghost use Rattle.vx_tree.specs.Tree.{constant, is_constant, node, no_slots};
+ghost use Rattle.vx_tree.specs.Tree.{constant, is_constant, constant_of};
 
 use crate::array::{Array, ArrayId, ArrayParts, ArrayRef, Encoded, Encoding, VTable};
 use std::alloc::{AllocError, Global};
@@ -87,7 +87,7 @@ impl VTable for Constant {
         Encoding::Constant(payload)
     }
 
-    #[tactic(auto, using(crate::proofs::Refusing::constant_slot_count, crate::proofs::Refusing::no_slot))]
+    #[tactic(auto, using(crate::proofs::RefusalsLemmas::constant_slot_count, crate::proofs::RefusalsLemmas::no_slot))]
     fn validate(
         &self,
         _alloc: Global,
@@ -113,9 +113,9 @@ impl VTable for Constant {
 
 impl ConstantArray {
     /// Makes the constant of `len` rows, each `scalar`. `InvalidArgument` with `BadType` exactly if its type is nullable.
-    #[tactic(auto, using(crate::proofs::Refusing::never_null, crate::proofs::Refusing::null_some))]
+    #[tactic(auto, using(crate::proofs::RefusalsLemmas::never_null, crate::proofs::RefusalsLemmas::null_some))]
     pub fn new(alloc: Global, scalar: Scalar, len: usize) -> VortexResult<ConstantArray>
-        ensures ok { IfOk result (λ a. a ≡ node scalar.of_type len (constant scalar) no_slots) }
+        ensures ok { IfOk result (λ a. a ≡ constant_of scalar len) }
         ensures valid { OnOk result (nullability_of scalar.of_type ≡ NonNullable) }
         ensures refused { IfErr result (λ e. (e ≡ VortexError.OutOfMemory)
             ⊎ ((e ≡ VortexError.InvalidArgument ArgKind.BadType) × (¬ (nullability_of scalar.of_type ≡ NonNullable)))) }

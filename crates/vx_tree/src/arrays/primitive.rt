@@ -1,12 +1,12 @@
 //! Integer columns.
 
-ghost use Rattle.std.specs.Prelude.{◌≡◌, ◌⊎◌, length, IfOk, IfErr, OnOk, true, refl};
+ghost use Rattle.std.specs.Prelude.{◌≡◌, ◌⊎◌, IfOk, IfErr, OnOk, true, refl};
 ghost use Rattle.vx_value.specs.View.{type_of};
 ghost use Rattle.vx_value.specs.Types as type;
 ghost use Rattle.vx_value.specs.declared.dtype.Nullability.TheVariants.{NonNullable};
 ghost use Rattle.vx_tree.specs.Natives.{values_of, ptype_of};
 ghost use Rattle.vx_value.specs.declared.id.Id.TheVariants as id;
-ghost use Rattle.vx_tree.specs.Tree.{primitive, is_primitive, node, absent, no_slots};
+ghost use Rattle.vx_tree.specs.Tree.{primitive, is_primitive, integers};
 
 use crate::array::{Array, ArrayId, ArrayParts, ArrayRef, Encoded, Encoding, VTable};
 use crate::arrays::column::check_column;
@@ -93,13 +93,13 @@ impl VTable for Primitive {
 impl PrimitiveArray {
     /// Makes the column of `values`. `InvalidArgument` with `BadType` exactly if `dtype` isn't the non-nullable type of the
     /// values.
-    #[tactic(auto, using(crate::proofs::Refusing::of_that_type, crate::proofs::Refusing::of_another_type, crate::proofs::Refusing::no_slots_there))]
+    #[tactic(auto, using(crate::proofs::RefusalsLemmas::of_that_type, crate::proofs::RefusalsLemmas::of_another_type, crate::proofs::RefusalsLemmas::no_slots_there))]
     pub fn try_new(
         alloc: Global,
         dtype: DType,
         values: PrimitiveValues,
     ) -> VortexResult<PrimitiveArray>
-        ensures ok { IfOk result (λ a. a ≡ node (type.primitive (ptype_of values) NonNullable) (length (values_of values)) (primitive (ptype_of values) (values_of values)) (absent no_slots)) }
+        ensures ok { IfOk result (λ a. a ≡ integers (ptype_of values) (values_of values)) }
         ensures valid { OnOk result (type_of dtype ≡ type.primitive (ptype_of values) NonNullable) }
         ensures refused { IfErr result (λ e. (e ≡ VortexError.OutOfMemory)
             ⊎ ((e ≡ VortexError.InvalidArgument ArgKind.BadType) × (¬ (type_of dtype ≡ type.primitive (ptype_of values) NonNullable)))) }

@@ -95,7 +95,7 @@ impl VTable for ScalarFn {
         Encoding::ScalarFn(payload)
     }
 
-    #[tactic(auto, using(crate::proofs::Ordering::first_refused, crate::proofs::Ordering::later_refused, crate::proofs::Ordering::none_refused))]
+    #[tactic(auto, using(crate::proofs::RefusalsLemmas::first_refused, crate::proofs::RefusalsLemmas::later_refused, crate::proofs::RefusalsLemmas::none_refused))]
     fn validate(
         &self,
         alloc: Global,
@@ -119,7 +119,7 @@ impl VTable for ScalarFn {
 }
 
 /// Checks that each slot has a tree and that `function` takes that many arguments.
-#[tactic(auto, using(crate::proofs::Calling::slots_missing, crate::proofs::Calling::slots_there, crate::proofs::Calling::count_slots))]
+#[tactic(auto, using(crate::proofs::RefusalsLemmas::slots_missing, crate::proofs::RefusalsLemmas::slots_there, crate::proofs::RefusalsLemmas::count_slots))]
 fn check_slots(function: &ScalarFnRef, slots: &[Option<ArrayRef>]) -> VortexResult<()>
     ensures valid { OnOk result (slots_refusal function.now (shapes (slots_of slots.now)) ≡ None) }
     ensures refused { IfErr result (λ e. slots_refusal function.now (shapes (slots_of slots.now)) ≡ Some e) }
@@ -221,7 +221,7 @@ fn push_type(types: &mut Vec<DType>, slot: &Option<ArrayRef>) -> Result<(), Allo
 }
 
 /// Checks that `tag` is the function's id, and that `function` gives `dtype` on arguments of the slots' types.
-#[tactic(auto, using(crate::proofs::Ordering::first_refused, crate::proofs::Ordering::later_refused, crate::proofs::Ordering::none_refused))]
+#[tactic(auto, using(crate::proofs::RefusalsLemmas::first_refused, crate::proofs::RefusalsLemmas::later_refused, crate::proofs::RefusalsLemmas::none_refused))]
 fn check_types(
     alloc: Global,
     tag: ArrayId,
@@ -256,7 +256,7 @@ fn check_result(function: &ScalarFnRef, dtype: &DType, types: &[DType]) -> Vorte
 }
 
 /// Puts each tree in a slot.
-#[tactic(auto, using(crate::proofs::Calling::filled_more))]
+#[tactic(auto, using(crate::proofs::CallsLemmas::filled_more))]
 fn fill_slots(alloc: Global, children: Vec<ArrayRef>) -> Result<Vec<Option<ArrayRef>>, AllocError>
     ensures { IfOk result (λ slots. slots_of slots.items ≡ filled_slots children.items) }
 {
@@ -292,7 +292,7 @@ impl ScalarFnArray {
     ///
     /// The first condition that fails gives the error: `InvalidArgument` with `Arity` if the function takes another number
     /// of arguments, `ChildLen` if a child doesn't have `len` rows, and `NoRow` if the function takes no such types.
-    #[tactic(auto, using(crate::proofs::Calling::call_count_refused, crate::proofs::Calling::call_lengths_refused, crate::proofs::Calling::call_row_refused, crate::proofs::Calling::call_taken, crate::proofs::Calling::call_made, crate::proofs::Calling::call_is_node))]
+    #[tactic(auto, using(crate::proofs::CallsLemmas::call_count_refused, crate::proofs::CallsLemmas::call_lengths_refused, crate::proofs::CallsLemmas::call_row_refused, crate::proofs::CallsLemmas::call_taken, crate::proofs::CallsLemmas::call_made, crate::proofs::CallsLemmas::call_is_node))]
     pub fn try_new_with_len(
         alloc: Global,
         scalar_fn: ScalarFnRef,

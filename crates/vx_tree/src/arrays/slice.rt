@@ -2,7 +2,7 @@
 
 ghost use Rattle.std.specs.Prelude.{◌≡◌, ◌⊎◌, ◌-◌, ◌≤◌, ◌==◌, IfOk, IfErr, OnOk, Some, None, true, refl};
 ghost use Rattle.vx_value.specs.declared.id.Id.TheVariants as id;
-ghost use Rattle.vx_tree.specs.Tree.{Tree, dtype, len, slice, is_slice, node, slot, no_slots};
+ghost use Rattle.vx_tree.specs.Tree.{Tree, len, slice, is_slice, slice_of};
 
 use crate::array::{Array, ArrayId, ArrayParts, ArrayRef, Encoded, Encoding, VTable};
 use std::alloc::{AllocError, Global};
@@ -114,7 +114,7 @@ impl VTable for Slice {
         Encoding::Slice(payload)
     }
 
-    #[tactic(auto, using(crate::proofs::Refusing::slice_slot_count, crate::proofs::Refusing::the_slot))]
+    #[tactic(auto, using(crate::proofs::RefusalsLemmas::slice_slot_count, crate::proofs::RefusalsLemmas::the_slot))]
     fn validate(
         &self,
         _alloc: Global,
@@ -156,10 +156,10 @@ fn check_range(start: usize, stop: usize, len: usize) -> VortexResult<()>
 
 impl SliceArray {
     /// Makes the lazy slice of `child` at `range`, which must be in order and in bounds.
-    #[tactic(auto, using(crate::proofs::Refusing::slice_is_node))]
+    #[tactic(auto, using(crate::proofs::RefusalsLemmas::slice_is_node))]
     pub fn new(alloc: Global, child: ArrayRef, range: Range<usize>) -> VortexResult<SliceArray>
         requires { (range.start ≤ range.end) × (range.end ≤ len child) }
-        ensures ok { IfOk result (λ a. a ≡ node (dtype child) (range.end - range.start) (slice range.start range.end) (slot child no_slots)) }
+        ensures ok { IfOk result (λ a. a ≡ slice_of range.start range.end child) }
         ensures err { IfErr result (λ e. e ≡ VortexError.OutOfMemory) }
     {
         let dtype = child.dtype().clone()?;
@@ -178,7 +178,7 @@ impl SliceArray {
 
     /// Makes the lazy slice of `child` at `range`. `OutOfBounds` exactly unless start <= end <= the child's length.
     pub fn try_new(alloc: Global, child: ArrayRef, range: Range<usize>) -> VortexResult<SliceArray>
-        ensures ok { IfOk result (λ a. a ≡ node (dtype child) (range.end - range.start) (slice range.start range.end) (slot child no_slots)) }
+        ensures ok { IfOk result (λ a. a ≡ slice_of range.start range.end child) }
         ensures valid { OnOk result ((range.start ≤ range.end) × (range.end ≤ len child)) }
         ensures refused { IfErr result (λ e. (e ≡ VortexError.OutOfMemory)
             ⊎ ((e ≡ VortexError.OutOfBounds range.start range.end (len child)) × (¬ ((range.start ≤ range.end) × (range.end ≤ len child))))) }

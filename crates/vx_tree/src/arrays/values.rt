@@ -54,7 +54,7 @@ fn shared<T: NativeInteger>(buffer: &Buffer<T>) -> Result<PrimitiveValues, Alloc
     Ok(T::wrap(buffer.clone()?))
 }
 
-#[tactic(auto, using(crate::proofs::Parts::map_part))]
+#[tactic(auto, using(crate::proofs::NativesLemmas::map_part))]
 fn part_of<T: NativeInteger>(
     buffer: &Buffer<T>,
     range: Range<usize>,

@@ -1,4 +1,4 @@
-use Rattle.vx_tree.proofs.Bounding.{cost_positive, function_cost, function_reach, column_cost, column_reach}
+use Rattle.vx_tree.proofs.CostLemmas.{cost_positive, function_cost, function_reach, column_cost, column_reach}
 use Rattle.vx_tree.proofs.laws.execution_bounds.Goals as goal
 
 pub returns-clause-positive : goal.returns-clause-positive

@@ -1,4 +1,4 @@
-use Rattle.vx_tree.proofs.Keeping.{keeps_trans, put_keeps, exactly_refl, exactly_trans, put_exactly}
+use Rattle.vx_tree.proofs.KeepsLemmas.{keeps_trans, put_keeps, exactly_refl, exactly_trans, put_exactly}
 use Rattle.vx_tree.proofs.laws.keeping_laws.Goals as goal
 
 pub returns-clause-reflexive : goal.returns-clause-reflexive

@@ -1,5 +1,5 @@
 use Rattle.vx_tree.specs.Tree.{id_of}
-use Rattle.vx_tree.proofs.Refusing.{node_unless_refused, refused_unless_node}
+use Rattle.vx_tree.proofs.RefusalsLemmas.{node_unless_refused, refused_unless_node}
 use Rattle.vx_tree.proofs.laws.refused_exactly.Goals as goal
 
 pub returns : goal.returns

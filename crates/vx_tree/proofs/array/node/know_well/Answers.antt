@@ -1,6 +1,6 @@
 use Rattle.std.proofs.Common.{take}
 use Rattle.std.proofs.lemmas.List.{take_more}
-use Rattle.vx_tree.proofs.Opening.{well_append}
+use Rattle.vx_tree.proofs.SlotsLemmas.{well_append}
 use Rattle.vx_tree.proofs.array.node.know_well.Goals as goal
 
 pub loop-slot-preserved : goal.loop-slot-preserved

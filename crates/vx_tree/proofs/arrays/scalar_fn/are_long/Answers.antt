@@ -1,7 +1,7 @@
 use Rattle.std.proofs.Common.{◌≡◌, rules, take, true, false, sym, ap, ◌∙◌}
 use Rattle.std.proofs.lemmas.List.{take_more}
 use Rattle.vx_tree.specs.Refusals.{is_long}
-use Rattle.vx_tree.proofs.Calling.{long_more, short_there}
+use Rattle.vx_tree.proofs.RefusalsLemmas.{long_more, short_there}
 use Rattle.vx_tree.proofs.arrays.scalar_fn.are_long.Goals as goal
 
 pub returns-then-not-has_length : goal.returns-then-not-has_length

@@ -1,7 +1,7 @@
 use Rattle.std.proofs.Common.{◌≡◌, rules, take, true, false, sym, ap, ◌∙◌}
 use Rattle.std.proofs.lemmas.List.{take_more}
 use Rattle.vx_tree.specs.Refusals.{is_present}
-use Rattle.vx_tree.proofs.Calling.{present_more, missing_there}
+use Rattle.vx_tree.proofs.RefusalsLemmas.{present_more, missing_there}
 use Rattle.vx_tree.proofs.arrays.scalar_fn.are_present.Goals as goal
 
 pub returns-then-not-is_present : goal.returns-then-not-is_present

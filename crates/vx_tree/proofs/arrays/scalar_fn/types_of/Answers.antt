@@ -1,7 +1,7 @@
 use Rattle.std.proofs.Common.{◌++◌, take, sym, ap, ◌∙◌}
 use Rattle.std.proofs.lemmas.List.{take_more}
 use Rattle.vx_tree.specs.Refusals.{type_in}
-use Rattle.vx_tree.proofs.Calling.{types_more}
+use Rattle.vx_tree.proofs.RefusalsLemmas.{types_more}
 use Rattle.vx_tree.proofs.arrays.scalar_fn.types_of.Goals as goal
 
 pub loop-slot-preserved : goal.loop-slot-preserved

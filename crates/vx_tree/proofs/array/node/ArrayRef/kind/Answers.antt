@@ -4,7 +4,7 @@ use Rattle.vx_tree.specs.Natives.{values_of, ptype_of}
 use Rattle.vx_tree.specs.declared.array.node.Node.{Node}
 use Rattle.vx_tree.specs.Well.{IsWell}
 use Rattle.vx_tree.specs.TreeView.{data_of, tree_of}
-use Rattle.vx_tree.proofs.Opened.{shown_slots, kind_constant, kind_slice, kind_function, kind_bool, kind_primitive}
+use Rattle.vx_tree.proofs.KindsLemmas.{shown_slots, kind_constant, kind_slice, kind_function, kind_bool, kind_primitive}
 use Rattle.vx_tree.proofs.array.node.ArrayRef.kind.Goals as goal
 
 pub returns-in-Constant : goal.returns-in-Constant

@@ -4,7 +4,7 @@ use Rattle.vx_fn.specs.ReturnTypes.{return_type}
 use Rattle.vx_tree.specs.Tree.{slots_of}
 use Rattle.vx_tree.specs.Well.{shapes}
 use Rattle.vx_tree.specs.Refusals.{arity_refusal, lengths_refusal, types_in}
-use Rattle.vx_tree.proofs.Calling.{call_lengths_refused, call_taken, call_made}
+use Rattle.vx_tree.proofs.CallsLemmas.{call_lengths_refused, call_taken, call_made}
 use Rattle.vx_tree.proofs.arrays.scalar_fn.ScalarFnArray.try_new_with_len.Goals as goal
 
 pub returns-in-Err-check_lengths-clause-refused : goal.returns-in-Err-check_lengths-clause-refused
@@ -12,7 +12,7 @@ returns-in-Err-check_lengths-clause-refused c =
     let ss = slots_of c.in_ok-slots.slots.items in
     let count : arity_refusal c.args.scalar_fn (length c.args.children.items) ≡ None = search rules in
     let long : lengths_refusal c.args.len (shapes ss) ≡ Some c.in-Err-check_lengths.e = search rules in
-    inr (call_lengths_refused c.args.scalar_fn c.args.children.items c.args.len ss c.in-Err-check_lengths.e c.in_ok-slots.ensures count long)
+    inr (call_lengths_refused c.args.scalar_fn c.args.children.items c.args.len ss c.in_ok-slots.ensures c.in-Err-check_lengths.e count long)
 
 pub returns-clause-ok : goal.returns-clause-ok
 returns-clause-ok c =
@@ -20,7 +20,7 @@ returns-clause-ok c =
     let tys = map type_of c.in_ok-types.types.items in
     let typed : tys ≡ types_in (shapes ss) = search rules in
     let row : return_type c.args.scalar_fn tys ≡ Some (type_of c.in-Ok-return_dtype.dtype) = search rules in
-    call_made c.args.scalar_fn c.args.children.items c.args.len ss tys c.in_ok-slots.ensures typed (type_of c.in-Ok-return_dtype.dtype) row ∙ ap Some (sym c.in_ok-from_parts_unchecked.ensures)
+    call_made c.args.scalar_fn c.args.children.items c.args.len ss c.in_ok-slots.ensures tys typed (type_of c.in-Ok-return_dtype.dtype) row ∙ ap Some (sym c.in_ok-from_parts_unchecked.ensures)
 
 pub returns-clause-valid : goal.returns-clause-valid
 returns-clause-valid c =
@@ -30,4 +30,4 @@ returns-clause-valid c =
     let long : lengths_refusal c.args.len (shapes ss) ≡ None = search rules in
     let typed : tys ≡ types_in (shapes ss) = search rules in
     let row : return_type c.args.scalar_fn tys ≡ Some (type_of c.in-Ok-return_dtype.dtype) = search rules in
-    call_taken c.args.scalar_fn c.args.children.items c.args.len ss tys c.in_ok-slots.ensures typed (type_of c.in-Ok-return_dtype.dtype) count long row
+    call_taken c.args.scalar_fn c.args.children.items c.args.len ss c.in_ok-slots.ensures tys typed (type_of c.in-Ok-return_dtype.dtype) count long row

@@ -1,14 +1,14 @@
--- A well-formed tree has a cell for each row.
-use Rattle.std.proofs.Common.{◌≡◌, ℕ, ◌-◌, ◌≤◌, List, [], ◌∷◌, length, take, drop, Option, Some, None, sym, ◌∙◌, subst, arith, length-drop}
+-- A well-formed tree has a cell for each row; and rows without a fault.
+use Rattle.std.proofs.Common.{◌≡◌, ℕ, zero, suc, ◌-◌, ◌≤◌, List, [], ◌∷◌, length, take, drop, slice_get, Option, Some, None, sym, ◌∙◌, subst, arith, length-drop}
 use Rattle.std.proofs.lemmas.List.{length-take, length-map, length-replicate}
 use Rattle.std.proofs.lemmas.List.FromFn.{length-map-range_with_len}
 use Rattle.vx_value.specs.Types.{DataType}
 use Rattle.vx_value.specs.Values.{boolean, integer}
 use Rattle.vx_tree.specs.Tree as enc
 use Rattle.vx_tree.specs.Tree.{Tree, Data, Slots, node, no_slots, absent, slot, len}
-use Rattle.vx_value.specs.Cell.{Cell, value}
+use Rattle.vx_value.specs.Cell.{Cell, value, fault}
 use Rattle.vx_fn.specs.Apply.{apply}
-use Rattle.vx_tree.specs.Cells.{row_at, rows, slots_rows, node_cells, cells_at}
+use Rattle.vx_tree.specs.Cells.{row_at, rows, slots_rows, node_cells, cells_at, HasNoFault}
 use Rattle.vx_tree.specs.Well.{Shape, shape, shapes, IsNode, IsWell, AreWell}
 
 -- of each slot that holds a tree, as many cells as it has rows
@@ -27,7 +27,8 @@ cut_counted : (a b m : ℕ) (cs : List Cell) → length cs ≡ m → a ≤ b →
 cut_counted a b m cs e h k = simp (length-take, length-drop) (omega arith)
 
 -- a line for each encoding
-node_counted : (ty : DataType) (n : ℕ) (d : Data) (css : List (List Cell)) (ss : List (Option Shape)) → IsNode ty n d ss → AreCounted css ss → length (node_cells ty n d css) ≡ n
+node_counted : (ty : DataType) (n : ℕ) (d : Data) (css : List (List Cell)) (ss : List (Option Shape)) →
+    IsNode ty n d ss → AreCounted css ss → length (node_cells ty n d css) ≡ n
 node_counted ty n (enc.constant v) css ss h k = length-replicate n (value v.value)
 node_counted ty n (enc.slice a b) css ss h k =
     cut_counted a b h.0 (cells_at css 0) (one_counted css ty h.0 (subst (AreCounted css) h.1 k)) h.2 h.3 ∙ sym h.4
@@ -43,3 +44,10 @@ mutual
   slots_counted no_slots w = tt
   slots_counted (absent ss) w = slots_counted ss w
   slots_counted (slot t ss) w = (rows_counted t w.0, slots_counted ss w.1)
+
+-- where there is no fault, no row is one
+pub no_fault_at : (cs : List Cell) (i : ℕ) → HasNoFault cs → slice_get cs i ≡ Some fault → ⊥
+no_fault_at [] i h e = absurd (cc)
+no_fault_at (value v ∷ cs) zero h e = absurd (cc)
+no_fault_at (value v ∷ cs) (suc i) h e = no_fault_at cs i h e
+no_fault_at (fault ∷ cs) i h e = h

@@ -4,10 +4,10 @@ use Rattle.std.specs.List.{range_with_len}
 use Rattle.vx_value.specs.Types.{DataType}
 use Rattle.vx_value.specs.Values.{Value, boolean, integer}
 use Rattle.vx_tree.specs.Tree as enc
-use Rattle.vx_tree.specs.Tree.{Tree, Data, Slots, node, no_slots, absent, slot}
+use Rattle.vx_tree.specs.Tree.{Tree, Data, Slots, node, no_slots, absent, slot, dtype, len}
 use Rattle.vx_value.specs.Cell.{Cell, value, fault}
 use Rattle.vx_fn.specs.Apply.{on_values, value_of}
-use Rattle.vx_tree.specs.Cells.{row_at, rows, slots_rows, node_cells, cells_at, AreClean, HasNoFault}
+use Rattle.vx_tree.specs.Cells.{row_at, rows, slots_rows, node_cells, cells_at, IsClean, AreClean, HasNoFault}
 use Rattle.vx_tree.specs.Slots.{set_slot, put}
 use Rattle.vx_tree.specs.Keeps.{CellKeeps, RowsKeep, Keeps, KeepsExactly}
 
@@ -111,7 +111,12 @@ keeps_refl t = record { same_type = refl; same_len = refl; same_rows = rows_refl
 
 pub keeps_trans : (t u v : Tree) → Keeps t u → Keeps u v → Keeps t v
 keeps_trans t u v p q =
-    record { same_type = p.same_type ∙ q.same_type; same_len = p.same_len ∙ q.same_len; same_rows = rows_trans _ _ _ p.same_rows q.same_rows; still_clean = λ h. q.still_clean (p.still_clean h) }
+    record {
+      same_type = p.same_type ∙ q.same_type;
+      same_len = p.same_len ∙ q.same_len;
+      same_rows = rows_trans _ _ _ p.same_rows q.same_rows;
+      still_clean = λ h. q.still_clean (p.still_clean h);
+    }
 
 all_refl : (ss : List (List Cell)) → AllKeep ss ss
 all_refl [] = tt
@@ -133,7 +138,8 @@ put_clean (suc i) t u (slot s ss) h c = (c.0, put_clean i t u ss h c.1)
 
 pub put_keeps : (i : ℕ) (t u p : Tree) → Keeps t u → Keeps (put i t p) (put i u p)
 put_keeps i t u (node ty n d ss) h =
-    let r : RowsKeep (node_cells ty n d (slots_rows (set_slot i t ss))) (node_cells ty n d (slots_rows (set_slot i u ss))) = node_mono ty n d _ _ (put_rows i t u ss h) in
+    let r : RowsKeep (node_cells ty n d (slots_rows (set_slot i t ss))) (node_cells ty n d (slots_rows (set_slot i u ss))) =
+    node_mono ty n d _ _ (put_rows i t u ss h) in
     record { same_type = refl; same_len = refl; same_rows = r; still_clean = λ c. (no_fault_kept _ _ r c.0, put_clean i t u ss h c.1) }
 
 equal_in_slots : (i : ℕ) (t u : Tree) (ss : Slots) → rows t ≡ rows u → slots_rows (set_slot i t ss) ≡ slots_rows (set_slot i u ss)
@@ -156,8 +162,16 @@ pub put_exactly : (i : ℕ) (t u p : Tree) → KeepsExactly t u → KeepsExactly
 put_exactly i t u p h = record { keeps = put_keeps i t u p h.keeps; equal = put_equal i t u p h.equal }
 
 -- columns of the same type, length and rows keep each other exactly
-pub exactly_of_rows : (ty : DataType) (n : ℕ) (d e : Data) (ss ts : Slots) → node_cells ty n d (slots_rows ss) ≡ node_cells ty n e (slots_rows ts) → (AreClean ss → AreClean ts) → KeepsExactly (node ty n d ss) (node ty n e ts)
+pub exactly_of_rows : (ty : DataType) (n : ℕ) (d e : Data) (ss ts : Slots) →
+    node_cells ty n d (slots_rows ss) ≡ node_cells ty n e (slots_rows ts) → (AreClean ss → AreClean ts) → KeepsExactly (node ty n d ss) (node ty n e ts)
 exactly_of_rows ty n d e ss ts r c = record {
   keeps = record { same_type = refl; same_len = refl; same_rows = rows_equal _ _ r; still_clean = λ h. (subst HasNoFault r h.0, c h.1) };
   equal = r;
+}
+
+-- a tree without faults stands exactly for each tree of its type, length and rows
+pub column_exactly : (t u : Tree) → dtype t ≡ dtype u → len t ≡ len u → rows t ≡ rows u → IsClean u → KeepsExactly t u
+column_exactly t u typed counted shown clean = record {
+  keeps = record { same_type = typed; same_len = counted; same_rows = rows_equal _ _ shown; still_clean = λ c. clean };
+  equal = shown;
 }

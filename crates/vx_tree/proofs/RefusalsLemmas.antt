@@ -1,0 +1,311 @@
+-- What is refused, and what isn't.
+use Rattle.std.proofs.Common.{◌≡◌, ◌≢◌, get_or, ℕ, suc, ◌-◌, ◌<◌, ◌≤◌, List, [], ◌∷◌, ◌++◌, length, map, Bool, true, false, nat_le, ◌&&◌, Option, Some, None, refl, sym, ◌∙◌, ap, subst, arith}
+use Rattle.std.proofs.lemmas.Bool.{and_from, leb-true, le-leb}
+use Rattle.std.proofs.lemmas.List.{length-map}
+use Rattle.std.proofs.lemmas.List.Recursion.{and_push, and_fails_at}
+use Rattle.std.specs.Cmp.{unsigned_Decides, first_so, second_so}
+use Rattle.std.specs.Prelude.{◌==◌}
+use Rattle.vx_value.specs.Types as type
+use Rattle.vx_value.specs.Types.{DataType, same_type, same_type_Decides, nullability_of, is_nullable, same_nullability_Decides}
+use Rattle.vx_value.specs.Typed.{Typed}
+use Rattle.vx_value.specs.declared.dtype.Nullability.{Nullability}
+use Rattle.vx_value.specs.declared.dtype.Nullability.TheVariants.{NonNullable, Nullable}
+use Rattle.vx_value.specs.declared.error.VortexError.{VortexError}
+use Rattle.vx_value.specs.declared.error.VortexError.TheVariants.{InvalidArgument}
+use Rattle.vx_value.specs.declared.error.ArgKind.TheVariants.{SlotCount, FnSlotMissing, NodeType}
+use Rattle.vx_value.specs.declared.id.Id.{Id}
+use Rattle.vx_value.specs.Ids.{same_id, same_id_Decides}
+use Rattle.vx_fn.specs.Functions.{arity, function_id}
+use Rattle.vx_fn.specs.ReturnTypes.{return_type}
+use Rattle.vx_fn.specs.declared.function.ScalarFnRef.{ScalarFnRef}
+use Rattle.vx_fn.specs.declared.function.ScalarFnRef.TheVariants.{Binary, Not}
+use Rattle.vx_tree.specs.Tree as enc
+use Rattle.vx_tree.specs.Tree.{Tree, Data, id_of, slots_of, dtype, len}
+use Rattle.vx_tree.specs.Well.{Shape, shape, shape_of, shapes, IsNode}
+use Rattle.vx_tree.specs.Refusals.{refusal, column_refusal, constant_refusal, slice_refusal, function_refusal, slots_refusal, types_refusal, lengths_refusal, result_refusal, arity_refusal, all_present, all_long, types_in, type_in, is_present, is_long, unless, first_of_both, no_validity}
+
+-- ---- the first of several refusals
+
+pub first_refused : (x y : Option VortexError) (e : VortexError) → x ≡ Some e → first_of_both x y ≡ Some e
+first_refused x y e h = ap (λ z. first_of_both z y) h
+
+pub later_refused : (x y : Option VortexError) (e : VortexError) → x ≡ None → y ≡ Some e → first_of_both x y ≡ Some e
+later_refused x y e h k = ap (λ z. first_of_both z y) h ∙ k
+
+pub none_refused : (x y : Option VortexError) → x ≡ None → y ≡ None → first_of_both x y ≡ None
+none_refused x y h k = ap (λ z. first_of_both z y) h ∙ k
+
+first_none : (x y : Option VortexError) → first_of_both x y ≡ None → x ≡ None
+first_none None y h = refl
+first_none (Some e) y h = absurd (cc)
+
+second_none : (x y : Option VortexError) → first_of_both x y ≡ None → y ≡ None
+second_none None y h = h
+second_none (Some e) y h = absurd (cc)
+
+pub unless_none : (b : Bool) (e : VortexError) → unless b e ≡ None → b ≡ true
+unless_none true e h = refl
+unless_none false e h = absurd (cc)
+
+none_unless : (b : Bool) (e : VortexError) → b ≡ true → unless b e ≡ None
+none_unless b e h = ap (λ x. unless x e) h
+
+absent_none : (s : Option Shape) → no_validity s ≡ None → s ≡ None
+absent_none None h = refl
+absent_none (Some s) h = absurd (cc)
+
+-- ---- the slots of a function's node
+
+-- a function takes as many arguments as its table says
+pub arity_of_row : (f : ScalarFnRef) (tys : List DataType) (ty : DataType) → return_type f tys ≡ Some ty → length tys ≡ arity f
+arity_of_row (Binary op) [] ty h = absurd (cc)
+arity_of_row (Binary op) (s ∷ []) ty h = absurd (cc)
+arity_of_row (Binary op) (s ∷ t ∷ []) ty h = refl
+arity_of_row (Binary op) (s ∷ t ∷ u ∷ tys) ty h = absurd (cc)
+arity_of_row Not [] ty h = absurd (cc)
+arity_of_row Not (s ∷ []) ty h = refl
+arity_of_row Not (s ∷ t ∷ tys) ty h = absurd (cc)
+
+-- those that all hold trees of n rows, by their types
+pub shapes_of_types : (n : ℕ) (ss : List (Option Shape)) → all_present ss ≡ true → all_long n ss ≡ true →
+    ss ≡ map (λ s. Some (shape s n)) (types_in ss)
+shapes_of_types n [] p q = refl
+shapes_of_types n (None ∷ ss) p q = absurd (cc)
+shapes_of_types n (Some (shape s m) ∷ ss) p q =
+    let same : m ≡ n = (unsigned_Decides m n).0 (first_so _ _ q) in
+    λ i. Some (shape s (same i)) ∷ shapes_of_types n ss p (second_so _ _ q) i
+
+pub present_types : (n : ℕ) (tys : List DataType) → all_present (map (λ s. Some (shape s n)) tys) ≡ true
+present_types n [] = refl
+present_types n (s ∷ tys) = present_types n tys
+
+pub long_types : (n : ℕ) (tys : List DataType) → all_long n (map (λ s. Some (shape s n)) tys) ≡ true
+long_types n [] = refl
+long_types n (s ∷ tys) = and_from (n == n) _ ((unsigned_Decides n n).1 refl) (long_types n tys)
+
+pub types_back : (n : ℕ) (tys : List DataType) → types_in (map (λ s. Some (shape s n)) tys) ≡ tys
+types_back n [] = refl
+types_back n (s ∷ tys) = ap (λ us. s ∷ us) (types_back n tys)
+
+result_none : (ty : DataType) (o : Option DataType) → result_refusal ty o ≡ None → o ≡ Some ty
+result_none ty None h = absurd (cc)
+result_none ty (Some s) h = ap Some (sym ((same_type_Decides ty s).0 (unless_none _ _ h)))
+
+-- one by one, as the code asks
+
+abbrev are_present : List (Option Tree) → Bool
+are_present xs = all_present (shapes (slots_of xs))
+
+abbrev are_long : ℕ → List (Option Tree) → Bool
+are_long n xs = all_long n (shapes (slots_of xs))
+
+present_step : (s : Option Tree) (xs : List (Option Tree)) → are_present (s ∷ xs) ≡ (is_present s && are_present xs)
+present_step None xs = refl
+present_step (Some t) xs = refl
+
+long_step : (n : ℕ) (s : Option Tree) (xs : List (Option Tree)) → are_long n (s ∷ xs) ≡ (is_long n s && are_long n xs)
+long_step n None xs = refl
+long_step n (Some t) xs = refl
+
+pub present_more : (xs : List (Option Tree)) (s : Option Tree) →
+    all_present (shapes (slots_of xs)) ≡ true → is_present s ≡ true → all_present (shapes (slots_of (xs ++ s ∷ []))) ≡ true
+present_more xs s h k = and_push are_present is_present refl present_step xs s ∙ and_from (are_present xs) (is_present s) h k
+
+pub missing_there : (xs : List (Option Tree)) (i : ℕ) (d : Option Tree) →
+    i < length xs → is_present (get_or xs i d) ≡ false → all_present (shapes (slots_of xs)) ≡ false
+missing_there = and_fails_at are_present is_present refl present_step
+
+pub long_more : (n : ℕ) (xs : List (Option Tree)) (s : Option Tree) →
+    all_long n (shapes (slots_of xs)) ≡ true → is_long n s ≡ true → all_long n (shapes (slots_of (xs ++ s ∷ []))) ≡ true
+long_more n xs s h k = and_push (are_long n) (is_long n) refl (long_step n) xs s ∙ and_from (are_long n xs) (is_long n s) h k
+
+pub short_there : (n : ℕ) (xs : List (Option Tree)) (i : ℕ) (d : Option Tree) →
+    i < length xs → is_long n (get_or xs i d) ≡ false → all_long n (shapes (slots_of xs)) ≡ false
+short_there n = and_fails_at (are_long n) (is_long n) refl (long_step n)
+
+pub types_more : (xs : List (Option Tree)) (s : Option Tree) →
+    types_in (shapes (slots_of (xs ++ s ∷ []))) ≡ types_in (shapes (slots_of xs)) ++ type_in s
+types_more [] None = refl
+types_more [] (Some t) = refl
+types_more (None ∷ xs) s = types_more xs s
+types_more (Some u ∷ xs) s = ap (λ us. dtype u ∷ us) (types_more xs s)
+
+pub slots_missing : (f : ScalarFnRef) (ss : List (Option Shape)) →
+    all_present ss ≡ false → slots_refusal f ss ≡ Some (InvalidArgument FnSlotMissing)
+slots_missing f ss h = ap (λ b. first_of_both (unless b (InvalidArgument FnSlotMissing)) (arity_refusal f (length ss))) h
+
+pub slots_there : (f : ScalarFnRef) (ss : List (Option Shape)) → all_present ss ≡ true → slots_refusal f ss ≡ arity_refusal f (length ss)
+slots_there f ss h = ap (λ b. first_of_both (unless b (InvalidArgument FnSlotMissing)) (arity_refusal f (length ss))) h
+
+pub count_slots : (xs : List (Option Tree)) → length (shapes (slots_of xs)) ≡ length xs
+count_slots [] = refl
+count_slots (None ∷ xs) = ap suc (count_slots xs)
+count_slots (Some t ∷ xs) = ap suc (count_slots xs)
+
+-- ---- the parts of a node that isn't refused meet its conditions
+
+column_kept : (ty : DataType) (n : ℕ) (of_type : DataType) (k : ℕ) (ss : List (Option Shape)) →
+    column_refusal ty n of_type k ss ≡ None → (ty ≡ of_type) × (n ≡ k) × (ss ≡ None ∷ [])
+column_kept ty n of_type k [] h = absurd (cc)
+column_kept ty n of_type k (s ∷ []) h =
+    let later = second_none _ _ h in
+    let typed : ty ≡ of_type = (same_type_Decides ty of_type).0 (unless_none _ _ (first_none _ _ h)) in
+    let counted : n ≡ k = (unsigned_Decides n k).0 (unless_none _ _ (second_none _ _ later)) in
+    (typed, counted, ap (λ z. z ∷ []) (absent_none s (first_none _ _ later)))
+column_kept ty n of_type k (s ∷ r ∷ ss) h = absurd (cc)
+
+constant_kept : (ty : DataType) (n : ℕ) (v : Typed) (ss : List (Option Shape)) →
+    constant_refusal ty v ss ≡ None → IsNode ty n (enc.constant v) ss
+constant_kept ty n v [] h =
+    let later = second_none _ _ h in
+    let typed : ty ≡ v.of_type = (same_type_Decides ty v.of_type).0 (unless_none _ _ (first_none _ _ h)) in
+    let never : nullability_of ty ≡ NonNullable = (same_nullability_Decides (nullability_of ty) NonNullable).0 (unless_none _ _ (first_none _ _ later)) in
+    (typed, never, unless_none _ _ (second_none _ _ later), refl)
+constant_kept ty n v (s ∷ ss) h = absurd (cc)
+
+slice_kept : (ty : DataType) (n a b : ℕ) (ss : List (Option Shape)) → slice_refusal ty n a b ss ≡ None → IsNode ty n (enc.slice a b) ss
+slice_kept ty n a b [] h = absurd (cc)
+slice_kept ty n a b (None ∷ []) h = absurd (cc)
+slice_kept ty n a b (Some (shape s m) ∷ []) h =
+    let later = second_none _ _ h in
+    let range = unless_none _ _ (second_none _ _ later) in
+    let same : ty ≡ s = (same_type_Decides ty s).0 (unless_none _ _ (first_none _ _ h)) in
+    let counted : n ≡ b - a = (unsigned_Decides n (b - a)).0 (unless_none _ _ (first_none _ _ later)) in
+    (m, ap (λ z. Some (shape z m) ∷ []) (sym same), leb-true a b (first_so _ _ range), leb-true b m (second_so _ _ range), counted)
+slice_kept ty n a b (None ∷ r ∷ ss) h = absurd (cc)
+slice_kept ty n a b (Some s ∷ r ∷ ss) h = absurd (cc)
+
+function_kept : (i : Id) (ty : DataType) (n : ℕ) (f : ScalarFnRef) (ss : List (Option Shape)) →
+    function_refusal i ty n f ss ≡ None → IsNode ty n (enc.function f) ss
+function_kept i ty n f ss h =
+    let later : first_of_both (types_refusal i ty f ss) (lengths_refusal n ss) ≡ None = second_none (slots_refusal f ss) _ h in
+    let slots : slots_refusal f ss ≡ None = first_none (slots_refusal f ss) (first_of_both (types_refusal i ty f ss) (lengths_refusal n ss)) h in
+    let types : types_refusal i ty f ss ≡ None = first_none (types_refusal i ty f ss) (lengths_refusal n ss) later in
+    let lengths : lengths_refusal n ss ≡ None = second_none (types_refusal i ty f ss) (lengths_refusal n ss) later in
+    let present : unless (all_present ss) (InvalidArgument FnSlotMissing) ≡ None = first_none _ (arity_refusal f (length ss)) slots in
+    let result : result_refusal ty (return_type f (types_in ss)) ≡ None =
+    second_none (unless (same_id i (function_id f)) (InvalidArgument NodeType)) _ types in
+    (types_in ss, shapes_of_types n ss (unless_none _ _ present) (unless_none _ _ lengths), result_none ty (return_type f (types_in ss)) result)
+
+pub node_unless_refused : (i : Id) (ty : DataType) (n : ℕ) (d : Data) (ss : List (Option Shape)) →
+    refusal i ty n d ss ≡ None → IsNode ty n d ss
+node_unless_refused i ty n (enc.constant v) ss h = constant_kept ty n v ss h
+node_unless_refused i ty n (enc.slice a b) ss h = slice_kept ty n a b ss h
+node_unless_refused i ty n (enc.function f) ss h = function_kept i ty n f ss h
+node_unless_refused i ty n (enc.bool bs) ss h = column_kept ty n (type.bool NonNullable) (length bs) ss h
+node_unless_refused i ty n (enc.primitive p zs) ss h = column_kept ty n (type.primitive p NonNullable) (length zs) ss h
+
+-- ---- and the parts that meet them aren't refused
+
+column_taken : (ty : DataType) (n : ℕ) (of_type : DataType) (k : ℕ) (ss : List (Option Shape)) →
+    (ty ≡ of_type) × (n ≡ k) × (ss ≡ None ∷ []) → column_refusal ty n of_type k ss ≡ None
+column_taken ty n of_type k ss h =
+    let typed = none_unless _ _ ((same_type_Decides ty of_type).1 h.0) in
+    let counted = none_unless _ _ ((unsigned_Decides n k).1 h.1) in
+    let e : column_refusal ty n of_type k (None ∷ []) ≡ None = none_refused _ _ typed (none_refused None _ refl counted) in
+    subst (λ l. column_refusal ty n of_type k l ≡ None) (sym h.2) e
+
+constant_taken : (ty : DataType) (n : ℕ) (v : Typed) (ss : List (Option Shape)) →
+    IsNode ty n (enc.constant v) ss → constant_refusal ty v ss ≡ None
+constant_taken ty n v ss h =
+    let typed = none_unless _ _ ((same_type_Decides ty v.of_type).1 h.0) in
+    let never = none_unless _ _ ((same_nullability_Decides (nullability_of ty) NonNullable).1 h.1) in
+    let e : constant_refusal ty v [] ≡ None = none_refused _ _ typed (none_refused _ _ never (none_unless _ _ h.2)) in
+    subst (λ l. constant_refusal ty v l ≡ None) (sym h.3) e
+
+slice_taken : (ty : DataType) (n a b : ℕ) (ss : List (Option Shape)) → IsNode ty n (enc.slice a b) ss → slice_refusal ty n a b ss ≡ None
+slice_taken ty n a b ss h =
+    let typed = none_unless _ _ ((same_type_Decides ty ty).1 refl) in
+    let counted = none_unless _ _ ((unsigned_Decides n (b - a)).1 h.4) in
+    let range : (nat_le a b && nat_le b h.0) ≡ true = and_from (nat_le a b) (nat_le b h.0) (le-leb a b h.2) (le-leb b h.0 h.3) in
+    let e : slice_refusal ty n a b (Some (shape ty h.0) ∷ []) ≡ None = none_refused _ _ typed (none_refused _ _ counted (none_unless _ _ range)) in
+    subst (λ l. slice_refusal ty n a b l ≡ None) (sym h.1) e
+
+function_taken : (ty : DataType) (n : ℕ) (f : ScalarFnRef) (ss : List (Option Shape)) →
+    IsNode ty n (enc.function f) ss → function_refusal (function_id f) ty n f ss ≡ None
+function_taken ty n f ss h =
+    let tys = h.0 in
+    let made = map (λ s. Some (shape s n)) tys in
+    let counted : length made ≡ arity f = length-map tys (λ s. Some (shape s n)) ∙ arity_of_row f tys ty h.2 in
+    let count : (length made == arity f) ≡ true = (unsigned_Decides (length made) (arity f)).1 counted in
+    let typed : return_type f (types_in made) ≡ Some ty = ap (return_type f) (types_back n tys) ∙ h.2 in
+    let result : result_refusal ty (return_type f (types_in made)) ≡ None =
+    ap (result_refusal ty) typed ∙ none_unless _ _ ((same_type_Decides ty ty).1 refl) in
+    let slots : slots_refusal f made ≡ None = none_refused _ _ (none_unless _ _ (present_types n tys)) (none_unless _ _ count) in
+    let named : unless (same_id (function_id f) (function_id f)) (InvalidArgument NodeType) ≡ None =
+    none_unless _ _ ((same_id_Decides (function_id f) (function_id f)).1 refl) in
+    let types : types_refusal (function_id f) ty f made ≡ None = none_refused _ _ named result in
+    let lengths : lengths_refusal n made ≡ None = none_unless _ _ (long_types n tys) in
+    let e : function_refusal (function_id f) ty n f made ≡ None =
+    none_refused (slots_refusal f made) _ slots (none_refused (types_refusal (function_id f) ty f made) _ types lengths) in
+    subst (λ l. function_refusal (function_id f) ty n f l ≡ None) (sym h.1) e
+
+pub refused_unless_node : (ty : DataType) (n : ℕ) (d : Data) (ss : List (Option Shape)) → IsNode ty n d ss → refusal (id_of d) ty n d ss ≡ None
+refused_unless_node ty n (enc.constant v) ss h = constant_taken ty n v ss h
+refused_unless_node ty n (enc.slice a b) ss h = slice_taken ty n a b ss h
+refused_unless_node ty n (enc.function f) ss h = function_taken ty n f ss h
+refused_unless_node ty n (enc.bool bs) ss h = column_taken ty n (type.bool NonNullable) (length bs) ss h
+refused_unless_node ty n (enc.primitive p zs) ss h = column_taken ty n (type.primitive p NonNullable) (length zs) ss h
+
+-- ---- what is asked of the slots, as the code asks
+
+pub slice_slot_count : (ty : DataType) (n a b : ℕ) (xs : List (Option Tree)) →
+    length xs ≢ 1 → slice_refusal ty n a b (shapes (slots_of xs)) ≡ Some (InvalidArgument SlotCount)
+slice_slot_count ty n a b [] h = refl
+slice_slot_count ty n a b (None ∷ []) h = absurd (h refl)
+slice_slot_count ty n a b (Some t ∷ []) h = absurd (h refl)
+slice_slot_count ty n a b (None ∷ None ∷ xs) h = refl
+slice_slot_count ty n a b (None ∷ Some u ∷ xs) h = refl
+slice_slot_count ty n a b (Some t ∷ None ∷ xs) h = refl
+slice_slot_count ty n a b (Some t ∷ Some u ∷ xs) h = refl
+
+pub column_slot_count : (ty : DataType) (n : ℕ) (of_type : DataType) (k : ℕ) (xs : List (Option Tree)) →
+    length xs ≢ 1 → column_refusal ty n of_type k (shapes (slots_of xs)) ≡ Some (InvalidArgument SlotCount)
+column_slot_count ty n of_type k [] h = refl
+column_slot_count ty n of_type k (None ∷ []) h = absurd (h refl)
+column_slot_count ty n of_type k (Some t ∷ []) h = absurd (h refl)
+column_slot_count ty n of_type k (None ∷ None ∷ xs) h = refl
+column_slot_count ty n of_type k (None ∷ Some u ∷ xs) h = refl
+column_slot_count ty n of_type k (Some t ∷ None ∷ xs) h = refl
+column_slot_count ty n of_type k (Some t ∷ Some u ∷ xs) h = refl
+
+pub constant_slot_count : (ty : DataType) (v : Typed) (xs : List (Option Tree)) →
+    length xs ≢ 0 → constant_refusal ty v (shapes (slots_of xs)) ≡ Some (InvalidArgument SlotCount)
+constant_slot_count ty v [] h = absurd (h refl)
+constant_slot_count ty v (None ∷ xs) h = refl
+constant_slot_count ty v (Some t ∷ xs) h = refl
+
+pub no_slot : (xs : List (Option Tree)) → length xs ≡ 0 → xs ≡ []
+no_slot [] h = refl
+no_slot (x ∷ xs) h = absurd (omega arith)
+
+pub the_slot : (xs : List (Option Tree)) (s : Option Tree) → length xs ≡ 1 → s ≡ get_or xs 0 s → xs ≡ s ∷ []
+the_slot [] s h e = absurd (omega arith)
+the_slot (r ∷ []) s h e = ap (λ z. z ∷ []) (cc)
+the_slot (r ∷ q ∷ xs) s h e = absurd (omega arith)
+
+pub no_slots_there : (xs : List (Option Tree)) → xs ≡ None ∷ [] → shapes (slots_of xs) ≡ None ∷ []
+no_slots_there xs h = ap (λ ys. shapes (slots_of ys)) h
+
+-- a type, as the code compares it
+pub of_that_type : (s t : DataType) → same_type s t ≡ true → s ≡ t
+of_that_type s t h = (same_type_Decides s t).0 h
+
+true_is_false : true ≡ false → ⊥
+true_is_false h = absurd (cc)
+
+pub of_another_type : (s t : DataType) → same_type s t ≡ false → ¬ (s ≡ t)
+of_another_type s t h e = true_is_false (sym ((same_type_Decides s t).1 e) ∙ h)
+
+-- ---- the parts that the constructors make
+
+pub slice_is_node : (t : Tree) (a b : ℕ) → a ≤ b → b ≤ len t → IsNode (dtype t) (b - a) (enc.slice a b) (Some (shape_of t) ∷ [])
+slice_is_node t a b h k = (len t, refl, h, k, refl)
+
+pub never_null : (n : Nullability) → is_nullable n ≡ false → n ≡ NonNullable
+never_null NonNullable h = refl
+never_null Nullable h = absurd (cc)
+
+pub null_some : (n : Nullability) → is_nullable n ≡ true → n ≡ NonNullable → ⊥
+null_some NonNullable h e = absurd (cc)
+null_some Nullable h e = absurd (cc)

@@ -1,0 +1,39 @@
+//! Ranges of canonical columns.
+
+ghost use Rattle.std.specs.Prelude.{◌≡◌, ◌≤◌, IfOk, IfErr};
+ghost use Rattle.vx_tree.specs.Tree.{len, slice_of};
+ghost use Rattle.vx_tree.specs.Keeps.{KeepsExactly};
+ghost use Rattle.vx_tree.specs.Columns.{canonical_tree};
+
+use crate::array::ArrayKind;
+use crate::arrays::boolean::BoolArray;
+use crate::arrays::primitive::PrimitiveArray;
+use crate::canonical::Canonical;
+use std::alloc::Global;
+use std::ops::Range;
+use vx_value::{VortexError, VortexResult};
+
+/// Returns the rows of `column` in `range`, which must be in order and in bounds, as a column that shares its storage. The
+/// only error is `OutOfMemory`. (own)
+pub fn slice_canonical(
+    alloc: Global,
+    column: &Canonical,
+    range: Range<usize>,
+) -> VortexResult<Canonical>
+    requires { (range.start ≤ range.end) × (range.end ≤ len (canonical_tree column.now)) }
+    ensures ok { IfOk result (λ c. KeepsExactly (slice_of range.start range.end (canonical_tree column.now)) (canonical_tree c)) }
+    ensures err { IfErr result (λ e. e ≡ VortexError.OutOfMemory) }
+{
+    let dtype = column.dtype().clone()?;
+    match column.as_array().kind() {
+        ArrayKind::Bool(bits) => {
+            let bits = bits.slice(range)?;
+            Ok(Canonical::Bool(BoolArray::try_new(alloc, dtype, bits)?))
+        }
+        ArrayKind::Primitive(values) => {
+            let values = values.slice(range)?;
+            Ok(Canonical::Primitive(PrimitiveArray::try_new(alloc, dtype, values)?))
+        }
+        _ => unreachable!(),
+    }
+}
