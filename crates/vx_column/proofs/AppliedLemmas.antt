@@ -1,5 +1,5 @@
 -- A function of columns, from what it gives on their rows.
-use Rattle.std.proofs.Common.{◌≡◌, inl, inr, ℕ, zero, suc, ◌<◌, List, [], ◌∷◌, length, map, get_or, Bool, true, false, ◌&&◌, Some, refl, sym, ◌∙◌, ap, subst, arith}
+use Rattle.std.proofs.Common.{◌≡◌, inl, inr, ℕ, zero, suc, ◌<◌, ◌+◌, List, [], ◌∷◌, length, map, get_or, replicate, Bool, true, false, ◌&&◌, Some, refl, sym, ◌∙◌, ap, subst, arith}
 use Rattle.std.specs.Prelude.{is_some, IsSome, nat_lt}
 use Rattle.std.specs.Cmp.{unsigned_Decides, first_so, second_so}
 use Rattle.std.specs.List.{AllZip, AllByRecursion, range_with_len}
@@ -12,15 +12,16 @@ use Rattle.vx_value.specs.declared.error.VortexError.{VortexError}
 use Rattle.vx_fn.specs.Apply.{apply}
 use Rattle.vx_fn.specs.ReturnTypes.{return_type}
 use Rattle.vx_fn.specs.declared.function.ScalarFnRef.{ScalarFnRef}
-use Rattle.vx_tree.specs.Tree.{Tree, Data, node, constant, filled_slots, dtype, len, datum, slots, is_constant, is_canonical, call_of}
+use Rattle.vx_tree.specs.Tree.{Tree, node, filled_slots, dtype, len, datum, slots, is_constant, constant_of, call_of}
 use Rattle.vx_tree.specs.Cells.{rows, row_at, slots_rows, HasNoFault, IsClean, AreClean}
 use Rattle.vx_tree.specs.Columns.{columnar_tree}
 use Rattle.vx_tree.specs.Keeps.{KeepsExactly}
 use Rattle.vx_tree.specs.Refusals.{all_long, types_in}
 use Rattle.vx_tree.specs.Calls.{all_of_len}
 use Rattle.vx_tree.specs.declared.columnar.Columnar.{Columnar}
-use Rattle.vx_tree.proofs.Calling.{filled_long, filled_types, long_types, types_back}
-use Rattle.vx_tree.proofs.Keeping.{rows_equal}
+use Rattle.vx_tree.proofs.CallsLemmas.{filled_long, filled_types}
+use Rattle.vx_tree.proofs.KeepsLemmas.{rows_equal}
+use Rattle.vx_tree.proofs.RefusalsLemmas.{long_types, types_back}
 use Rattle.vx_column.specs.Applied.{IsCall, IsApplied, IsUnapplied, all_constant, gives_constant, Repeats, types_of_scalars, cells_of_scalars}
 use Rattle.vx_column.specs.Arguments.{IsArgument, IsSized, type_of_argument, value_at, types_of, row_of}
 use Rattle.vx_column.specs.Computed.{IsResult, IsNoResult, cells_of}
@@ -119,11 +120,22 @@ arguments_sized f n xs args call h = by_lengths xs args h (call_lengths f (map c
     by_lengths (x ∷ xs) (a ∷ args) h l =
         (subst (λ m. IsSized m a) ((unsigned_Decides (len (columnar_tree x)) n).0 (first_so _ _ l)) h.0.sized, by_lengths xs args h.1 (second_so _ _ l))
 
--- which column is a constant
+-- a constant has the cells of f on the values
+pub constant_result : (f : ScalarFnRef) (tys : List DataType) (cells : List Cell) (n : ℕ) (s : Typed) (u : Tree) →
+    return_type f tys ≡ Some s.of_type → apply f s.of_type cells ≡ value s.value → u ≡ constant_of s n → IsResult f tys (λ _. cells) n u
+constant_result f tys cells n s u typed given new =
+    subst (λ x. IsResult f tys (λ _. cells) n x) (sym new) (record {
+      typed = typed;
+      counted = refl;
+      shown = copies 0 n (value s.value) ∙ ap (λ a. map (λ i. a) (range_with_len 0 n)) (sym given);
+      clean = tt;
+    })
+  where
+    copies : (m n : ℕ) (a : Cell) → replicate n a ≡ map (λ i. a) (range_with_len m n)
+    copies m zero a = refl
+    copies m (suc n) a = ap (λ l. a ∷ l) (copies (m + 1) n a)
 
-pub canonical_open : (d : Data) → is_canonical d ≡ true → is_constant d ≡ false
-canonical_open (constant v) h = absurd (cc)
-canonical_open _ h = refl
+-- which column is a constant
 
 pub all_repeat : (n : ℕ) (xs : List Columnar) (ss : List Typed) → 0 < n → AllZip Repeats xs ss → gives_constant (map columnar_tree xs) n ≡ true
 all_repeat n xs ss some h =
@@ -139,9 +151,6 @@ all_repeat n xs ss some h =
 neither : (a b : Bool) → b ≡ false → (a && b) ≡ false
 neither true b h = h
 neither false b h = refl
-
-pub none_without_rows : (ts : List Tree) → gives_constant ts 0 ≡ false
-none_without_rows ts = refl
 
 pub not_all_repeat : (n : ℕ) (xs : List Columnar) (i : ℕ) (d : Columnar) → i < length xs → is_constant (datum (columnar_tree (get_or xs i d))) ≡ false → gives_constant (map columnar_tree xs) n ≡ false
 not_all_repeat n xs i d lt h = neither (nat_lt 0 n) _ (one xs i d lt h)

@@ -10,7 +10,7 @@ ghost use Rattle.vx_fn.specs.declared.function.ScalarFnRef.TheVariants.{Binary, 
 ghost use Rattle.vx_tree.specs.Tree.{booleans};
 ghost use Rattle.vx_tree.specs.Columns.{canonical_tree};
 ghost use Rattle.vx_column.specs.Arguments.{types_of, IsSized};
-ghost use Rattle.vx_column.specs.Computed.{IsComputed, IsNotComputed};
+ghost use Rattle.vx_column.specs.Computed.{IsComputed};
 ghost use Rattle.vx_column.specs.declared.argument.Argument.TheVariants.{Bool};
 
 use crate::argument::Argument;
@@ -71,16 +71,16 @@ pub(crate) fn compare_bools(
     bool_column(alloc, bits)
 }
 
-/// Negates each row of `input`, which must be booleans. The only error is `OutOfMemory`.
+/// Negates each row of `input`, `len` booleans. The only error is `OutOfMemory`.
 pub(crate) fn negate(alloc: Global, input: Argument<'_>, len: usize) -> VortexResult<Canonical>
     requires input { IsSized len input }
     requires taken { IsSome (return_type Not (types_of (input ∷ []))) }
     ensures ok { IfOk result (λ c. IsComputed Not (input.entry ∷ []) len (canonical_tree c)) }
     ensures err { IfErr result (λ e. e ≡ VortexError.OutOfMemory) }
 {
-    let Argument::Bool(bits) = input else {
+    let Argument::Bool(input) = input else {
         unreachable!()
     };
-    let negated = BitBuffer::zip::<BitNotEq>(alloc, bits, BitOperand::Bit(true), len)?;
-    bool_column(alloc, negated)
+    let bits = BitBuffer::zip::<BitNotEq>(alloc, input, BitOperand::Bit(true), len)?;
+    bool_column(alloc, bits)
 }

@@ -19,7 +19,7 @@ pub fn constant_canonicalize(
     array: ArrayView<'_, Constant>,
 ) -> VortexResult<Canonical>
     requires payload { constant array.payload.now.scalar ≡ datum array.array.now }
-    ensures ok { IfOk result (λ c. KeepsExactly array.array.now (canonical_tree c)) }
+    ensures ok { IfOk result (λ c. KeepsExactly array.entry.array.now (canonical_tree c)) }
     ensures err { IfErr result (λ e. e ≡ VortexError.OutOfMemory) }
 {
     array.array().well();

@@ -17,13 +17,13 @@ pub(crate) enum Operand<'a, T> {
 impl<'a, T: NativeInteger> Operand<'a, T> {
     /// Returns the number at row `index`, which must exist.
     #[inline]
-    pub(crate) fn row(self, index: usize) -> T
-        requires { HasRow self index }
-        ensures { T.value result ≡ number_in T.value self.entry index }
+    pub(crate) fn row(&self, index: usize) -> T
+        requires { HasRow self.now index }
+        ensures { T.value result ≡ number_in T.value self.now index }
     {
         match self {
             Operand::Rows(rows) => rows[index],
-            Operand::Value(value) => value,
+            Operand::Value(value) => *value,
         }
     }
 }

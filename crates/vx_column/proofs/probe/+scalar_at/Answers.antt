@@ -6,9 +6,9 @@ use Rattle.vx_value.specs.Cell.{value}
 use Rattle.vx_tree.specs.Tree.{slots_of, slots_height, dtype}
 use Rattle.vx_tree.specs.Cells.{rows}
 use Rattle.vx_tree.specs.Refusals.{type_in}
-use Rattle.vx_tree.proofs.Calling.{types_more}
+use Rattle.vx_tree.proofs.RefusalsLemmas.{types_more}
 use Rattle.vx_column.specs.Probed.{HasRow, cell_in}
-use Rattle.vx_column.proofs.Probing.{function_typed, function_rows, function_lower, function_ok, function_err, argument_faulted, slot_faulted, constant_row, slice_row, bool_row, primitive_row, value_made, values_more, cell_is, has_row, lower, cells_more}
+use Rattle.vx_column.proofs.ProbedLemmas.{function_typed, function_rows, function_lower, function_ok, function_err, argument_faulted, slot_faulted, constant_row, slice_row, bool_row, primitive_row, value_made, values_more, cell_is, has_row, lower, cells_more}
 use Rattle.vx_column.proofs.probe.+scalar_at.Goals as goal
 
 pub push_scalar-returns-in_ok-push-in-Ok-clause-ok : goal.push_scalar-returns-in_ok-push-in-Ok-clause-ok

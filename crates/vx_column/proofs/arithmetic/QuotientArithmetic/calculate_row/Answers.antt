@@ -1,7 +1,7 @@
 use Rattle.std.proofs.Common.{◌≢◌, ◌∙◌, pos, ap, sym, of_z}
 use Rattle.std.specs.Int.{w128}
 use Rattle.vx_value.specs.IsOf.{in_range}
-use Rattle.vx_column.proofs.ComputedLemmas.{quotient_is}
+use Rattle.vx_column.proofs.ApplyLemmas.{quotient_is}
 use Rattle.vx_column.proofs.arithmetic.QuotientArithmetic.calculate_row.Goals as goal
 
 pub returns : goal.returns

@@ -20,7 +20,7 @@ use Rattle.vx_tree.specs.Tree.{Tree, Slots, node, constant, slice, function, boo
 use Rattle.vx_tree.specs.Cells.{row_at, rows, slots_rows}
 use Rattle.vx_tree.specs.Well.{shape, shapes, IsNode}
 use Rattle.vx_tree.specs.Refusals.{types_in}
-use Rattle.vx_tree.proofs.Calling.{types_back}
+use Rattle.vx_tree.proofs.RefusalsLemmas.{types_back}
 use Rattle.vx_column.specs.Probed.{HaveRow, HasRow, cell_in}
 
 -- a fault in any argument is a fault
