@@ -10,7 +10,7 @@ ghost use Rattle.vx_tree.specs.Columns.{canonical_tree, bool_column, primitive_c
 use crate::array::{ArrayRef, IntoArray};
 use crate::arrays::boolean::BoolArray;
 use crate::arrays::primitive::PrimitiveArray;
-use crate::arrays::values::PrimitiveValues;
+use crate::native::PrimitiveValues;
 use std::alloc::{AllocError, Global};
 use vx_mask::BitBuffer;
 use vx_value::{ArgKind, DType, VortexError, VortexResult};

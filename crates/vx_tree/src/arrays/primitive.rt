@@ -10,7 +10,7 @@ ghost use Rattle.vx_tree.specs.Tree.{primitive, is_primitive, integers};
 
 use crate::array::{Array, ArrayId, ArrayParts, ArrayRef, Encoded, Encoding, VTable};
 use crate::arrays::column::check_column;
-use crate::arrays::values::PrimitiveValues;
+use crate::native::PrimitiveValues;
 use std::alloc::{AllocError, Global};
 use vx_value::{ArgKind, DType, Id, Nullability, VortexError, VortexResult};
 

@@ -1,10 +1,11 @@
-//! The values of integer columns.
+//! Values of any of the eight types.
 
 ghost use Rattle.std.specs.Prelude.{◌≡◌, ◌<◌, ◌≤◌, ℤ, map, length, IfOk, Some, true, slice_get, slice_range, replicate};
 ghost use Rattle.vx_value.specs.IsOf.{in_range};
 ghost use Rattle.vx_tree.specs.Natives.{values_of, ptype_of};
 
-use crate::arrays::native::NativeInteger;
+use crate::native::{NativeInteger, native_of};
+use crate::{by_buffer, by_type};
 use std::alloc::{AllocError, Global};
 use std::ops::Range;
 use vx_mask::Buffer;
@@ -23,20 +24,10 @@ pub enum PrimitiveValues {
     I64(Buffer<i64>),
 }
 
-// One expression over the buffer, for each of the eight types.
-macro_rules! by_type {
-    ($values:expr, |$buffer:ident| $body:expr) => {
-        match $values {
-            PrimitiveValues::U8($buffer) => $body,
-            PrimitiveValues::U16($buffer) => $body,
-            PrimitiveValues::U32($buffer) => $body,
-            PrimitiveValues::U64($buffer) => $body,
-            PrimitiveValues::I8($buffer) => $body,
-            PrimitiveValues::I16($buffer) => $body,
-            PrimitiveValues::I32($buffer) => $body,
-            PrimitiveValues::I64($buffer) => $body,
-        }
-    };
+fn type_of_buffer<T: NativeInteger>(_buffer: &Buffer<T>) -> PType
+    ensures { result ≡ T.kind }
+{
+    T::ptype()
 }
 
 fn wide_at<T: NativeInteger>(buffer: &Buffer<T>, index: usize) -> i128
@@ -67,17 +58,6 @@ fn part_of<T: NativeInteger>(
     Ok(T::wrap(buffer.slice(range)?))
 }
 
-/// Returns `wide` in the type, which must have it in its range. (own)
-pub fn native_of<T: NativeInteger>(wide: i128) -> T
-    requires { in_range T.kind wide ≡ true }
-    ensures { T.value result ≡ wide }
-{
-    let Some(value) = T::from_wide(wide) else {
-        unreachable!()
-    };
-    value
-}
-
 fn copies_of<T: NativeInteger>(
     alloc: Global,
     wide: i128,
@@ -97,23 +77,14 @@ impl PrimitiveValues {
     pub fn len(&self) -> usize
         ensures { result ≡ length (values_of self.now) }
     {
-        by_type!(self, |buffer| buffer.len())
+        by_buffer!(self, |buffer| buffer.len())
     }
 
     /// Returns the type of the values.
     pub fn ptype(&self) -> PType
         ensures { result ≡ ptype_of self.now }
     {
-        match self {
-            PrimitiveValues::U8(_) => PType::U8,
-            PrimitiveValues::U16(_) => PType::U16,
-            PrimitiveValues::U32(_) => PType::U32,
-            PrimitiveValues::U64(_) => PType::U64,
-            PrimitiveValues::I8(_) => PType::I8,
-            PrimitiveValues::I16(_) => PType::I16,
-            PrimitiveValues::I32(_) => PType::I32,
-            PrimitiveValues::I64(_) => PType::I64,
-        }
+        by_buffer!(self, |buffer| type_of_buffer(buffer))
     }
 
     /// Returns the value at `index`, counted from 0. It must be in bounds. (own)
@@ -122,7 +93,7 @@ impl PrimitiveValues {
         ensures value { slice_get (values_of self.now) index ≡ Some result }
         ensures ranged { in_range (ptype_of self.now) result ≡ true }
     {
-        by_type!(self, |buffer| wide_at(buffer, index))
+        by_buffer!(self, |buffer| wide_at(buffer, index))
     }
 
     /// Returns the values of `range`, which must be in order and in bounds. They share their storage with these.
@@ -132,7 +103,7 @@ impl PrimitiveValues {
         ensures kind { IfOk result (λ part. ptype_of part ≡ ptype_of self.now) }
         ensures values { IfOk result (λ part. values_of part ≡ slice_range (values_of self.now) range.start range.end) }
     {
-        by_type!(self, |buffer| part_of(buffer, range))
+        by_buffer!(self, |buffer| part_of(buffer, range))
     }
 
     /// Returns `len` times the number `wide`, which must be in the type's range. Takes one allocation. (own)
@@ -146,16 +117,7 @@ impl PrimitiveValues {
         ensures kind { IfOk result (λ copies. ptype_of copies ≡ ptype) }
         ensures values { IfOk result (λ copies. values_of copies ≡ replicate len wide) }
     {
-        match ptype {
-            PType::U8 => copies_of::<u8>(alloc, wide, len),
-            PType::U16 => copies_of::<u16>(alloc, wide, len),
-            PType::U32 => copies_of::<u32>(alloc, wide, len),
-            PType::U64 => copies_of::<u64>(alloc, wide, len),
-            PType::I8 => copies_of::<i8>(alloc, wide, len),
-            PType::I16 => copies_of::<i16>(alloc, wide, len),
-            PType::I32 => copies_of::<i32>(alloc, wide, len),
-            PType::I64 => copies_of::<i64>(alloc, wide, len),
-        }
+        by_type!(ptype, copies_of(alloc, wide, len))
     }
 }
 
@@ -163,6 +125,6 @@ impl Clone for PrimitiveValues {
     ghost is_clone = { λ a b. (ptype_of b ≡ ptype_of a) × (values_of b ≡ values_of a) };
 
     fn clone(&self) -> Result<PrimitiveValues, AllocError> {
-        by_type!(self, |buffer| shared(buffer))
+        by_buffer!(self, |buffer| shared(buffer))
     }
 }

@@ -1,51 +1,12 @@
-//! The eight native integer types of columns.
+//! The eight native integer types.
 
-ghost use Rattle.std.specs.Prelude.{◌≡◌, ◌↔◌, ℤ, pos, map, Some, None, true, option_map, is_some, IfSome, if◌then◌else◌};
-ghost use Rattle.vx_value.specs.Types.{same_ptype};
-ghost use Rattle.vx_value.specs.IsOf.{in_range};
-ghost use Rattle.vx_value.specs.declared.dtype.PType.{PType as PTypeOf};
+ghost use Rattle.std.specs.Prelude.{◌≡◌, pos, map};
 ghost use Rattle.vx_value.specs.declared.dtype.PType.TheVariants as ptype;
 ghost use Rattle.vx_tree.specs.Natives.{values_of, ptype_of};
 
-use crate::arrays::values::PrimitiveValues;
-use num_traits::PrimInt;
+use crate::native::{NativeInteger, PrimitiveValues};
 use vx_mask::Buffer;
 use vx_value::PType;
-
-/// The integer types that a column can hold. (own)
-pub trait NativeInteger: PrimInt {
-    // which of the eight it is
-    ghost kind: { PTypeOf };
-
-    /// Returns the type as a `PType`.
-    fn ptype() -> PType
-        ensures { result ≡ kind };
-
-    /// Returns `wide` in the type, or `None` if it is out of range.
-    fn from_wide(wide: i128) -> Option<Self>
-        ensures { option_map Self.value result ≡ (if in_range kind wide then Some wide else None) };
-
-    /// Returns the number in 128 bits.
-    fn to_wide(self) -> i128
-        ensures wide { result ≡ Self.value self }
-        ensures ranged { in_range kind result ≡ true };
-
-    /// Returns the values as those of a column. Shares their storage.
-    fn wrap(values: Buffer<Self>) -> PrimitiveValues
-        ensures same_kind { ptype_of result ≡ kind }
-        ensures values { values_of result ≡ map Self.value values };
-
-    /// Returns the buffer of `values`, or `None` if they are of another type.
-    fn project(values: &PrimitiveValues) -> Option<&Buffer<Self>>
-        ensures which { is_some result ≡ same_ptype (ptype_of values.now) kind }
-        ensures value { IfSome result (λ b. map Self.value b.now ≡ values_of values.now) };
-
-    // a clone is the number itself
-    ghost clones_same: { (x y : Self) → Self.is_clone x y → y ≡ x };
-
-    // the type has the integers of its range
-    ghost fits_kind: { (z : ℤ) → Self.fits z ↔ (in_range kind z ≡ true) };
-}
 
 impl NativeInteger for u8 {
     ghost use Rattle.vx_tree.specs.Ranges.{unsigned_range};
@@ -54,15 +15,6 @@ impl NativeInteger for u8 {
 
     fn ptype() -> PType {
         PType::U8
-    }
-
-    fn from_wide(wide: i128) -> Option<u8> {
-        u8::try_from(wide).ok()
-    }
-
-    #[inline]
-    fn to_wide(self) -> i128 {
-        i128::from(self)
     }
 
     fn wrap(values: Buffer<u8>) -> PrimitiveValues
@@ -80,6 +32,8 @@ impl NativeInteger for u8 {
         }
     }
 
+    fn ranged(self) {}
+
     ghost clones_same = { λ x y e. e };
 
     ghost fits_kind = { unsigned_range 8 };
@@ -92,15 +46,6 @@ impl NativeInteger for u16 {
 
     fn ptype() -> PType {
         PType::U16
-    }
-
-    fn from_wide(wide: i128) -> Option<u16> {
-        u16::try_from(wide).ok()
-    }
-
-    #[inline]
-    fn to_wide(self) -> i128 {
-        i128::from(self)
     }
 
     fn wrap(values: Buffer<u16>) -> PrimitiveValues
@@ -118,6 +63,8 @@ impl NativeInteger for u16 {
         }
     }
 
+    fn ranged(self) {}
+
     ghost clones_same = { λ x y e. e };
 
     ghost fits_kind = { unsigned_range 16 };
@@ -130,15 +77,6 @@ impl NativeInteger for u32 {
 
     fn ptype() -> PType {
         PType::U32
-    }
-
-    fn from_wide(wide: i128) -> Option<u32> {
-        u32::try_from(wide).ok()
-    }
-
-    #[inline]
-    fn to_wide(self) -> i128 {
-        i128::from(self)
     }
 
     fn wrap(values: Buffer<u32>) -> PrimitiveValues
@@ -156,6 +94,8 @@ impl NativeInteger for u32 {
         }
     }
 
+    fn ranged(self) {}
+
     ghost clones_same = { λ x y e. e };
 
     ghost fits_kind = { unsigned_range 32 };
@@ -168,15 +108,6 @@ impl NativeInteger for u64 {
 
     fn ptype() -> PType {
         PType::U64
-    }
-
-    fn from_wide(wide: i128) -> Option<u64> {
-        u64::try_from(wide).ok()
-    }
-
-    #[inline]
-    fn to_wide(self) -> i128 {
-        i128::from(self)
     }
 
     fn wrap(values: Buffer<u64>) -> PrimitiveValues
@@ -194,6 +125,8 @@ impl NativeInteger for u64 {
         }
     }
 
+    fn ranged(self) {}
+
     ghost clones_same = { λ x y e. e };
 
     ghost fits_kind = { unsigned_range 64 };
@@ -206,15 +139,6 @@ impl NativeInteger for i8 {
 
     fn ptype() -> PType {
         PType::I8
-    }
-
-    fn from_wide(wide: i128) -> Option<i8> {
-        i8::try_from(wide).ok()
-    }
-
-    #[inline]
-    fn to_wide(self) -> i128 {
-        i128::from(self)
     }
 
     fn wrap(values: Buffer<i8>) -> PrimitiveValues
@@ -232,6 +156,8 @@ impl NativeInteger for i8 {
         }
     }
 
+    fn ranged(self) {}
+
     ghost clones_same = { λ x y e. e };
 
     ghost fits_kind = { signed_range_8 };
@@ -244,15 +170,6 @@ impl NativeInteger for i16 {
 
     fn ptype() -> PType {
         PType::I16
-    }
-
-    fn from_wide(wide: i128) -> Option<i16> {
-        i16::try_from(wide).ok()
-    }
-
-    #[inline]
-    fn to_wide(self) -> i128 {
-        i128::from(self)
     }
 
     fn wrap(values: Buffer<i16>) -> PrimitiveValues
@@ -270,6 +187,8 @@ impl NativeInteger for i16 {
         }
     }
 
+    fn ranged(self) {}
+
     ghost clones_same = { λ x y e. e };
 
     ghost fits_kind = { signed_range_16 };
@@ -282,15 +201,6 @@ impl NativeInteger for i32 {
 
     fn ptype() -> PType {
         PType::I32
-    }
-
-    fn from_wide(wide: i128) -> Option<i32> {
-        i32::try_from(wide).ok()
-    }
-
-    #[inline]
-    fn to_wide(self) -> i128 {
-        i128::from(self)
     }
 
     fn wrap(values: Buffer<i32>) -> PrimitiveValues
@@ -308,6 +218,8 @@ impl NativeInteger for i32 {
         }
     }
 
+    fn ranged(self) {}
+
     ghost clones_same = { λ x y e. e };
 
     ghost fits_kind = { signed_range_32 };
@@ -320,15 +232,6 @@ impl NativeInteger for i64 {
 
     fn ptype() -> PType {
         PType::I64
-    }
-
-    fn from_wide(wide: i128) -> Option<i64> {
-        i64::try_from(wide).ok()
-    }
-
-    #[inline]
-    fn to_wide(self) -> i128 {
-        i128::from(self)
     }
 
     fn wrap(values: Buffer<i64>) -> PrimitiveValues
@@ -345,6 +248,8 @@ impl NativeInteger for i64 {
             None
         }
     }
+
+    fn ranged(self) {}
 
     ghost clones_same = { λ x y e. e };
 
