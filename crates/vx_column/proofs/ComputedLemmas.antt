@@ -1,11 +1,11 @@
 -- The column of a function, row by row.
-use Rattle.std.proofs.Common.{◌≡◌, ◌<◌, ◌+◌, inl, inr, ℕ, zero, suc, ℤ, Bool, if◌then◌else◌, true, false, List, [], ◌∷◌, ◌++◌, length, map, get_or, Option, Some, None, Result, IfOk, refl, sym, ap, ◌∙◌, subst, arith}
+use Rattle.std.proofs.Common.{◌≡◌, ◌<◌, ◌+◌, inl, inr, ℕ, zero, suc, ℤ, Bool, if◌then◌else◌, true, false, List, [], ◌∷◌, ◌++◌, length, map, take, get_or, Option, Some, None, Result, IfOk, refl, sym, ap, ◌∙◌, subst, arith}
 use Rattle.std.specs.Prelude.{IsSome}
 use Rattle.std.proofs.Math.Bool.{not}
 use Rattle.std.proofs.lemmas.Result.{IfOk-weaker}
-use Rattle.std.specs.List.{range_with_len}
+use Rattle.std.specs.List.{AllZip, range_with_len}
 use Rattle.std.specs.Ordering.{bool_cmp, is_ne}
-use Rattle.std.proofs.lemmas.List.{length-map, map-append}
+use Rattle.std.proofs.lemmas.List.{length-map, map-append, take_more}
 use Rattle.std.proofs.lemmas.List.FromFn.{length-map-range_with_len, map-range_with_len_more, get_or-map-range_with_len}
 use Rattle.vx_value.specs.Types.{DataType, bool, primitive, same_type, same_type_Decides}
 use Rattle.vx_value.specs.Values.{null, boolean, integer}
@@ -13,7 +13,7 @@ use Rattle.vx_value.specs.Cell.{Cell, value, fault}
 use Rattle.vx_value.specs.declared.dtype.Nullability.TheVariants.{NonNullable}
 use Rattle.vx_value.specs.declared.dtype.PType.{PType}
 use Rattle.vx_value.specs.declared.error.VortexError.{VortexError}
-use Rattle.vx_fn.specs.Apply.{apply}
+use Rattle.vx_fn.specs.Apply.{apply, calculated}
 use Rattle.vx_fn.specs.ReturnTypes.{return_type, operator_type, is_comparison}
 use Rattle.vx_fn.specs.declared.function.Operator.{Operator}
 use Rattle.vx_fn.specs.declared.function.ScalarFnRef.{ScalarFnRef}
@@ -22,11 +22,23 @@ use Rattle.vx_tree.specs.Tree.{Tree, booleans, integers}
 use Rattle.vx_tree.specs.Cells.{HasNoFault}
 use Rattle.vx_tree.specs.Columns.{canonical_tree}
 use Rattle.vx_tree.specs.declared.canonical.Canonical.{Canonical}
-use Rattle.vx_column.specs.Arguments.{types_of, row_of, ptype_in}
+use Rattle.vx_column.specs.Arguments.{types_of, row_of, ptype_in, integer_in}
 use Rattle.vx_column.specs.Computed.{IsComputed, cells_of}
 use Rattle.vx_column.specs.declared.argument.Argument.{Argument}
 use Rattle.vx_column.specs.declared.argument.Argument.TheVariants.{Primitive}
 use Rattle.vx_column.specs.declared.argument.Integers.{Integers}
+
+-- two lists that match, each with one more
+zipped_push : {A B : Type 0} (R : A → B → Type 0) (xs : List A) (ys : List B) (x : A) (y : B) → AllZip R xs ys → R x y → AllZip R (xs ++ x ∷ []) (ys ++ y ∷ [])
+zipped_push R [] [] x y h r = (r, tt)
+zipped_push R [] (b ∷ ys) x y h r = absurd h
+zipped_push R (a ∷ xs) [] x y h r = absurd h
+zipped_push R (a ∷ xs) (b ∷ ys) x y h r = (h.0, zipped_push R xs ys x y h.1 r)
+
+pub zipped_more : {A B : Type 0} (R : A → B → Type 0) (xs : List A) (ys : List B) (i : ℕ) (x : A) (y : B) →
+    i < length xs → x ≡ get_or xs i x → AllZip R (take i xs) ys → R x y → AllZip R (take (i + 1) xs) (ys ++ y ∷ [])
+zipped_more R xs ys i x y lt e h r =
+    subst (λ zs. AllZip R zs (ys ++ y ∷ [])) (sym (take_more xs i x lt)) (zipped_push R (take i xs) ys (get_or xs i x) y h (subst (λ z. R z y) e r))
 
 -- two that agree on the first n rows
 pub same_below : {A : Type 0} (n : ℕ) (f g : ℕ → A) → ((i : ℕ) → i < n → f i ≡ g i) → map f (range_with_len 0 n) ≡ map g (range_with_len 0 n)
@@ -84,6 +96,15 @@ module _ (op : Operator) (p : PType) where
     pub calculation_type : is_comparison op ≡ false → return_type (Binary op) (types_of (Primitive l ∷ Primitive r ∷ [])) ≡ Some (primitive p NonNullable)
     calculation_type c = types_are ∙ ap (λ b. Some (if b then bool NonNullable else primitive p NonNullable)) c
 
+    pub calculation_fault : (n i : ℕ) (x y : ℤ) → is_comparison op ≡ false → x ≡ integer_in l i → y ≡ integer_in r i → i < n → calculated op p x y ≡ fault →
+        (ty : DataType) → return_type (Binary op) (types_of (Primitive l ∷ Primitive r ∷ [])) ≡ Some ty → ¬ (HasNoFault (cells_of (Binary op) ty (row_of (Primitive l ∷ Primitive r ∷ [])) n))
+    calculation_fault n i x y c a b lt none = fault_at_row (Binary op) (types_of (Primitive l ∷ Primitive r ∷ [])) (row_of (Primitive l ∷ Primitive r ∷ [])) n i lt here
+      where
+        here : (ty : DataType) → return_type (Binary op) (types_of (Primitive l ∷ Primitive r ∷ [])) ≡ Some ty → apply (Binary op) ty (row_of (Primitive l ∷ Primitive r ∷ []) i) ≡ fault
+        here ty typed =
+            let same : ty ≡ primitive p NonNullable = cc (typed, calculation_type c) in
+            ap (λ t. apply (Binary op) t (row_of (Primitive l ∷ Primitive r ∷ []) i)) same ∙ (λ j. calculated op p (sym a j) (sym b j)) ∙ none
+
 chosen : (b : Bool) (o : Option DataType) → IsSome (if b then o else None) → b ≡ true
 chosen true o h = refl
 chosen false o h = absurd (cc)
@@ -93,11 +114,6 @@ bools_compared op h =
     let same : return_type (Binary op) (bool NonNullable ∷ bool NonNullable ∷ []) ≡ operator_type op (bool NonNullable) =
     ap (λ b. if b then operator_type op (bool NonNullable) else None) ((same_type_Decides (bool NonNullable) (bool NonNullable)).1 refl) in
     same ∙ ap (λ b. if b then Some (bool NonNullable) else None) (chosen (is_comparison op) (Some (bool NonNullable)) (subst IsSome same h))
-
-pub same_ptypes : (op : Operator) (p q : PType) → IsSome (return_type (Binary op) (primitive p NonNullable ∷ primitive q NonNullable ∷ [])) → q ≡ p
-same_ptypes op p q h =
-    let same = (same_type_Decides (primitive p NonNullable) (primitive q NonNullable)).0 (chosen _ (operator_type op (primitive p NonNullable)) h) in
-    cc
 
 -- the column of what is true in each row
 pub bools_computed : (f : ScalarFnRef) (args : List Argument) (n : ℕ) (test : ℕ → Bool) (bits : List Bool) (r : Result Canonical VortexError) →

@@ -1,4 +1,5 @@
 pub mod AppliedLemmas
 pub mod ApplyLemmas
+pub mod CanonicalLemmas
 pub mod ComputedLemmas
 pub mod ProbedLemmas

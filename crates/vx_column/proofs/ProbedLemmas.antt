@@ -16,7 +16,7 @@ use Rattle.vx_value.specs.declared.error.VortexError.TheVariants.{OutOfMemory, F
 use Rattle.vx_fn.specs.Apply.{apply, on_values, value_of}
 use Rattle.vx_fn.specs.ReturnTypes.{return_type}
 use Rattle.vx_fn.specs.declared.function.ScalarFnRef.{ScalarFnRef}
-use Rattle.vx_tree.specs.Tree.{Tree, Slots, node, constant, slice, function, bool, primitive, no_slots, absent, slot, slots_of, dtype, len, height, slots_height}
+use Rattle.vx_tree.specs.Tree.{Tree, Slots, node, constant, slice, function, booleans, integers, no_slots, absent, slot, slots_of, dtype, len, height, slots_height}
 use Rattle.vx_tree.specs.Cells.{row_at, rows, slots_rows}
 use Rattle.vx_tree.specs.Well.{shape, shapes, IsNode}
 use Rattle.vx_tree.specs.Refusals.{types_in}
@@ -152,18 +152,13 @@ slice_row t c ty a b i e h =
     let l = ap len e in
     ap (λ u. slice_get (rows u) i) e ∙ get_take (b - a) i (drop a (rows c)) (omega arith) ∙ get_drop a i (rows c)
 
-pub bool_row : (t : Tree) (ty : DataType) (n : ℕ) (bs : List Bool) (ss : Slots) (i : ℕ) (b : Bool) → t ≡ node ty n (bool bs) ss → slice_get bs i ≡ Some b → slice_get (rows t) i ≡ Some (value (boolean b))
-bool_row t ty n bs ss i b e h =
+pub bool_row : (t : Tree) (bs : List Bool) (i : ℕ) (b : Bool) → t ≡ booleans bs → slice_get bs i ≡ Some b → slice_get (rows t) i ≡ Some (value (boolean b))
+bool_row t bs i b e h =
     ap (λ u. slice_get (rows u) i) e ∙ slice_get-map (λ x. value (boolean x)) bs i ∙ ap (option_map (λ x. value (boolean x))) h
 
-pub primitive_row : (t : Tree) (ty : DataType) (n : ℕ) (p : PType) (zs : List ℤ) (ss : Slots) (i : ℕ) (z : ℤ) → t ≡ node ty n (primitive p zs) ss → slice_get zs i ≡ Some z → slice_get (rows t) i ≡ Some (value (integer z))
-primitive_row t ty n p zs ss i z e h =
+pub primitive_row : (t : Tree) (p : PType) (zs : List ℤ) (i : ℕ) (z : ℤ) → t ≡ integers p zs → slice_get zs i ≡ Some z → slice_get (rows t) i ≡ Some (value (integer z))
+primitive_row t p zs i z e h =
     ap (λ u. slice_get (rows u) i) e ∙ slice_get-map (λ x. value (integer x)) zs i ∙ ap (option_map (λ x. value (integer x))) h
-
--- a value of a column's row, made
-pub value_made : (r : Result Scalar VortexError) (s ty : DataType) (v : Value) (cs : List Cell) (i : ℕ) → IfOk r (λ x. (x.of_type ≡ s) × (x.value ≡ v)) → s ≡ ty → slice_get cs i ≡ Some (value v) → IfOk r (λ x. (slice_get cs i ≡ Some (value x.value)) × (x.of_type ≡ ty))
-value_made (Ok x) s ty v cs i h e k = (k ∙ ap (λ w. Some (value w)) (sym h.1), h.0 ∙ e)
-value_made (Err e) s ty v cs i h same k = tt
 
 -- one value more
 pub values_more : (xs ys : List Scalar) (x : Scalar) → ys ≡ xs ++ x ∷ [] → map (λ s. value s.value) ys ≡ map (λ s. value s.value) xs ++ value x.value ∷ []

@@ -22,8 +22,8 @@ pub fn constant_canonicalize(
     ensures ok { IfOk result (λ c. KeepsExactly array.entry.array.now (canonical_tree c)) }
     ensures err { IfErr result (λ e. e ≡ VortexError.OutOfMemory) }
 {
-    array.array().well();
-    match array.data().scalar().kind() {
+    array.array.well();
+    match array.payload.scalar().kind() {
         ScalarKind::Bool(bit, _) => {
             let bits = BitBuffer::repeat(alloc, bit, array.len())?;
             bool_column(alloc, bits)

@@ -121,6 +121,5 @@ pub(crate) fn compare<T: NativeInteger, C: Comparison>(
     for index in 0..len {
         bits.push(C::compare_row(left.row(index), right.row(index)))?;
     }
-    let bits = bits.finish(alloc)?;
-    bool_column(alloc, bits)
+    bool_column(alloc, bits.finish(alloc)?)
 }

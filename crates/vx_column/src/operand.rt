@@ -21,9 +21,9 @@ impl<'a, T: NativeInteger> Operand<'a, T> {
         requires { HasRow self.now index }
         ensures { T.value result ≡ number_in T.value self.now index }
     {
-        match self {
+        match *self {
             Operand::Rows(rows) => rows[index],
-            Operand::Value(value) => *value,
+            Operand::Value(value) => value,
         }
     }
 }

@@ -14,24 +14,8 @@ use crate::boolean::compare_bools;
 use crate::comparison::{Above, Below, Different, Equal, NotAbove, NotBelow, compare};
 use std::alloc::Global;
 use vx_fn::Operator;
-use vx_tree::{Canonical, NativeInteger};
-use vx_value::{PType, VortexResult};
-
-// Calls a function at the native type of a `PType`.
-macro_rules! by_type {
-    ($ptype:expr, $function:ident($($argument:expr),*)) => {
-        match $ptype {
-            PType::U8 => $function::<u8>($($argument),*),
-            PType::U16 => $function::<u16>($($argument),*),
-            PType::U32 => $function::<u32>($($argument),*),
-            PType::U64 => $function::<u64>($($argument),*),
-            PType::I8 => $function::<i8>($($argument),*),
-            PType::I16 => $function::<i16>($($argument),*),
-            PType::I32 => $function::<i32>($($argument),*),
-            PType::I64 => $function::<i64>($($argument),*),
-        }
-    };
-}
+use vx_tree::{Canonical, NativeInteger, by_type};
+use vx_value::VortexResult;
 
 /// Applies `operator` to `lhs` and `rhs`, `len` rows each, whose types it must accept. `Fault` if a row has no value.
 pub(crate) fn operate(
