@@ -1,5 +1,6 @@
 -- What is refused, and what isn't.
-use Rattle.std.proofs.Common.{◌≡◌, ◌≢◌, get_or, ℕ, suc, ◌-◌, ◌<◌, ◌≤◌, List, [], ◌∷◌, ◌++◌, length, map, Bool, true, false, nat_le, ◌&&◌, Option, Some, None, refl, sym, ◌∙◌, ap, subst, arith}
+use Rattle.std.proofs.Common.{◌≡◌, ◌≢◌, get_or, ℕ, suc, ◌-◌, ◌<◌, ◌≤◌, List, [], ◌∷◌, ◌++◌, length, map, Bool, true, false, nat_le, ◌&&◌, Option, Some, None}
+use Rattle.std.proofs.Common.{refl, sym, ◌∙◌, ap, subst, arith}
 use Rattle.std.proofs.lemmas.Bool.{and_from, leb-true, le-leb}
 use Rattle.std.proofs.lemmas.List.{length-map}
 use Rattle.std.proofs.lemmas.List.Recursion.{and_push, and_fails_at}
@@ -22,7 +23,9 @@ use Rattle.vx_fn.specs.declared.function.ScalarFnRef.TheVariants.{Binary, Not}
 use Rattle.vx_tree.specs.Tree as enc
 use Rattle.vx_tree.specs.Tree.{Tree, Data, id_of, slots_of, dtype, len}
 use Rattle.vx_tree.specs.Well.{Shape, shape, shape_of, shapes, IsNode}
-use Rattle.vx_tree.specs.Refusals.{refusal, column_refusal, constant_refusal, slice_refusal, function_refusal, slots_refusal, types_refusal, lengths_refusal, result_refusal, arity_refusal, all_present, all_long, types_in, type_in, is_present, is_long, unless, first_of_both, no_validity}
+use Rattle.vx_tree.specs.Refusals.{refusal, column_refusal, constant_refusal, slice_refusal, function_refusal}
+use Rattle.vx_tree.specs.Refusals.{slots_refusal, types_refusal, lengths_refusal, result_refusal, arity_refusal}
+use Rattle.vx_tree.specs.Refusals.{unless, first_of_both, no_validity, all_present, all_long, types_in, type_in, is_present, is_long}
 
 -- ---- the first of several refusals
 
@@ -249,35 +252,33 @@ refused_unless_node ty n (enc.primitive p zs) ss h = column_taken ty n (type.pri
 
 -- ---- what is asked of the slots, as the code asks
 
+-- what is given to no slot, and to two or more, is given unless there is one
+not_one : (answer : List (Option Shape) → Option VortexError) (e : Option VortexError) → answer [] ≡ e →
+    ((s r : Option Shape) (ss : List (Option Shape)) → answer (s ∷ r ∷ ss) ≡ e) → (xs : List (Option Tree)) → length xs ≢ 1 → answer (shapes (slots_of xs)) ≡ e
+not_one answer e none more [] h = none
+not_one answer e none more (x ∷ []) h = absurd (h refl)
+not_one answer e none more (None ∷ None ∷ xs) h = more _ _ _
+not_one answer e none more (None ∷ Some u ∷ xs) h = more _ _ _
+not_one answer e none more (Some t ∷ None ∷ xs) h = more _ _ _
+not_one answer e none more (Some t ∷ Some u ∷ xs) h = more _ _ _
+
 pub slice_slot_count : (ty : DataType) (n a b : ℕ) (xs : List (Option Tree)) →
     length xs ≢ 1 → slice_refusal ty n a b (shapes (slots_of xs)) ≡ Some (InvalidArgument SlotCount)
-slice_slot_count ty n a b [] h = refl
-slice_slot_count ty n a b (None ∷ []) h = absurd (h refl)
-slice_slot_count ty n a b (Some t ∷ []) h = absurd (h refl)
-slice_slot_count ty n a b (None ∷ None ∷ xs) h = refl
-slice_slot_count ty n a b (None ∷ Some u ∷ xs) h = refl
-slice_slot_count ty n a b (Some t ∷ None ∷ xs) h = refl
-slice_slot_count ty n a b (Some t ∷ Some u ∷ xs) h = refl
+slice_slot_count ty n a b = not_one (slice_refusal ty n a b) _ refl two
+  where
+    two : (s r : Option Shape) (ss : List (Option Shape)) → slice_refusal ty n a b (s ∷ r ∷ ss) ≡ Some (InvalidArgument SlotCount)
+    two None r ss = refl
+    two (Some (shape t m)) r ss = refl
 
 pub column_slot_count : (ty : DataType) (n : ℕ) (of_type : DataType) (k : ℕ) (xs : List (Option Tree)) →
     length xs ≢ 1 → column_refusal ty n of_type k (shapes (slots_of xs)) ≡ Some (InvalidArgument SlotCount)
-column_slot_count ty n of_type k [] h = refl
-column_slot_count ty n of_type k (None ∷ []) h = absurd (h refl)
-column_slot_count ty n of_type k (Some t ∷ []) h = absurd (h refl)
-column_slot_count ty n of_type k (None ∷ None ∷ xs) h = refl
-column_slot_count ty n of_type k (None ∷ Some u ∷ xs) h = refl
-column_slot_count ty n of_type k (Some t ∷ None ∷ xs) h = refl
-column_slot_count ty n of_type k (Some t ∷ Some u ∷ xs) h = refl
+column_slot_count ty n of_type k = not_one (column_refusal ty n of_type k) _ refl (λ s r ss. refl)
 
 pub constant_slot_count : (ty : DataType) (v : Typed) (xs : List (Option Tree)) →
     length xs ≢ 0 → constant_refusal ty v (shapes (slots_of xs)) ≡ Some (InvalidArgument SlotCount)
 constant_slot_count ty v [] h = absurd (h refl)
 constant_slot_count ty v (None ∷ xs) h = refl
 constant_slot_count ty v (Some t ∷ xs) h = refl
-
-pub no_slot : (xs : List (Option Tree)) → length xs ≡ 0 → xs ≡ []
-no_slot [] h = refl
-no_slot (x ∷ xs) h = absurd (omega arith)
 
 pub the_slot : (xs : List (Option Tree)) (s : Option Tree) → length xs ≡ 1 → s ≡ get_or xs 0 s → xs ≡ s ∷ []
 the_slot [] s h e = absurd (omega arith)
