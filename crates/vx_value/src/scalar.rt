@@ -16,7 +16,7 @@ use std::alloc::AllocError;
 use std::marker::Model;
 
 /// A value that isn't null. `Scalar` holds its type.
-#[derive(Clone, Copy, Debug, PartialEq, Eq, Hash)]
+#[derive(Clone, Copy, Debug, PartialEq, Eq, PartialOrd, Ord, Hash)]
 pub enum ScalarValue {
     Bool(bool),
     /// An integer of any of the integer types.
