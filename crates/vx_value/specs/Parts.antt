@@ -1,6 +1,6 @@
 -- The boolean or the number that a value is.
 use Rattle.std.specs.Prelude.{Bool, ℤ, Option, Some, None}
-use Rattle.vx_value.specs.Values.{Value, null, boolean, integer}
+use Rattle.vx_value.specs.Values.{Value, boolean, integer}
 
 -- the boolean; none for any other value
 abbrev pub boolean_in : Value → Option Bool

@@ -19,7 +19,7 @@ impl PartialEq for Scalar {
 
     ghost laws = { partial_equiv_from_equiv (decided same_scalar same_scalar_Decides) };
 
-    #[tactic(auto, using(crate::proofs::Ordering::same_scalar_is))]
+    #[tactic(auto, using(crate::proofs::OrderLemmas::same_scalar_is))]
     fn eq(&self, other: &Scalar) -> bool
         ensures value { result ≡ same_scalar self.now other.now }
         ensures equal { IsTrue result ↔ (self.now ≡ other.now) }
@@ -50,7 +50,7 @@ impl PartialOrd for Scalar {
 
     ghost laws = { scalar_cmp_order };
 
-    #[tactic(auto, using(crate::proofs::Ordering::scalar_cmp_is_some, crate::proofs::Ordering::scalar_cmp_is_equal))]
+    #[tactic(auto, using(crate::proofs::OrderLemmas::scalar_cmp_is_some, crate::proofs::OrderLemmas::scalar_cmp_is_equal))]
     fn partial_cmp(&self, other: &Scalar) -> Option<Ordering>
         ensures value { result ≡ scalar_cmp self.now other.now }
         ensures compared { IsSome result ↔ (self.now.of_type ≡ other.now.of_type) }
@@ -65,8 +65,10 @@ impl PartialOrd for Scalar {
 }
 
 /// Checks whether two types are the same, including their nullability.
+#[tactic(auto, using(crate::specs::Types::same_type_Decides))]
 fn same_type(left: &DType, right: &DType) -> bool
-    ensures { result ≡ same_type (type_of left.now) (type_of right.now) }
+    ensures value { result ≡ same_type (type_of left.now) (type_of right.now) }
+    ensures equal { IsTrue result ↔ (type_of left.now ≡ type_of right.now) }
 {
     left == right
 }

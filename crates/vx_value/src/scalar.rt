@@ -116,7 +116,7 @@ impl Scalar {
     }
 
     /// Returns the zero value of type `dtype`: `false` or 0.
-    #[tactic(auto, using(crate::proofs::Defaulting::zero_typed))]
+    #[tactic(auto, using(crate::proofs::DefaultsLemmas::zero_typed))]
     pub fn zero_value(dtype: DType) -> Scalar
         ensures { result ≡ record { of_type = type_of dtype; value = zero_of (type_of dtype) } }
     {
