@@ -1,1 +1,3 @@
+pub mod ArityLemmas
+pub mod ReturnTypesLemmas
 pub mod ApplyLemmas

@@ -11,7 +11,9 @@ ghost use Rattle.vx_fn.specs.declared.function.ScalarFnRef.TheVariants.{Binary, 
 
 use crate::function::{Operator, ScalarFnRef};
 use std::cmp::Ordering;
-use vx_value::{DType, Nullability, PType, Scalar, ScalarKind, ScalarValue, VortexError, VortexResult};
+use vx_value::{
+    DType, Nullability, PType, Scalar, ScalarKind, ScalarValue, VortexError, VortexResult,
+};
 
 /// Applies `function` to `arguments`, one row of each, without allocating. The function must accept their types.
 ///
@@ -62,10 +64,7 @@ fn compare(operator: Operator, lhs: &Scalar, rhs: &Scalar) -> VortexResult<Scala
     }) }
 {
     match lhs.partial_cmp(rhs) {
-        Some(ordering) => Ok(Scalar::bool(
-            holds(operator, ordering),
-            Nullability::NonNullable,
-        )),
+        Some(ordering) => Ok(Scalar::bool(holds(operator, ordering), Nullability::NonNullable)),
         None => unreachable!(),
     }
 }
