@@ -1,6 +1,6 @@
 //! Scalar functions, as in the original's `scalar_fn` module.
 
-ghost use Rattle.std.specs.Prelude.{◌≡◌, ◌==◌, ℕ, option_map, slice_get};
+ghost use Rattle.std.specs.Prelude.{◌≡◌, ◌==◌, ℕ, map, option_map, slice_get};
 ghost use Rattle.vx_fn.specs.Functions.{function_id, arity, argument_names};
 ghost use Rattle.vx_fn.specs.ReturnTypes.{is_comparison};
 
@@ -39,7 +39,7 @@ impl Operator {
         match self {
             Operator::Eq | Operator::NotEq => true,
             Operator::Gt | Operator::Gte | Operator::Lt | Operator::Lte => true,
-            Operator::Add | Operator::Sub | Operator::Mul | Operator::Div => false,
+            _ => false,
         }
     }
 }
@@ -87,21 +87,23 @@ impl ScalarFnRef {
     pub fn child_name(&self, index: usize) -> Option<&'static str>
         ensures { option_map (λ s. s.now) result ≡ slice_get (argument_names self.now) index }
     {
-        match (self, index) {
-            (ScalarFnRef::Binary(_), 0) => Some("lhs"),
-            (ScalarFnRef::Binary(_), 1) => Some("rhs"),
-            (ScalarFnRef::Not, 0) => Some("input"),
-            _ => None,
-        }
+        self.child_names().get(index).copied()
     }
 
     /// Returns the number of arguments that the function takes.
     pub fn arity(&self) -> Arity
         ensures { result ≡ Arity.Exact (arity self.now) }
     {
+        Arity::Exact(self.child_names().len())
+    }
+
+    /// Returns the names of the arguments, in order. (own)
+    fn child_names(&self) -> &'static [&'static str]
+        ensures { map (λ s. s.now) result.now ≡ argument_names self.now }
+    {
         match self {
-            ScalarFnRef::Binary(_) => Arity::Exact(2),
-            ScalarFnRef::Not => Arity::Exact(1),
+            ScalarFnRef::Binary(_) => &["lhs", "rhs"],
+            ScalarFnRef::Not => &["input"],
         }
     }
 }

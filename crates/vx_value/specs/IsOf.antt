@@ -25,14 +25,13 @@ in_range I16 z = is_signed_below (2 ^ 15) z
 in_range I32 z = is_signed_below (2 ^ 31) z
 in_range I64 z = is_signed_below (2 ^ 63) z
 
+-- null of the nullable types; else a line for each type
 abbrev pub is_of : DataType → Value → Bool
 is_of t null = is_nullable (nullability_of t)
 is_of (bool n) (boolean b) = true
-is_of (bool n) (integer z) = false
-is_of (primitive p n) (boolean b) = false
 is_of (primitive p n) (integer z) = in_range p z
+is_of _ _ = false
 
 abbrev pub is_null : Value → Bool
 is_null null = true
-is_null (boolean b) = false
-is_null (integer z) = false
+is_null _ = false

@@ -1,6 +1,6 @@
 -- The text of a type.
 use Rattle.std.specs.Prelude.{ℕ, List, [], ◌++◌, codes}
-use Rattle.vx_value.specs.Types.{DataType, bool, primitive}
+use Rattle.vx_value.specs.Types.{DataType, bool, primitive, nullability_of}
 use Rattle.vx_value.specs.declared.dtype.Nullability.{Nullability}
 use Rattle.vx_value.specs.declared.dtype.Nullability.TheVariants.{NonNullable, Nullable}
 use Rattle.vx_value.specs.declared.dtype.PType.{PType}
@@ -21,6 +21,10 @@ ptype_text I16 = codes "i16"
 ptype_text I32 = codes "i32"
 ptype_text I64 = codes "i64"
 
+-- apart from its nullability
+abbrev pub bare_text : DataType → List ℕ
+bare_text (bool n) = codes "bool"
+bare_text (primitive p n) = ptype_text p
+
 abbrev pub type_text : DataType → List ℕ
-type_text (bool n) = codes "bool" ++ mark n
-type_text (primitive p n) = ptype_text p ++ mark n
+type_text t = bare_text t ++ mark (nullability_of t)
