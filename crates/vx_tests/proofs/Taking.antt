@@ -9,7 +9,7 @@ use Rattle.vx_fn.specs.declared.function.Operator.{Operator}
 use Rattle.vx_fn.specs.declared.function.Operator.TheVariants.{Eq, NotEq, Gt, Gte, Lt, Lte, Add, Sub, Mul, Div}
 use Rattle.vx_fn.specs.ReturnTypes.{operator_type, binary_type}
 use Rattle.vx_fn.proofs.Typing.{of_one_type}
-use Rattle.vx_tree.proofs.Kinding as kinding
+use Rattle.vx_tree.proofs.ColumnsLemmas as columns
 
 of_numbers : (op : Operator) (p : PType) → IsSome (operator_type op (primitive p NonNullable))
 of_numbers Eq p = refl
@@ -30,4 +30,4 @@ takes_numbers op p s t d e =
     subst (λ o. IsSome o) (sym (of_one_type op s t same ∙ ap (operator_type op) d)) (of_numbers op p)
 
 pub zero_in_range : (p : PType) → in_range p (pos 0) ≡ true
-zero_in_range p = kinding.zero_in_range p
+zero_in_range p = columns.zero_in_range p

@@ -19,7 +19,7 @@ use Rattle.vx_value.specs.Ids.{same_id, same_id_Decides}
 use Rattle.vx_fn.specs.Functions.{arity, function_id}
 use Rattle.vx_fn.specs.ReturnTypes.{return_type}
 use Rattle.vx_fn.specs.declared.function.ScalarFnRef.{ScalarFnRef}
-use Rattle.vx_fn.specs.declared.function.ScalarFnRef.TheVariants.{Binary, Not}
+use Rattle.vx_fn.proofs.ReturnTypesLemmas.{arity_of_row}
 use Rattle.vx_tree.specs.Tree as enc
 use Rattle.vx_tree.specs.Tree.{Tree, Data, id_of, slots_of, dtype, len}
 use Rattle.vx_tree.specs.Well.{Shape, shape, shape_of, shapes, IsNode}
@@ -58,16 +58,6 @@ absent_none None h = refl
 absent_none (Some s) h = absurd (cc)
 
 -- ---- the slots of a function's node
-
--- a function takes as many arguments as its table says
-pub arity_of_row : (f : ScalarFnRef) (tys : List DataType) (ty : DataType) → return_type f tys ≡ Some ty → length tys ≡ arity f
-arity_of_row (Binary op) [] ty h = absurd (cc)
-arity_of_row (Binary op) (s ∷ []) ty h = absurd (cc)
-arity_of_row (Binary op) (s ∷ t ∷ []) ty h = refl
-arity_of_row (Binary op) (s ∷ t ∷ u ∷ tys) ty h = absurd (cc)
-arity_of_row Not [] ty h = absurd (cc)
-arity_of_row Not (s ∷ []) ty h = refl
-arity_of_row Not (s ∷ t ∷ tys) ty h = absurd (cc)
 
 -- those that all hold trees of n rows, by their types
 pub shapes_of_types : (n : ℕ) (ss : List (Option Shape)) → all_present ss ≡ true → all_long n ss ≡ true →
@@ -303,10 +293,10 @@ of_another_type s t h e = true_is_false (sym ((same_type_Decides s t).1 e) ∙ h
 pub slice_is_node : (t : Tree) (a b : ℕ) → a ≤ b → b ≤ len t → IsNode (dtype t) (b - a) (enc.slice a b) (Some (shape_of t) ∷ [])
 slice_is_node t a b h k = (len t, refl, h, k, refl)
 
-pub never_null : (n : Nullability) → is_nullable n ≡ false → n ≡ NonNullable
-never_null NonNullable h = refl
-never_null Nullable h = absurd (cc)
+pub no_null : (n : Nullability) → is_nullable n ≡ false → n ≡ NonNullable
+no_null NonNullable h = refl
+no_null Nullable h = absurd (cc)
 
-pub null_some : (n : Nullability) → is_nullable n ≡ true → n ≡ NonNullable → ⊥
-null_some NonNullable h e = absurd (cc)
-null_some Nullable h e = absurd (cc)
+pub some_null : (n : Nullability) → is_nullable n ≡ true → n ≡ NonNullable → ⊥
+some_null NonNullable h e = absurd (cc)
+some_null Nullable h e = absurd (cc)

@@ -39,7 +39,10 @@ impl Canonical {
             }
             DType::Primitive(ptype, _) => {
                 let values = PrimitiveValues::repeat(alloc, *ptype, 0, 0)?;
-                Ok(Canonical::Primitive(PrimitiveArray::try_new(alloc, of_type, values)?))
+                match PrimitiveArray::try_new(alloc, of_type, values) {
+                    Ok(column) => Ok(Canonical::Primitive(column)),
+                    Err(e) => Err(e),
+                }
             }
         }
     }

@@ -96,7 +96,7 @@ impl VTable for Constant {
 
 impl ConstantArray {
     /// Makes the constant of `len` rows, each `scalar`. `InvalidArgument` with `BadType` exactly if its type is nullable.
-    #[tactic(auto, using(crate::proofs::RefusalsLemmas::never_null, crate::proofs::RefusalsLemmas::null_some))]
+    #[tactic(auto, using(crate::proofs::RefusalsLemmas::no_null, crate::proofs::RefusalsLemmas::some_null))]
     pub fn new(alloc: Global, scalar: Scalar, len: usize) -> VortexResult<ConstantArray>
         ensures ok { IfOk result (λ a. a ≡ constant_of scalar len) }
         ensures valid { OnOk result (nullability_of scalar.of_type ≡ NonNullable) }
