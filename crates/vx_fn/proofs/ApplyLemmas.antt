@@ -79,10 +79,13 @@ by_other : (p : PType) (x y : ℤ) → (of_z w128 y ≡ 0 → ⊥) → quotient 
 by_other p x y h = ap (λ b. if b then fault else number p (int_div x y)) (not_zero y h)
 
 -- where the divisor isn't 0, an i128 is taken only if there is one
-of_quotient : (p : PType) (x y : ℤ) (r : Option ℤ) → (of_z w128 y ≡ 0 → ⊥) → SomeIff r (CanDivide w128 x y) (int_div x y) → MatchOption r (quotient p x y ≡ fault) (λ z. quotient p x y ≡ number p z)
+of_quotient : (p : PType) (x y : ℤ) (r : Option ℤ) → (of_z w128 y ≡ 0 → ⊥) → SomeIff r (CanDivide w128 x y) (int_div x y) →
+    MatchOption r (quotient p x y ≡ fault) (λ z. quotient p x y ≡ number p z)
 of_quotient p x y None h k = by_other p x y h ∙ number_unfit p (int_div x y) (λ f. k (omega (arith, h), f))
 of_quotient p x y (Some z) h k = by_other p x y h ∙ ap (number p) (sym k.1)
 
 -- the same, of numbers that were passed
-pub by_quotient : (p : PType) (x y : ℤ) (r : Option ℤ) → FitsSigned w128 x → FitsSigned w128 y → (of_z w128 y ≡ 0 → ⊥) → SomeIff r (CanDivide w128 (to_z w128 (of_z w128 x)) (to_z w128 (of_z w128 y))) (int_div (to_z w128 (of_z w128 x)) (to_z w128 (of_z w128 y))) → MatchOption r (quotient p x y ≡ fault) (λ z. quotient p x y ≡ number p z)
+pub by_quotient : (p : PType) (x y : ℤ) (r : Option ℤ) → FitsSigned w128 x → FitsSigned w128 y → (of_z w128 y ≡ 0 → ⊥) →
+    SomeIff r (CanDivide w128 (to_z w128 (of_z w128 x)) (to_z w128 (of_z w128 y))) (int_div (to_z w128 (of_z w128 x)) (to_z w128 (of_z w128 y))) →
+    MatchOption r (quotient p x y ≡ fault) (λ z. quotient p x y ≡ number p z)
 by_quotient p x y r f g h k = of_quotient p x y r h (simp (to_z-of_z, f, g) at k)

@@ -59,7 +59,8 @@ pub same_scalar_Decides : (s t : Typed) → Decides (same_scalar s t) (s ≡ t)
 same_scalar_Decides s t =
     let types = same_type_Decides s.of_type t.of_type in
     let values = same_value_Decides s.value t.value in
-    (λ h i. record { of_type = types.0 (first_so _ _ h) i; value = values.0 (second_so _ _ h) i }, λ e i. types.1 (ap (λ u. u.of_type) e) i && values.1 (ap (λ u. u.value) e) i)
+    (λ h i. record { of_type = types.0 (first_so _ _ h) i; value = values.0 (second_so _ _ h) i },
+    λ e i. types.1 (ap (λ u. u.of_type) e) i && values.1 (ap (λ u. u.value) e) i)
 
 -- values that are equal or don't compare
 abbrev level : {K : Type 0} → (K → K → Bool) → K → K → Option Ordering
@@ -91,4 +92,6 @@ chosen false o = refl
 
 pub scalar_cmp_order : IsPartialOrder same_scalar scalar_cmp
 scalar_cmp_order =
-    subst (IsPartialOrder same_scalar) (λ i s t. chosen (same_type s.of_type t.of_type) (value_cmp s.value t.value) i) (then_po (on_po (λ s. s.of_type) (level_order (decided same_type same_type_Decides))) (on_po (λ s. s.value) (partial_order_from_total value_cmp_total)))
+    let types = on_po (λ (s : Typed). s.of_type) (level_order (decided same_type same_type_Decides)) in
+    let values = on_po (λ (s : Typed). s.value) (partial_order_from_total value_cmp_total) in
+    subst (IsPartialOrder same_scalar) (λ i s t. chosen (same_type s.of_type t.of_type) (value_cmp s.value t.value) i) (then_po types values)
