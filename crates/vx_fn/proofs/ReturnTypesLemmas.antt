@@ -7,7 +7,7 @@ use Rattle.vx_fn.specs.Functions.{arity}
 use Rattle.vx_fn.specs.ReturnTypes.{no_null_type, is_comparison, operator_type, binary_type, not_type, return_type}
 use Rattle.vx_fn.specs.declared.function.Operator.{Operator}
 use Rattle.vx_fn.specs.declared.function.ScalarFnRef.{ScalarFnRef}
-use Rattle.vx_fn.specs.declared.function.ScalarFnRef.TheVariants.{Binary, Not}
+use Rattle.vx_fn.specs.declared.function.ScalarFnRef.TheVariants as function
 use Rattle.vx_fn.proofs.ArityLemmas.{on_one, on_two}
 
 -- two arguments of one type
@@ -52,8 +52,8 @@ not_whole _ = tt
 
 -- a line for each function
 taken : (f : ScalarFnRef) (tys : List DataType) (ty : DataType) → return_type f tys ≡ Some ty → (length tys ≡ arity f) × IsWhole ty
-taken (Binary op) = on_two IsWhole no_null_type kept (binary_type op) (binary_whole op)
-taken Not = on_one IsWhole no_null_type kept not_type not_whole
+taken (function.Binary op) = on_two IsWhole no_null_type kept (binary_type op) (binary_whole op)
+taken function.Not = on_one IsWhole no_null_type kept not_type not_whole
 
 pub arity_of_row : (f : ScalarFnRef) (tys : List DataType) (ty : DataType) → return_type f tys ≡ Some ty → length tys ≡ arity f
 arity_of_row f tys ty h = (taken f tys ty h).0

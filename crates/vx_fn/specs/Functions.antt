@@ -5,13 +5,13 @@ use denote.Enum.Declared.{row}
 use Rattle.vx_value.specs.declared.id.Id.{Id}
 use Rattle.vx_value.specs.declared.id.Id.TheVariants as id
 use Rattle.vx_fn.specs.declared.function.ScalarFnRef.{ScalarFnRef}
-use Rattle.vx_fn.specs.declared.function.ScalarFnRef.TheVariants.{Binary, Not}
+use Rattle.vx_fn.specs.declared.function.ScalarFnRef.TheVariants as function
 use Rattle.vx_fn.specs.contracts.function.ScalarFnRef.{the_type as the_function}
 
 -- its id, and what its arguments are called, in their order: a line for each function
 abbrev pub signature : ScalarFnRef → Id × List (List ℕ)
-signature (Binary op) = (id.Binary, codes "lhs" ∷ codes "rhs" ∷ [])
-signature Not = (id.Not, codes "input" ∷ [])
+signature (function.Binary op) = (id.Binary, codes "lhs" ∷ codes "rhs" ∷ [])
+signature function.Not = (id.Not, codes "input" ∷ [])
 
 abbrev pub function_id : ScalarFnRef → Id
 function_id f = (signature f).0
