@@ -10,7 +10,8 @@ use Rattle.std.specs.declared.cmp.Ordering.TheVariants.{Less, Equal, Greater}
 use Rattle.std.specs.Ordering.{bool_cmp, int_cmp, is_eq, ordering_reverse, ordering_then, on, then_cmp, partial_ordering_then}
 use Rattle.std.proofs.Common.{ap, sym, ◌∙◌, subst}
 use Rattle.vx_value.specs.Types.{same_type, same_type_Decides}
-use Rattle.vx_value.specs.Values.{Value, null, boolean, integer}
+use Rattle.vx_value.specs.Values as value
+use Rattle.vx_value.specs.Values.{Value}
 use Rattle.vx_value.specs.Typed.{Typed}
 use Rattle.vx_value.specs.Parts.{boolean_in, integer_in}
 use Rattle.vx_value.specs.Order.{value_cmp, same_value, same_scalar, scalar_cmp}
@@ -33,9 +34,9 @@ then_equal Equal = refl
 then_equal Greater = refl
 
 value_cmp_ranks : (v w : Value) → by_parts v w ≡ value_cmp v w
-value_cmp_ranks null null = refl
-value_cmp_ranks (boolean a) (boolean b) = refl
-value_cmp_ranks (integer y) (integer z) = then_equal (int_cmp y z)
+value_cmp_ranks value.null value.null = refl
+value_cmp_ranks (value.boolean a) (value.boolean b) = refl
+value_cmp_ranks (value.integer y) (value.integer z) = then_equal (int_cmp y z)
 value_cmp_ranks _ _ = refl
 
 pub value_cmp_total : IsTotalOrder value_cmp
@@ -43,10 +44,10 @@ value_cmp_total = subst IsTotalOrder (λ i v w. value_cmp_ranks v w i) by_parts_
 
 -- what comes neither before nor after is the same
 value_alike : (v w : Value) → same_value v w ≡ true → v ≡ w
-value_alike null null h = refl
-value_alike (boolean false) (boolean false) h = refl
-value_alike (boolean true) (boolean true) h = refl
-value_alike (integer y) (integer z) h = ap integer ((signed_Decides y z).0 h)
+value_alike value.null value.null h = refl
+value_alike (value.boolean false) (value.boolean false) h = refl
+value_alike (value.boolean true) (value.boolean true) h = refl
+value_alike (value.integer y) (value.integer z) h = ap value.integer ((signed_Decides y z).0 h)
 value_alike _ _ h = absurd (cc)
 
 pub same_value_Decides : (v w : Value) → Decides (same_value v w) (v ≡ w)
