@@ -1,5 +1,5 @@
 -- Of what arguments functions have a result, and of what type.
-use Rattle.std.proofs.Common.{◌≡◌, List, length, Bool, true, false, Option, Some, None, refl, ap, subst}
+use Rattle.std.proofs.Common.{◌≡◌, List, length, Bool, true, false, Option, Some, None, refl, ap}
 use Rattle.std.specs.Prelude.{IfSome, if◌then◌else◌}
 use Rattle.vx_value.specs.Types.{DataType, bool, primitive, same_type, nullability_of, is_nullable}
 use Rattle.vx_value.specs.declared.dtype.Nullability.TheVariants.{NonNullable}
@@ -7,19 +7,14 @@ use Rattle.vx_fn.specs.Functions.{arity}
 use Rattle.vx_fn.specs.ReturnTypes.{no_null_type, is_comparison, operator_type, binary_type, not_type, return_type}
 use Rattle.vx_fn.specs.declared.function.Operator.{Operator}
 use Rattle.vx_fn.specs.declared.function.ScalarFnRef.{ScalarFnRef}
-use Rattle.vx_fn.specs.declared.function.ScalarFnRef.TheVariants.{Binary, Not}
-use Rattle.vx_fn.proofs.ArityLemmas.{one_counted, two_counted, one_holds, two_holds}
+use Rattle.vx_fn.specs.declared.function.ScalarFnRef.TheVariants as function
+use Rattle.vx_fn.proofs.ArityLemmas.{on_one, on_two}
 
 -- two arguments of one type
 pub of_one_type : (op : Operator) (s t : DataType) → same_type s t ≡ true → binary_type op s t ≡ operator_type op s
 of_one_type op s t e = ap (λ b. if b then operator_type op s else None) e
 
--- a function takes as many arguments as have names: a line for each function
-pub arity_of_row : (f : ScalarFnRef) (tys : List DataType) (ty : DataType) → return_type f tys ≡ Some ty → length tys ≡ arity f
-arity_of_row (Binary op) tys ty h = two_counted no_null_type (binary_type op) tys ty h
-arity_of_row Not tys ty h = one_counted no_null_type not_type tys ty h
-
--- ---- no result is null
+-- ---- a function takes as many arguments as have names, and no result is null
 
 abbrev IsWhole : DataType → Type 0
 IsWhole ty = nullability_of ty ≡ NonNullable
@@ -56,9 +51,12 @@ not_whole (bool n) = refl
 not_whole _ = tt
 
 -- a line for each function
-results_whole : (f : ScalarFnRef) (tys : List DataType) → IfSome (return_type f tys) IsWhole
-results_whole (Binary op) tys = two_holds IsWhole no_null_type kept (binary_type op) (binary_whole op) tys
-results_whole Not tys = one_holds IsWhole no_null_type kept not_type not_whole tys
+taken : (f : ScalarFnRef) (tys : List DataType) (ty : DataType) → return_type f tys ≡ Some ty → (length tys ≡ arity f) × IsWhole ty
+taken (function.Binary op) = on_two IsWhole no_null_type kept (binary_type op) (binary_whole op)
+taken function.Not = on_one IsWhole no_null_type kept not_type not_whole
+
+pub arity_of_row : (f : ScalarFnRef) (tys : List DataType) (ty : DataType) → return_type f tys ≡ Some ty → length tys ≡ arity f
+arity_of_row f tys ty h = (taken f tys ty h).0
 
 pub never_null : (f : ScalarFnRef) (tys : List DataType) (ty : DataType) → return_type f tys ≡ Some ty → nullability_of ty ≡ NonNullable
-never_null f tys ty h = subst (λ o. IfSome o IsWhole) h (results_whole f tys)
+never_null f tys ty h = (taken f tys ty h).1

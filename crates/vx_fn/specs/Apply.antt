@@ -11,9 +11,9 @@ use Rattle.vx_value.specs.Order.{value_cmp}
 use Rattle.vx_value.specs.declared.dtype.PType.{PType}
 use Rattle.vx_fn.specs.Arity.{of_one, of_two}
 use Rattle.vx_fn.specs.declared.function.Operator.{Operator}
-use Rattle.vx_fn.specs.declared.function.Operator.TheVariants.{Eq, NotEq, Gt, Gte, Lt, Lte, Add, Sub, Mul, Div}
+use Rattle.vx_fn.specs.declared.function.Operator.TheVariants as operator
 use Rattle.vx_fn.specs.declared.function.ScalarFnRef.{ScalarFnRef}
-use Rattle.vx_fn.specs.declared.function.ScalarFnRef.TheVariants.{Binary, Not}
+use Rattle.vx_fn.specs.declared.function.ScalarFnRef.TheVariants as function
 
 -- the number, where the type has it
 abbrev pub number : PType → ℤ → Cell
@@ -25,20 +25,20 @@ quotient p x y = if is_eq (int_cmp y (pos 0)) then fault else number p (int_div 
 
 -- of two numbers, in whole numbers without bounds: a line for each operator; those that compare give no number
 abbrev pub calculated : Operator → PType → ℤ → ℤ → Cell
-calculated Add p x y = number p (x +ℤ y)
-calculated Sub p x y = number p (x -ℤ y)
-calculated Mul p x y = number p (x *ℤ y)
-calculated Div p x y = quotient p x y
+calculated operator.Add p x y = number p (x +ℤ y)
+calculated operator.Sub p x y = number p (x -ℤ y)
+calculated operator.Mul p x y = number p (x *ℤ y)
+calculated operator.Div p x y = quotient p x y
 calculated _ p x y = fault
 
 -- whether it holds of two values, by which comes first: a line for each operator that compares; the others hold of none
 abbrev pub holds : Operator → Ordering → Bool
-holds Eq o = is_eq o
-holds NotEq o = is_ne o
-holds Gt o = is_gt o
-holds Gte o = is_ge o
-holds Lt o = is_lt o
-holds Lte o = is_le o
+holds operator.Eq o = is_eq o
+holds operator.NotEq o = is_ne o
+holds operator.Gt o = is_gt o
+holds operator.Gte o = is_ge o
+holds operator.Lt o = is_lt o
+holds operator.Lte o = is_le o
 holds _ o = false
 
 -- false comes before true, and numbers go by size
@@ -62,8 +62,8 @@ no_null _ c = c
 
 -- of values, where the result is of the type: a line for each function
 abbrev pub value_of : ScalarFnRef → DataType → List Value → Cell
-value_of (Binary op) ty vs = of_two no_null fault (operated op ty) vs
-value_of Not ty vs = of_one no_null fault negated vs
+value_of (function.Binary op) ty vs = of_two no_null fault (operated op ty) vs
+value_of function.Not ty vs = of_one no_null fault negated vs
 
 -- a fault in any argument is a fault
 abbrev pub on_values : (List Value → Cell) → List Cell → Cell

@@ -5,17 +5,19 @@ use denote.Enum.Declared.{row}
 use Rattle.vx_value.specs.declared.id.Id.{Id}
 use Rattle.vx_value.specs.declared.id.Id.TheVariants as id
 use Rattle.vx_fn.specs.declared.function.ScalarFnRef.{ScalarFnRef}
-use Rattle.vx_fn.specs.declared.function.ScalarFnRef.TheVariants.{Binary, Not}
+use Rattle.vx_fn.specs.declared.function.ScalarFnRef.TheVariants as function
 use Rattle.vx_fn.specs.contracts.function.ScalarFnRef.{the_type as the_function}
 
-abbrev pub function_id : ScalarFnRef → Id
-function_id (Binary op) = id.Binary
-function_id Not = id.Not
+-- its id, and what its arguments are called, in their order: a line for each function
+abbrev pub signature : ScalarFnRef → Id × List (List ℕ)
+signature (function.Binary op) = (id.Binary, codes "lhs" ∷ codes "rhs" ∷ [])
+signature function.Not = (id.Not, codes "input" ∷ [])
 
--- what its arguments are called, in their order
+abbrev pub function_id : ScalarFnRef → Id
+function_id f = (signature f).0
+
 abbrev pub argument_names : ScalarFnRef → List (List ℕ)
-argument_names (Binary op) = codes "lhs" ∷ codes "rhs" ∷ []
-argument_names Not = codes "input" ∷ []
+argument_names f = (signature f).1
 
 -- how many arguments it takes: each has a name
 abbrev pub arity : ScalarFnRef → ℕ

@@ -4,9 +4,9 @@ use Rattle.vx_value.specs.Types.{DataType, bool, primitive, same_type, nullabili
 use Rattle.vx_value.specs.declared.dtype.Nullability.TheVariants.{NonNullable}
 use Rattle.vx_fn.specs.Arity.{of_one, of_two}
 use Rattle.vx_fn.specs.declared.function.Operator.{Operator}
-use Rattle.vx_fn.specs.declared.function.Operator.TheVariants.{Eq, NotEq, Gt, Gte, Lt, Lte}
+use Rattle.vx_fn.specs.declared.function.Operator.TheVariants as operator
 use Rattle.vx_fn.specs.declared.function.ScalarFnRef.{ScalarFnRef}
-use Rattle.vx_fn.specs.declared.function.ScalarFnRef.TheVariants.{Binary, Not}
+use Rattle.vx_fn.specs.declared.function.ScalarFnRef.TheVariants as function
 
 -- no argument may be of a nullable type
 abbrev pub no_null_type : DataType → Option DataType → Option DataType
@@ -14,12 +14,12 @@ no_null_type ty answer = if is_nullable (nullability_of ty) then None else answe
 
 -- the operators that give a boolean, whatever they compare; the others give a number
 abbrev pub is_comparison : Operator → Bool
-is_comparison Eq = true
-is_comparison NotEq = true
-is_comparison Gt = true
-is_comparison Gte = true
-is_comparison Lt = true
-is_comparison Lte = true
+is_comparison operator.Eq = true
+is_comparison operator.NotEq = true
+is_comparison operator.Gt = true
+is_comparison operator.Gte = true
+is_comparison operator.Lt = true
+is_comparison operator.Lte = true
 is_comparison _ = false
 
 -- of two arguments of one type: booleans and integers compare, and integers of one type are added up to that type
@@ -37,5 +37,5 @@ not_type _ = None
 
 -- the type of the result, None where the function takes no such arguments: a line for each function
 abbrev pub return_type : ScalarFnRef → List DataType → Option DataType
-return_type (Binary op) tys = of_two no_null_type None (binary_type op) tys
-return_type Not tys = of_one no_null_type None not_type tys
+return_type (function.Binary op) tys = of_two no_null_type None (binary_type op) tys
+return_type function.Not tys = of_one no_null_type None not_type tys

@@ -76,10 +76,7 @@ impl ScalarFnRef {
     pub fn id(&self) -> Id
         ensures { result ≡ function_id self.now }
     {
-        match self {
-            ScalarFnRef::Binary(_) => Id::Binary,
-            ScalarFnRef::Not => Id::Not,
-        }
+        self.signature().0
     }
 
     /// Returns the name of the argument at `index`, counted from 0: `lhs` and `rhs`, or `input`. Returns `None` if the
@@ -87,23 +84,24 @@ impl ScalarFnRef {
     pub fn child_name(&self, index: usize) -> Option<&'static str>
         ensures { option_map (λ s. s.now) result ≡ slice_get (argument_names self.now) index }
     {
-        self.child_names().get(index).copied()
+        self.signature().1.get(index).copied()
     }
 
     /// Returns the number of arguments that the function takes.
     pub fn arity(&self) -> Arity
         ensures { result ≡ Arity.Exact (arity self.now) }
     {
-        Arity::Exact(self.child_names().len())
+        Arity::Exact(self.signature().1.len())
     }
 
-    /// Returns the names of the arguments, in order. (own)
-    fn child_names(&self) -> &'static [&'static str]
-        ensures { map (λ s. s.now) result.now ≡ argument_names self.now }
+    /// Returns the function's id, and the names of its arguments, in order. (own)
+    fn signature(&self) -> (Id, &'static [&'static str])
+        ensures id { result.0 ≡ function_id self.now }
+        ensures names { map (λ s. s.now) result.1.now ≡ argument_names self.now }
     {
         match self {
-            ScalarFnRef::Binary(_) => &["lhs", "rhs"],
-            ScalarFnRef::Not => &["input"],
+            ScalarFnRef::Binary(_) => (Id::Binary, &["lhs", "rhs"]),
+            ScalarFnRef::Not => (Id::Not, &["input"]),
         }
     }
 }

@@ -20,10 +20,7 @@ impl ScalarFnRef {
         ensures refused { IfErr result (λ e. (e ≡ VortexError.InvalidArgument ArgKind.NoRow)
             × (return_type self.now (map type_of arguments.now) ≡ None)) }
     {
-        match type_in_row(self, arguments) {
-            Some(dtype) => Ok(dtype),
-            None => Err(VortexError::InvalidArgument(ArgKind::NoRow)),
-        }
+        type_in_row(self, arguments).ok_or(VortexError::InvalidArgument(ArgKind::NoRow))
     }
 }
 
