@@ -1,6 +1,6 @@
 -- The values of a column, and the range of their type.
 use Rattle.std.proofs.Common.{◌≡◌, ◌≤◌, ◌^◌, ℕ, zero, suc, ℤ, pos, negsuc, ◌-◌, List, ◌∷◌, map, take, drop, slice_range, replicate, FitsSigned, true}
-use Rattle.std.proofs.Common.{Option, Some, None, IfSome, sym, subst}
+use Rattle.std.proofs.Common.{Option, Some, None, IfSome, subst}
 use Rattle.std.proofs.Common.{refl, ap, ◌∙◌, arith, ltb-true}
 use Rattle.std.proofs.lemmas.Int.{ints}
 use Rattle.std.proofs.lemmas.List.{take-map, drop-map}

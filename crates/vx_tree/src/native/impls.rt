@@ -133,7 +133,8 @@ impl NativeInteger for u64 {
 }
 
 impl NativeInteger for i8 {
-    ghost use Rattle.vx_tree.specs.Ranges.{signed_range_8};
+    ghost use Rattle.vx_tree.specs.Ranges.{signed_range};
+    ghost use Rattle.std.specs.Int.{w8};
 
     ghost kind = { ptype.I8 };
 
@@ -160,11 +161,12 @@ impl NativeInteger for i8 {
 
     ghost clones_same = { λ x y e. e };
 
-    ghost fits_kind = { signed_range_8 };
+    ghost fits_kind = { signed_range w8 };
 }
 
 impl NativeInteger for i16 {
-    ghost use Rattle.vx_tree.specs.Ranges.{signed_range_16};
+    ghost use Rattle.vx_tree.specs.Ranges.{signed_range};
+    ghost use Rattle.std.specs.Int.{w16};
 
     ghost kind = { ptype.I16 };
 
@@ -191,11 +193,12 @@ impl NativeInteger for i16 {
 
     ghost clones_same = { λ x y e. e };
 
-    ghost fits_kind = { signed_range_16 };
+    ghost fits_kind = { signed_range w16 };
 }
 
 impl NativeInteger for i32 {
-    ghost use Rattle.vx_tree.specs.Ranges.{signed_range_32};
+    ghost use Rattle.vx_tree.specs.Ranges.{signed_range};
+    ghost use Rattle.std.specs.Int.{w32};
 
     ghost kind = { ptype.I32 };
 
@@ -222,11 +225,12 @@ impl NativeInteger for i32 {
 
     ghost clones_same = { λ x y e. e };
 
-    ghost fits_kind = { signed_range_32 };
+    ghost fits_kind = { signed_range w32 };
 }
 
 impl NativeInteger for i64 {
-    ghost use Rattle.vx_tree.specs.Ranges.{signed_range_64};
+    ghost use Rattle.vx_tree.specs.Ranges.{signed_range};
+    ghost use Rattle.std.specs.Int.{w64};
 
     ghost kind = { ptype.I64 };
 
@@ -253,5 +257,5 @@ impl NativeInteger for i64 {
 
     ghost clones_same = { λ x y e. e };
 
-    ghost fits_kind = { signed_range_64 };
+    ghost fits_kind = { signed_range w64 };
 }
