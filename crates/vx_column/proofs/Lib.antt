@@ -1,7 +1,5 @@
-pub mod ColumnSteps
-pub mod Combining
-pub mod Operating
-pub mod Probing
-pub mod Reading
-pub mod Repeats
-pub mod Rowwise
+pub mod AppliedLemmas
+pub mod ApplyLemmas
+pub mod CanonicalLemmas
+pub mod ComputedLemmas
+pub mod ProbedLemmas

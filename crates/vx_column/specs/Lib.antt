@@ -4,8 +4,8 @@ pub use Rattle.vx_tree.specs.Tree
 pub use Rattle.vx_tree.specs.Cells
 pub use Rattle.vx_tree.specs.Keeps
 pub use Rattle.vx_tree.specs.Columns
-pub mod Rows
-pub mod Arguments
-pub mod Repeated
 pub mod Applied
+pub mod Arguments
+pub mod Computed
+pub mod Operands
 pub mod Probed

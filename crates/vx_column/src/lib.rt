@@ -4,13 +4,14 @@
 mod apply;
 mod argument;
 mod arithmetic;
-mod binary;
+mod boolean;
+mod canonicalize;
 mod comparison;
 mod constant;
-mod integers;
-mod logic;
 mod operand;
+mod operate;
 mod probe;
 
 pub use apply::apply_fn;
+pub use canonicalize::constant_canonicalize;
 pub use probe::execute_scalar;

@@ -1,53 +1,47 @@
 //! The operands of a kernel.
 
-ghost use Rattle.std.specs.Prelude.{◌≡◌, ◌<◌, ⊤, ℕ, ℤ, length, map};
-ghost use Rattle.vx_column.specs.Rows.{integer_at};
+ghost use Rattle.std.specs.Prelude.{◌≡◌, ℕ};
+ghost use Rattle.vx_column.specs.Arguments.{integer_in, ptype_in, IsInRange, HasIntegers};
+ghost use Rattle.vx_column.specs.Operands.{number_in, HasRow, HasRows};
 
-use vx_tree::NativeInteger;
+use crate::argument::Integers;
+use vx_tree::{NativeInteger, native_of};
 
-/// An operand of a kernel: a number for each row.
-pub(crate) trait Operand<T: NativeInteger> {
-    // the number at a row
-    ghost number: { Self → ℕ → ℤ };
-
-    // whether a row exists
-    ghost HasRow: { Self → ℕ → Type 0 };
-
-    fn row(&self, index: usize) -> T
-        requires { HasRow self.now index }
-        ensures { T.value result ≡ number self.now index };
-}
-
-/// A column, with `items` as its rows.
+/// Numbers of a native type: one for each row, or one for every row.
 #[derive(Clone, Copy)]
-pub(crate) struct Items<'a, T> {
-    pub items: &'a [T],
+pub(crate) enum Operand<'a, T> {
+    Rows(&'a [T]),
+    Value(T),
 }
 
-impl<'a, T: NativeInteger> Operand<T> for Items<'a, T> {
-    ghost number = { λ c. integer_at (map T.value c.items.now) };
-
-    ghost HasRow = { λ c i. i < length c.items.now };
-
+impl<'a, T: NativeInteger> Operand<'a, T> {
+    /// Returns the number at row `index`, which must exist.
     #[inline]
-    fn row(&self, index: usize) -> T {
-        self.items[index]
+    pub(crate) fn row(&self, index: usize) -> T
+        requires { HasRow self.now index }
+        ensures { T.value result ≡ number_in T.value self.now index }
+    {
+        match *self {
+            Operand::Rows(rows) => rows[index],
+            Operand::Value(value) => value,
+        }
     }
 }
 
-/// One number for every row.
-#[derive(Clone, Copy)]
-pub(crate) struct Repeated<T> {
-    pub number: T,
-}
-
-impl<T: NativeInteger> Operand<T> for Repeated<T> {
-    ghost number = { λ c i. T.value c.number };
-
-    ghost HasRow = { λ c i. ⊤ };
-
-    #[inline]
-    fn row(&self, _index: usize) -> T {
-        self.number
+/// Returns `integers`, which must be of the type `T`, as native numbers.
+pub(crate) fn operand_of<'a, T: NativeInteger>(integers: Integers<'a>) -> Operand<'a, T>
+    requires kind { ptype_in integers ≡ T.kind }
+    requires ranged { IsInRange integers }
+    ensures numbers { number_in T.value result ≡ integer_in integers.entry }
+    ensures rows { (n : ℕ) → HasIntegers integers.entry n → HasRows result n }
+{
+    match integers {
+        Integers::Rows(values) => {
+            let Some(buffer) = T::project(values) else {
+                unreachable!()
+            };
+            Operand::Rows(buffer.as_slice())
+        }
+        Integers::Value(_, wide) => Operand::Value(native_of(wide)),
     }
 }

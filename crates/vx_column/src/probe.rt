@@ -15,7 +15,7 @@ ghost use Rattle.vx_column.specs.Probed.{HasRow, HaveRow, cell_in};
 use std::alloc::Global;
 use vx_fn::{ScalarFnRef, apply_row};
 use vx_tree::{ArrayKind, ArrayRef};
-use vx_value::{Scalar, ScalarValue, VortexError, VortexResult};
+use vx_value::{Nullability, Scalar, VortexError, VortexResult};
 
 /// Returns the value of row `index`, counted from 0. Takes no turns.
 ///
@@ -55,14 +55,12 @@ fn scalar_at(alloc: Global, array: &ArrayRef, index: usize) -> VortexResult<Scal
         ArrayKind::Constant(scalar) => Ok(scalar.clone()?),
         ArrayKind::Slice(child, start, _) => scalar_at(alloc, child, start + index),
         ArrayKind::ScalarFn(function, slots) => function_at(alloc, function, slots, index),
-        ArrayKind::Bool(bits) => Scalar::try_new(
-            array.dtype().clone()?,
-            Some(ScalarValue::Bool(bits.value(index))),
-        ),
-        ArrayKind::Primitive(values) => Scalar::try_new(
-            array.dtype().clone()?,
-            Some(ScalarValue::Integer(values.wide_at(index))),
-        ),
+        ArrayKind::Bool(bits) => Ok(Scalar::bool(bits.value(index), Nullability::NonNullable)),
+        ArrayKind::Primitive(values) => Ok(Scalar::primitive(
+            values.wide_at(index),
+            values.ptype(),
+            Nullability::NonNullable,
+        )),
     }
 }
 
@@ -109,7 +107,7 @@ fn scalars_at(alloc: Global, slots: &[Option<ArrayRef>], index: usize) -> Vortex
 
 /// Appends the value at row `index` of the tree in `slot`.
 #[cycle(scalar_at)]
-#[tactic(auto, using(crate::proofs::Probing::child_faulted))]
+#[tactic(auto, using(crate::proofs::ProbedLemmas::child_faulted))]
 fn push_scalar(
     alloc: Global,
     scalars: &mut Vec<Scalar>,

@@ -1,2 +1,3 @@
-pub mod Typing
-pub mod Calculating
+pub mod ArityLemmas
+pub mod ReturnTypesLemmas
+pub mod ApplyLemmas

@@ -9,10 +9,11 @@ use Rattle.vx_value.specs.Cell.{Cell, value, fault}
 use Rattle.vx_value.specs.IsOf.{in_range}
 use Rattle.vx_value.specs.Order.{value_cmp}
 use Rattle.vx_value.specs.declared.dtype.PType.{PType}
+use Rattle.vx_fn.specs.Arity.{of_one, of_two}
 use Rattle.vx_fn.specs.declared.function.Operator.{Operator}
-use Rattle.vx_fn.specs.declared.function.Operator.TheVariants.{Eq, NotEq, Gt, Gte, Lt, Lte, Add, Sub, Mul, Div}
+use Rattle.vx_fn.specs.declared.function.Operator.TheVariants as operator
 use Rattle.vx_fn.specs.declared.function.ScalarFnRef.{ScalarFnRef}
-use Rattle.vx_fn.specs.declared.function.ScalarFnRef.TheVariants.{Binary, Not}
+use Rattle.vx_fn.specs.declared.function.ScalarFnRef.TheVariants as function
 
 -- the number, where the type has it
 abbrev pub number : PType → ℤ → Cell
@@ -24,29 +25,21 @@ quotient p x y = if is_eq (int_cmp y (pos 0)) then fault else number p (int_div 
 
 -- of two numbers, in whole numbers without bounds: a line for each operator; those that compare give no number
 abbrev pub calculated : Operator → PType → ℤ → ℤ → Cell
-calculated Eq p x y = fault
-calculated NotEq p x y = fault
-calculated Gt p x y = fault
-calculated Gte p x y = fault
-calculated Lt p x y = fault
-calculated Lte p x y = fault
-calculated Add p x y = number p (x +ℤ y)
-calculated Sub p x y = number p (x -ℤ y)
-calculated Mul p x y = number p (x *ℤ y)
-calculated Div p x y = quotient p x y
+calculated operator.Add p x y = number p (x +ℤ y)
+calculated operator.Sub p x y = number p (x -ℤ y)
+calculated operator.Mul p x y = number p (x *ℤ y)
+calculated operator.Div p x y = quotient p x y
+calculated _ p x y = fault
 
--- whether it holds of two values, by which comes first: a line for each operator; the others hold of none
+-- whether it holds of two values, by which comes first: a line for each operator that compares; the others hold of none
 abbrev pub holds : Operator → Ordering → Bool
-holds Eq o = is_eq o
-holds NotEq o = is_ne o
-holds Gt o = is_gt o
-holds Gte o = is_ge o
-holds Lt o = is_lt o
-holds Lte o = is_le o
-holds Add o = false
-holds Sub o = false
-holds Mul o = false
-holds Div o = false
+holds operator.Eq o = is_eq o
+holds operator.NotEq o = is_ne o
+holds operator.Gt o = is_gt o
+holds operator.Gte o = is_ge o
+holds operator.Lt o = is_lt o
+holds operator.Lte o = is_le o
+holds _ o = false
 
 -- false comes before true, and numbers go by size
 abbrev pub compared : Operator → Value → Value → Cell
@@ -55,33 +48,22 @@ compared op v w = value (boolean (holds op (value_cmp v w)))
 -- where the result is of type p, the numbers are, and where it is a boolean, the values are compared
 abbrev pub operated : Operator → DataType → Value → Value → Cell
 operated op (bool n) v w = compared op v w
-operated op (primitive p n) null w = fault
-operated op (primitive p n) (boolean b) w = fault
-operated op (primitive p n) (integer x) null = fault
-operated op (primitive p n) (integer x) (boolean b) = fault
 operated op (primitive p n) (integer x) (integer y) = calculated op p x y
+operated op _ _ _ = fault
 
 abbrev pub negated : Value → Cell
-negated null = fault
 negated (boolean b) = value (boolean (not b))
-negated (integer z) = fault
+negated _ = fault
 
--- of values, where the result is of the type
-abbrev pub binary_value : Operator → DataType → List Value → Cell
-binary_value op ty [] = fault
-binary_value op ty (v ∷ []) = fault
-binary_value op ty (v ∷ w ∷ []) = operated op ty v w
-binary_value op ty (v ∷ w ∷ u ∷ vs) = fault
+-- no argument may be null
+abbrev pub no_null : Value → Cell → Cell
+no_null null c = fault
+no_null _ c = c
 
-abbrev pub not_value : List Value → Cell
-not_value [] = fault
-not_value (v ∷ []) = negated v
-not_value (v ∷ w ∷ vs) = fault
-
--- a line for each function
+-- of values, where the result is of the type: a line for each function
 abbrev pub value_of : ScalarFnRef → DataType → List Value → Cell
-value_of (Binary op) ty vs = binary_value op ty vs
-value_of Not ty vs = not_value vs
+value_of (function.Binary op) ty vs = of_two no_null fault (operated op ty) vs
+value_of function.Not ty vs = of_one no_null fault negated vs
 
 -- a fault in any argument is a fault
 abbrev pub on_values : (List Value → Cell) → List Cell → Cell

@@ -5,12 +5,15 @@ ghost use Rattle.vx_value.specs.Types.{DataType, bool, primitive, same_type};
 ghost use Rattle.vx_value.specs.Values.{boolean};
 ghost use Rattle.vx_value.specs.Cell.{value, fault};
 ghost use Rattle.vx_value.specs.Order.{value_cmp};
-ghost use Rattle.vx_fn.specs.ReturnTypes.{return_type, binary_type, negated_type};
-ghost use Rattle.vx_fn.specs.Apply.{apply, calculated, compared, holds, negated, number, operated, quotient};
+ghost use Rattle.vx_fn.specs.ReturnTypes.{return_type};
+ghost use Rattle.vx_fn.specs.Apply.{apply, value_of, calculated, holds, number, quotient};
+ghost use Rattle.vx_fn.specs.declared.function.ScalarFnRef.TheVariants.{Binary, Not};
 
 use crate::function::{Operator, ScalarFnRef};
 use std::cmp::Ordering;
-use vx_value::{DType, Nullability, PType, Scalar, ScalarValue, VortexError, VortexResult};
+use vx_value::{
+    DType, Nullability, PType, Scalar, ScalarKind, ScalarValue, VortexError, VortexResult,
+};
 
 /// Applies `function` to `arguments`, one row of each, without allocating. The function must accept their types.
 ///
@@ -25,27 +28,30 @@ pub fn apply_row(function: &ScalarFnRef, arguments: &[Scalar]) -> VortexResult<S
 {
     match (function, arguments) {
         (ScalarFnRef::Binary(operator), [lhs, rhs]) => operate(*operator, lhs, rhs),
-        (ScalarFnRef::Not, [argument]) => negate(argument),
-        _ => Err(VortexError::Fault),
+        (ScalarFnRef::Not, [input]) => negate(input),
+        _ => unreachable!(),
     }
 }
 
 /// Applies `operator` to two arguments, whose types it must accept.
+#[tactic(auto, using(crate::proofs::ApplyLemmas::whole_values))]
 fn operate(operator: Operator, lhs: &Scalar, rhs: &Scalar) -> VortexResult<Scalar>
-    requires { IsSome (binary_type operator (lhs.now.of_type ∷ rhs.now.of_type ∷ [])) }
-    ensures typed { IfOk result (λ s. binary_type operator (lhs.now.of_type ∷ rhs.now.of_type ∷ []) ≡ Some s.of_type) }
-    ensures ok { IfOk result (λ s. operated operator s.of_type lhs.now.value rhs.now.value ≡ value s.value) }
+    requires { IsSome (return_type (Binary operator) (lhs.now.of_type ∷ rhs.now.of_type ∷ [])) }
+    ensures typed { IfOk result (λ s. return_type (Binary operator) (lhs.now.of_type ∷ rhs.now.of_type ∷ []) ≡ Some s.of_type) }
+    ensures ok { IfOk result (λ s. value_of (Binary operator) s.of_type (lhs.now.value ∷ rhs.now.value ∷ []) ≡ value s.value) }
     ensures fault { IfErr result (λ e. (e ≡ VortexError.Fault) × ((t : DataType)
-        → binary_type operator (lhs.now.of_type ∷ rhs.now.of_type ∷ []) ≡ Some t
-        → operated operator t lhs.now.value rhs.now.value ≡ fault)) }
+        → return_type (Binary operator) (lhs.now.of_type ∷ rhs.now.of_type ∷ []) ≡ Some t
+        → value_of (Binary operator) t (lhs.now.value ∷ rhs.now.value ∷ []) ≡ fault)) }
 {
+    let operands = (lhs.kind(), rhs.kind());
     if operator.is_comparison() {
-        compare(operator, lhs, rhs)
-    } else {
-        match (lhs.dtype(), lhs.as_integer(), rhs.as_integer()) {
-            (DType::Primitive(ptype, _), Some(x), Some(y)) => calculate(operator, *ptype, x, y),
-            _ => Err(VortexError::Fault),
+        return compare(operator, lhs, rhs);
+    }
+    match operands {
+        (ScalarKind::Primitive(x, ptype, _), ScalarKind::Primitive(y, _, _)) => {
+            calculate(operator, ptype, x, y)
         }
+        _ => unreachable!(),
     }
 }
 
@@ -58,32 +64,22 @@ fn compare(operator: Operator, lhs: &Scalar, rhs: &Scalar) -> VortexResult<Scala
     }) }
 {
     match lhs.partial_cmp(rhs) {
-        Some(ordering) => truth(holds(operator, ordering)),
-        None => Err(VortexError::Fault),
+        Some(ordering) => Ok(Scalar::bool(holds(operator, ordering), Nullability::NonNullable)),
+        None => unreachable!(),
     }
 }
 
 /// Negates a boolean.
-fn negate(argument: &Scalar) -> VortexResult<Scalar>
-    requires { IsSome (negated_type argument.now.of_type) }
-    ensures ok { IfOk result (λ s. (negated_type argument.now.of_type ≡ Some s.of_type)
-        × (negated argument.now.value ≡ value s.value)) }
-    ensures fault { IfErr result (λ e. (e ≡ VortexError.Fault) × (negated argument.now.value ≡ fault)) }
+fn negate(input: &Scalar) -> VortexResult<Scalar>
+    requires { IsSome (return_type Not (input.now.of_type ∷ [])) }
+    ensures typed { IfOk result (λ s. return_type Not (input.now.of_type ∷ []) ≡ Some s.of_type) }
+    ensures ok { IfOk result (λ s. value_of Not s.of_type (input.now.value ∷ []) ≡ value s.value) }
+    ensures fault { IfErr result (λ _. ⊥) }
 {
-    match argument.as_bool() {
-        Some(value) => truth(!value),
-        None => Err(VortexError::Fault),
+    match input.kind() {
+        ScalarKind::Bool(value, _) => Ok(Scalar::bool(!value, Nullability::NonNullable)),
+        _ => unreachable!(),
     }
-}
-
-/// Returns a boolean of the non-nullable type.
-fn truth(value: bool) -> VortexResult<Scalar>
-    ensures { result ≡ Ok (record { of_type = bool Nullability.NonNullable; value = boolean value }) }
-{
-    Scalar::try_new(
-        DType::Bool(Nullability::NonNullable),
-        Some(ScalarValue::Bool(value)),
-    )
 }
 
 /// Checks whether a comparison holds of two values that compare as `ordering`.
@@ -97,7 +93,7 @@ fn holds(operator: Operator, ordering: Ordering) -> bool
         Operator::Gte => ordering.is_ge(),
         Operator::Lt => ordering.is_lt(),
         Operator::Lte => ordering.is_le(),
-        Operator::Add | Operator::Sub | Operator::Mul | Operator::Div => false,
+        _ => false,
     }
 }
 
@@ -137,8 +133,7 @@ fn exactly(operator: Operator, x: i128, y: i128) -> Option<i128>
         Operator::Sub => x.checked_sub(y),
         Operator::Mul => x.checked_mul(y),
         Operator::Div => quotient(x, y),
-        Operator::Eq | Operator::NotEq => None,
-        Operator::Gt | Operator::Gte | Operator::Lt | Operator::Lte => None,
+        _ => None,
     }
 }
 

@@ -1,6 +1,6 @@
 //! Scalar functions, as in the original's `scalar_fn` module.
 
-ghost use Rattle.std.specs.Prelude.{◌≡◌, ◌==◌, ℕ, option_map, slice_get};
+ghost use Rattle.std.specs.Prelude.{◌≡◌, ◌==◌, ℕ, map, option_map, slice_get};
 ghost use Rattle.vx_fn.specs.Functions.{function_id, arity, argument_names};
 ghost use Rattle.vx_fn.specs.ReturnTypes.{is_comparison};
 
@@ -39,7 +39,7 @@ impl Operator {
         match self {
             Operator::Eq | Operator::NotEq => true,
             Operator::Gt | Operator::Gte | Operator::Lt | Operator::Lte => true,
-            Operator::Add | Operator::Sub | Operator::Mul | Operator::Div => false,
+            _ => false,
         }
     }
 }
@@ -76,10 +76,7 @@ impl ScalarFnRef {
     pub fn id(&self) -> Id
         ensures { result ≡ function_id self.now }
     {
-        match self {
-            ScalarFnRef::Binary(_) => Id::Binary,
-            ScalarFnRef::Not => Id::Not,
-        }
+        self.signature().0
     }
 
     /// Returns the name of the argument at `index`, counted from 0: `lhs` and `rhs`, or `input`. Returns `None` if the
@@ -87,21 +84,24 @@ impl ScalarFnRef {
     pub fn child_name(&self, index: usize) -> Option<&'static str>
         ensures { option_map (λ s. s.now) result ≡ slice_get (argument_names self.now) index }
     {
-        match (self, index) {
-            (ScalarFnRef::Binary(_), 0) => Some("lhs"),
-            (ScalarFnRef::Binary(_), 1) => Some("rhs"),
-            (ScalarFnRef::Not, 0) => Some("input"),
-            _ => None,
-        }
+        self.signature().1.get(index).copied()
     }
 
     /// Returns the number of arguments that the function takes.
     pub fn arity(&self) -> Arity
         ensures { result ≡ Arity.Exact (arity self.now) }
     {
+        Arity::Exact(self.signature().1.len())
+    }
+
+    /// Returns the function's id, and the names of its arguments, in order. (own)
+    fn signature(&self) -> (Id, &'static [&'static str])
+        ensures id { result.0 ≡ function_id self.now }
+        ensures names { map (λ s. s.now) result.1.now ≡ argument_names self.now }
+    {
         match self {
-            ScalarFnRef::Binary(_) => Arity::Exact(2),
-            ScalarFnRef::Not => Arity::Exact(1),
+            ScalarFnRef::Binary(_) => (Id::Binary, &["lhs", "rhs"]),
+            ScalarFnRef::Not => (Id::Not, &["input"]),
         }
     }
 }

@@ -1,8 +1,8 @@
 //! The types of functions' results.
 
-ghost use Rattle.std.specs.Prelude.{◌≡◌, ◌⊎◌, map, IfOk, IfErr, Some, None, option_map, ◌∷◌, []};
+ghost use Rattle.std.specs.Prelude.{◌≡◌, ◌⊎◌, map, IfOk, IfErr, Some, None, option_map};
 ghost use Rattle.vx_value.specs.View.{type_of};
-ghost use Rattle.vx_fn.specs.ReturnTypes.{return_type, binary_type, operator_type};
+ghost use Rattle.vx_fn.specs.ReturnTypes.{return_type, no_null_type, binary_type, operator_type, not_type};
 
 use crate::function::{Operator, ScalarFnRef};
 use vx_value::{ArgKind, DType, Nullability, VortexError, VortexResult};
@@ -20,10 +20,7 @@ impl ScalarFnRef {
         ensures refused { IfErr result (λ e. (e ≡ VortexError.InvalidArgument ArgKind.NoRow)
             × (return_type self.now (map type_of arguments.now) ≡ None)) }
     {
-        match type_in_row(self, arguments) {
-            Some(dtype) => Ok(dtype),
-            None => Err(VortexError::InvalidArgument(ArgKind::NoRow)),
-        }
+        type_in_row(self, arguments).ok_or(VortexError::InvalidArgument(ArgKind::NoRow))
     }
 }
 
@@ -32,18 +29,24 @@ fn type_in_row(function: &ScalarFnRef, arguments: &[DType]) -> Option<DType>
     ensures { option_map type_of result ≡ return_type function.now (map type_of arguments.now) }
 {
     match (function, arguments) {
-        (ScalarFnRef::Binary(operator), [lhs, rhs]) => binary_type(*operator, lhs, rhs),
-        (ScalarFnRef::Not, [DType::Bool(Nullability::NonNullable)]) => {
-            Some(DType::Bool(Nullability::NonNullable))
+        (ScalarFnRef::Binary(operator), [lhs, rhs]) => {
+            no_null_type(lhs, no_null_type(rhs, binary_type(*operator, lhs, rhs)))
         }
+        (ScalarFnRef::Not, [input]) => no_null_type(input, not_type(input)),
         _ => None,
     }
 }
 
+/// Returns `answer`, or `None` if null is one of the values of type `argument`.
+fn no_null_type(argument: &DType, answer: Option<DType>) -> Option<DType>
+    ensures { option_map type_of result ≡ no_null_type (type_of argument.now) (option_map type_of answer) }
+{
+    if argument.is_nullable() { None } else { answer }
+}
+
 /// Returns the type of an operator's result, or `None` if it doesn't accept the arguments.
-#[tactic(auto, using(crate::proofs::Typing::of_one_type))]
 fn binary_type(operator: Operator, lhs: &DType, rhs: &DType) -> Option<DType>
-    ensures { option_map type_of result ≡ binary_type operator (type_of lhs.now ∷ type_of rhs.now ∷ []) }
+    ensures { option_map type_of result ≡ binary_type operator (type_of lhs.now) (type_of rhs.now) }
 {
     if *lhs == *rhs {
         operator_type(operator, lhs)
@@ -56,17 +59,22 @@ fn binary_type(operator: Operator, lhs: &DType, rhs: &DType) -> Option<DType>
 fn operator_type(operator: Operator, dtype: &DType) -> Option<DType>
     ensures { option_map type_of result ≡ operator_type operator (type_of dtype.now) }
 {
-    match dtype {
-        DType::Bool(Nullability::NonNullable) => if operator.is_comparison() {
-            Some(DType::Bool(Nullability::NonNullable))
-        } else {
-            None
-        },
-        DType::Primitive(ptype, Nullability::NonNullable) => if operator.is_comparison() {
-            Some(DType::Bool(Nullability::NonNullable))
-        } else {
+    match (dtype, operator.is_comparison()) {
+        (DType::Bool(_), true) => Some(DType::Bool(Nullability::NonNullable)),
+        (DType::Bool(_), false) => None,
+        (DType::Primitive(_, _), true) => Some(DType::Bool(Nullability::NonNullable)),
+        (DType::Primitive(ptype, _), false) => {
             Some(DType::Primitive(*ptype, Nullability::NonNullable))
-        },
-        DType::Bool(Nullability::Nullable) | DType::Primitive(_, Nullability::Nullable) => None,
+        }
+    }
+}
+
+/// Returns the type of the negation of a value of type `dtype`, or `None` if it has none.
+fn not_type(dtype: &DType) -> Option<DType>
+    ensures { option_map type_of result ≡ not_type (type_of dtype.now) }
+{
+    match dtype {
+        DType::Bool(_) => Some(DType::Bool(Nullability::NonNullable)),
+        _ => None,
     }
 }

@@ -8,7 +8,7 @@ use vx_tree::{
     AnyCanonical, AnyColumnar, Array, ArrayKind, ArrayParts, ArrayRef, ArrayView, BoolArray,
     Canonical, Columnar, Constant, ConstantArray, ConstantData, IntoArray, Primitive,
     PrimitiveArray, PrimitiveData, PrimitiveValues, ScalarFn, ScalarFnArray, ScalarFnData, Slice,
-    SliceArray, SliceData,
+    SliceArray, SliceData, slice_canonical,
 };
 use vx_value::{
     ArgKind, DType, Id, Nullability, PType, Scalar, ScalarValue, VortexError, VortexResult,
@@ -268,6 +268,17 @@ fn is_empty_column(alloc: Global, dtype: &DType) -> bool {
     }
 }
 
+// The length of a column without its first row.
+fn rest_len(alloc: Global, column: &Canonical) -> Option<usize> {
+    if column.is_empty() {
+        return None;
+    }
+    match slice_canonical(alloc, column, 1..column.len()) {
+        Ok(rest) => Some(rest.len()),
+        Err(_) => None,
+    }
+}
+
 #[test]
 fn canonical_columns(rt: HostRuntime) -> Result<(), Fail> {
     let alloc = rt.alloc();
@@ -276,10 +287,12 @@ fn canonical_columns(rt: HostRuntime) -> Result<(), Fail> {
     let flags = Canonical::Bool(booleans(alloc, 3)?);
     assert!(rt; flags.as_bool().is_some() && flags.as_primitive().is_none());
     assert!(rt; flags.clone()?.into_primitive().is_none());
+    assert!(rt; rest_len(alloc, &flags) == Some(2));
     assert!(rt; flags.into_bool().is_some());
     let numbers = Canonical::Primitive(column(alloc, &[7, -7, 9])?);
     assert!(rt; numbers.as_primitive().is_some() && numbers.as_bool().is_none());
     assert!(rt; numbers.clone()?.into_bool().is_none());
+    assert!(rt; rest_len(alloc, &numbers) == Some(2));
     assert!(rt; numbers.into_primitive().is_some());
     Ok(())
 }

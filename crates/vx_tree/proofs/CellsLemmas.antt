@@ -1,5 +1,6 @@
 -- A well-formed tree has a cell for each row; and rows without a fault.
-use Rattle.std.proofs.Common.{◌≡◌, ℕ, zero, suc, ◌-◌, ◌≤◌, List, [], ◌∷◌, length, take, drop, slice_get, Option, Some, None, sym, ◌∙◌, subst, arith, length-drop}
+use Rattle.std.proofs.Common.{◌≡◌, ℕ, zero, suc, ◌-◌, ◌≤◌, List, [], ◌∷◌, length, take, drop, slice_get, Option, Some, None}
+use Rattle.std.proofs.Common.{sym, ◌∙◌, subst, arith, length-drop}
 use Rattle.std.proofs.lemmas.List.{length-take, length-map, length-replicate}
 use Rattle.std.proofs.lemmas.List.FromFn.{length-map-range_with_len}
 use Rattle.vx_value.specs.Types.{DataType}

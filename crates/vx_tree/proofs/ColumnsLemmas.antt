@@ -1,5 +1,6 @@
 -- Which encodings are columns, and what every column is.
-use Rattle.std.proofs.Common.{◌≡◌, ◌≤◌, ℕ, zero, suc, ℤ, ◌-◌, List, [], ◌∷◌, length, map, replicate, drop, slice_range, Bool, true, false, None, pos, refl, sym, ap, subst, ◌∙◌, inl, inr, arith, length-drop}
+use Rattle.std.proofs.Common.{◌≡◌, ◌≤◌, ℕ, zero, suc, ℤ, ◌-◌, List, [], ◌∷◌, length, map, replicate, drop, slice_range, Bool, true, false, None, pos}
+use Rattle.std.proofs.Common.{refl, sym, ap, subst, ◌∙◌, inl, inr, arith, length-drop}
 use Rattle.std.proofs.lemmas.Bool.{or_left, or_right}
 use Rattle.std.proofs.lemmas.List.{length-replicate, length-take-le}
 use Rattle.vx_value.specs.Types as type
@@ -13,7 +14,8 @@ use Rattle.vx_value.specs.IsOf.{in_range}
 use Rattle.vx_value.specs.declared.dtype.PType.{PType}
 use Rattle.vx_value.specs.declared.dtype.PType.TheVariants.{U8, U16, U32, U64, I8, I16, I32, I64}
 use Rattle.vx_tree.specs.Tree as enc
-use Rattle.vx_tree.specs.Tree.{Tree, Data, Slots, node, no_slots, absent, slot, datum, is_bool, is_primitive, is_constant, is_canonical, is_columnar, constant_of, booleans, integers, slice_of}
+use Rattle.vx_tree.specs.Tree.{Tree, Data, Slots, node, no_slots, absent, slot, datum, constant_of, booleans, integers, slice_of}
+use Rattle.vx_tree.specs.Tree.{is_bool, is_primitive, is_constant, is_canonical, is_columnar}
 use Rattle.vx_tree.specs.Well.{IsWell, shapes}
 use Rattle.vx_tree.specs.Cells.{rows, HasNoFault}
 use Rattle.vx_tree.specs.Keeps.{KeepsExactly}

@@ -1,5 +1,6 @@
 -- What is refused, and what isn't.
-use Rattle.std.proofs.Common.{◌≡◌, ◌≢◌, get_or, ℕ, suc, ◌-◌, ◌<◌, ◌≤◌, List, [], ◌∷◌, ◌++◌, length, map, Bool, true, false, nat_le, ◌&&◌, Option, Some, None, refl, sym, ◌∙◌, ap, subst, arith}
+use Rattle.std.proofs.Common.{◌≡◌, ◌≢◌, get_or, ℕ, suc, ◌-◌, ◌<◌, ◌≤◌, List, [], ◌∷◌, ◌++◌, length, map, Bool, true, false, nat_le, ◌&&◌, Option, Some, None}
+use Rattle.std.proofs.Common.{refl, sym, ◌∙◌, ap, subst, arith}
 use Rattle.std.proofs.lemmas.Bool.{and_from, leb-true, le-leb}
 use Rattle.std.proofs.lemmas.List.{length-map}
 use Rattle.std.proofs.lemmas.List.Recursion.{and_push, and_fails_at}
@@ -18,11 +19,13 @@ use Rattle.vx_value.specs.Ids.{same_id, same_id_Decides}
 use Rattle.vx_fn.specs.Functions.{arity, function_id}
 use Rattle.vx_fn.specs.ReturnTypes.{return_type}
 use Rattle.vx_fn.specs.declared.function.ScalarFnRef.{ScalarFnRef}
-use Rattle.vx_fn.specs.declared.function.ScalarFnRef.TheVariants.{Binary, Not}
+use Rattle.vx_fn.proofs.ReturnTypesLemmas.{arity_of_row}
 use Rattle.vx_tree.specs.Tree as enc
 use Rattle.vx_tree.specs.Tree.{Tree, Data, id_of, slots_of, dtype, len}
 use Rattle.vx_tree.specs.Well.{Shape, shape, shape_of, shapes, IsNode}
-use Rattle.vx_tree.specs.Refusals.{refusal, column_refusal, constant_refusal, slice_refusal, function_refusal, slots_refusal, types_refusal, lengths_refusal, result_refusal, arity_refusal, all_present, all_long, types_in, type_in, is_present, is_long, unless, first_of_both, no_validity}
+use Rattle.vx_tree.specs.Refusals.{refusal, column_refusal, constant_refusal, slice_refusal, function_refusal}
+use Rattle.vx_tree.specs.Refusals.{slots_refusal, types_refusal, lengths_refusal, result_refusal, arity_refusal}
+use Rattle.vx_tree.specs.Refusals.{unless, first_of_both, no_validity, all_present, all_long, types_in, type_in, is_present, is_long}
 
 -- ---- the first of several refusals
 
@@ -55,16 +58,6 @@ absent_none None h = refl
 absent_none (Some s) h = absurd (cc)
 
 -- ---- the slots of a function's node
-
--- a function takes as many arguments as its table says
-pub arity_of_row : (f : ScalarFnRef) (tys : List DataType) (ty : DataType) → return_type f tys ≡ Some ty → length tys ≡ arity f
-arity_of_row (Binary op) [] ty h = absurd (cc)
-arity_of_row (Binary op) (s ∷ []) ty h = absurd (cc)
-arity_of_row (Binary op) (s ∷ t ∷ []) ty h = refl
-arity_of_row (Binary op) (s ∷ t ∷ u ∷ tys) ty h = absurd (cc)
-arity_of_row Not [] ty h = absurd (cc)
-arity_of_row Not (s ∷ []) ty h = refl
-arity_of_row Not (s ∷ t ∷ tys) ty h = absurd (cc)
 
 -- those that all hold trees of n rows, by their types
 pub shapes_of_types : (n : ℕ) (ss : List (Option Shape)) → all_present ss ≡ true → all_long n ss ≡ true →
@@ -249,35 +242,33 @@ refused_unless_node ty n (enc.primitive p zs) ss h = column_taken ty n (type.pri
 
 -- ---- what is asked of the slots, as the code asks
 
+-- what is given to no slot, and to two or more, is given unless there is one
+not_one : (answer : List (Option Shape) → Option VortexError) (e : Option VortexError) → answer [] ≡ e →
+    ((s r : Option Shape) (ss : List (Option Shape)) → answer (s ∷ r ∷ ss) ≡ e) → (xs : List (Option Tree)) → length xs ≢ 1 → answer (shapes (slots_of xs)) ≡ e
+not_one answer e none more [] h = none
+not_one answer e none more (x ∷ []) h = absurd (h refl)
+not_one answer e none more (None ∷ None ∷ xs) h = more _ _ _
+not_one answer e none more (None ∷ Some u ∷ xs) h = more _ _ _
+not_one answer e none more (Some t ∷ None ∷ xs) h = more _ _ _
+not_one answer e none more (Some t ∷ Some u ∷ xs) h = more _ _ _
+
 pub slice_slot_count : (ty : DataType) (n a b : ℕ) (xs : List (Option Tree)) →
     length xs ≢ 1 → slice_refusal ty n a b (shapes (slots_of xs)) ≡ Some (InvalidArgument SlotCount)
-slice_slot_count ty n a b [] h = refl
-slice_slot_count ty n a b (None ∷ []) h = absurd (h refl)
-slice_slot_count ty n a b (Some t ∷ []) h = absurd (h refl)
-slice_slot_count ty n a b (None ∷ None ∷ xs) h = refl
-slice_slot_count ty n a b (None ∷ Some u ∷ xs) h = refl
-slice_slot_count ty n a b (Some t ∷ None ∷ xs) h = refl
-slice_slot_count ty n a b (Some t ∷ Some u ∷ xs) h = refl
+slice_slot_count ty n a b = not_one (slice_refusal ty n a b) _ refl two
+  where
+    two : (s r : Option Shape) (ss : List (Option Shape)) → slice_refusal ty n a b (s ∷ r ∷ ss) ≡ Some (InvalidArgument SlotCount)
+    two None r ss = refl
+    two (Some (shape t m)) r ss = refl
 
 pub column_slot_count : (ty : DataType) (n : ℕ) (of_type : DataType) (k : ℕ) (xs : List (Option Tree)) →
     length xs ≢ 1 → column_refusal ty n of_type k (shapes (slots_of xs)) ≡ Some (InvalidArgument SlotCount)
-column_slot_count ty n of_type k [] h = refl
-column_slot_count ty n of_type k (None ∷ []) h = absurd (h refl)
-column_slot_count ty n of_type k (Some t ∷ []) h = absurd (h refl)
-column_slot_count ty n of_type k (None ∷ None ∷ xs) h = refl
-column_slot_count ty n of_type k (None ∷ Some u ∷ xs) h = refl
-column_slot_count ty n of_type k (Some t ∷ None ∷ xs) h = refl
-column_slot_count ty n of_type k (Some t ∷ Some u ∷ xs) h = refl
+column_slot_count ty n of_type k = not_one (column_refusal ty n of_type k) _ refl (λ s r ss. refl)
 
 pub constant_slot_count : (ty : DataType) (v : Typed) (xs : List (Option Tree)) →
     length xs ≢ 0 → constant_refusal ty v (shapes (slots_of xs)) ≡ Some (InvalidArgument SlotCount)
 constant_slot_count ty v [] h = absurd (h refl)
 constant_slot_count ty v (None ∷ xs) h = refl
 constant_slot_count ty v (Some t ∷ xs) h = refl
-
-pub no_slot : (xs : List (Option Tree)) → length xs ≡ 0 → xs ≡ []
-no_slot [] h = refl
-no_slot (x ∷ xs) h = absurd (omega arith)
 
 pub the_slot : (xs : List (Option Tree)) (s : Option Tree) → length xs ≡ 1 → s ≡ get_or xs 0 s → xs ≡ s ∷ []
 the_slot [] s h e = absurd (omega arith)
@@ -302,10 +293,10 @@ of_another_type s t h e = true_is_false (sym ((same_type_Decides s t).1 e) ∙ h
 pub slice_is_node : (t : Tree) (a b : ℕ) → a ≤ b → b ≤ len t → IsNode (dtype t) (b - a) (enc.slice a b) (Some (shape_of t) ∷ [])
 slice_is_node t a b h k = (len t, refl, h, k, refl)
 
-pub never_null : (n : Nullability) → is_nullable n ≡ false → n ≡ NonNullable
-never_null NonNullable h = refl
-never_null Nullable h = absurd (cc)
+pub no_null : (n : Nullability) → is_nullable n ≡ false → n ≡ NonNullable
+no_null NonNullable h = refl
+no_null Nullable h = absurd (cc)
 
-pub null_some : (n : Nullability) → is_nullable n ≡ true → n ≡ NonNullable → ⊥
-null_some NonNullable h e = absurd (cc)
-null_some Nullable h e = absurd (cc)
+pub some_null : (n : Nullability) → is_nullable n ≡ true → n ≡ NonNullable → ⊥
+some_null NonNullable h e = absurd (cc)
+some_null Nullable h e = absurd (cc)

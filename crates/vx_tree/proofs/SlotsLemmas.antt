@@ -34,7 +34,8 @@ present_some (Some t ∷ xs) zero d h e = cc
 present_some (Some t ∷ xs) (suc i) d h e = present_some xs i d h e
 
 -- what was taken out, put back
-pub put_back : (xs : List (Option Tree)) (i : ℕ) (d : Option Tree) (c : Tree) → IsPresentAt i (slots_of xs) → get_or xs i d ≡ Some c → set_slot i c (slots_of (set xs i None)) ≡ slots_of xs
+pub put_back : (xs : List (Option Tree)) (i : ℕ) (d : Option Tree) (c : Tree) →
+    IsPresentAt i (slots_of xs) → get_or xs i d ≡ Some c → set_slot i c (slots_of (set xs i None)) ≡ slots_of xs
 put_back [] i d c h e = absurd h
 put_back (None ∷ xs) zero d c h e = absurd h
 put_back (None ∷ xs) (suc i) d c h e = ap absent (put_back xs i d c h e)
@@ -56,7 +57,8 @@ put_in (Some t ∷ xs) zero c = refl
 put_in (Some t ∷ xs) (suc i) c = ap (slot t) (put_in xs i c)
 
 -- a node's slots, from its conditions
-pub one_slot : (xs : List (Option Tree)) (ty : DataType) (m : ℕ) → shapes (slots_of xs) ≡ Some (shape ty m) ∷ [] → (t : Tree) × (xs ≡ Some t ∷ []) × (shape_of t ≡ shape ty m)
+pub one_slot : (xs : List (Option Tree)) (ty : DataType) (m : ℕ) →
+    shapes (slots_of xs) ≡ Some (shape ty m) ∷ [] → (t : Tree) × (xs ≡ Some t ∷ []) × (shape_of t ≡ shape ty m)
 one_slot [] ty m h = absurd (cc)
 one_slot (None ∷ xs) ty m h = absurd (cc)
 one_slot (Some t ∷ []) ty m h = (t, refl, cc)

@@ -7,7 +7,8 @@ use Rattle.vx_value.specs.Typed.{Typed}
 use Rattle.vx_value.specs.declared.dtype.Nullability.TheVariants.{NonNullable}
 use Rattle.vx_value.specs.declared.error.VortexError.{VortexError}
 use Rattle.vx_value.specs.declared.error.VortexError.TheVariants.{InvalidArgument, OutOfBounds}
-use Rattle.vx_value.specs.declared.error.ArgKind.TheVariants.{SlotCount, SlotMissing, SlotType, Arity, ChildLen, FnSlotMissing, NoRow, NodeType, NodeLen, BadType, BadValue}
+use Rattle.vx_value.specs.declared.error.ArgKind.TheVariants.{SlotCount, SlotMissing, SlotType, FnSlotMissing, Arity, ChildLen, NoRow}
+use Rattle.vx_value.specs.declared.error.ArgKind.TheVariants.{NodeType, NodeLen, BadType, BadValue}
 use Rattle.vx_value.specs.Ids.{same_id}
 use Rattle.vx_value.specs.declared.id.Id.{Id}
 use Rattle.vx_fn.specs.Functions.{arity, function_id}
@@ -41,14 +42,17 @@ column_refusal ty n of_type k (s ∷ r ∷ ss) = Some (InvalidArgument SlotCount
 
 abbrev pub constant_refusal : DataType → Typed → List (Option Shape) → Option VortexError
 constant_refusal ty v [] =
-    first_of_both (unless (same_type ty v.of_type) (InvalidArgument NodeType)) (first_of_both (unless (same_nullability (nullability_of ty) NonNullable) (InvalidArgument BadType)) (unless (is_of ty v.value) (InvalidArgument BadValue)))
+    first_of_both (unless (same_type ty v.of_type) (InvalidArgument NodeType))
+    (first_of_both (unless (same_nullability (nullability_of ty) NonNullable) (InvalidArgument BadType))
+    (unless (is_of ty v.value) (InvalidArgument BadValue)))
 constant_refusal ty v (s ∷ ss) = Some (InvalidArgument SlotCount)
 
 abbrev pub slice_refusal : DataType → ℕ → ℕ → ℕ → List (Option Shape) → Option VortexError
 slice_refusal ty n a b [] = Some (InvalidArgument SlotCount)
 slice_refusal ty n a b (None ∷ []) = Some (InvalidArgument (SlotMissing 0))
 slice_refusal ty n a b (Some (shape s m) ∷ []) =
-    first_of_both (unless (same_type ty s) (InvalidArgument NodeType)) (first_of_both (unless (n == b - a) (InvalidArgument NodeLen)) (unless (nat_le a b && nat_le b m) (OutOfBounds a b m)))
+    first_of_both (unless (same_type ty s) (InvalidArgument NodeType))
+    (first_of_both (unless (n == b - a) (InvalidArgument NodeLen)) (unless (nat_le a b && nat_le b m) (OutOfBounds a b m)))
 slice_refusal ty n a b (s ∷ r ∷ ss) = Some (InvalidArgument SlotCount)
 
 -- each slot holds a tree; the types of those that do; and whether these have so many rows

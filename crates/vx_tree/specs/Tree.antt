@@ -186,7 +186,11 @@ abbrev mutual
 mutual
   pub tree_inj : (x y : Tree) → tree_code x ≡ tree_code y → x ≡ y
   tree_inj (node s n d ss) (node t m e ts) p =
-      λ i. node (coded_type.inj s t (ap head p) i) (coded_ℕ.inj n m (ap (λ g. head (tail g)) p) i) (coded_data.inj d e (ap (λ g. head (tail (tail g))) p) i) (slots_inj ss ts (ap (λ g. tail (tail (tail g))) p) i)
+      let typed = coded_type.inj s t (ap head p) in
+      let counted = coded_ℕ.inj n m (ap (λ g. head (tail g)) p) in
+      let same = coded_data.inj d e (ap (λ g. head (tail (tail g))) p) in
+      let under = slots_inj ss ts (ap (λ g. tail (tail (tail g))) p) in
+      λ i. node (typed i) (counted i) (same i) (under i)
 
   pub slots_inj : (x y : Slots) → slots_code x ≡ slots_code y → x ≡ y
   slots_inj no_slots no_slots p = refl

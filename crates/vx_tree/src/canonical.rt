@@ -10,27 +10,16 @@ ghost use Rattle.vx_tree.specs.Columns.{canonical_tree, bool_column, primitive_c
 use crate::array::{ArrayRef, IntoArray};
 use crate::arrays::boolean::BoolArray;
 use crate::arrays::primitive::PrimitiveArray;
-use crate::arrays::values::PrimitiveValues;
-use std::alloc::{AllocError, Global};
+use crate::native::PrimitiveValues;
+use std::alloc::Global;
 use vx_mask::BitBuffer;
 use vx_value::{ArgKind, DType, VortexError, VortexResult};
 
 /// A column in the canonical encoding of its type.
-#[derive(Debug, Drop)]
+#[derive(Clone, Debug, Drop)]
 pub enum Canonical {
     Bool(BoolArray),
     Primitive(PrimitiveArray),
-}
-
-impl Clone for Canonical {
-    ghost is_clone = { λ a b. b ≡ a };
-
-    fn clone(&self) -> Result<Canonical, AllocError> {
-        match self {
-            Canonical::Bool(column) => Ok(Canonical::Bool(column.clone()?)),
-            Canonical::Primitive(column) => Ok(Canonical::Primitive(column.clone()?)),
-        }
-    }
 }
 
 impl Canonical {

@@ -10,25 +10,14 @@ ghost use Rattle.vx_tree.specs.Columns.{columnar_tree};
 use crate::array::{ArrayRef, IntoArray};
 use crate::arrays::constant::ConstantArray;
 use crate::canonical::Canonical;
-use std::alloc::{AllocError, Global};
+use std::alloc::Global;
 use vx_value::{ArgKind, DType, Scalar, VortexError, VortexResult};
 
 /// A canonical column, or a constant.
-#[derive(Debug, Drop)]
+#[derive(Clone, Debug, Drop)]
 pub enum Columnar {
     Canonical(Canonical),
     Constant(ConstantArray),
-}
-
-impl Clone for Columnar {
-    ghost is_clone = { λ a b. b ≡ a };
-
-    fn clone(&self) -> Result<Columnar, AllocError> {
-        match self {
-            Columnar::Canonical(column) => Ok(Columnar::Canonical(column.clone()?)),
-            Columnar::Constant(column) => Ok(Columnar::Constant(column.clone()?)),
-        }
-    }
 }
 
 impl Columnar {

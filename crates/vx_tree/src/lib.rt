@@ -7,6 +7,7 @@ mod canonical;
 mod columnar;
 mod laws;
 mod matcher;
+pub mod native;
 mod slicing;
 
 pub use array::{
@@ -15,13 +16,12 @@ pub use array::{
 };
 pub use arrays::boolean::{Bool, BoolArray, BoolData};
 pub use arrays::constant::{Constant, ConstantArray, ConstantData};
-pub use arrays::native::NativeInteger;
 pub use arrays::primitive::{Primitive, PrimitiveArray, PrimitiveData};
 pub use arrays::scalar_fn::{ScalarFn, ScalarFnArray, ScalarFnData};
 pub use arrays::slice::{Slice, SliceArray, SliceData, SliceDataParts};
-pub use arrays::values::{PrimitiveValues, native_of};
 pub use canonical::Canonical;
 pub use columnar::Columnar;
 pub use laws::{column_laws, execution_bounds, keeping_laws, refused_exactly};
 pub use matcher::{AnyArray, AnyCanonical, AnyColumnar, AnyScalarFn, Matcher};
+pub use native::{NativeInteger, PrimitiveValues, native_of};
 pub use slicing::slice_canonical;

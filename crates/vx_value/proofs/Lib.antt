@@ -1,2 +1,2 @@
-pub mod Ordering
-pub mod Defaulting
+pub mod OrderLemmas
+pub mod DefaultsLemmas

@@ -1,8 +1,9 @@
 -- Whether the parts of a column of so many rows can be counted.
 use Rattle.std.specs.Prelude.{ℕ}
-use Rattle.vx_value.specs.Types.{DataType, bool, primitive}
+use Rattle.vx_value.specs.Types as type
+use Rattle.vx_value.specs.Types.{DataType}
 
 -- a flat column's rows are its parts
 abbrev pub Fits : DataType → ℕ → Type 0
-Fits (bool n) rows = Unit {0}
-Fits (primitive p n) rows = Unit {0}
+Fits (type.bool n) rows = Unit {0}
+Fits (type.primitive p n) rows = Unit {0}

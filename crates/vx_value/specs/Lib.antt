@@ -1,3 +1,4 @@
+pub mod Codes
 pub mod Types
 pub mod Values
 pub mod Cell

@@ -4,19 +4,20 @@ use Rattle.std.specs.declared.cmp.Ordering.{Ordering}
 use Rattle.std.specs.declared.cmp.Ordering.TheVariants.{Equal}
 use Rattle.std.specs.Ordering.{bool_cmp, int_cmp, nat_cmp, is_eq}
 use Rattle.vx_value.specs.Types.{same_type}
-use Rattle.vx_value.specs.Values.{Value, null, boolean, integer}
+use Rattle.vx_value.specs.Values as value
+use Rattle.vx_value.specs.Values.{Value}
 use Rattle.vx_value.specs.Typed.{Typed}
 
 -- null, then false, then true; numbers by size; no type has both booleans and numbers
 abbrev pub value_kind : Value → ℕ
-value_kind null = 0
-value_kind (boolean b) = 1
-value_kind (integer z) = 2
+value_kind value.null = 0
+value_kind (value.boolean b) = 1
+value_kind (value.integer z) = 2
 
 abbrev pub value_cmp : Value → Value → Ordering
-value_cmp null null = Equal
-value_cmp (boolean a) (boolean b) = bool_cmp a b
-value_cmp (integer y) (integer z) = int_cmp y z
+value_cmp value.null value.null = Equal
+value_cmp (value.boolean a) (value.boolean b) = bool_cmp a b
+value_cmp (value.integer y) (value.integer z) = int_cmp y z
 value_cmp v w = nat_cmp (value_kind v) (value_kind w)
 
 -- neither comes first

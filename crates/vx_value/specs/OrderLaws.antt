@@ -1,45 +1,53 @@
 -- The laws of equality and of the order of scalars.
-use Rattle.std.specs.Prelude.{◌≡◌, ℕ, ℤ, pos, Bool, true, false, Option, Some, None, ◌&&◌, if◌then◌else◌, option_map, refl}
+use Rattle.std.specs.Prelude.{◌≡◌, Bool, true, false, Option, Some, None, ◌&&◌, if◌then◌else◌, option_map, refl}
 use Rattle.std.specs.Bool.{Decides}
-use Rattle.std.specs.Cmp.{IsEquivalence, IsTotalOrder, IsPartialOrder, decided, first_so, second_so, signed_Decides, nat_cmp_total, int_cmp_total, on_total, then_total, on_po, then_po, partial_order_from_total, tied_itself}
+use Rattle.std.specs.Cmp.{IsEquivalence, IsTotalOrder, IsPartialOrder, decided, first_so, second_so, signed_Decides}
+use Rattle.std.specs.Cmp.{bool_cmp_total, int_cmp_total, on_total, then_total, on_po, then_po, partial_order_from_total, tied_itself}
+use Rattle.std.specs.Cmp.Lexicographic.{options_total}
+use Rattle.std.specs.Option.{option_cmp}
 use Rattle.std.specs.declared.cmp.Ordering.{Ordering}
-use Rattle.std.specs.declared.cmp.Ordering.TheVariants.{Less, Equal}
-use Rattle.std.specs.Ordering.{nat_cmp, int_cmp, is_eq, ordering_reverse, on, then_cmp, partial_ordering_then}
+use Rattle.std.specs.declared.cmp.Ordering.TheVariants.{Less, Equal, Greater}
+use Rattle.std.specs.Ordering.{bool_cmp, int_cmp, is_eq, ordering_reverse, ordering_then, on, then_cmp, partial_ordering_then}
 use Rattle.std.proofs.Common.{ap, sym, ◌∙◌, subst}
 use Rattle.vx_value.specs.Types.{same_type, same_type_Decides}
-use Rattle.vx_value.specs.Values.{Value, null, boolean, integer}
+use Rattle.vx_value.specs.Values as value
+use Rattle.vx_value.specs.Values.{Value}
 use Rattle.vx_value.specs.Typed.{Typed}
-use Rattle.vx_value.specs.Order.{value_kind, value_cmp, same_value, same_scalar, scalar_cmp}
+use Rattle.vx_value.specs.Parts.{boolean_in, integer_in}
+use Rattle.vx_value.specs.Order.{value_cmp, same_value, same_scalar, scalar_cmp}
 
--- ---- values: by kind, and then by size
+-- ---- values: by their parts, those of the last kind first. A value without the part comes before those that have it.
 
-abbrev size : Value → ℤ
-size (boolean true) = pos 1
-size (integer z) = z
-size _ = pos 0
+abbrev by_parts : Value → Value → Ordering
+by_parts =
+    then_cmp (on integer_in (option_cmp int_cmp)) (
+    on boolean_in (option_cmp bool_cmp))
 
-abbrev by_kind_and_size : Value → Value → Ordering
-by_kind_and_size = then_cmp (on value_kind nat_cmp) (on size int_cmp)
+by_parts_total : IsTotalOrder by_parts
+by_parts_total =
+    then_total (on_total integer_in (options_total int_cmp_total)) (
+    on_total boolean_in (options_total bool_cmp_total))
 
-value_cmp_ranks : (v w : Value) → by_kind_and_size v w ≡ value_cmp v w
-value_cmp_ranks null null = refl
-value_cmp_ranks (boolean false) (boolean false) = refl
-value_cmp_ranks (boolean false) (boolean true) = refl
-value_cmp_ranks (boolean true) (boolean false) = refl
-value_cmp_ranks (boolean true) (boolean true) = refl
-value_cmp_ranks (integer y) (integer z) = refl
+then_equal : (o : Ordering) → ordering_then o Equal ≡ o
+then_equal Less = refl
+then_equal Equal = refl
+then_equal Greater = refl
+
+value_cmp_ranks : (v w : Value) → by_parts v w ≡ value_cmp v w
+value_cmp_ranks value.null value.null = refl
+value_cmp_ranks (value.boolean a) (value.boolean b) = refl
+value_cmp_ranks (value.integer y) (value.integer z) = then_equal (int_cmp y z)
 value_cmp_ranks _ _ = refl
 
 pub value_cmp_total : IsTotalOrder value_cmp
-value_cmp_total =
-    subst IsTotalOrder (λ i v w. value_cmp_ranks v w i) (then_total (on_total value_kind nat_cmp_total) (on_total size int_cmp_total))
+value_cmp_total = subst IsTotalOrder (λ i v w. value_cmp_ranks v w i) by_parts_total
 
 -- what comes neither before nor after is the same
 value_alike : (v w : Value) → same_value v w ≡ true → v ≡ w
-value_alike null null h = refl
-value_alike (boolean false) (boolean false) h = refl
-value_alike (boolean true) (boolean true) h = refl
-value_alike (integer y) (integer z) h = ap integer ((signed_Decides y z).0 h)
+value_alike value.null value.null h = refl
+value_alike (value.boolean false) (value.boolean false) h = refl
+value_alike (value.boolean true) (value.boolean true) h = refl
+value_alike (value.integer y) (value.integer z) h = ap value.integer ((signed_Decides y z).0 h)
 value_alike _ _ h = absurd (cc)
 
 pub same_value_Decides : (v w : Value) → Decides (same_value v w) (v ≡ w)
@@ -52,7 +60,8 @@ pub same_scalar_Decides : (s t : Typed) → Decides (same_scalar s t) (s ≡ t)
 same_scalar_Decides s t =
     let types = same_type_Decides s.of_type t.of_type in
     let values = same_value_Decides s.value t.value in
-    (λ h i. record { of_type = types.0 (first_so _ _ h) i; value = values.0 (second_so _ _ h) i }, λ e i. types.1 (ap (λ u. u.of_type) e) i && values.1 (ap (λ u. u.value) e) i)
+    (λ h i. record { of_type = types.0 (first_so _ _ h) i; value = values.0 (second_so _ _ h) i },
+    λ e i. types.1 (ap (λ u. u.of_type) e) i && values.1 (ap (λ u. u.value) e) i)
 
 -- values that are equal or don't compare
 abbrev level : {K : Type 0} → (K → K → Bool) → K → K → Option Ordering
@@ -84,4 +93,6 @@ chosen false o = refl
 
 pub scalar_cmp_order : IsPartialOrder same_scalar scalar_cmp
 scalar_cmp_order =
-    subst (IsPartialOrder same_scalar) (λ i s t. chosen (same_type s.of_type t.of_type) (value_cmp s.value t.value) i) (then_po (on_po (λ s. s.of_type) (level_order (decided same_type same_type_Decides))) (on_po (λ s. s.value) (partial_order_from_total value_cmp_total)))
+    let types = on_po (λ (s : Typed). s.of_type) (level_order (decided same_type same_type_Decides)) in
+    let values = on_po (λ (s : Typed). s.value) (partial_order_from_total value_cmp_total) in
+    subst (IsPartialOrder same_scalar) (λ i s t. chosen (same_type s.of_type t.of_type) (value_cmp s.value t.value) i) (then_po types values)

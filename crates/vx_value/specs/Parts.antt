@@ -1,15 +1,14 @@
 -- The boolean or the number that a value is.
 use Rattle.std.specs.Prelude.{Bool, ℤ, Option, Some, None}
-use Rattle.vx_value.specs.Values.{Value, null, boolean, integer}
+use Rattle.vx_value.specs.Values as value
+use Rattle.vx_value.specs.Values.{Value}
 
--- none for null, nor for a number
+-- the boolean; none for any other value
 abbrev pub boolean_in : Value → Option Bool
-boolean_in null = None
-boolean_in (boolean b) = Some b
-boolean_in (integer z) = None
+boolean_in (value.boolean b) = Some b
+boolean_in _ = None
 
--- none for null, nor for a boolean
+-- the number; none for any other value
 abbrev pub integer_in : Value → Option ℤ
-integer_in null = None
-integer_in (boolean b) = None
-integer_in (integer z) = Some z
+integer_in (value.integer z) = Some z
+integer_in _ = None

@@ -1,11 +1,11 @@
 -- What a type is, without pointers.
-use Rattle.std.specs.Prelude.{◌≡◌, ℕ, Bool, true, false, ◌&&◌, ◌⊎◌, refl}
+use Rattle.std.specs.Prelude.{◌≡◌, ℕ, Bool, true, false, ◌⊎◌, refl}
 use Rattle.std.specs.Coded.{Coded, code_by, coded_ℕ, coded×, coded⊎}
 use Rattle.std.specs.Bool.{Decides}
-use Rattle.std.specs.Cmp.{first_so, second_so}
 use denote.Enum.Bare.{sameb, same_true, true_same, tag_one}
 use denote.Enum.Declared.{tag_of}
-use Rattle.std.proofs.Common.{ap, sym, ◌∙◌, inl, inr}
+use Rattle.std.proofs.Common.{inl, inr}
+use Rattle.vx_value.specs.Codes.{same_code, same_code_Decides}
 use Rattle.vx_value.specs.declared.dtype.Nullability.{Nullability}
 use Rattle.vx_value.specs.declared.dtype.Nullability.TheVariants.{NonNullable, Nullable}
 use Rattle.vx_value.specs.declared.dtype.PType.{PType}
@@ -33,18 +33,29 @@ abbrev pub ptype_number : PType → ℕ
 ptype_number = tag_of the_ptype
 
 abbrev pub coded_nullability : Coded Nullability
-coded_nullability = record { code = λ n. coded_ℕ.code (tag_of the_nullability n); inj = λ m n e. tag_one the_nullability tt m n (coded_ℕ.inj _ _ e) }
+coded_nullability =
+    record { code = λ n. coded_ℕ.code (tag_of the_nullability n); inj = λ m n e. tag_one the_nullability tt m n (coded_ℕ.inj _ _ e) }
 
 abbrev pub coded_ptype : Coded PType
 coded_ptype = record { code = λ p. coded_ℕ.code (tag_of the_ptype p); inj = λ p q e. tag_one the_ptype tt p q (coded_ℕ.inj _ _ e) }
 
--- ---- the code of a type, a line for each constructor
+-- ---- the code of a type, a line for each constructor in each of four definitions
 
-abbrev pub type_to : DataType → Nullability ⊎ (PType × Nullability)
+abbrev pub TypeParts : Type 0
+TypeParts =
+    Nullability
+    ⊎ (PType × Nullability)
+
+abbrev pub coded_type_parts : Coded TypeParts
+coded_type_parts =
+    coded⊎ coded_nullability (
+    coded× coded_ptype coded_nullability)
+
+abbrev pub type_to : DataType → TypeParts
 type_to (bool n) = inl n
 type_to (primitive p n) = inr (p, n)
 
-abbrev pub type_from : Nullability ⊎ (PType × Nullability) → DataType
+abbrev pub type_from : TypeParts → DataType
 type_from (inl n) = bool n
 type_from (inr c) = primitive c.0 c.1
 
@@ -53,8 +64,7 @@ type_back (bool n) = refl
 type_back _ = refl
 
 abbrev pub coded_type : Coded DataType
-coded_type =
-    code_by (Nullability ⊎ (PType × Nullability)) (coded⊎ coded_nullability (coded× coded_ptype coded_nullability)) type_to type_from type_back
+coded_type = code_by TypeParts coded_type_parts type_to type_from type_back
 
 -- ---- whether two types are the same
 
@@ -64,11 +74,8 @@ same_ptype = sameb the_ptype
 abbrev pub same_nullability : Nullability → Nullability → Bool
 same_nullability = sameb the_nullability
 
--- a line for each constructor
 abbrev pub same_type : DataType → DataType → Bool
-same_type (bool m) (bool n) = same_nullability m n
-same_type (primitive p m) (primitive q n) = same_ptype p q && same_nullability m n
-same_type _ _ = false
+same_type s t = same_code (coded_type.code s) (coded_type.code t)
 
 pub same_ptype_Decides : (p q : PType) → Decides (same_ptype p q) (p ≡ q)
 same_ptype_Decides p q = (same_true the_ptype tt p q, true_same the_ptype p q)
@@ -76,18 +83,5 @@ same_ptype_Decides p q = (same_true the_ptype tt p q, true_same the_ptype p q)
 pub same_nullability_Decides : (m n : Nullability) → Decides (same_nullability m n) (m ≡ n)
 same_nullability_Decides m n = (same_true the_nullability tt m n, true_same the_nullability m n)
 
-same_type_true : (s t : DataType) → same_type s t ≡ true → s ≡ t
-same_type_true (bool m) (bool n) h = ap bool ((same_nullability_Decides m n).0 h)
-same_type_true (primitive p m) (primitive q n) h =
-    λ i. primitive ((same_ptype_Decides p q).0 (first_so (same_ptype p q) (same_nullability m n) h) i) ((same_nullability_Decides m n).0 (second_so (same_ptype p q) (same_nullability m n) h) i)
-same_type_true _ _ h = absurd (cc)
-
-both_true : (a b : Bool) → a ≡ true → b ≡ true → (a && b) ≡ true
-both_true a b p q = ap (λ x. x && b) p ∙ q
-
-same_type_self : (s : DataType) → same_type s s ≡ true
-same_type_self (bool m) = (same_nullability_Decides m m).1 refl
-same_type_self (primitive p m) = both_true (same_ptype p p) (same_nullability m m) ((same_ptype_Decides p p).1 refl) ((same_nullability_Decides m m).1 refl)
-
 pub same_type_Decides : (s t : DataType) → Decides (same_type s t) (s ≡ t)
-same_type_Decides s t = (same_type_true s t, λ e. ap (same_type s) (sym e) ∙ same_type_self s)
+same_type_Decides = same_code_Decides coded_type

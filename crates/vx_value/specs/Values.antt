@@ -9,22 +9,33 @@ pub data Value : Type 0 where
   boolean : Bool → Value
   integer : ℤ → Value
 
--- ---- the code of a value, a line for each constructor
+-- ---- the code of a value, a line for each constructor in each of four definitions
 
-abbrev pub value_to : Value → Unit {0} ⊎ (Bool ⊎ ℤ)
+abbrev pub ValueParts : Type 0
+ValueParts =
+    Unit {0}
+    ⊎ (Bool
+    ⊎ ℤ)
+
+abbrev pub coded_value_parts : Coded ValueParts
+coded_value_parts =
+    coded⊎ coded_unit (
+    coded⊎ coded_bool
+    coded_ℤ)
+
+abbrev pub value_to : Value → ValueParts
 value_to null = inl tt
 value_to (boolean b) = inr (inl b)
 value_to (integer z) = inr (inr z)
 
-abbrev pub value_from : Unit {0} ⊎ (Bool ⊎ ℤ) → Value
+abbrev pub value_from : ValueParts → Value
 value_from (inl u) = null
 value_from (inr (inl b)) = boolean b
 value_from (inr (inr z)) = integer z
 
 pub value_back : (v : Value) → value_from (value_to v) ≡ v
 value_back null = refl
-value_back (boolean b) = refl
-value_back (integer z) = refl
+value_back _ = refl
 
 abbrev pub coded_value : Coded Value
-coded_value = code_by (Unit {0} ⊎ (Bool ⊎ ℤ)) (coded⊎ coded_unit (coded⊎ coded_bool coded_ℤ)) value_to value_from value_back
+coded_value = code_by ValueParts coded_value_parts value_to value_from value_back

@@ -5,7 +5,7 @@ ghost use Rattle.std.specs.Cmp.{decided, partial_equiv_from_equiv};
 ghost use Rattle.std.specs.Hash.{same_Alike};
 ghost use Rattle.vx_value.specs.Types.{same_type};
 ghost use Rattle.vx_value.specs.View.{type_of, cell_of};
-ghost use Rattle.vx_value.specs.Order.{value_kind, value_cmp, same_value, same_scalar, scalar_cmp};
+ghost use Rattle.vx_value.specs.Order.{value_cmp, same_value, same_scalar, scalar_cmp};
 ghost use Rattle.vx_value.specs.Writes.{scalar_writes};
 ghost use Rattle.vx_value.specs.OrderLaws.{same_scalar_Decides, scalar_cmp_order};
 
@@ -19,7 +19,7 @@ impl PartialEq for Scalar {
 
     ghost laws = { partial_equiv_from_equiv (decided same_scalar same_scalar_Decides) };
 
-    #[tactic(auto, using(crate::proofs::Ordering::same_scalar_is))]
+    #[tactic(auto, using(crate::proofs::OrderLemmas::same_scalar_is))]
     fn eq(&self, other: &Scalar) -> bool
         ensures value { result ≡ same_scalar self.now other.now }
         ensures equal { IsTrue result ↔ (self.now ≡ other.now) }
@@ -50,7 +50,7 @@ impl PartialOrd for Scalar {
 
     ghost laws = { scalar_cmp_order };
 
-    #[tactic(auto, using(crate::proofs::Ordering::scalar_cmp_is_some, crate::proofs::Ordering::scalar_cmp_is_equal))]
+    #[tactic(auto, using(crate::proofs::OrderLemmas::scalar_cmp_is_some, crate::proofs::OrderLemmas::scalar_cmp_is_equal))]
     fn partial_cmp(&self, other: &Scalar) -> Option<Ordering>
         ensures value { result ≡ scalar_cmp self.now other.now }
         ensures compared { IsSome result ↔ (self.now.of_type ≡ other.now.of_type) }
@@ -65,8 +65,10 @@ impl PartialOrd for Scalar {
 }
 
 /// Checks whether two types are the same, including their nullability.
+#[tactic(auto, using(crate::specs::Types::same_type_Decides))]
 fn same_type(left: &DType, right: &DType) -> bool
-    ensures { result ≡ same_type (type_of left.now) (type_of right.now) }
+    ensures value { result ≡ same_type (type_of left.now) (type_of right.now) }
+    ensures equal { IsTrue result ↔ (type_of left.now ≡ type_of right.now) }
 {
     left == right
 }
@@ -80,25 +82,9 @@ fn same_value(left: Option<ScalarValue>, right: Option<ScalarValue>) -> bool
 
 /// Compares two values. `None` is null.
 ///
-/// No type has both booleans and integers. Booleans come first, so that the order is total.
+/// No type has values of two kinds. They compare by their kinds, so that the order is total.
 fn value_order(left: Option<ScalarValue>, right: Option<ScalarValue>) -> Ordering
     ensures { result ≡ value_cmp (cell_of left) (cell_of right) }
 {
-    match (left, right) {
-        (None, None) => Ordering::Equal,
-        (Some(ScalarValue::Bool(a)), Some(ScalarValue::Bool(b))) => a.cmp(&b),
-        (Some(ScalarValue::Integer(y)), Some(ScalarValue::Integer(z))) => y.cmp(&z),
-        (left, right) => value_kind(left).cmp(&value_kind(right)),
-    }
-}
-
-/// The place of a value's kind among the kinds.
-fn value_kind(value: Option<ScalarValue>) -> u8
-    ensures { result ≡ value_kind (cell_of value) }
-{
-    match value {
-        None => 0,
-        Some(ScalarValue::Bool(_)) => 1,
-        Some(ScalarValue::Integer(_)) => 2,
-    }
+    left.cmp(&right)
 }

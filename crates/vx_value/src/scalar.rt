@@ -16,7 +16,7 @@ use std::alloc::AllocError;
 use std::marker::Model;
 
 /// A value that isn't null. `Scalar` holds its type.
-#[derive(Clone, Copy, Debug, PartialEq, Eq, Hash)]
+#[derive(Clone, Copy, Debug, PartialEq, Eq, PartialOrd, Ord, Hash)]
 pub enum ScalarValue {
     Bool(bool),
     /// An integer of any of the integer types.
@@ -116,7 +116,7 @@ impl Scalar {
     }
 
     /// Returns the zero value of type `dtype`: `false` or 0.
-    #[tactic(auto, using(crate::proofs::Defaulting::zero_typed))]
+    #[tactic(auto, using(crate::proofs::DefaultsLemmas::zero_typed))]
     pub fn zero_value(dtype: DType) -> Scalar
         ensures { result ≡ record { of_type = type_of dtype; value = zero_of (type_of dtype) } }
     {
@@ -170,28 +170,27 @@ impl Scalar {
             (DType::Primitive(ptype, nullability), Some(ScalarValue::Integer(value))) => {
                 ScalarKind::Primitive(value, *ptype, *nullability)
             }
-            (DType::Bool(_), Some(ScalarValue::Integer(_))) => unreachable!(),
-            (DType::Primitive(_, _), Some(ScalarValue::Bool(_))) => unreachable!(),
+            _ => unreachable!(),
         }
     }
 
-    /// Returns the boolean, or `None` if the value is null or an integer.
+    /// Returns the boolean, or `None` if the value is null or of another kind.
     pub fn as_bool(&self) -> Option<bool>
         ensures { result ≡ boolean_in self.now.value }
     {
         match self.value {
             Some(ScalarValue::Bool(boolean)) => Some(boolean),
-            Some(ScalarValue::Integer(_)) | None => None,
+            _ => None,
         }
     }
 
-    /// Returns the integer, or `None` if the value is null or a boolean.
+    /// Returns the integer, or `None` if the value is null or of another kind.
     pub fn as_integer(&self) -> Option<i128>
         ensures { result ≡ integer_in self.now.value }
     {
         match self.value {
             Some(ScalarValue::Integer(number)) => Some(number),
-            Some(ScalarValue::Bool(_)) | None => None,
+            _ => None,
         }
     }
 
@@ -226,10 +225,9 @@ fn is_of(dtype: &DType, value: Option<ScalarValue>) -> bool
     match (dtype, value) {
         (_, None) => dtype.is_nullable(),
         (DType::Bool(_), Some(ScalarValue::Bool(_))) => true,
-        (DType::Bool(_), Some(ScalarValue::Integer(_))) => false,
-        (DType::Primitive(_, _), Some(ScalarValue::Bool(_))) => false,
         (DType::Primitive(ptype, _), Some(ScalarValue::Integer(number))) => {
             in_range(*ptype, number)
         }
+        _ => false,
     }
 }

@@ -2,7 +2,7 @@
 
 ghost use Rattle.std.specs.Prelude.{◌≡◌, ◌++◌, OnOk, IfOk, string_bytes};
 ghost use Rattle.vx_value.specs.View.{type_of};
-ghost use Rattle.vx_value.specs.Text.{type_text, mark, ptype_text};
+ghost use Rattle.vx_value.specs.Text.{type_text, bare_text, mark, ptype_text};
 
 use crate::{DType, Nullability, PType};
 use std::alloc::{AllocError, Global};
@@ -14,22 +14,18 @@ pub fn type_text(alloc: Global, dtype: &DType) -> Result<String, AllocError>
     ensures { IfOk result (λ s. string_bytes s ≡ type_text (type_of dtype.now)) }
 {
     let mut text = String::new(alloc);
-    push_type(&mut text, dtype)?;
+    push_bare(&mut text, dtype)?;
+    text.push_str(mark(dtype.nullability()))?;
     Ok(text)
 }
 
-fn push_type(text: &mut String, dtype: &DType) -> Result<(), AllocError>
-    ensures { OnOk result (string_bytes text.new ≡ string_bytes text.old ++ type_text (type_of dtype.now)) }
+/// Appends the text of `dtype` apart from its nullability.
+fn push_bare(text: &mut String, dtype: &DType) -> Result<(), AllocError>
+    ensures { OnOk result (string_bytes text.new ≡ string_bytes text.old ++ bare_text (type_of dtype.now)) }
 {
     match dtype {
-        DType::Bool(nullability) => {
-            text.push_str("bool")?;
-            text.push_str(mark(*nullability))
-        }
-        DType::Primitive(ptype, nullability) => {
-            text.push_str(ptype_text(*ptype))?;
-            text.push_str(mark(*nullability))
-        }
+        DType::Bool(_) => text.push_str("bool"),
+        DType::Primitive(ptype, _) => text.push_str(ptype_text(*ptype)),
     }
 }
 

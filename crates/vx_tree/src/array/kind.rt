@@ -4,7 +4,7 @@ ghost use Rattle.std.specs.Prelude.{◌≡◌};
 ghost use Rattle.vx_tree.specs.Kinds.{IsKindOf};
 
 use crate::array::{ArrayRef, Encoding, Node};
-use crate::arrays::values::PrimitiveValues;
+use crate::native::PrimitiveValues;
 use vx_fn::ScalarFnRef;
 use vx_mask::BitBuffer;
 use vx_value::Scalar;

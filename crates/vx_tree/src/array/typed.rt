@@ -6,7 +6,7 @@ ghost use Rattle.vx_tree.specs.Tree.{Tree, dtype, len, datum, slots, slots_of, n
 ghost use Rattle.vx_tree.specs.Well.{shapes, IsNode};
 ghost use Rattle.vx_tree.specs.Refusals.{refusal};
 
-use crate::array::{ArrayRef, ArrayView, Node, VTable};
+use crate::array::{ArrayRef, ArrayView, Encoded, Node, VTable};
 use std::alloc::{AllocError, Global};
 use std::marker::{Model, PhantomData};
 use std::ops::Deref;
@@ -48,7 +48,7 @@ impl<V: VTable> Clone for Array<V> {
 
 /// The parts of a node of `V`'s encoding.
 #[derive(Drop)]
-pub struct ArrayParts<V: VTable> {
+pub struct ArrayParts<V: Encoded> {
     pub vtable: V,
     pub dtype: DType,
     /// The number of rows.
@@ -57,7 +57,7 @@ pub struct ArrayParts<V: VTable> {
     pub slots: Vec<Option<ArrayRef>>,
 }
 
-impl<V: VTable> ArrayParts<V> {
+impl<V: Encoded> ArrayParts<V> {
     /// Returns the parts, which aren't checked.
     pub fn new(
         vtable: V,
@@ -83,11 +83,13 @@ impl<V: VTable> Array<V> {
     #[tactic(auto, using(crate::proofs::RefusalsLemmas::node_unless_refused))]
     pub fn try_from_parts(alloc: Global, parts: ArrayParts<V>) -> VortexResult<Array<V>>
         ensures ok { IfOk result (λ a. a ≡ node (type_of parts.dtype) parts.len (V.stands_for parts.payload) (slots_of parts.slots.items)) }
-        ensures valid { OnOk result (refusal (V.named parts.vtable) (type_of parts.dtype) parts.len (V.stands_for parts.payload) (shapes (slots_of parts.slots.items)) ≡ None) }
+        ensures valid { OnOk result (refusal (V.named parts.vtable) (type_of parts.dtype) parts.len
+            (V.stands_for parts.payload) (shapes (slots_of parts.slots.items)) ≡ None) }
         ensures refused { IfErr result (λ e. (e ≡ VortexError.OutOfMemory)
-            ⊎ (refusal (V.named parts.vtable) (type_of parts.dtype) parts.len (V.stands_for parts.payload) (shapes (slots_of parts.slots.items)) ≡ Some e)) }
+            ⊎ (refusal (V.named parts.vtable) (type_of parts.dtype) parts.len
+            (V.stands_for parts.payload) (shapes (slots_of parts.slots.items)) ≡ Some e)) }
     {
-        parts.vtable.validate(alloc, &parts.dtype, parts.len, &parts.payload, &parts.slots)?;
+        V::validate(alloc, &parts)?;
         Ok(Array::from_parts_unchecked(alloc, parts)?)
     }
 

@@ -9,9 +9,9 @@ ghost use Rattle.vx_tree.specs.TreeView.{data_of};
 ghost use Rattle.vx_tree.specs.Well.{shapes};
 ghost use Rattle.vx_tree.specs.Refusals.{refusal};
 
-use crate::array::{ArrayRef, Encoding};
+use crate::array::{ArrayParts, Encoding};
 use std::alloc::Global;
-use vx_value::{DType, Id, VortexResult};
+use vx_value::{Id, VortexResult};
 
 /// The id of an encoding.
 pub type ArrayId = Id;
@@ -59,17 +59,12 @@ pub trait VTable: Encoded + Drop + Sized {
     /// `SlotType` or `NodeType`, then `NodeLen`, and last `OutOfBounds`. For a function node the kinds are `FnSlotMissing`,
     /// `Arity`, `NodeType` if the tag is another function's, `NoRow`, `NodeType` if `dtype` isn't the function's result
     /// type, and last `ChildLen`.
-    fn validate(
-        &self,
-        alloc: Global,
-        dtype: &DType,
-        len: usize,
-        payload: &Self::TypedArrayData,
-        slots: &[Option<ArrayRef>],
-    ) -> VortexResult<()>
-        ensures valid { OnOk result (refusal (named self.now) (type_of dtype.now) len (stands_for payload.now) (shapes (slots_of slots.now)) ≡ None) }
+    fn validate(alloc: Global, parts: &ArrayParts<Self>) -> VortexResult<()>
+        ensures valid { OnOk result (refusal (named parts.now.vtable) (type_of parts.now.dtype) parts.now.len
+            (stands_for parts.now.payload) (shapes (slots_of parts.now.slots.items)) ≡ None) }
         ensures refused { IfErr result (λ e. (e ≡ OutOfMemory)
-            ⊎ (refusal (named self.now) (type_of dtype.now) len (stands_for payload.now) (shapes (slots_of slots.now)) ≡ Some e)) };
+            ⊎ (refusal (named parts.now.vtable) (type_of parts.now.dtype) parts.now.len
+            (stands_for parts.now.payload) (shapes (slots_of parts.now.slots.items)) ≡ Some e)) };
 
     // what it stands for is of the encoding
     ghost kind_of: { (d : Self.TypedArrayData) → is_kind (stands_for d) ≡ true };

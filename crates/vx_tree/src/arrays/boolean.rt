@@ -7,9 +7,9 @@ ghost use Rattle.vx_value.specs.declared.dtype.Nullability.TheVariants.{NonNulla
 ghost use Rattle.vx_value.specs.declared.id.Id.TheVariants as id;
 ghost use Rattle.vx_tree.specs.Tree.{bool, is_bool, booleans};
 
-use crate::array::{Array, ArrayId, ArrayParts, ArrayRef, Encoded, Encoding, VTable};
+use crate::array::{Array, ArrayId, ArrayParts, Encoded, Encoding, VTable};
 use crate::arrays::column::check_column;
-use std::alloc::{AllocError, Global};
+use std::alloc::Global;
 use vx_mask::BitBuffer;
 use vx_value::{ArgKind, DType, Id, Nullability, VortexError, VortexResult};
 
@@ -21,19 +21,9 @@ pub struct Bool;
 pub type BoolArray = Array<Bool>;
 
 /// The data of a boolean column: one bit per row.
-#[derive(Debug, Drop)]
+#[derive(Clone, Debug, Drop)]
 pub struct BoolData {
     pub bits: BitBuffer,
-}
-
-impl Clone for BoolData {
-    ghost is_clone = { λ a b. b ≡ a };
-
-    fn clone(&self) -> Result<BoolData, AllocError> {
-        Ok(BoolData {
-            bits: self.bits.clone()?,
-        })
-    }
 }
 
 impl Encoded for Bool {
@@ -74,20 +64,11 @@ impl VTable for Bool {
         Encoding::Bool(payload)
     }
 
-    fn validate(
-        &self,
-        _alloc: Global,
-        dtype: &DType,
-        len: usize,
-        payload: &BoolData,
-        slots: &[Option<ArrayRef>],
-    ) -> VortexResult<()> {
+    fn validate(_alloc: Global, parts: &ArrayParts<Bool>) -> VortexResult<()> {
         check_column(
-            dtype,
-            len,
+            parts,
             &DType::Bool(Nullability::NonNullable),
-            payload.bits.len(),
-            slots,
+            parts.payload.bits.len(),
         )
     }
 

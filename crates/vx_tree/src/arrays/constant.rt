@@ -6,8 +6,8 @@ ghost use Rattle.vx_value.specs.declared.dtype.Nullability.TheVariants.{NonNulla
 ghost use Rattle.vx_value.specs.declared.id.Id.TheVariants as id;
 ghost use Rattle.vx_tree.specs.Tree.{constant, is_constant, constant_of};
 
-use crate::array::{Array, ArrayId, ArrayParts, ArrayRef, Encoded, Encoding, VTable};
-use std::alloc::{AllocError, Global};
+use crate::array::{Array, ArrayId, ArrayParts, Encoded, Encoding, VTable};
+use std::alloc::Global;
 use vx_value::{ArgKind, DType, Id, Scalar, VortexError, VortexResult};
 
 /// The tag of the constant encoding.
@@ -18,7 +18,7 @@ pub struct Constant;
 pub type ConstantArray = Array<Constant>;
 
 /// The data of a constant: the value of each row.
-#[derive(Debug, Drop)]
+#[derive(Clone, Debug, Drop)]
 pub struct ConstantData {
     pub scalar: Scalar,
 }
@@ -36,16 +36,6 @@ impl ConstantData {
         ensures { result.now ≡ self.now.scalar }
     {
         &self.scalar
-    }
-}
-
-impl Clone for ConstantData {
-    ghost is_clone = { λ a b. b ≡ a };
-
-    fn clone(&self) -> Result<ConstantData, AllocError> {
-        Ok(ConstantData {
-            scalar: self.scalar.clone()?,
-        })
     }
 }
 
@@ -87,22 +77,15 @@ impl VTable for Constant {
         Encoding::Constant(payload)
     }
 
-    #[tactic(auto, using(crate::proofs::RefusalsLemmas::constant_slot_count, crate::proofs::RefusalsLemmas::no_slot))]
-    fn validate(
-        &self,
-        _alloc: Global,
-        dtype: &DType,
-        _len: usize,
-        payload: &ConstantData,
-        slots: &[Option<ArrayRef>],
-    ) -> VortexResult<()> {
-        if slots.len() != 0 {
+    #[tactic(auto, using(crate::proofs::RefusalsLemmas::constant_slot_count, std::proofs::lemmas::List::nil_from_length))]
+    fn validate(_alloc: Global, parts: &ArrayParts<Constant>) -> VortexResult<()> {
+        if parts.slots.len() != 0 {
             return Err(VortexError::InvalidArgument(ArgKind::SlotCount));
         }
-        if *dtype != *payload.scalar.dtype() {
+        if parts.dtype != *parts.payload.scalar.dtype() {
             return Err(VortexError::InvalidArgument(ArgKind::NodeType));
         }
-        if dtype.is_nullable() {
+        if parts.dtype.is_nullable() {
             return Err(VortexError::InvalidArgument(ArgKind::BadType));
         }
         Ok(())
@@ -113,7 +96,7 @@ impl VTable for Constant {
 
 impl ConstantArray {
     /// Makes the constant of `len` rows, each `scalar`. `InvalidArgument` with `BadType` exactly if its type is nullable.
-    #[tactic(auto, using(crate::proofs::RefusalsLemmas::never_null, crate::proofs::RefusalsLemmas::null_some))]
+    #[tactic(auto, using(crate::proofs::RefusalsLemmas::no_null, crate::proofs::RefusalsLemmas::some_null))]
     pub fn new(alloc: Global, scalar: Scalar, len: usize) -> VortexResult<ConstantArray>
         ensures ok { IfOk result (λ a. a ≡ constant_of scalar len) }
         ensures valid { OnOk result (nullability_of scalar.of_type ≡ NonNullable) }

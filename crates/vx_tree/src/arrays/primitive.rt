@@ -8,10 +8,10 @@ ghost use Rattle.vx_tree.specs.Natives.{values_of, ptype_of};
 ghost use Rattle.vx_value.specs.declared.id.Id.TheVariants as id;
 ghost use Rattle.vx_tree.specs.Tree.{primitive, is_primitive, integers};
 
-use crate::array::{Array, ArrayId, ArrayParts, ArrayRef, Encoded, Encoding, VTable};
+use crate::array::{Array, ArrayId, ArrayParts, Encoded, Encoding, VTable};
 use crate::arrays::column::check_column;
-use crate::arrays::values::PrimitiveValues;
-use std::alloc::{AllocError, Global};
+use crate::native::PrimitiveValues;
+use std::alloc::Global;
 use vx_value::{ArgKind, DType, Id, Nullability, VortexError, VortexResult};
 
 /// The tag of the primitive encoding.
@@ -22,19 +22,9 @@ pub struct Primitive;
 pub type PrimitiveArray = Array<Primitive>;
 
 /// The data of an integer column: the value of each row.
-#[derive(Debug, Drop)]
+#[derive(Clone, Debug, Drop)]
 pub struct PrimitiveData {
     pub values: PrimitiveValues,
-}
-
-impl Clone for PrimitiveData {
-    ghost is_clone = { λ a b. (ptype_of b.values ≡ ptype_of a.values) × (values_of b.values ≡ values_of a.values) };
-
-    fn clone(&self) -> Result<PrimitiveData, AllocError> {
-        Ok(PrimitiveData {
-            values: self.values.clone()?,
-        })
-    }
 }
 
 impl Encoded for Primitive {
@@ -75,16 +65,10 @@ impl VTable for Primitive {
         Encoding::Primitive(payload)
     }
 
-    fn validate(
-        &self,
-        _alloc: Global,
-        dtype: &DType,
-        len: usize,
-        payload: &PrimitiveData,
-        slots: &[Option<ArrayRef>],
-    ) -> VortexResult<()> {
-        let of_type = DType::Primitive(payload.values.ptype(), Nullability::NonNullable);
-        check_column(dtype, len, &of_type, payload.values.len(), slots)
+    fn validate(_alloc: Global, parts: &ArrayParts<Primitive>) -> VortexResult<()> {
+        let values = &parts.payload.values;
+        let of_type = DType::Primitive(values.ptype(), Nullability::NonNullable);
+        check_column(parts, &of_type, values.len())
     }
 
     ghost kind_of = { λ d. refl };

@@ -4,7 +4,8 @@ ghost use Rattle.std.specs.Prelude.{◌≡◌, ◌⊎◌, ◌++◌, map, IfOk, I
 ghost use Rattle.vx_value.specs.View.{type_of};
 ghost use Rattle.vx_tree.specs.Tree.{function, is_function, slots_of, filled_slots};
 ghost use Rattle.vx_tree.specs.Well.{shapes};
-ghost use Rattle.vx_tree.specs.Refusals.{arity_refusal, slots_refusal, types_refusal, lengths_refusal, result_refusal, all_present, all_long, types_in, is_present, is_long, type_in};
+ghost use Rattle.vx_tree.specs.Refusals.{arity_refusal, slots_refusal, types_refusal, lengths_refusal, result_refusal};
+ghost use Rattle.vx_tree.specs.Refusals.{all_present, all_long, types_in, is_present, is_long, type_in};
 ghost use Rattle.vx_tree.specs.Calls.{call_refusal, inferred_refusal, called, inferred};
 ghost use Rattle.vx_fn.specs.ReturnTypes.{return_type};
 
@@ -24,7 +25,7 @@ pub struct ScalarFn {
 pub type ScalarFnArray = Array<ScalarFn>;
 
 /// The data of a function node: the function.
-#[derive(Debug, Drop)]
+#[derive(Clone, Debug, Drop)]
 pub struct ScalarFnData {
     pub scalar_fn: ScalarFnRef,
 }
@@ -42,16 +43,6 @@ impl ScalarFnData {
         ensures { result.now ≡ self.now.scalar_fn }
     {
         &self.scalar_fn
-    }
-}
-
-impl Clone for ScalarFnData {
-    ghost is_clone = { λ a b. b ≡ a };
-
-    fn clone(&self) -> Result<ScalarFnData, AllocError> {
-        Ok(ScalarFnData {
-            scalar_fn: self.scalar_fn,
-        })
     }
 }
 
@@ -96,23 +87,11 @@ impl VTable for ScalarFn {
     }
 
     #[tactic(auto, using(crate::proofs::RefusalsLemmas::first_refused, crate::proofs::RefusalsLemmas::later_refused, crate::proofs::RefusalsLemmas::none_refused))]
-    fn validate(
-        &self,
-        alloc: Global,
-        dtype: &DType,
-        len: usize,
-        payload: &ScalarFnData,
-        slots: &[Option<ArrayRef>],
-    ) -> VortexResult<()> {
-        match check_slots(&payload.scalar_fn, slots) {
-            Ok(()) => {}
-            Err(e) => return Err(e),
-        }
-        match check_types(alloc, self.id, &payload.scalar_fn, dtype, slots) {
-            Ok(()) => {}
-            Err(e) => return Err(e),
-        }
-        check_lengths(len, slots)
+    fn validate(alloc: Global, parts: &ArrayParts<ScalarFn>) -> VortexResult<()> {
+        let function = &parts.payload.scalar_fn;
+        check_slots(function, &parts.slots)?;
+        check_types(alloc, parts.vtable.id, function, &parts.dtype, &parts.slots)?;
+        check_lengths(parts.len, &parts.slots)
     }
 
     ghost kind_of = { λ d. refl };
@@ -245,13 +224,10 @@ fn check_result(function: &ScalarFnRef, dtype: &DType, types: &[DType]) -> Vorte
     ensures valid { OnOk result (result_refusal (type_of dtype.now) (return_type function.now (map type_of types.now)) ≡ None) }
     ensures refused { IfErr result (λ e. result_refusal (type_of dtype.now) (return_type function.now (map type_of types.now)) ≡ Some e) }
 {
-    match function.return_dtype(types) {
-        Ok(result) => if *dtype == result {
-            Ok(())
-        } else {
-            Err(VortexError::InvalidArgument(ArgKind::NodeType))
-        },
-        Err(e) => Err(e),
+    if *dtype == function.return_dtype(types)? {
+        Ok(())
+    } else {
+        Err(VortexError::InvalidArgument(ArgKind::NodeType))
     }
 }
 
@@ -304,20 +280,11 @@ impl ScalarFnArray {
         ensures refused { IfErr result (λ e. (e ≡ VortexError.OutOfMemory)
             ⊎ (call_refusal scalar_fn children.items len ≡ Some e)) }
     {
-        match check_arity(&scalar_fn, children.len()) {
-            Ok(()) => {}
-            Err(e) => return Err(e),
-        }
+        check_arity(&scalar_fn, children.len())?;
         let slots = fill_slots(alloc, children)?;
-        match check_lengths(len, slots.as_slice()) {
-            Ok(()) => {}
-            Err(e) => return Err(e),
-        }
+        check_lengths(len, slots.as_slice())?;
         let types = types_of(alloc, slots.as_slice())?;
-        let dtype = match scalar_fn.return_dtype(types.as_slice()) {
-            Ok(dtype) => dtype,
-            Err(e) => return Err(e),
-        };
+        let dtype = scalar_fn.return_dtype(types.as_slice())?;
         let parts = ArrayParts {
             vtable: ScalarFn { id: scalar_fn.id() },
             dtype,

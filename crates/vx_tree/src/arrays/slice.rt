@@ -5,7 +5,7 @@ ghost use Rattle.vx_value.specs.declared.id.Id.TheVariants as id;
 ghost use Rattle.vx_tree.specs.Tree.{Tree, len, slice, is_slice, slice_of};
 
 use crate::array::{Array, ArrayId, ArrayParts, ArrayRef, Encoded, Encoding, VTable};
-use std::alloc::{AllocError, Global};
+use std::alloc::Global;
 use std::ops::Range;
 use vx_value::{ArgKind, DType, Id, VortexError, VortexResult};
 
@@ -17,7 +17,7 @@ pub struct Slice;
 pub type SliceArray = Array<Slice>;
 
 /// The data of a slice: the range of the child's rows, from `start`, inclusive, to `end`, exclusive.
-#[derive(Debug, Drop)]
+#[derive(Clone, Debug, Drop)]
 pub struct SliceData {
     pub range: Range<usize>,
 }
@@ -66,16 +66,6 @@ impl SliceData {
     }
 }
 
-impl Clone for SliceData {
-    ghost is_clone = { λ a b. b ≡ a };
-
-    fn clone(&self) -> Result<SliceData, AllocError> {
-        Ok(SliceData {
-            range: self.range.start..self.range.end,
-        })
-    }
-}
-
 impl Encoded for Slice {
     type TypedArrayData = SliceData;
 }
@@ -115,25 +105,18 @@ impl VTable for Slice {
     }
 
     #[tactic(auto, using(crate::proofs::RefusalsLemmas::slice_slot_count, crate::proofs::RefusalsLemmas::the_slot))]
-    fn validate(
-        &self,
-        _alloc: Global,
-        dtype: &DType,
-        len: usize,
-        payload: &SliceData,
-        slots: &[Option<ArrayRef>],
-    ) -> VortexResult<()> {
-        if slots.len() != 1 {
+    fn validate(_alloc: Global, parts: &ArrayParts<Slice>) -> VortexResult<()> {
+        if parts.slots.len() != 1 {
             return Err(VortexError::InvalidArgument(ArgKind::SlotCount));
         }
-        let Some(child) = &slots[0] else {
+        let Some(child) = &parts.slots[0] else {
             return Err(VortexError::InvalidArgument(ArgKind::SlotMissing { slot: 0 }));
         };
-        if *dtype != *child.dtype() {
+        if parts.dtype != *child.dtype() {
             return Err(VortexError::InvalidArgument(ArgKind::NodeType));
         }
-        let (start, end) = (payload.range.start, payload.range.end);
-        if len != end.saturating_sub(start) {
+        let (start, end) = (parts.payload.range.start, parts.payload.range.end);
+        if parts.len != end.saturating_sub(start) {
             return Err(VortexError::InvalidArgument(ArgKind::NodeLen));
         }
         check_range(start, end, child.len())

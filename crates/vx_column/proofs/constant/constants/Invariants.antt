@@ -1,7 +1,7 @@
-use Rattle.std.proofs.Common.{take, map}
-use Rattle.vx_tree.specs.Columns.{columnar_tree}
-use Rattle.vx_column.specs.Repeated.{AllRepeat}
+use Rattle.std.proofs.Common.{take}
+use Rattle.std.specs.List.{AllZip}
+use Rattle.vx_column.specs.Applied.{Repeats}
 use Rattle.vx_column.proofs.constant.constants.Given as goal
 
 abbrev pub invariant-loop-column : goal.invariant-loop-column
-invariant-loop-column l = AllRepeat (map columnar_tree (take l.column-index l.columns)) l.scalars.items
+invariant-loop-column l = AllZip Repeats (take l.column-index l.columns) l.scalars.items

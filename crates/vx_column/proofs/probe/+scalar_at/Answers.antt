@@ -1,14 +1,19 @@
-use Rattle.std.proofs.Common.{◌≡◌, ◌++◌, ◌∷◌, [], rules, arith, take, refl, sym, ap, subst, ◌∙◌, IfOk}
+use Rattle.std.proofs.Common.{◌≡◌, ◌++◌, ◌∷◌, [], rules, arith, take, Some, FitsSigned, refl, sym, ap, subst, ◌∙◌}
+use Rattle.std.proofs.Math.Facts.{to_z-of_z}
+use Rattle.std.specs.Int.{w128}
 use Rattle.std.proofs.lemmas.List.{take_more}
 use Rattle.vx_value.specs.View.{type_of}
 use Rattle.vx_value.specs.Values.{boolean, integer}
 use Rattle.vx_value.specs.Cell.{value}
 use Rattle.vx_tree.specs.Tree.{slots_of, slots_height, dtype}
 use Rattle.vx_tree.specs.Cells.{rows}
+use Rattle.vx_tree.specs.Natives.{values_of, ptype_of}
+use Rattle.vx_value.specs.Types.{primitive}
+use Rattle.vx_value.specs.declared.dtype.Nullability.TheVariants.{NonNullable}
 use Rattle.vx_tree.specs.Refusals.{type_in}
-use Rattle.vx_tree.proofs.Calling.{types_more}
+use Rattle.vx_tree.proofs.RefusalsLemmas.{types_more}
 use Rattle.vx_column.specs.Probed.{HasRow, cell_in}
-use Rattle.vx_column.proofs.Probing.{function_typed, function_rows, function_lower, function_ok, function_err, argument_faulted, slot_faulted, constant_row, slice_row, bool_row, primitive_row, value_made, values_more, cell_is, has_row, lower, cells_more}
+use Rattle.vx_column.proofs.ProbedLemmas.{function_typed, function_rows, function_lower, function_ok, function_err, argument_faulted, slot_faulted, constant_row, slice_row, bool_row, primitive_row, values_more, cell_is, has_row, lower, cells_more}
 use Rattle.vx_column.proofs.probe.+scalar_at.Goals as goal
 
 pub push_scalar-returns-in_ok-push-in-Ok-clause-ok : goal.push_scalar-returns-in_ok-push-in-Ok-clause-ok
@@ -50,19 +55,18 @@ pub scalar_at-returns-in-ScalarFn-clause-err : goal.scalar_at-returns-in-ScalarF
 scalar_at-returns-in-ScalarFn-clause-err t c =
     function_err c.args.array.now c.in-ScalarFn.function.now (slots_of c.in-ScalarFn.slots.now) c.args.index c.in-ScalarFn.ensures c.function_at.result c.requires c.function_at.ensures.err
 
-pub scalar_at-returns-in_ok-clone-in-Bool-clause-ok : goal.scalar_at-returns-in_ok-clone-in-Bool-clause-ok
-scalar_at-returns-in_ok-clone-in-Bool-clause-ok t c =
-    let typed : type_of c.in_ok-clone-in-Bool.field-0 ≡ dtype c.args.array.now = search rules in
-    value_made c.try_new.result _ (dtype c.args.array.now) (boolean c.value.result) (rows c.args.array.now) c.args.index c.try_new.ensures.ok typed
-    (bool_row c.args.array.now _ _ c.in-Bool.bits.now _ c.args.index c.value.result c.in-Bool.ensures c.value.ensures)
+pub scalar_at-returns-in-Bool-clause-ok : goal.scalar_at-returns-in-Bool-clause-ok
+scalar_at-returns-in-Bool-clause-ok t c =
+    let e = c.in-Bool.ensures in
+    rw c.bool.ensures (bool_row c.args.array.now c.in-Bool.bits.now c.args.index c.value.result e c.value.ensures, sym (ap dtype e))
 
-pub scalar_at-returns-in_ok-clone-in-Primitive-clause-ok : goal.scalar_at-returns-in_ok-clone-in-Primitive-clause-ok
-scalar_at-returns-in_ok-clone-in-Primitive-clause-ok t c =
-    let typed : type_of c.in_ok-clone-in-Primitive.field-0 ≡ dtype c.args.array.now = search rules in
-    let z = c.wide_at.result in
-    let made : IfOk c.try_new-in-Primitive.result (λ x. (x.of_type ≡ type_of c.in_ok-clone-in-Primitive.field-0) × (x.value ≡ integer z)) = search rules in
-    value_made c.try_new-in-Primitive.result _ (dtype c.args.array.now) (integer z) (rows c.args.array.now) c.args.index made typed
-    (primitive_row c.args.array.now _ _ _ _ _ c.args.index z c.in-Primitive.ensures c.wide_at.ensures.value)
+pub scalar_at-returns-in-Primitive-clause-ok : goal.scalar_at-returns-in-Primitive-clause-ok
+scalar_at-returns-in-Primitive-clause-ok t c =
+    let e = c.in-Primitive.ensures in
+    let vs = c.in-Primitive.values.now in
+    let fits : FitsSigned w128 c.wide_at.result = search rules in
+    let row = primitive_row c.args.array.now (ptype_of vs) (values_of vs) c.args.index c.wide_at.result e c.wide_at.ensures.value in
+    rw c.primitive.ensures (row ∙ ap (λ z. Some (value (integer z))) (sym (to_z-of_z fits)), ap (λ p. primitive p NonNullable) c.ptype.ensures ∙ sym (ap dtype e))
 
 pub scalars_at-push_scalar-requires : goal.scalars_at-push_scalar-requires
 scalars_at-push_scalar-requires t c =

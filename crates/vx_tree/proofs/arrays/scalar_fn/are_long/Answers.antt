@@ -7,7 +7,8 @@ use Rattle.vx_tree.proofs.arrays.scalar_fn.are_long.Goals as goal
 pub returns-then-not-has_length : goal.returns-then-not-has_length
 returns-then-not-has_length c =
     let short : is_long c.args.len c.slot-item.result ≡ false = search rules in
-    sym (short_there c.args.len c.args.slots.now c.loop-slot.slot-index c.slot-item.result c.loop-slot-test.true (ap (is_long c.args.len) (sym c.slot-item.is) ∙ short))
+    let here = ap (is_long c.args.len) (sym c.slot-item.is) ∙ short in
+    sym (short_there c.args.len c.args.slots.now c.loop-slot.slot-index c.slot-item.result c.loop-slot-test.true here)
 
 pub loop-slot-preserved : goal.loop-slot-preserved
 loop-slot-preserved c =

@@ -1,26 +1,36 @@
-use Rattle.std.proofs.Common.{◌≡◌, rules, length, map, None, Some, sym, ap, ◌∙◌, inr}
+use Rattle.std.proofs.Common.{◌≡◌, rules, length, map, None, Some, Result, Ok, Err, IfErr, sym, ap, subst, ◌∙◌, inr}
 use Rattle.vx_value.specs.View.{type_of}
 use Rattle.vx_fn.specs.ReturnTypes.{return_type}
-use Rattle.vx_tree.specs.Tree.{slots_of}
+use Rattle.std.specs.Prelude.{IsErrAnd}
+use Rattle.vx_value.specs.declared.error.VortexError.{VortexError}
+use Rattle.vx_tree.specs.Tree.{Tree, slots_of}
 use Rattle.vx_tree.specs.Well.{shapes}
 use Rattle.vx_tree.specs.Refusals.{arity_refusal, lengths_refusal, types_in}
 use Rattle.vx_tree.proofs.CallsLemmas.{call_lengths_refused, call_taken, call_made}
 use Rattle.vx_tree.proofs.arrays.scalar_fn.ScalarFnArray.try_new_with_len.Goals as goal
 
-pub returns-in-Err-check_lengths-clause-refused : goal.returns-in-Err-check_lengths-clause-refused
-returns-in-Err-check_lengths-clause-refused c =
+-- what `?` hands on
+handed_on : (r : Result Tree VortexError) (e : VortexError) (P : VortexError → Type 0) → IsErrAnd r (λ x. x ≡ e) → P e → IfErr r P
+handed_on (Ok t) e P h p = tt
+handed_on (Err x) e P h p = subst P (sym h) p
+
+pub returns-in_err-check_lengths-clause-refused : goal.returns-in_err-check_lengths-clause-refused
+returns-in_err-check_lengths-clause-refused c =
     let ss = slots_of c.in_ok-slots.slots.items in
+    let e = c.in_err-check_lengths.field-0.0 in
     let count : arity_refusal c.args.scalar_fn (length c.args.children.items) ≡ None = search rules in
-    let long : lengths_refusal c.args.len (shapes ss) ≡ Some c.in-Err-check_lengths.e = search rules in
-    inr (call_lengths_refused c.args.scalar_fn c.args.children.items c.args.len ss c.in_ok-slots.ensures c.in-Err-check_lengths.e count long)
+    let long : lengths_refusal c.args.len (shapes ss) ≡ Some e = search rules in
+    handed_on c.from_residual-in_err-check_lengths.result e _ c.from_residual-in_err-check_lengths.ensures.1
+    (inr (call_lengths_refused c.args.scalar_fn c.args.children.items c.args.len ss c.in_ok-slots.ensures e count long))
 
 pub returns-clause-ok : goal.returns-clause-ok
 returns-clause-ok c =
     let ss = slots_of c.in_ok-slots.slots.items in
     let tys = map type_of c.in_ok-types.types.items in
     let typed : tys ≡ types_in (shapes ss) = search rules in
-    let row : return_type c.args.scalar_fn tys ≡ Some (type_of c.in-Ok-return_dtype.dtype) = search rules in
-    call_made c.args.scalar_fn c.args.children.items c.args.len ss c.in_ok-slots.ensures tys typed (type_of c.in-Ok-return_dtype.dtype) row ∙ ap Some (sym c.in_ok-from_parts_unchecked.ensures)
+    let row : return_type c.args.scalar_fn tys ≡ Some (type_of c.in_ok-dtype.dtype) = search rules in
+    call_made c.args.scalar_fn c.args.children.items c.args.len ss c.in_ok-slots.ensures tys typed (type_of c.in_ok-dtype.dtype) row ∙
+    ap Some (sym c.in_ok-from_parts_unchecked.ensures)
 
 pub returns-clause-valid : goal.returns-clause-valid
 returns-clause-valid c =
@@ -29,5 +39,5 @@ returns-clause-valid c =
     let count : arity_refusal c.args.scalar_fn (length c.args.children.items) ≡ None = search rules in
     let long : lengths_refusal c.args.len (shapes ss) ≡ None = search rules in
     let typed : tys ≡ types_in (shapes ss) = search rules in
-    let row : return_type c.args.scalar_fn tys ≡ Some (type_of c.in-Ok-return_dtype.dtype) = search rules in
-    call_taken c.args.scalar_fn c.args.children.items c.args.len ss c.in_ok-slots.ensures tys typed (type_of c.in-Ok-return_dtype.dtype) count long row
+    let row : return_type c.args.scalar_fn tys ≡ Some (type_of c.in_ok-dtype.dtype) = search rules in
+    call_taken c.args.scalar_fn c.args.children.items c.args.len ss c.in_ok-slots.ensures tys typed (type_of c.in_ok-dtype.dtype) count long row

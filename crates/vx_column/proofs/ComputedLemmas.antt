@@ -1,0 +1,157 @@
+-- The column of a function, row by row.
+use Rattle.std.proofs.Common.{◌≡◌, ◌<◌, ◌+◌, inl, inr, ℕ, zero, suc, ℤ, Bool, if◌then◌else◌, true, false, List, [], ◌∷◌, ◌++◌, length, map, take, get_or, Option, Some, None, Result, IfOk, refl, sym, ap, ◌∙◌, subst, arith}
+use Rattle.std.specs.Prelude.{IsSome}
+use Rattle.std.proofs.Math.Bool.{not}
+use Rattle.std.proofs.lemmas.Result.{IfOk-weaker}
+use Rattle.std.specs.List.{AllZip, range_with_len}
+use Rattle.std.specs.Ordering.{bool_cmp, is_ne}
+use Rattle.std.proofs.lemmas.List.{length-map, map-append, take_more}
+use Rattle.std.proofs.lemmas.List.FromFn.{length-map-range_with_len, map-range_with_len_more, get_or-map-range_with_len}
+use Rattle.vx_value.specs.Types.{DataType, bool, primitive, same_type, same_type_Decides}
+use Rattle.vx_value.specs.Values.{null, boolean, integer}
+use Rattle.vx_value.specs.Cell.{Cell, value, fault}
+use Rattle.vx_value.specs.declared.dtype.Nullability.TheVariants.{NonNullable}
+use Rattle.vx_value.specs.declared.dtype.PType.{PType}
+use Rattle.vx_value.specs.declared.error.VortexError.{VortexError}
+use Rattle.vx_fn.specs.Apply.{apply, calculated}
+use Rattle.vx_fn.specs.ReturnTypes.{return_type, operator_type, is_comparison}
+use Rattle.vx_fn.specs.declared.function.Operator.{Operator}
+use Rattle.vx_fn.specs.declared.function.ScalarFnRef.{ScalarFnRef}
+use Rattle.vx_fn.specs.declared.function.ScalarFnRef.TheVariants.{Binary}
+use Rattle.vx_tree.specs.Tree.{Tree, booleans, integers}
+use Rattle.vx_tree.specs.Cells.{HasNoFault}
+use Rattle.vx_tree.specs.Columns.{canonical_tree}
+use Rattle.vx_tree.specs.declared.canonical.Canonical.{Canonical}
+use Rattle.vx_column.specs.Arguments.{types_of, row_of, ptype_in, integer_in}
+use Rattle.vx_column.specs.Computed.{IsComputed, cells_of}
+use Rattle.vx_column.specs.declared.argument.Argument.{Argument}
+use Rattle.vx_column.specs.declared.argument.Argument.TheVariants.{Primitive}
+use Rattle.vx_column.specs.declared.argument.Integers.{Integers}
+
+-- two lists that match, each with one more
+zipped_push : {A B : Type 0} (R : A → B → Type 0) (xs : List A) (ys : List B) (x : A) (y : B) → AllZip R xs ys → R x y → AllZip R (xs ++ x ∷ []) (ys ++ y ∷ [])
+zipped_push R [] [] x y h r = (r, tt)
+zipped_push R [] (b ∷ ys) x y h r = absurd h
+zipped_push R (a ∷ xs) [] x y h r = absurd h
+zipped_push R (a ∷ xs) (b ∷ ys) x y h r = (h.0, zipped_push R xs ys x y h.1 r)
+
+pub zipped_more : {A B : Type 0} (R : A → B → Type 0) (xs : List A) (ys : List B) (i : ℕ) (x : A) (y : B) →
+    i < length xs → x ≡ get_or xs i x → AllZip R (take i xs) ys → R x y → AllZip R (take (i + 1) xs) (ys ++ y ∷ [])
+zipped_more R xs ys i x y lt e h r =
+    subst (λ zs. AllZip R zs (ys ++ y ∷ [])) (sym (take_more xs i x lt)) (zipped_push R (take i xs) ys (get_or xs i x) y h (subst (λ z. R z y) e r))
+
+-- two that agree on the first n rows
+pub same_below : {A : Type 0} (n : ℕ) (f g : ℕ → A) → ((i : ℕ) → i < n → f i ≡ g i) → map f (range_with_len 0 n) ≡ map g (range_with_len 0 n)
+same_below n f g h = from f g 0 n (λ i lt. h i (omega arith))
+  where
+    from : {A : Type 0} (f g : ℕ → A) (s n : ℕ) → ((i : ℕ) → i < s + n → f i ≡ g i) → map f (range_with_len s n) ≡ map g (range_with_len s n)
+    from f g s zero h = refl
+    from f g s (suc n) h = λ j. h s (omega arith) j ∷ from f g (s + 1) n (λ i lt. h i (omega arith)) j
+
+-- one more row that is made by f
+pub rows_more : {T C : Type 0} (read : T → C) (f : ℕ → C) (out : List T) (i : ℕ) (r : T)
+    → map read out ≡ map f (range_with_len 0 i) → f i ≡ read r
+    → map read (out ++ r ∷ []) ≡ map f (range_with_len 0 (i + 1))
+rows_more read f out i r h e =
+    rw (map-append read out (r ∷ []), map-range_with_len_more f 0 i i (omega arith), h, e) refl
+
+-- one more bit that is made by f
+pub bits_more : (f : ℕ → Bool) (out : List Bool) (i : ℕ) (r : Bool) → out ≡ map f (range_with_len 0 i) → r ≡ f i
+    → out ++ r ∷ [] ≡ map f (range_with_len 0 (i + 1))
+bits_more f out i r h e = rw (map-range_with_len_more f 0 i i (omega arith), h, e) refl
+
+clean_at : (cs : List Cell) (i : ℕ) → HasNoFault cs → get_or cs i (value null) ≡ fault → ⊥
+clean_at [] i h e = absurd (cc)
+clean_at (value v ∷ cs) zero h e = absurd (cc)
+clean_at (value v ∷ cs) (suc i) h e = clean_at cs i h e
+clean_at (fault ∷ cs) i h e = absurd h
+
+-- a fault in one of the rows
+pub fault_among : (f : ℕ → Cell) (n i : ℕ) → i < n → f i ≡ fault → ¬ (HasNoFault (map f (range_with_len 0 n)))
+fault_among f n i h e = λ clean. clean_at _ i clean (get_or-map-range_with_len f 0 n i i (value null) h (omega arith) ∙ e)
+
+-- what cells hold the numbers that items stand for
+pub cells_read : {T : Type 0} (read : T → ℤ) (xs : List T) → map (λ z. value (integer z)) (map read xs) ≡ map (λ x. value (integer (read x))) xs
+cells_read read [] = refl
+cells_read read (x ∷ xs) = ap (λ cs. value (integer (read x)) ∷ cs) (cells_read read xs)
+
+-- a fault in row i
+pub fault_at_row : (f : ScalarFnRef) (tys : List DataType) (row : ℕ → List Cell) (n i : ℕ) → i < n →
+    ((ty : DataType) → return_type f tys ≡ Some ty → apply f ty (row i) ≡ fault) → (ty : DataType) → return_type f tys ≡ Some ty → ¬ (HasNoFault (cells_of f ty row n))
+fault_at_row f tys row n i lt h ty typed = fault_among (λ j. apply f ty (row j)) n i lt (h ty typed)
+
+-- the types of an operator's arguments and result
+module _ (op : Operator) (p : PType) where
+  one_type : return_type (Binary op) (primitive p NonNullable ∷ primitive p NonNullable ∷ []) ≡ operator_type op (primitive p NonNullable)
+  one_type =
+      ap (λ b. if b then operator_type op (primitive p NonNullable) else None) ((same_type_Decides (primitive p NonNullable) (primitive p NonNullable)).1 refl)
+
+  module _ (l r : Integers) (left : ptype_in l ≡ p) (right : ptype_in r ≡ p) where
+    types_are : return_type (Binary op) (types_of (Primitive l ∷ Primitive r ∷ [])) ≡ operator_type op (primitive p NonNullable)
+    types_are = (λ j. return_type (Binary op) (primitive (left j) NonNullable ∷ primitive (right j) NonNullable ∷ [])) ∙ one_type
+
+    pub comparison_type : is_comparison op ≡ true → return_type (Binary op) (types_of (Primitive l ∷ Primitive r ∷ [])) ≡ Some (bool NonNullable)
+    comparison_type c = types_are ∙ ap (λ b. Some (if b then bool NonNullable else primitive p NonNullable)) c
+
+    pub calculation_type : is_comparison op ≡ false → return_type (Binary op) (types_of (Primitive l ∷ Primitive r ∷ [])) ≡ Some (primitive p NonNullable)
+    calculation_type c = types_are ∙ ap (λ b. Some (if b then bool NonNullable else primitive p NonNullable)) c
+
+    pub calculation_fault : (n i : ℕ) (x y : ℤ) → is_comparison op ≡ false → x ≡ integer_in l i → y ≡ integer_in r i → i < n → calculated op p x y ≡ fault →
+        (ty : DataType) → return_type (Binary op) (types_of (Primitive l ∷ Primitive r ∷ [])) ≡ Some ty → ¬ (HasNoFault (cells_of (Binary op) ty (row_of (Primitive l ∷ Primitive r ∷ [])) n))
+    calculation_fault n i x y c a b lt none = fault_at_row (Binary op) (types_of (Primitive l ∷ Primitive r ∷ [])) (row_of (Primitive l ∷ Primitive r ∷ [])) n i lt here
+      where
+        here : (ty : DataType) → return_type (Binary op) (types_of (Primitive l ∷ Primitive r ∷ [])) ≡ Some ty → apply (Binary op) ty (row_of (Primitive l ∷ Primitive r ∷ []) i) ≡ fault
+        here ty typed =
+            let same : ty ≡ primitive p NonNullable = cc (typed, calculation_type c) in
+            ap (λ t. apply (Binary op) t (row_of (Primitive l ∷ Primitive r ∷ []) i)) same ∙ (λ j. calculated op p (sym a j) (sym b j)) ∙ none
+
+chosen : (b : Bool) (o : Option DataType) → IsSome (if b then o else None) → b ≡ true
+chosen true o h = refl
+chosen false o h = absurd (cc)
+
+pub bools_compared : (op : Operator) → IsSome (return_type (Binary op) (bool NonNullable ∷ bool NonNullable ∷ [])) → return_type (Binary op) (bool NonNullable ∷ bool NonNullable ∷ []) ≡ Some (bool NonNullable)
+bools_compared op h =
+    let same : return_type (Binary op) (bool NonNullable ∷ bool NonNullable ∷ []) ≡ operator_type op (bool NonNullable) =
+    ap (λ b. if b then operator_type op (bool NonNullable) else None) ((same_type_Decides (bool NonNullable) (bool NonNullable)).1 refl) in
+    same ∙ ap (λ b. if b then Some (bool NonNullable) else None) (chosen (is_comparison op) (Some (bool NonNullable)) (subst IsSome same h))
+
+-- the column of what is true in each row
+pub bools_computed : (f : ScalarFnRef) (args : List Argument) (n : ℕ) (test : ℕ → Bool) (bits : List Bool) (r : Result Canonical VortexError) →
+    return_type f (types_of args) ≡ Some (bool NonNullable) → ((i : ℕ) → apply f (bool NonNullable) (row_of args i) ≡ value (boolean (test i))) →
+    bits ≡ map test (range_with_len 0 n) → IfOk r (λ c. canonical_tree c ≡ booleans bits) → IfOk r (λ c. IsComputed f args n (canonical_tree c))
+bools_computed f args n test bits r typed given made column = IfOk-weaker r _ _ (λ c new. subst (λ x. IsComputed f args n x) (sym new) computed) column
+  where
+    twice : (is : List ℕ) → map (λ b. value (boolean b)) (map test is) ≡ map (λ i. apply f (bool NonNullable) (row_of args i)) is
+    twice [] = refl
+    twice (i ∷ is) = λ j. sym (given i) j ∷ twice is j
+
+    computed : IsComputed f args n (booleans bits)
+    computed = record {
+      result = record {
+        typed = typed;
+        counted = ap length made ∙ length-map-range_with_len test 0 n;
+        shown = ap (map (λ b. value (boolean b))) made ∙ twice (range_with_len 0 n);
+        clean = tt;
+      };
+      canonical = refl;
+    }
+
+-- and of the numbers
+pub integers_computed : (f : ScalarFnRef) (args : List Argument) (n : ℕ) (p : PType) (zs : List ℤ) (u : Tree) →
+    return_type f (types_of args) ≡ Some (primitive p NonNullable) → map (λ z. value (integer z)) zs ≡ cells_of f (primitive p NonNullable) (row_of args) n →
+    u ≡ integers p zs → IsComputed f args n u
+integers_computed f args n p zs u typed made new =
+    subst (λ x. IsComputed f args n x) (sym new) (record {
+      result = record {
+        typed = typed;
+        counted = sym (length-map zs (λ z. value (integer z))) ∙ ap length made ∙ length-map-range_with_len _ 0 n;
+        shown = made;
+        clean = tt;
+      };
+      canonical = refl;
+    })
+
+-- whether a boolean isn't true
+pub differs_from_true : (b : Bool) → not b ≡ is_ne (bool_cmp b true)
+differs_from_true true = refl
+differs_from_true false = refl

@@ -1,0 +1,16 @@
+use Rattle.std.proofs.Common.{◌∷◌, [], refl}
+use Rattle.std.specs.Ordering.{bool_cmp}
+use Rattle.vx_mask.specs.Operands.{bit_in}
+use Rattle.vx_fn.specs.Apply.{holds}
+use Rattle.vx_fn.specs.declared.function.ScalarFnRef.TheVariants.{Binary}
+use Rattle.vx_column.specs.declared.argument.Argument.TheVariants.{Bool}
+use Rattle.vx_column.proofs.ComputedLemmas.{bools_compared, bools_computed}
+use Rattle.vx_column.proofs.boolean.compare_bools.Goals as goal
+
+pub returns-clause-ok : goal.returns-clause-ok
+returns-clause-ok c =
+    let op = c.args.operator in
+    let l = c.args.lhs in
+    let r = c.args.rhs in
+    bools_computed (Binary op) (Bool l ∷ Bool r ∷ []) c.args.len (λ i. holds op (bool_cmp (bit_in l i) (bit_in r i))) c.in_ok-bits.bits c.bool_column.result
+    (bools_compared op c.requires.taken) (λ i. refl) c.in_ok-bits.ensures c.bool_column.ensures.ok

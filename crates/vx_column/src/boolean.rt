@@ -1,0 +1,86 @@
+//! Functions of booleans.
+
+ghost use Rattle.std.specs.Prelude.{◌≡◌, ◌∷◌, [], map, IfOk, IfErr, IsSome, true};
+ghost use Rattle.std.specs.List.{range_with_len};
+ghost use Rattle.std.specs.Ordering.{bool_cmp};
+ghost use Rattle.vx_mask.specs.Operands.{bit_in, HasBits};
+ghost use Rattle.vx_fn.specs.Apply.{holds};
+ghost use Rattle.vx_fn.specs.ReturnTypes.{is_comparison, return_type};
+ghost use Rattle.vx_fn.specs.declared.function.ScalarFnRef.TheVariants.{Binary, Not};
+ghost use Rattle.vx_tree.specs.Tree.{booleans};
+ghost use Rattle.vx_tree.specs.Columns.{canonical_tree};
+ghost use Rattle.vx_column.specs.Arguments.{types_of, IsSized};
+ghost use Rattle.vx_column.specs.Computed.{IsComputed};
+ghost use Rattle.vx_column.specs.declared.argument.Argument.TheVariants.{Bool};
+
+use crate::argument::Argument;
+use std::alloc::{AllocError, Global};
+use vx_fn::Operator;
+use vx_mask::{BitBuffer, BitEq, BitGt, BitGte, BitLt, BitLte, BitNotEq, BitOperand};
+use vx_tree::{BoolArray, Canonical};
+use vx_value::{DType, Nullability, VortexError, VortexResult};
+
+/// Makes a column of `bits`. The only error is `OutOfMemory`.
+pub(crate) fn bool_column(alloc: Global, bits: BitBuffer) -> VortexResult<Canonical>
+    ensures ok { IfOk result (λ c. canonical_tree c ≡ booleans bits) }
+    ensures err { IfErr result (λ e. e ≡ VortexError.OutOfMemory) }
+{
+    let column = BoolArray::try_new(alloc, DType::Bool(Nullability::NonNullable), bits)?;
+    Ok(Canonical::Bool(column))
+}
+
+/// Applies the comparison `operator`, row by row.
+fn compare_bits(
+    alloc: Global,
+    operator: Operator,
+    lhs: BitOperand<'_>,
+    rhs: BitOperand<'_>,
+    len: usize,
+) -> Result<BitBuffer, AllocError>
+    requires lhs { HasBits lhs len }
+    requires rhs { HasBits rhs len }
+    requires comparison { is_comparison operator ≡ true }
+    ensures { IfOk result (λ b. b ≡ map (λ i. holds operator (bool_cmp (bit_in lhs.entry i) (bit_in rhs.entry i))) (range_with_len 0 len)) }
+{
+    match operator {
+        Operator::Eq => BitBuffer::zip::<BitEq>(alloc, lhs, rhs, len),
+        Operator::NotEq => BitBuffer::zip::<BitNotEq>(alloc, lhs, rhs, len),
+        Operator::Gt => BitBuffer::zip::<BitGt>(alloc, lhs, rhs, len),
+        Operator::Gte => BitBuffer::zip::<BitGte>(alloc, lhs, rhs, len),
+        Operator::Lt => BitBuffer::zip::<BitLt>(alloc, lhs, rhs, len),
+        Operator::Lte => BitBuffer::zip::<BitLte>(alloc, lhs, rhs, len),
+        _ => unreachable!(),
+    }
+}
+
+/// Applies the comparison `operator`, and returns a column. The only error is `OutOfMemory`.
+pub(crate) fn compare_bools(
+    alloc: Global,
+    operator: Operator,
+    lhs: BitOperand<'_>,
+    rhs: BitOperand<'_>,
+    len: usize,
+) -> VortexResult<Canonical>
+    requires lhs { HasBits lhs len }
+    requires rhs { HasBits rhs len }
+    requires taken { IsSome (return_type (Binary operator) (types_of (Bool lhs ∷ Bool rhs ∷ []))) }
+    ensures ok { IfOk result (λ c. IsComputed (Binary operator) (Bool lhs.entry ∷ Bool rhs.entry ∷ []) len (canonical_tree c)) }
+    ensures err { IfErr result (λ e. e ≡ VortexError.OutOfMemory) }
+{
+    let bits = compare_bits(alloc, operator, lhs, rhs, len)?;
+    bool_column(alloc, bits)
+}
+
+/// Negates each row of `input`, `len` booleans. The only error is `OutOfMemory`.
+pub(crate) fn negate(alloc: Global, input: Argument<'_>, len: usize) -> VortexResult<Canonical>
+    requires input { IsSized len input }
+    requires taken { IsSome (return_type Not (types_of (input ∷ []))) }
+    ensures ok { IfOk result (λ c. IsComputed Not (input.entry ∷ []) len (canonical_tree c)) }
+    ensures err { IfErr result (λ e. e ≡ VortexError.OutOfMemory) }
+{
+    let Argument::Bool(input) = input else {
+        unreachable!()
+    };
+    let bits = BitBuffer::zip::<BitNotEq>(alloc, input, BitOperand::Bit(true), len)?;
+    bool_column(alloc, bits)
+}

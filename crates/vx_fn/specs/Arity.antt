@@ -1,0 +1,15 @@
+-- Functions of exactly one, two or three arguments, on a list of them.
+use Rattle.std.specs.Prelude.{List, [], ◌∷◌}
+
+-- `rule` says what an argument makes of the answer, as a null one may. `other` is the answer for another number of arguments.
+abbrev pub of_one : {A B : Type 0} → (A → B → B) → B → (A → B) → List A → B
+of_one rule other f (x ∷ []) = rule x (f x)
+of_one rule other f _ = other
+
+abbrev pub of_two : {A B : Type 0} → (A → B → B) → B → (A → A → B) → List A → B
+of_two rule other f (x ∷ y ∷ []) = rule x (rule y (f x y))
+of_two rule other f _ = other
+
+abbrev pub of_three : {A B : Type 0} → (A → B → B) → B → (A → A → A → B) → List A → B
+of_three rule other f (x ∷ y ∷ z ∷ []) = rule x (rule y (rule z (f x y z)))
+of_three rule other f _ = other

@@ -1,9 +1,0 @@
-use Rattle.std.proofs.Common.{◌∙◌}
-use Rattle.std.proofs.Math.Facts.{to_z-of_z}
-use Rattle.vx_tree.proofs.NativesLemmas.{copies_read}
-use Rattle.vx_tree.proofs.arrays.values.copies_of.Goals as goal
-
-pub returns-clause-values : goal.returns-clause-values
-returns-clause-values g c =
-    let v = c.native_of-value.result in
-    c.wrap.ensures.values ∙ copies_read g.T.Number.value c.in_ok-from_vec.field-0 v c.args.len c.args.wide (c.in_ok-from_vec.ensures ∙ c.in_ok-values.ensures.items_if_clones_equal (g.met.T.NativeInteger.clones_same v)) (c.native_of-value.ensures ∙ to_z-of_z c.ranges.wide)

@@ -1,0 +1,35 @@
+//! Macros that open the eight types.
+
+/// Evaluates one expression over the buffer of a `PrimitiveValues`, whichever its type: `by_buffer!(values, |buffer| buffer.len())`.
+#[macro_export]
+macro_rules! by_buffer {
+    ($values:expr, |$buffer:ident| $body:expr) => {
+        match $values {
+            $crate::PrimitiveValues::U8($buffer) => $body,
+            $crate::PrimitiveValues::U16($buffer) => $body,
+            $crate::PrimitiveValues::U32($buffer) => $body,
+            $crate::PrimitiveValues::U64($buffer) => $body,
+            $crate::PrimitiveValues::I8($buffer) => $body,
+            $crate::PrimitiveValues::I16($buffer) => $body,
+            $crate::PrimitiveValues::I32($buffer) => $body,
+            $crate::PrimitiveValues::I64($buffer) => $body,
+        }
+    };
+}
+
+/// Calls a generic function at the type that a `PType` names: `by_type!(ptype, read(list))` calls `read::<u8>(list)` at `U8`.
+#[macro_export]
+macro_rules! by_type {
+    ($ptype:expr, $function:ident($($argument:expr),* $(,)?)) => {
+        match $ptype {
+            $crate::native::PType::U8 => $function::<u8>($($argument),*),
+            $crate::native::PType::U16 => $function::<u16>($($argument),*),
+            $crate::native::PType::U32 => $function::<u32>($($argument),*),
+            $crate::native::PType::U64 => $function::<u64>($($argument),*),
+            $crate::native::PType::I8 => $function::<i8>($($argument),*),
+            $crate::native::PType::I16 => $function::<i16>($($argument),*),
+            $crate::native::PType::I32 => $function::<i32>($($argument),*),
+            $crate::native::PType::I64 => $function::<i64>($($argument),*),
+        }
+    };
+}

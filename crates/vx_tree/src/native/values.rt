@@ -1,0 +1,130 @@
+//! Values of any of the eight types.
+
+ghost use Rattle.std.specs.Prelude.{◌≡◌, ◌<◌, ◌≤◌, ℤ, map, length, IfOk, Some, true, slice_get, slice_range, replicate};
+ghost use Rattle.vx_value.specs.IsOf.{in_range};
+ghost use Rattle.vx_tree.specs.Natives.{values_of, ptype_of};
+
+use crate::native::{NativeInteger, native_of};
+use crate::{by_buffer, by_type};
+use std::alloc::{AllocError, Global};
+use std::ops::Range;
+use vx_mask::Buffer;
+use vx_value::PType;
+
+/// Integers of one of the eight types, in shared storage.
+#[derive(Debug, Drop)]
+pub enum PrimitiveValues {
+    U8(Buffer<u8>),
+    U16(Buffer<u16>),
+    U32(Buffer<u32>),
+    U64(Buffer<u64>),
+    I8(Buffer<i8>),
+    I16(Buffer<i16>),
+    I32(Buffer<i32>),
+    I64(Buffer<i64>),
+}
+
+fn type_of_buffer<T: NativeInteger>(_buffer: &Buffer<T>) -> PType
+    ensures { result ≡ T.kind }
+{
+    T::ptype()
+}
+
+fn wide_at<T: NativeInteger>(buffer: &Buffer<T>, index: usize) -> i128
+    requires { index < length buffer.now }
+    ensures value { slice_get (map T.value buffer.now) index ≡ Some result }
+    ensures ranged { in_range T.kind result ≡ true }
+{
+    buffer.as_slice()[index].to_wide()
+}
+
+fn shared<T: NativeInteger>(buffer: &Buffer<T>) -> Result<PrimitiveValues, AllocError>
+    ensures kind { IfOk result (λ copy. ptype_of copy ≡ T.kind) }
+    ensures values { IfOk result (λ copy. values_of copy ≡ map T.value buffer.now) }
+{
+    Ok(T::wrap(buffer.clone()?))
+}
+
+#[tactic(auto, using(crate::proofs::NativesLemmas::map_part))]
+fn part_of<T: NativeInteger>(
+    buffer: &Buffer<T>,
+    range: Range<usize>,
+) -> Result<PrimitiveValues, AllocError>
+    requires order { range.start ≤ range.end }
+    requires bounds { range.end ≤ length buffer.now }
+    ensures kind { IfOk result (λ part. ptype_of part ≡ T.kind) }
+    ensures values { IfOk result (λ part. values_of part ≡ slice_range (map T.value buffer.now) range.start range.end) }
+{
+    Ok(T::wrap(buffer.slice(range)?))
+}
+
+fn copies_of<T: NativeInteger>(
+    alloc: Global,
+    wide: i128,
+    len: usize,
+) -> Result<PrimitiveValues, AllocError>
+    requires { in_range T.kind wide ≡ true }
+    ensures kind { IfOk result (λ copies. ptype_of copies ≡ T.kind) }
+    ensures values { IfOk result (λ copies. values_of copies ≡ replicate len wide) }
+{
+    let value: T = native_of(wide);
+    let values = vec![in alloc; value; len]?;
+    Ok(T::wrap(Buffer::from_vec(alloc, values)?))
+}
+
+impl PrimitiveValues {
+    /// Returns the number of values.
+    pub fn len(&self) -> usize
+        ensures { result ≡ length (values_of self.now) }
+    {
+        by_buffer!(self, |buffer| buffer.len())
+    }
+
+    /// Returns the type of the values.
+    pub fn ptype(&self) -> PType
+        ensures { result ≡ ptype_of self.now }
+    {
+        by_buffer!(self, |buffer| type_of_buffer(buffer))
+    }
+
+    /// Returns the value at `index`, counted from 0. It must be in bounds. (own)
+    pub fn wide_at(&self, index: usize) -> i128
+        requires { index < length (values_of self.now) }
+        ensures value { slice_get (values_of self.now) index ≡ Some result }
+        ensures ranged { in_range (ptype_of self.now) result ≡ true }
+    {
+        by_buffer!(self, |buffer| wide_at(buffer, index))
+    }
+
+    /// Returns the values of `range`, which must be in order and in bounds. They share their storage with these.
+    pub fn slice(&self, range: Range<usize>) -> Result<PrimitiveValues, AllocError>
+        requires order { range.start ≤ range.end }
+        requires bounds { range.end ≤ length (values_of self.now) }
+        ensures kind { IfOk result (λ part. ptype_of part ≡ ptype_of self.now) }
+        ensures values { IfOk result (λ part. values_of part ≡ slice_range (values_of self.now) range.start range.end) }
+    {
+        by_buffer!(self, |buffer| part_of(buffer, range))
+    }
+
+    /// Returns `len` times the number `wide`, which must be in the type's range. Takes one allocation. (own)
+    pub fn repeat(
+        alloc: Global,
+        ptype: PType,
+        wide: i128,
+        len: usize,
+    ) -> Result<PrimitiveValues, AllocError>
+        requires { in_range ptype wide ≡ true }
+        ensures kind { IfOk result (λ copies. ptype_of copies ≡ ptype) }
+        ensures values { IfOk result (λ copies. values_of copies ≡ replicate len wide) }
+    {
+        by_type!(ptype, copies_of(alloc, wide, len))
+    }
+}
+
+impl Clone for PrimitiveValues {
+    ghost is_clone = { λ a b. (ptype_of b ≡ ptype_of a) × (values_of b ≡ values_of a) };
+
+    fn clone(&self) -> Result<PrimitiveValues, AllocError> {
+        by_buffer!(self, |buffer| shared(buffer))
+    }
+}

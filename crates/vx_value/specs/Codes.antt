@@ -1,0 +1,32 @@
+-- Whether two values are the same, by their codes.
+use Rattle.std.specs.Prelude.{◌≡◌, Bool, true, false, ◌&&◌, ◌==◌, refl}
+use Rattle.std.specs.Bool.{Decides}
+use Rattle.std.specs.Cmp.{unsigned_Decides, first_so, second_so}
+use Rattle.std.specs.Coded.{Coded}
+use Rattle.std.proofs.Common.{ap, sym, ◌∙◌}
+use base.Stored.{Gv, gnil, gnum, gcons}
+
+abbrev pub same_code : Gv → Gv → Bool
+same_code gnil gnil = true
+same_code (gnum m) (gnum n) = m == n
+same_code (gcons a b) (gcons c d) = same_code a c && same_code b d
+same_code _ _ = false
+
+same_code_true : (a b : Gv) → same_code a b ≡ true → a ≡ b
+same_code_true gnil gnil h = refl
+same_code_true (gnum m) (gnum n) h = ap gnum ((unsigned_Decides m n).0 h)
+same_code_true (gcons a b) (gcons c d) h =
+    let heads : a ≡ c = same_code_true a c (first_so _ _ h) in
+    let tails : b ≡ d = same_code_true b d (second_so _ _ h) in
+    λ i. gcons (heads i) (tails i)
+same_code_true _ _ h = absurd (cc)
+
+same_code_self : (a : Gv) → same_code a a ≡ true
+same_code_self gnil = refl
+same_code_self (gnum m) = (unsigned_Decides m m).1 refl
+same_code_self (gcons a b) = ap (λ x. x && same_code b b) (same_code_self a) ∙ same_code_self b
+
+-- values of a type that has codes are the same exactly where their codes are
+pub same_code_Decides : {A : Type 0} (c : Coded A) (x y : A) → Decides (same_code (c.code x) (c.code y)) (x ≡ y)
+same_code_Decides c x y =
+    (λ h. c.inj x y (same_code_true (c.code x) (c.code y) h), λ e. ap (λ z. same_code (c.code x) (c.code z)) (sym e) ∙ same_code_self (c.code x))
