@@ -1,9 +1,10 @@
-use Rattle.std.proofs.Common.{List, map, sym, subst}
+use Rattle.std.proofs.Common.{List, map, sym, subst, rules}
+use Rattle.vx_value.specs.declared.error.VortexError.{VortexError}
 use Rattle.vx_tree.specs.Tree.{slots_of}
 use Rattle.vx_tree.specs.Columns.{columnar_tree}
 use Rattle.vx_tree.specs.Well.{IsWell}
 use Rattle.vx_tree.specs.declared.columnar.Columnar.{Columnar}
-use Rattle.vx_step.specs.Steps.{IsDone}
+use Rattle.vx_step.specs.Steps.{IsDone, IsStopped}
 use Rattle.vx_column.specs.Applied.{IsCall, IsApplied, IsUnapplied}
 use Rattle.vx_step.proofs.StepsLemmas.{may_call, applied_done, unapplied_stopped}
 use Rattle.vx_step.proofs.function.apply_or_wait.Goals as goal
@@ -16,22 +17,26 @@ apply_fn-requires c =
     subst (λ (xs : List Columnar). IsCall f (map columnar_tree xs) c.len.result) (sym c.as_slice.ensures.value)
         (subst (λ n. IsCall f ts n) (sym c.len.ensures) call)
 
-pub returns-in-Ok-clause-ok : goal.returns-in-Ok-clause-ok
-returns-in-Ok-clause-ok c =
+pub returns-in_ok-column-in-None-clause-ok : goal.returns-in_ok-column-in-None-clause-ok
+returns-in_ok-column-in-None-clause-ok c =
     let f = c.args.scalar_fn.now in
     let ts = map columnar_tree c.in_ok-columns-in-None.columns.items in
-    let u = columnar_tree c.in-Ok.column in
-    let listed = subst (λ (xs : List Columnar). IsApplied f (map columnar_tree xs) c.len.result u) c.as_slice.ensures.value c.in-Ok.ensures.ok in
+    let u = columnar_tree c.in_ok-column-in-None.column in
+    let listed =
+        subst (λ (xs : List Columnar). IsApplied f (map columnar_tree xs) c.len.result u) c.as_slice.ensures.value c.in_ok-column-in-None.ensures.ok in
     let applied = subst (λ n. IsApplied f ts n u) c.len.ensures listed in
     let well : IsWell u = subst IsWell c.as_array.ensures.of c.well.ensures.formed in
     subst (λ x. IsDone c.args.array.now x) (sym c.into_array.ensures)
-        (applied_done f c.args.array.now
-        (slots_of c.args.slots.now) ts c.requires.shape c.requires.well c.in_ok-columns-in-None.ensures c.in-None.ensures u applied well c.as_array.ensures.columnar)
+        (applied_done f c.args.array.now (slots_of c.args.slots.now) ts c.requires.shape c.requires.well c.in_ok-columns-in-None.ensures
+        c.in-None.ensures u applied well c.as_array.ensures.columnar)
 
-pub returns-clause-err : goal.returns-clause-err
-returns-clause-err c =
+pub returns-in_err-column-in-None-clause-err : goal.returns-in_err-column-in-None-clause-err
+returns-in_err-column-in-None-clause-err c =
     let f = c.args.scalar_fn.now in
     let ts = map columnar_tree c.in_ok-columns-in-None.columns.items in
-    let listed = subst (λ (xs : List Columnar). IsUnapplied f (map columnar_tree xs) c.len.result c.in-Err.e) c.as_slice.ensures.value c.in-Err.ensures.err in
-    unapplied_stopped f c.args.array.now (slots_of c.args.slots.now) ts c.requires.shape c.requires.well c.in_ok-columns-in-None.ensures c.in-Err.e
-        (subst (λ n. IsUnapplied f ts n c.in-Err.e) c.len.ensures listed)
+    let stopped : (e : VortexError) → IsUnapplied f (map columnar_tree c.as_slice.result.now) c.len.result e → IsStopped c.args.array.now e = λ e h.
+        unapplied_stopped f c.args.array.now (slots_of c.args.slots.now) ts c.requires.shape c.requires.well c.in_ok-columns-in-None.ensures e
+        (subst (λ n. IsUnapplied f ts n e) c.len.ensures
+        (subst (λ (xs : List Columnar). IsUnapplied f (map columnar_tree xs) c.len.result e) c.as_slice.ensures.value h)) in
+    let here : IsStopped c.args.array.now c.in_err-column-in-None.field-0.0 = stopped _ c.in_err-column-in-None.ensures.err in
+    search rules
