@@ -12,7 +12,7 @@ use crate::BAD_VALUE;
 use serde_json::Value;
 use std::alloc::Global;
 use vx_mask::{BitBuffer, BitBuilder, Buffer};
-use vx_tree::{NativeInteger, PrimitiveValues};
+use vx_tree::{NativeInteger, PrimitiveValues, by_type};
 use vx_value::{DType, PType, Scalar, ScalarValue, VortexResult};
 
 /// Reads an integer in the range of `i64` or `u64`.
@@ -55,16 +55,7 @@ pub(crate) fn integers(
     ensures ok { IfOk result (λ v. all_read (integer_spelled ptype) (items_view list.now.items) ≡ Some (values_of v)) }
     ensures err { IfErr result (IsRefused (all_read (integer_spelled ptype) (items_view list.now.items) ≡ None)) }
 {
-    match ptype {
-        PType::U8 => natives::<u8>(alloc, list),
-        PType::U16 => natives::<u16>(alloc, list),
-        PType::U32 => natives::<u32>(alloc, list),
-        PType::U64 => natives::<u64>(alloc, list),
-        PType::I8 => natives::<i8>(alloc, list),
-        PType::I16 => natives::<i16>(alloc, list),
-        PType::I32 => natives::<i32>(alloc, list),
-        PType::I64 => natives::<i64>(alloc, list),
-    }
+    by_type!(ptype, natives(alloc, list))
 }
 
 /// Reads a list of booleans. `InvalidArgument(BadValue)` if an item isn't one.
