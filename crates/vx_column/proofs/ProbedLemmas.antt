@@ -1,8 +1,8 @@
 -- One row of a node.
-use Rattle.std.proofs.Common.{◌≡◌, ℕ, ℤ, zero, suc, ◌+◌, ◌-◌, ◌≤◌, ◌<◌, List, [], ◌∷◌, ◌++◌, length, map, get_or, take, drop, replicate, Bool, Option, Some, None, option_map, Result, Ok, Err, IfOk, IfErr, ◌⊎◌, inl, inr, refl, sym, ◌∙◌, ap, arith}
-use Rattle.std.specs.Prelude.{slice_get, slice_index_or}
-use Rattle.std.specs.List.{range_with_len, Contains}
-use Rattle.std.proofs.lemmas.List.{get_or-replicate, length-replicate, map_push}
+use Rattle.std.proofs.Common.{◌≡◌, ℕ, ℤ, zero, suc, ◌+◌, ◌-◌, ◌≤◌, ◌<◌, List, [], ◌∷◌, length, map, get_or, take, drop, replicate, Bool, Option, Some, None, option_map, refl, sym, ◌∙◌, ap, arith}
+use Rattle.std.specs.Prelude.{slice_get, slice_index_or, is_some, IsSome}
+use Rattle.std.specs.List.{AllZip, range_with_len}
+use Rattle.std.proofs.lemmas.List.{get_or-replicate, length-replicate, take_all}
 use Rattle.std.proofs.lemmas.List.FromFn.{get_or-map-range_with_len, length-map-range_with_len}
 use Rattle.std.proofs.lemmas.Option.{slice_get-get_or, slice_get-map, get_or_from_slice_get}
 use Rattle.vx_value.specs.Types.{DataType}
@@ -10,131 +10,34 @@ use Rattle.vx_value.specs.Typed.{Typed}
 use Rattle.vx_value.specs.Values.{Value, boolean, integer}
 use Rattle.vx_value.specs.Cell.{Cell, value, fault}
 use Rattle.vx_value.specs.declared.dtype.PType.{PType}
-use Rattle.vx_value.specs.declared.scalar.Scalar.{Scalar}
-use Rattle.vx_value.specs.declared.error.VortexError.{VortexError}
-use Rattle.vx_value.specs.declared.error.VortexError.TheVariants.{OutOfMemory, Fault}
 use Rattle.vx_fn.specs.Apply.{apply, on_values, value_of}
 use Rattle.vx_fn.specs.ReturnTypes.{return_type}
 use Rattle.vx_fn.specs.declared.function.ScalarFnRef.{ScalarFnRef}
-use Rattle.vx_tree.specs.Tree.{Tree, Slots, node, constant, slice, function, booleans, integers, no_slots, absent, slot, slots_of, dtype, len, height, slots_height}
+use Rattle.vx_tree.specs.Tree.{Tree, node, function, slots_of, dtype, len, height, slots_height, booleans, integers, constant_of, slice_of}
 use Rattle.vx_tree.specs.Cells.{row_at, rows, slots_rows}
 use Rattle.vx_tree.specs.Well.{shape, shapes, IsNode}
 use Rattle.vx_tree.specs.Refusals.{types_in}
 use Rattle.vx_tree.proofs.RefusalsLemmas.{types_back}
-use Rattle.vx_column.specs.Probed.{HaveRow, HasRow, cell_in}
+use Rattle.vx_column.specs.Applied.{types_of_scalars, cells_of_scalars}
 
--- a fault in any argument is a fault
-fault_at : (g : List Value → Cell) (cs : List Cell) (k : ℕ) → k < length cs → slice_index_or cs k fault ≡ fault → on_values g cs ≡ fault
-fault_at g [] k h e = absurd (omega arith)
-fault_at g (fault ∷ cs) k h e = refl
-fault_at g (value v ∷ cs) zero h e = absurd (cc)
-fault_at g (value v ∷ cs) (suc k) h e = fault_at (λ vs. g (v ∷ vs)) cs k (omega arith) e
+-- ---- the rows of a column
 
-pub faulty : (f : ScalarFnRef) (ty : DataType) (cs : List Cell) → Contains cs fault → apply f ty cs ≡ fault
-faulty f ty cs h = fault_at (value_of f ty) cs h.0 h.1 h.2
-
--- a row that is there, by a default
-pub cell_is : (cs : List Cell) (i : ℕ) (c : Cell) → slice_get cs i ≡ Some c → slice_index_or cs i fault ≡ c
-cell_is cs i c h = get_or_from_slice_get cs i c fault h
-
--- the slots, one by one, as the code asks
-
-pub has_row : (xs : List (Option Tree)) (k : ℕ) (d : Option Tree) (i : ℕ) → HaveRow i (slots_of xs) → k < length xs → HasRow i (get_or xs k d)
-has_row [] k d i h l = absurd (omega arith)
-has_row (None ∷ xs) k d i h l = absurd h
-has_row (Some t ∷ xs) zero d i h l = h.0
-has_row (Some t ∷ xs) (suc k) d i h l = has_row xs k d i h.1 (omega arith)
-
-pub lower : (xs : List (Option Tree)) (k : ℕ) (d : Option Tree) → k < length xs → slots_height (slots_of (get_or xs k d ∷ [])) ≤ slots_height (slots_of xs)
-lower [] k d l = absurd (omega arith)
-lower (None ∷ xs) zero d l = omega arith
-lower (None ∷ xs) (suc k) d l = lower xs k d (omega arith)
-lower (Some t ∷ xs) zero d l = omega arith
-lower (Some t ∷ xs) (suc k) d l = omega (arith, lower xs k d (omega arith))
-
-pub cells_more : (xs : List (Option Tree)) (s : Option Tree) (i : ℕ) → row_at (slots_rows (slots_of (xs ++ s ∷ []))) i ≡ row_at (slots_rows (slots_of xs)) i ++ cell_in i s ∷ []
-cells_more [] None i = refl
-cells_more [] (Some t) i = refl
-cells_more (None ∷ xs) s i = ap (λ cs. fault ∷ cs) (cells_more xs s i)
-cells_more (Some u ∷ xs) s i = ap (λ cs. slice_index_or (rows u) i fault ∷ cs) (cells_more xs s i)
-
-pub fault_there : (xs : List (Option Tree)) (k : ℕ) (d : Option Tree) (i : ℕ) → k < length xs → cell_in i (get_or xs k d) ≡ fault → Contains (row_at (slots_rows (slots_of xs)) i) fault
-fault_there [] k d i l e = absurd (omega arith)
-fault_there (None ∷ xs) zero d i l e = (0, omega arith, refl)
-fault_there (None ∷ xs) (suc k) d i l e =
-    let later = fault_there xs k d i (omega arith) e in
-    (suc later.0, omega (arith, later.1), later.2)
-fault_there (Some u ∷ xs) zero d i l e = (0, omega arith, e)
-fault_there (Some u ∷ xs) (suc k) d i l e =
-    let later = fault_there xs k d i (omega arith) e in
-    (suc later.0, omega (arith, later.1), later.2)
-
-rows_there : (i n : ℕ) (ss : Slots) (tys : List DataType) → i < n → shapes ss ≡ map (λ s. Some (shape s n)) tys → HaveRow i ss
-rows_there i n no_slots tys h e = tt
-rows_there i n (absent ss) [] h e = absurd (cc)
-rows_there i n (absent ss) (s ∷ tys) h e = absurd (cc)
-rows_there i n (slot t ss) [] h e = absurd (cc)
-rows_there i n (slot t ss) (s ∷ tys) h e =
-    let same : len t ≡ n = cc in
-    let later : shapes ss ≡ map (λ s. Some (shape s n)) tys = cc in
-    (omega (arith, same), rows_there i n ss tys h later)
-
-row_of : (F : ℕ → Cell) (n i : ℕ) → i < n → slice_get (map F (range_with_len 0 n)) i ≡ Some (F i)
-row_of F n i h =
-    let l = length-map-range_with_len F 0 n in
-    slice_get-get_or (map F (range_with_len 0 n)) i fault (omega (arith, l)) ∙ ap Some (get_or-map-range_with_len F 0 n i i fault h (omega arith))
-
--- what is known of a function's node, opened
-module _ (t : Tree) (f : ScalarFnRef) (ss : Slots) (i : ℕ) (k : (t ≡ node (dtype t) (len t) (function f) ss) × IsNode (dtype t) (len t) (function f) (shapes ss)) where
-  pub function_typed : return_type f (types_in (shapes ss)) ≡ Some (dtype t)
-  function_typed = ap (return_type f) (ap types_in k.1.1 ∙ types_back (len t) k.1.0) ∙ k.1.2
-
-  pub function_rows : i < len t → HaveRow i ss
-  function_rows h = rows_there i (len t) ss k.1.0 h k.1.1
-
-  pub function_lower : slots_height ss < height t
-  function_lower = let e = ap height k.0 in omega arith
-
-  pub function_row : i < len t → slice_get (rows t) i ≡ Some (apply f (dtype t) (row_at (slots_rows ss) i))
-  function_row h =
-      ap (λ u. slice_get (rows u) i) k.0 ∙ row_of (λ j. apply f (dtype t) (row_at (slots_rows ss) j)) (len t) i h
-
-  pub function_ok : (r : Result Scalar VortexError) → i < len t → IfOk r (λ s. return_type f (types_in (shapes ss)) ≡ Some s.of_type) → IfOk r (λ s. apply f s.of_type (row_at (slots_rows ss) i) ≡ value s.value) → IfOk r (λ s. (slice_get (rows t) i ≡ Some (value s.value)) × (s.of_type ≡ dtype t))
-  function_ok (Ok s) h typed ok =
-      let all = function_typed in
-      let same : s.of_type ≡ dtype t = cc in
-      (function_row h ∙ ap (λ ty. Some (apply f ty (row_at (slots_rows ss) i))) (sym same) ∙ ap Some ok, same)
-  function_ok (Err e) h typed ok = tt
-
-  pub function_err : (r : Result Scalar VortexError) → i < len t
-      → IfErr r (λ e. (e ≡ OutOfMemory) ⊎ ((e ≡ Fault) × ((ty : DataType) → return_type f (types_in (shapes ss)) ≡ Some ty → apply f ty (row_at (slots_rows ss) i) ≡ fault)))
-      → IfErr r (λ e. (e ≡ OutOfMemory) ⊎ ((e ≡ Fault) × (slice_get (rows t) i ≡ Some fault)))
-  function_err (Ok s) h err = tt
-  function_err (Err e) h (inl m) = inl m
-  function_err (Err e) h (inr m) = inr (m.0, function_row h ∙ ap Some (m.1 (dtype t) function_typed))
-
--- a fault among the arguments
-pub argument_faulted : (f : ScalarFnRef) (ss : Slots) (i : ℕ) (e : VortexError) → (e ≡ OutOfMemory) ⊎ ((e ≡ Fault) × Contains (row_at (slots_rows ss) i) fault)
-    → (e ≡ OutOfMemory) ⊎ ((e ≡ Fault) × ((ty : DataType) → return_type f (types_in (shapes ss)) ≡ Some ty → apply f ty (row_at (slots_rows ss) i) ≡ fault))
-argument_faulted f ss i e (inl m) = inl m
-argument_faulted f ss i e (inr m) = inr (m.0, λ ty typed. faulty f ty (row_at (slots_rows ss) i) m.1)
-
-pub slot_faulted : (xs : List (Option Tree)) (k : ℕ) (s : Option Tree) (i : ℕ) (e : VortexError) → k < length xs → s ≡ get_or xs k s → (e ≡ OutOfMemory) ⊎ ((e ≡ Fault) × (cell_in i s ≡ fault))
-    → (e ≡ OutOfMemory) ⊎ ((e ≡ Fault) × Contains (row_at (slots_rows (slots_of xs)) i) fault)
-slot_faulted xs k s i e l there (inl m) = inl m
-slot_faulted xs k s i e l there (inr m) = inr (m.0, fault_there xs k s i l (ap (cell_in i) (sym there) ∙ m.1))
-
-pub child_faulted : (s : Option Tree) (t : Tree) (i : ℕ) (e : VortexError) → s ≡ Some t → (e ≡ OutOfMemory) ⊎ ((e ≡ Fault) × (slice_get (rows t) i ≡ Some fault))
-    → (e ≡ OutOfMemory) ⊎ ((e ≡ Fault) × (cell_in i s ≡ fault))
-child_faulted s t i e there (inl m) = inl m
-child_faulted s t i e there (inr m) = inr (m.0, ap (cell_in i) there ∙ cell_is (rows t) i fault m.1)
-
--- the row of a node of another encoding
-
-pub constant_row : (t : Tree) (n : ℕ) (v : Typed) (ss : Slots) (i : ℕ) → t ≡ node v.of_type n (constant v) ss → i < n → slice_get (rows t) i ≡ Some (value v.value)
-constant_row t n v ss i e h =
+pub constant_row : (t : Tree) (n : ℕ) (v : Typed) (i : ℕ) → t ≡ constant_of v n → i < n → slice_get (rows t) i ≡ Some (value v.value)
+constant_row t n v i e h =
     let l = length-replicate n (value v.value) in
-    ap (λ u. slice_get (rows u) i) e ∙ slice_get-get_or (replicate n (value v.value)) i fault (omega arith) ∙ ap Some (get_or-replicate n i (value v.value) fault h)
+    ap (λ u. slice_get (rows u) i) e ∙ slice_get-get_or (replicate n (value v.value)) i fault (omega arith)
+    ∙ ap Some (get_or-replicate n i (value v.value) fault h)
+
+pub bool_row : (t : Tree) (bs : List Bool) (i : ℕ) (b : Bool) → t ≡ booleans bs → slice_get bs i ≡ Some b → slice_get (rows t) i ≡ Some (value (boolean b))
+bool_row t bs i b e h =
+    ap (λ u. slice_get (rows u) i) e ∙ slice_get-map (λ x. value (boolean x)) bs i ∙ ap (option_map (λ x. value (boolean x))) h
+
+pub primitive_row : (t : Tree) (p : PType) (zs : List ℤ) (i : ℕ) (z : ℤ) →
+    t ≡ integers p zs → slice_get zs i ≡ Some z → slice_get (rows t) i ≡ Some (value (integer z))
+primitive_row t p zs i z e h =
+    ap (λ u. slice_get (rows u) i) e ∙ slice_get-map (λ x. value (integer x)) zs i ∙ ap (option_map (λ x. value (integer x))) h
+
+-- ---- of a slice
 
 get_drop : (a i : ℕ) (cs : List Cell) → slice_get (drop a cs) i ≡ slice_get cs (a + i)
 get_drop zero i cs = let e : i ≡ zero + i = omega arith in ap (slice_get cs) e
@@ -147,19 +50,101 @@ get_take (suc n) i [] h = refl
 get_take (suc n) zero (c ∷ cs) h = refl
 get_take (suc n) (suc i) (c ∷ cs) h = get_take n i cs (omega arith)
 
-pub slice_row : (t c : Tree) (ty : DataType) (a b i : ℕ) → t ≡ node ty (b - a) (slice a b) (slot c no_slots) → i < len t → slice_get (rows t) i ≡ slice_get (rows c) (a + i)
-slice_row t c ty a b i e h =
+pub slice_row : (t c : Tree) (a b i : ℕ) → t ≡ slice_of a b c → i < len t → slice_get (rows t) i ≡ slice_get (rows c) (a + i)
+slice_row t c a b i e h =
     let l = ap len e in
     ap (λ u. slice_get (rows u) i) e ∙ get_take (b - a) i (drop a (rows c)) (omega arith) ∙ get_drop a i (rows c)
 
-pub bool_row : (t : Tree) (bs : List Bool) (i : ℕ) (b : Bool) → t ≡ booleans bs → slice_get bs i ≡ Some b → slice_get (rows t) i ≡ Some (value (boolean b))
-bool_row t bs i b e h =
-    ap (λ u. slice_get (rows u) i) e ∙ slice_get-map (λ x. value (boolean x)) bs i ∙ ap (option_map (λ x. value (boolean x))) h
+-- ---- of a function
 
-pub primitive_row : (t : Tree) (p : PType) (zs : List ℤ) (i : ℕ) (z : ℤ) → t ≡ integers p zs → slice_get zs i ≡ Some z → slice_get (rows t) i ≡ Some (value (integer z))
-primitive_row t p zs i z e h =
-    ap (λ u. slice_get (rows u) i) e ∙ slice_get-map (λ x. value (integer x)) zs i ∙ ap (option_map (λ x. value (integer x))) h
+-- the slot holds a tree of which s is row i
+abbrev pub IsRead : ℕ → Option Tree → Typed → Type 0
+IsRead i None s = ⊥
+IsRead i (Some t) s = (slice_get (rows t) i ≡ Some (value s.value)) × (s.of_type ≡ dtype t)
 
--- one value more
-pub values_more : (xs ys : List Scalar) (x : Scalar) → ys ≡ xs ++ x ∷ [] → map (λ s. value s.value) ys ≡ map (λ s. value s.value) xs ++ value x.value ∷ []
-values_more xs ys x e = ap (map (λ s. value s.value)) e ∙ map_push (λ s. value s.value) xs x
+-- the slot holds a tree of n rows, lower than h
+abbrev pub IsBelow : ℕ → ℕ → Option Tree → Type 0
+IsBelow n h None = ⊥
+IsBelow n h (Some t) = (len t ≡ n) × (height t ≤ h)
+
+pub slot_below : (n : ℕ) (xs : List (Option Tree)) (tys : List DataType) (k : ℕ) (d : Option Tree) (h : ℕ) →
+    shapes (slots_of xs) ≡ map (λ s. Some (shape s n)) tys → slots_height (slots_of xs) ≤ h → k < length xs → IsBelow n h (get_or xs k d)
+slot_below n [] tys k d h e l lt = absurd (omega arith)
+slot_below n (None ∷ xs) [] k d h e l lt = absurd (cc)
+slot_below n (None ∷ xs) (ty ∷ tys) k d h e l lt = absurd (cc)
+slot_below n (Some t ∷ xs) [] k d h e l lt = absurd (cc)
+slot_below n (Some t ∷ xs) (ty ∷ tys) zero d h e l lt = let same : len t ≡ n = cc in (same, omega arith)
+slot_below n (Some t ∷ xs) (ty ∷ tys) (suc k) d h e l lt =
+    let later : shapes (slots_of xs) ≡ map (λ s. Some (shape s n)) tys = cc in
+    slot_below n xs tys k d h later (omega arith) (omega arith)
+
+pub all_read : (i k : ℕ) (xs : List (Option Tree)) (ss us : List Typed) → length xs ≤ k → us ≡ ss → AllZip (IsRead i) (take k xs) ss → AllZip (IsRead i) xs us
+all_read i k xs ss us le e h = rw (sym (take_all k xs le), e) h
+
+read_types : (i : ℕ) (xs : List (Option Tree)) (ss : List Typed) → AllZip (IsRead i) xs ss → types_in (shapes (slots_of xs)) ≡ types_of_scalars ss
+read_types i [] [] h = refl
+read_types i [] (s ∷ ss) h = absurd h
+read_types i (x ∷ xs) [] h = absurd h
+read_types i (None ∷ xs) (s ∷ ss) h = absurd h.0
+read_types i (Some t ∷ xs) (s ∷ ss) h = λ j. sym h.0.1 j ∷ read_types i xs ss h.1 j
+
+read_cells : (i : ℕ) (xs : List (Option Tree)) (ss : List Typed) → AllZip (IsRead i) xs ss → row_at (slots_rows (slots_of xs)) i ≡ cells_of_scalars ss
+read_cells i [] [] h = refl
+read_cells i [] (s ∷ ss) h = absurd h
+read_cells i (x ∷ xs) [] h = absurd h
+read_cells i (None ∷ xs) (s ∷ ss) h = absurd h.0
+read_cells i (Some t ∷ xs) (s ∷ ss) h = λ j. get_or_from_slice_get (rows t) i (value s.value) fault h.0.0 j ∷ read_cells i xs ss h.1 j
+
+-- a fault in any argument is a fault
+later_fault : (g : List Value → Cell) (c : Cell) (cs : List Cell) → ((g : List Value → Cell) → on_values g cs ≡ fault) → on_values g (c ∷ cs) ≡ fault
+later_fault g (value v) cs h = h (λ vs. g (v ∷ vs))
+later_fault g fault cs h = refl
+
+argument_fault : (i : ℕ) (xs : List (Option Tree)) (k : ℕ) (c : Tree) (g : List Value → Cell) →
+    k < length xs → Some c ≡ get_or xs k (Some c) → slice_get (rows c) i ≡ Some fault → on_values g (row_at (slots_rows (slots_of xs)) i) ≡ fault
+argument_fault i [] k c g lt e h = absurd (omega arith)
+argument_fault i (None ∷ xs) k c g lt e h = refl
+argument_fault i (Some t ∷ xs) zero c g lt e h =
+    let same : t ≡ c = cc in
+    ap (λ x. on_values g (x ∷ row_at (slots_rows (slots_of xs)) i)) (get_or_from_slice_get (rows t) i fault fault (ap (λ u. slice_get (rows u) i) same ∙ h))
+argument_fault i (Some t ∷ xs) (suc k) c g lt e h =
+    later_fault g (slice_index_or (rows t) i fault) (row_at (slots_rows (slots_of xs)) i) (λ g. argument_fault i xs k c g (omega arith) e h)
+
+module _ (t : Tree) (f : ScalarFnRef) (xs : List (Option Tree)) (i : ℕ)
+    (shown : t ≡ node (dtype t) (len t) (function f) (slots_of xs)) (well : IsNode (dtype t) (len t) (function f) (shapes (slots_of xs))) where
+  typed : return_type f (types_in (shapes (slots_of xs))) ≡ Some (dtype t)
+  typed = ap (return_type f) (ap types_in well.1 ∙ types_back (len t) well.0) ∙ well.2
+
+  row_is : i < len t → slice_get (rows t) i ≡ Some (apply f (dtype t) (row_at (slots_rows (slots_of xs)) i))
+  row_is lt =
+      let cell = λ (j : ℕ). apply f (dtype t) (row_at (slots_rows (slots_of xs)) j) in
+      let l = length-map-range_with_len cell 0 (len t) in
+      ap (λ u. slice_get (rows u) i) shown ∙ slice_get-get_or (map cell (range_with_len 0 (len t))) i fault (omega (arith, l))
+      ∙ ap Some (get_or-map-range_with_len cell 0 (len t) i i fault lt (omega arith))
+
+  pub child_below : (k : ℕ) (d : Option Tree) → k < length xs → IsBelow (len t) (slots_height (slots_of xs)) (get_or xs k d)
+  child_below k d lt = slot_below (len t) xs well.0 k d (slots_height (slots_of xs)) well.1 (omega arith) lt
+
+  pub child_faulted : (k : ℕ) (c : Tree) → i < len t → k < length xs → Some c ≡ get_or xs k (Some c) → slice_get (rows c) i ≡ Some fault → slice_get (rows t) i ≡ Some fault
+  child_faulted k c lt there e h = row_is lt ∙ ap Some (argument_fault i xs k c (value_of f (dtype t)) there e h)
+
+  module _ (ss : List Typed) (read : AllZip (IsRead i) xs ss) where
+    types_are : return_type f (types_of_scalars ss) ≡ Some (dtype t)
+    types_are = ap (return_type f) (sym (read_types i xs ss read)) ∙ typed
+
+    pub function_taken : IsSome (return_type f (types_of_scalars ss))
+    function_taken = ap is_some types_are
+
+    cells_are : i < len t → slice_get (rows t) i ≡ Some (apply f (dtype t) (cells_of_scalars ss))
+    cells_are lt = row_is lt ∙ ap (λ cs. Some (apply f (dtype t) cs)) (read_cells i xs ss read)
+
+    pub function_row : (s : Typed) → i < len t → return_type f (types_of_scalars ss) ≡ Some s.of_type → apply f s.of_type (cells_of_scalars ss) ≡ value s.value →
+        (slice_get (rows t) i ≡ Some (value s.value)) × (s.of_type ≡ dtype t)
+    function_row s lt r given =
+        let all = types_are in
+        let same : s.of_type ≡ dtype t = cc in
+        (cells_are lt ∙ ap (λ ty. Some (apply f ty (cells_of_scalars ss))) (sym same) ∙ ap Some given, same)
+
+    pub function_faulted : i < len t → ((ty : DataType) → return_type f (types_of_scalars ss) ≡ Some ty → apply f ty (cells_of_scalars ss) ≡ fault) →
+        slice_get (rows t) i ≡ Some fault
+    function_faulted lt h = cells_are lt ∙ ap Some (h (dtype t) types_are)

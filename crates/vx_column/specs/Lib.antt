@@ -8,4 +8,3 @@ pub mod Applied
 pub mod Arguments
 pub mod Computed
 pub mod Operands
-pub mod Probed
