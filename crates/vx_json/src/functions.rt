@@ -2,14 +2,14 @@
 
 ghost use Rattle.std.specs.Prelude.{◌≡◌};
 ghost use Rattle.serde_json.specs.View.{view};
-ghost use Rattle.vx_json.specs.SpelledFunctions.{function_named, function_at, key_count};
+ghost use Rattle.vx_json.specs.SpelledFunctions.{function_named, function_at};
 
 use crate::fields::{count, text};
 use serde_json::Value;
 use vx_fn::{Operator, ScalarFnRef};
 
-/// Returns the function named `text`.
-fn function_named(text: &str) -> Option<ScalarFnRef>
+/// Returns the function named `text`, and the number of keys of its object, `enc`, `fn` and `args` among them.
+fn function_named(text: &str) -> Option<(ScalarFnRef, usize)>
     ensures { result ≡ function_named text.now }
 {
     let operator = match text {
@@ -23,28 +23,18 @@ fn function_named(text: &str) -> Option<ScalarFnRef>
         "lte" => Operator::Lte,
         "gt" => Operator::Gt,
         "gte" => Operator::Gte,
-        "not" => return Some(ScalarFnRef::Not),
+        "not" => return Some((ScalarFnRef::Not, 3)),
         _ => return None,
     };
-    Some(ScalarFnRef::Binary(operator))
-}
-
-/// Returns the number of keys of `function`'s object: `enc`, `fn`, `args`, and those of its own.
-fn key_count(function: &ScalarFnRef) -> usize
-    ensures { result ≡ key_count function.now }
-{
-    match function {
-        ScalarFnRef::Binary(_) => 3,
-        ScalarFnRef::Not => 3,
-    }
+    Some((ScalarFnRef::Binary(operator), 3))
 }
 
 /// Returns the function named under `fn`, if the object has exactly its keys.
 pub(crate) fn function_at(value: &Value) -> Option<ScalarFnRef>
     ensures { result ≡ function_at (view value.now) }
 {
-    let function = function_named(text(value, "fn")?)?;
-    if count(value) == key_count(&function) {
+    let (function, keys) = function_named(text(value, "fn")?)?;
+    if count(value) == keys {
         Some(function)
     } else {
         None

@@ -22,4 +22,5 @@ pub returns : goal.returns
 returns c =
     let n = c.in_ok-node.node in
     slot_taken (type_of n.dtype) n.len
-        (data_of n.encoding) n.slots.items c.args.slot c.in-Some.child c.args.array c.in_ok-node.ensures c.index_mut.result.now c.take-taken.new.self c.requires c.well.ensures.formed (sym c.index_mut.ensures.value ∙ sym c.take-taken.ensures.value ∙ c.in-Some.is) c.take-taken.ensures.after
+        (data_of n.encoding) n.slots.items c.args.slot c.in-Some.child c.args.array c.in_ok-node.ensures c.index_mut.result.now c.take-taken.new.self
+            c.requires c.well.ensures.formed (sym c.index_mut.ensures.value ∙ sym c.take-taken.ensures.value ∙ c.in-Some.is) c.take-taken.ensures.after
