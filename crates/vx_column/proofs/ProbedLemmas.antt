@@ -20,24 +20,7 @@ use Rattle.vx_tree.specs.Refusals.{types_in}
 use Rattle.vx_tree.proofs.RefusalsLemmas.{types_back}
 use Rattle.vx_column.specs.Applied.{types_of_scalars, cells_of_scalars}
 
--- ---- the rows of a column
-
-pub constant_row : (t : Tree) (n : ℕ) (v : Typed) (i : ℕ) → t ≡ constant_of v n → i < n → slice_get (rows t) i ≡ Some (value v.value)
-constant_row t n v i e h =
-    let l = length-replicate n (value v.value) in
-    ap (λ u. slice_get (rows u) i) e ∙ slice_get-get_or (replicate n (value v.value)) i fault (omega arith)
-    ∙ ap Some (get_or-replicate n i (value v.value) fault h)
-
-pub bool_row : (t : Tree) (bs : List Bool) (i : ℕ) (b : Bool) → t ≡ booleans bs → slice_get bs i ≡ Some b → slice_get (rows t) i ≡ Some (value (boolean b))
-bool_row t bs i b e h =
-    ap (λ u. slice_get (rows u) i) e ∙ slice_get-map (λ x. value (boolean x)) bs i ∙ ap (option_map (λ x. value (boolean x))) h
-
-pub primitive_row : (t : Tree) (p : PType) (zs : List ℤ) (i : ℕ) (z : ℤ) →
-    t ≡ integers p zs → slice_get zs i ≡ Some z → slice_get (rows t) i ≡ Some (value (integer z))
-primitive_row t p zs i z e h =
-    ap (λ u. slice_get (rows u) i) e ∙ slice_get-map (λ x. value (integer x)) zs i ∙ ap (option_map (λ x. value (integer x))) h
-
--- ---- of a slice
+-- ---- a row of a slice
 
 get_drop : (a i : ℕ) (cs : List Cell) → slice_get (drop a cs) i ≡ slice_get cs (a + i)
 get_drop zero i cs = let e : i ≡ zero + i = omega arith in ap (slice_get cs) e
