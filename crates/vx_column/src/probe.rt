@@ -108,5 +108,9 @@ fn integer_at(values: &PrimitiveValues, index: usize) -> Scalar
     ensures row { slice_get (rows (integers (ptype_of values.now) (values_of values.now))) index ≡ Some (value result.value) }
     ensures typed { result.of_type ≡ dtype (integers (ptype_of values.now) (values_of values.now)) }
 {
-    Scalar::primitive(values.wide_at(index), values.ptype(), Nullability::NonNullable)
+    Scalar::primitive(
+        values.wide_at(index),
+        values.ptype(),
+        Nullability::NonNullable,
+    )
 }

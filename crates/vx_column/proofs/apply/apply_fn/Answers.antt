@@ -1,6 +1,6 @@
-use Rattle.std.proofs.Common.{map, ◌∙◌, sym}
+use Rattle.std.proofs.Common.{◌∙◌, sym}
 use Rattle.vx_tree.specs.Tree.{datum}
-use Rattle.vx_tree.specs.Columns.{columnar_tree, canonical_tree}
+use Rattle.vx_tree.specs.Columns.{canonical_tree}
 use Rattle.vx_tree.proofs.ColumnsLemmas.{canonical_open}
 use Rattle.vx_column.proofs.AppliedLemmas.{taken, applied, unapplied, argument_rows, scalar_rows, arguments_sized, all_repeat}
 use Rattle.vx_column.proofs.apply.apply_fn.Goals as goal

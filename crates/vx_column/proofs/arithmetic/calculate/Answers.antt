@@ -15,8 +15,11 @@ returns-in_default-clause-err g c =
     let i = c.loop-index.index in
     let x = c.row.ensures ∙ ap (λ f. f i) c.operand_of-left.ensures.numbers in
     let y = c.row-in-loop-index.ensures ∙ ap (λ f. f i) c.operand_of-right.ensures.numbers in
-    inr (refl {a = Fault}, calculation_fault g.A.Arithmetic.operator g.T.NativeInteger.kind c.args.lhs c.args.rhs c.requires.lhs.0 c.requires.rhs.0 c.args.len i _ _
-    c.requires.operator x y (omega arith) c.in_default.ensures)
+    inr (
+      refl {a = Fault},
+      calculation_fault g.A.Arithmetic.operator g.T.NativeInteger.kind c.args.lhs c.args.rhs c.requires.lhs.0 c.requires.rhs.0 c.args.len i _ _
+          c.requires.operator x y (omega arith) c.in_default.ensures,
+    )
 
 pub returns-clause-ok : goal.returns-clause-ok
 returns-clause-ok g c =

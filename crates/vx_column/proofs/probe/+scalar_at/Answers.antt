@@ -1,12 +1,5 @@
-use Rattle.std.proofs.Common.{◌≡◌, get_or, Some, FitsSigned, inl, inr, rules, arith, sym, ap, subst, ◌∙◌}
-use Rattle.std.proofs.Math.Facts.{to_z-of_z}
-use Rattle.std.specs.Int.{w128}
-use Rattle.vx_value.specs.Types.{primitive}
-use Rattle.vx_value.specs.Values.{integer}
-use Rattle.vx_value.specs.Cell.{value}
-use Rattle.vx_value.specs.declared.dtype.Nullability.TheVariants.{NonNullable}
-use Rattle.vx_tree.specs.Natives.{values_of, ptype_of}
-use Rattle.vx_tree.specs.Tree.{slots_of, slots_height, height, dtype, len}
+use Rattle.std.proofs.Common.{get_or, inl, inr, arith, sym, ap, subst, ◌∙◌}
+use Rattle.vx_tree.specs.Tree.{slots_of, slots_height, dtype, len}
 use Rattle.vx_column.proofs.ComputedLemmas.{zipped_more}
 use Rattle.vx_column.proofs.ProbedLemmas.{IsRead, IsBelow, all_read, slice_row, child_below, child_faulted, function_taken, function_row, function_faulted}
 use Rattle.vx_column.proofs.probe.+scalar_at.Goals as goal
