@@ -54,24 +54,24 @@ pub record AreRows (ts : List Tree) (n : ℕ) (tys : List DataType) (row : ℕ �
   pub types : map dtype ts ≡ tys
   pub cells : (i : ℕ) → i < n → row_at (slots_rows (filled_slots ts)) i ≡ row i
 
-module _ (f : ScalarFnRef) (ts : List Tree) (n : ℕ) (tys : List DataType) (row : ℕ → List Cell) (same : AreRows ts n tys row) where
-  pub taken : IsCall f ts n → IsSome (return_type f tys)
-  taken call = ap is_some (ap (return_type f) (sym same.types) ∙ call_typed f ts n call)
+pub taken : (f : ScalarFnRef) {ts : List Tree} {n : ℕ} {tys : List DataType} {row : ℕ → List Cell} → AreRows ts n tys row → IsCall f ts n → IsSome (return_type f tys)
+taken f {ts = ts} {n = n} same call = ap is_some (ap (return_type f) (sym same.types) ∙ call_typed f ts n call)
 
-  rows_are : (ty : DataType) → rows (call_of f ty n ts) ≡ cells_of f ty row n
-  rows_are ty = same_below n _ _ (λ i h. ap (apply f ty) (same.cells i h))
+rows_are : (f : ScalarFnRef) (ts : List Tree) (n : ℕ) (tys : List DataType) (row : ℕ → List Cell) → AreRows ts n tys row → (ty : DataType) → rows (call_of f ty n ts) ≡ cells_of f ty row n
+rows_are f ts n tys row same ty = same_below n _ _ (λ i h. ap (apply f ty) (same.cells i h))
 
-  pub applied : (u : Tree) → IsResult f tys row n u → is_constant (datum u) ≡ gives_constant ts n → IsApplied f ts n u
-  applied u h kept = record {
-    typed = ap (return_type f) same.types ∙ h.typed;
-    exactly = same_exactly (call_of f (dtype u) n ts) u refl (sym h.counted) (rows_are (dtype u) ∙ sym h.shown) h.clean;
-    constant_kept = kept;
-  }
+pub applied : {f : ScalarFnRef} {ts : List Tree} {n : ℕ} {tys : List DataType} {row : ℕ → List Cell} {u : Tree} →
+    AreRows ts n tys row → IsResult f tys row n u → is_constant (datum u) ≡ gives_constant ts n → IsApplied f ts n u
+applied {f = f} {ts = ts} {n = n} {tys = tys} {row = row} {u = u} same h kept = record {
+  typed = ap (return_type f) same.types ∙ h.typed;
+  exactly = same_exactly (call_of f (dtype u) n ts) u refl (sym h.counted) (rows_are f ts n tys row same (dtype u) ∙ sym h.shown) h.clean;
+  constant_kept = kept;
+}
 
-  pub unapplied : (e : VortexError) → IsNoResult f tys row n e → IsUnapplied f ts n e
-  unapplied e (inl m) = inl m
-  unapplied e (inr h) =
-      inr (h.0, λ ty typed. λ k. h.1 ty (ap (return_type f) (sym same.types) ∙ typed) (subst HasNoFault (rows_are ty) k))
+pub unapplied : (f : ScalarFnRef) {ts : List Tree} {n : ℕ} {tys : List DataType} {row : ℕ → List Cell} → AreRows ts n tys row → (e : VortexError) → IsNoResult f tys row n e → IsUnapplied f ts n e
+unapplied f same e (inl m) = inl m
+unapplied f {ts = ts} {n = n} {tys = tys} {row = row} same e (inr h) =
+    inr (h.0, λ ty typed. λ k. h.1 ty (ap (return_type f) (sym same.types) ∙ typed) (subst HasNoFault (rows_are f ts n tys row same ty) k))
 
 -- trees that show what stands beside them
 module _ {A : Type 0} (type : A → DataType) (cell : A → ℕ → Cell) (R : Columnar → A → Type 0)

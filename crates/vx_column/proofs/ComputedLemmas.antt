@@ -1,5 +1,5 @@
 -- The column of a function, row by row.
-use Rattle.std.proofs.Common.{◌≡◌, ◌<◌, ◌+◌, inl, inr, ℕ, zero, suc, ℤ, Bool, if◌then◌else◌, true, false, List, [], ◌∷◌, ◌++◌, length, map, take, get_or, Option, Some, None, Result, IfOk, refl, sym, ap, ◌∙◌, subst, arith}
+use Rattle.std.proofs.Common.{◌≡◌, ◌<◌, ◌+◌, ℕ, zero, suc, ℤ, Bool, if◌then◌else◌, true, false, List, [], ◌∷◌, ◌++◌, length, map, take, get_or, Option, Some, None, Result, IfOk, refl, sym, ap, ◌∙◌, subst, arith}
 use Rattle.std.specs.Prelude.{IsSome}
 use Rattle.std.proofs.Math.Bool.{not}
 use Rattle.std.proofs.lemmas.Result.{IfOk-weaker}
@@ -7,7 +7,7 @@ use Rattle.std.specs.List.{AllZip, range_with_len}
 use Rattle.std.specs.Ordering.{bool_cmp, is_ne}
 use Rattle.std.proofs.lemmas.List.{length-map, map-append, take_more}
 use Rattle.std.proofs.lemmas.List.FromFn.{length-map-range_with_len, map-range_with_len_more, get_or-map-range_with_len}
-use Rattle.vx_value.specs.Types.{DataType, bool, primitive, same_type, same_type_Decides}
+use Rattle.vx_value.specs.Types.{DataType, bool, primitive, same_type_Decides}
 use Rattle.vx_value.specs.Values.{null, boolean, integer}
 use Rattle.vx_value.specs.Cell.{Cell, value, fault}
 use Rattle.vx_value.specs.declared.dtype.Nullability.TheVariants.{NonNullable}
@@ -18,8 +18,8 @@ use Rattle.vx_fn.specs.ReturnTypes.{return_type, operator_type, is_comparison}
 use Rattle.vx_fn.specs.declared.function.Operator.{Operator}
 use Rattle.vx_fn.specs.declared.function.ScalarFnRef.{ScalarFnRef}
 use Rattle.vx_fn.specs.declared.function.ScalarFnRef.TheVariants.{Binary}
-use Rattle.vx_tree.specs.Tree.{Tree, booleans, integers}
-use Rattle.vx_tree.specs.Cells.{HasNoFault}
+use Rattle.vx_tree.specs.Tree.{Tree, dtype, len, datum, slots, booleans, integers, is_canonical}
+use Rattle.vx_tree.specs.Cells.{rows, HasNoFault, AreClean}
 use Rattle.vx_tree.specs.Columns.{canonical_tree}
 use Rattle.vx_tree.specs.declared.canonical.Canonical.{Canonical}
 use Rattle.vx_column.specs.Arguments.{types_of, row_of, ptype_in, integer_in}
@@ -115,43 +115,32 @@ bools_compared op h =
     ap (λ b. if b then operator_type op (bool NonNullable) else None) ((same_type_Decides (bool NonNullable) (bool NonNullable)).1 refl) in
     same ∙ ap (λ b. if b then Some (bool NonNullable) else None) (chosen (is_comparison op) (Some (bool NonNullable)) (subst IsSome same h))
 
--- the column of what is true in each row
-pub bools_computed : (f : ScalarFnRef) (args : List Argument) (n : ℕ) (test : ℕ → Bool) (bits : List Bool) (r : Result Canonical VortexError) →
-    return_type f (types_of args) ≡ Some (bool NonNullable) → ((i : ℕ) → apply f (bool NonNullable) (row_of args i) ≡ value (boolean (test i))) →
-    bits ≡ map test (range_with_len 0 n) → IfOk r (λ c. canonical_tree c ≡ booleans bits) → IfOk r (λ c. IsComputed f args n (canonical_tree c))
-bools_computed f args n test bits r typed given made column = IfOk-weaker r _ _ (λ c new. subst (λ x. IsComputed f args n x) (sym new) computed) column
-  where
-    twice : (is : List ℕ) → map (λ b. value (boolean b)) (map test is) ≡ map (λ i. apply f (bool NonNullable) (row_of args i)) is
-    twice [] = refl
-    twice (i ∷ is) = λ j. sym (given i) j ∷ twice is j
+-- a column whose cells are those of f
+module _ (f : ScalarFnRef) (args : List Argument) (n : ℕ) (r : Result Canonical VortexError) where
+  computed : (u : Tree) → return_type f (types_of args) ≡ Some (dtype u) → len u ≡ length (rows u) → rows u ≡ cells_of f (dtype u) (row_of args) n → AreClean (slots u) →
+      is_canonical (datum u) ≡ true → IfOk r (λ c. canonical_tree c ≡ u) → IfOk r (λ c. IsComputed f args n (canonical_tree c))
+  computed u typed counted shown clean canonical column =
+      let long = counted ∙ ap length shown ∙ length-map-range_with_len _ 0 n in
+      let whole : IsComputed f args n u =
+      record { result = record { typed = typed; counted = long; shown = shown; clean = clean }; canonical = canonical } in
+      IfOk-weaker r _ _ (λ c new. subst (IsComputed f args n) (sym new) whole) column
 
-    computed : IsComputed f args n (booleans bits)
-    computed = record {
-      result = record {
-        typed = typed;
-        counted = ap length made ∙ length-map-range_with_len test 0 n;
-        shown = ap (map (λ b. value (boolean b))) made ∙ twice (range_with_len 0 n);
-        clean = tt;
-      };
-      canonical = refl;
-    }
+  pub bools_computed : (test : ℕ → Bool) (bits : List Bool) → return_type f (types_of args) ≡ Some (bool NonNullable) →
+      ((i : ℕ) → value (boolean (test i)) ≡ apply f (bool NonNullable) (row_of args i)) → bits ≡ map test (range_with_len 0 n) →
+      IfOk r (λ c. canonical_tree c ≡ booleans bits) → IfOk r (λ c. IsComputed f args n (canonical_tree c))
+  bools_computed test bits typed given made =
+      computed (booleans bits) typed (sym (length-map bits (λ b. value (boolean b)))) (ap (map (λ b. value (boolean b))) made ∙ twice (range_with_len 0 n)) tt refl
+    where
+      twice : (is : List ℕ) → map (λ b. value (boolean b)) (map test is) ≡ map (λ i. apply f (bool NonNullable) (row_of args i)) is
+      twice [] = refl
+      twice (i ∷ is) = λ j. given i j ∷ twice is j
 
--- and of the numbers
-pub integers_computed : (f : ScalarFnRef) (args : List Argument) (n : ℕ) (p : PType) (zs : List ℤ) (u : Tree) →
-    return_type f (types_of args) ≡ Some (primitive p NonNullable) → map (λ z. value (integer z)) zs ≡ cells_of f (primitive p NonNullable) (row_of args) n →
-    u ≡ integers p zs → IsComputed f args n u
-integers_computed f args n p zs u typed made new =
-    subst (λ x. IsComputed f args n x) (sym new) (record {
-      result = record {
-        typed = typed;
-        counted = sym (length-map zs (λ z. value (integer z))) ∙ ap length made ∙ length-map-range_with_len _ 0 n;
-        shown = made;
-        clean = tt;
-      };
-      canonical = refl;
-    })
+  pub integers_computed : (p : PType) (zs : List ℤ) → return_type f (types_of args) ≡ Some (primitive p NonNullable) →
+      map (λ z. value (integer z)) zs ≡ cells_of f (primitive p NonNullable) (row_of args) n →
+      IfOk r (λ c. canonical_tree c ≡ integers p zs) → IfOk r (λ c. IsComputed f args n (canonical_tree c))
+  integers_computed p zs typed made = computed (integers p zs) typed (sym (length-map zs (λ z. value (integer z)))) made tt refl
 
 -- whether a boolean isn't true
-pub differs_from_true : (b : Bool) → not b ≡ is_ne (bool_cmp b true)
+pub differs_from_true : (b : Bool) → is_ne (bool_cmp b true) ≡ not b
 differs_from_true true = refl
 differs_from_true false = refl

@@ -1,43 +1,25 @@
 -- One row of a node.
-use Rattle.std.proofs.Common.{◌≡◌, ℕ, ℤ, zero, suc, ◌+◌, ◌-◌, ◌≤◌, ◌<◌, List, [], ◌∷◌, length, map, get_or, take, drop, replicate, Bool, Option, Some, None, option_map, refl, sym, ◌∙◌, ap, arith}
+use Rattle.std.proofs.Common.{◌≡◌, ℕ, zero, suc, ◌+◌, ◌-◌, ◌≤◌, ◌<◌, List, [], ◌∷◌, length, map, get_or, take, drop, Option, Some, None, refl, sym, ◌∙◌, ap, arith}
 use Rattle.std.specs.Prelude.{slice_get, slice_index_or, is_some, IsSome}
 use Rattle.std.specs.List.{AllZip, range_with_len}
-use Rattle.std.proofs.lemmas.List.{get_or-replicate, length-replicate, take_all}
+use Rattle.std.proofs.lemmas.List.{take_all}
 use Rattle.std.proofs.lemmas.List.FromFn.{get_or-map-range_with_len, length-map-range_with_len}
-use Rattle.std.proofs.lemmas.Option.{slice_get-get_or, slice_get-map, get_or_from_slice_get}
+use Rattle.std.proofs.lemmas.Option.{slice_get-get_or, get_or_from_slice_get}
 use Rattle.vx_value.specs.Types.{DataType}
 use Rattle.vx_value.specs.Typed.{Typed}
-use Rattle.vx_value.specs.Values.{Value, boolean, integer}
+use Rattle.vx_value.specs.Values.{Value}
 use Rattle.vx_value.specs.Cell.{Cell, value, fault}
-use Rattle.vx_value.specs.declared.dtype.PType.{PType}
 use Rattle.vx_fn.specs.Apply.{apply, on_values, value_of}
 use Rattle.vx_fn.specs.ReturnTypes.{return_type}
 use Rattle.vx_fn.specs.declared.function.ScalarFnRef.{ScalarFnRef}
-use Rattle.vx_tree.specs.Tree.{Tree, node, function, slots_of, dtype, len, height, slots_height, booleans, integers, constant_of, slice_of}
+use Rattle.vx_tree.specs.Tree.{Tree, node, function, slots_of, dtype, len, height, slots_height, slice_of}
 use Rattle.vx_tree.specs.Cells.{row_at, rows, slots_rows}
 use Rattle.vx_tree.specs.Well.{shape, shapes, IsNode}
 use Rattle.vx_tree.specs.Refusals.{types_in}
 use Rattle.vx_tree.proofs.RefusalsLemmas.{types_back}
 use Rattle.vx_column.specs.Applied.{types_of_scalars, cells_of_scalars}
 
--- ---- the rows of a column
-
-pub constant_row : (t : Tree) (n : ℕ) (v : Typed) (i : ℕ) → t ≡ constant_of v n → i < n → slice_get (rows t) i ≡ Some (value v.value)
-constant_row t n v i e h =
-    let l = length-replicate n (value v.value) in
-    ap (λ u. slice_get (rows u) i) e ∙ slice_get-get_or (replicate n (value v.value)) i fault (omega arith)
-    ∙ ap Some (get_or-replicate n i (value v.value) fault h)
-
-pub bool_row : (t : Tree) (bs : List Bool) (i : ℕ) (b : Bool) → t ≡ booleans bs → slice_get bs i ≡ Some b → slice_get (rows t) i ≡ Some (value (boolean b))
-bool_row t bs i b e h =
-    ap (λ u. slice_get (rows u) i) e ∙ slice_get-map (λ x. value (boolean x)) bs i ∙ ap (option_map (λ x. value (boolean x))) h
-
-pub primitive_row : (t : Tree) (p : PType) (zs : List ℤ) (i : ℕ) (z : ℤ) →
-    t ≡ integers p zs → slice_get zs i ≡ Some z → slice_get (rows t) i ≡ Some (value (integer z))
-primitive_row t p zs i z e h =
-    ap (λ u. slice_get (rows u) i) e ∙ slice_get-map (λ x. value (integer x)) zs i ∙ ap (option_map (λ x. value (integer x))) h
-
--- ---- of a slice
+-- ---- a row of a slice
 
 get_drop : (a i : ℕ) (cs : List Cell) → slice_get (drop a cs) i ≡ slice_get cs (a + i)
 get_drop zero i cs = let e : i ≡ zero + i = omega arith in ap (slice_get cs) e

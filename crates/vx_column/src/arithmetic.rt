@@ -97,6 +97,7 @@ pub(crate) fn primitive_column(alloc: Global, values: PrimitiveValues) -> Vortex
 }
 
 /// Applies `A` to `lhs` and `rhs`, `len` rows each, which must be of the type `T`. `Fault` if a row has no value.
+#[tactic(auto, using(crate::proofs::ComputedLemmas::rows_more))]
 pub(crate) fn calculate<T: NativeInteger, A: Arithmetic>(
     alloc: Global,
     lhs: Integers<'_>,
@@ -118,8 +119,5 @@ pub(crate) fn calculate<T: NativeInteger, A: Arithmetic>(
         };
         numbers.push_reserved(number);
     }
-    match primitive_column(alloc, T::wrap(Buffer::from_vec(alloc, numbers)?)) {
-        Ok(column) => Ok(column),
-        Err(e) => Err(e),
-    }
+    primitive_column(alloc, T::wrap(Buffer::from_vec(alloc, numbers)?))
 }

@@ -103,6 +103,7 @@ impl Comparison for NotAbove {
 }
 
 /// Applies `C` to `lhs` and `rhs`, `len` rows each, which must be of the type `T`. The only error is `OutOfMemory`.
+#[tactic(auto, using(crate::proofs::ComputedLemmas::bits_more))]
 pub(crate) fn compare<T: NativeInteger, C: Comparison>(
     alloc: Global,
     lhs: Integers<'_>,

@@ -12,5 +12,5 @@ returns-clause-ok c =
     let op = c.args.operator in
     let l = c.args.lhs in
     let r = c.args.rhs in
-    bools_computed (Binary op) (Bool l ∷ Bool r ∷ []) c.args.len (λ i. holds op (bool_cmp (bit_in l i) (bit_in r i))) c.in_ok-bits.bits c.bool_column.result
+    bools_computed (Binary op) (Bool l ∷ Bool r ∷ []) c.args.len c.bool_column.result (λ i. holds op (bool_cmp (bit_in l i) (bit_in r i))) c.in_ok-bits.bits
     (bools_compared op c.requires.taken) (λ i. refl) c.in_ok-bits.ensures c.bool_column.ensures.ok

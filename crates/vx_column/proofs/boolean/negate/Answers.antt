@@ -15,5 +15,5 @@ returns-clause-ok c =
     let bs = c.in-Bool.input in
     let r = c.bool_column.result in
     subst (λ a. IfOk r (λ u. IsComputed Not (a ∷ []) c.args.len (canonical_tree u))) (sym c.in-Bool.is)
-    (bools_computed Not (Bool bs ∷ []) c.args.len (λ i. is_ne (bool_cmp (bit_in bs i) true)) c.in_ok-bits.bits r
+    (bools_computed Not (Bool bs ∷ []) c.args.len r (λ i. is_ne (bool_cmp (bit_in bs i) true)) c.in_ok-bits.bits
     refl (λ i. ap (λ b. value (boolean b)) (differs_from_true (bit_in bs i))) c.in_ok-bits.ensures c.bool_column.ensures.ok)

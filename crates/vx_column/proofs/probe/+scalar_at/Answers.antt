@@ -1,21 +1,8 @@
-use Rattle.std.proofs.Common.{◌≡◌, get_or, Some, FitsSigned, inl, inr, rules, arith, sym, ap, subst, ◌∙◌}
-use Rattle.std.proofs.Math.Facts.{to_z-of_z}
-use Rattle.std.specs.Int.{w128}
-use Rattle.vx_value.specs.Types.{primitive}
-use Rattle.vx_value.specs.Values.{integer}
-use Rattle.vx_value.specs.Cell.{value}
-use Rattle.vx_value.specs.declared.dtype.Nullability.TheVariants.{NonNullable}
-use Rattle.vx_tree.specs.Natives.{values_of, ptype_of}
-use Rattle.vx_tree.specs.Tree.{slots_of, slots_height, height, dtype, len}
+use Rattle.std.proofs.Common.{get_or, inl, inr, arith, sym, ap, subst, ◌∙◌}
+use Rattle.vx_tree.specs.Tree.{slots_of, slots_height, dtype, len}
 use Rattle.vx_column.proofs.ComputedLemmas.{zipped_more}
-use Rattle.vx_column.proofs.ProbedLemmas.{IsRead, IsBelow, all_read, constant_row, slice_row, bool_row, primitive_row, child_below, child_faulted, function_taken, function_row, function_faulted}
+use Rattle.vx_column.proofs.ProbedLemmas.{IsRead, IsBelow, all_read, slice_row, child_below, child_faulted, function_taken, function_row, function_faulted}
 use Rattle.vx_column.proofs.probe.+scalar_at.Goals as goal
-
-pub scalar_at-returns-in_ok-clone-in-Constant-clause-ok : goal.scalar_at-returns-in_ok-clone-in-Constant-clause-ok
-scalar_at-returns-in_ok-clone-in-Constant-clause-ok t c =
-    let e = c.in-Constant.ensures.0 in
-    let same : c.in_ok-clone-in-Constant.field-0 ≡ c.in-Constant.scalar.now = search rules in
-    rw same (constant_row c.args.array.now _ c.in-Constant.scalar.now c.args.index e c.requires, sym (ap dtype e))
 
 pub scalar_at-returns-in-Slice-clause-ok : goal.scalar_at-returns-in-Slice-clause-ok
 scalar_at-returns-in-Slice-clause-ok t c =
@@ -26,19 +13,6 @@ pub scalar_at-returns-in-Slice-clause-err : goal.scalar_at-returns-in-Slice-clau
 scalar_at-returns-in-Slice-clause-err t c =
     let e = c.in-Slice.ensures.0 in
     rw (slice_row c.args.array.now c.in-Slice.child.now c.in-Slice.start c.in-Slice.field-2 c.args.index e c.requires) c.scalar_at.ensures.err
-
-pub scalar_at-returns-in-Bool-clause-ok : goal.scalar_at-returns-in-Bool-clause-ok
-scalar_at-returns-in-Bool-clause-ok t c =
-    let e = c.in-Bool.ensures in
-    rw c.bool.ensures (bool_row c.args.array.now c.in-Bool.bits.now c.args.index c.value.result e c.value.ensures, sym (ap dtype e))
-
-pub scalar_at-returns-in-Primitive-clause-ok : goal.scalar_at-returns-in-Primitive-clause-ok
-scalar_at-returns-in-Primitive-clause-ok t c =
-    let e = c.in-Primitive.ensures in
-    let vs = c.in-Primitive.values.now in
-    let fits : FitsSigned w128 c.wide_at.result = search rules in
-    let row = primitive_row c.args.array.now (ptype_of vs) (values_of vs) c.args.index c.wide_at.result e c.wide_at.ensures.value in
-    rw c.primitive.ensures (row ∙ ap (λ z. Some (value (integer z))) (sym (to_z-of_z fits)), ap (λ p. primitive p NonNullable) c.ptype.ensures ∙ sym (ap dtype e))
 
 pub function_at-unreachable-requires : goal.function_at-unreachable-requires
 function_at-unreachable-requires t c =
