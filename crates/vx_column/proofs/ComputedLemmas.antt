@@ -28,18 +28,6 @@ use Rattle.vx_column.specs.declared.argument.Argument.{Argument}
 use Rattle.vx_column.specs.declared.argument.Argument.TheVariants.{Primitive}
 use Rattle.vx_column.specs.declared.argument.Integers.{Integers}
 
--- two lists that match, each with one more
-zipped_push : {A B : Type 0} (R : A → B → Type 0) (xs : List A) (ys : List B) (x : A) (y : B) → AllZip R xs ys → R x y → AllZip R (xs ++ x ∷ []) (ys ++ y ∷ [])
-zipped_push R [] [] x y h r = (r, tt)
-zipped_push R [] (b ∷ ys) x y h r = absurd h
-zipped_push R (a ∷ xs) [] x y h r = absurd h
-zipped_push R (a ∷ xs) (b ∷ ys) x y h r = (h.0, zipped_push R xs ys x y h.1 r)
-
-pub zipped_more : {A B : Type 0} (R : A → B → Type 0) (xs : List A) (ys : List B) (i : ℕ) (x : A) (y : B) →
-    i < length xs → x ≡ get_or xs i x → AllZip R (take i xs) ys → R x y → AllZip R (take (i + 1) xs) (ys ++ y ∷ [])
-zipped_more R xs ys i x y lt e h r =
-    subst (λ zs. AllZip R zs (ys ++ y ∷ [])) (sym (take_more xs i x lt)) (zipped_push R (take i xs) ys (get_or xs i x) y h (subst (λ z. R z y) e r))
-
 -- two that agree on the first n rows
 pub same_below : {A : Type 0} (n : ℕ) (f g : ℕ → A) → ((i : ℕ) → i < n → f i ≡ g i) → map f (range_with_len 0 n) ≡ map g (range_with_len 0 n)
 same_below n f g h = from f g 0 n (λ i lt. h i (omega arith))

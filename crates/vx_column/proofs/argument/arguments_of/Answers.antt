@@ -1,5 +1,5 @@
 use Rattle.vx_column.specs.Arguments.{IsArgument}
-use Rattle.vx_column.proofs.ComputedLemmas.{zipped_more}
+use Rattle.vx_column.proofs.ArgumentsLemmas.{zipped_more}
 use Rattle.vx_column.proofs.argument.arguments_of.Goals as goal
 
 pub loop-column-preserved : goal.loop-column-preserved

@@ -5,7 +5,7 @@ use Rattle.vx_value.specs.ScalarKinds.{scalar_of}
 use Rattle.vx_value.specs.Typed.{Typed}
 use Rattle.vx_value.specs.declared.scalar.ScalarKind.TheVariants as kind
 use Rattle.vx_tree.specs.Natives.{values_of, ptype_of}
-use Rattle.vx_column.proofs.CanonicalLemmas.{bools_written, integers_written}
+use Rattle.vx_column.proofs.KeepsLemmas.{bools_written, integers_written}
 use Rattle.vx_column.proofs.canonicalize.constant_canonicalize.Goals as goal
 
 pub returns-in_ok-bits-in-Bool-clause-ok : goal.returns-in_ok-bits-in-Bool-clause-ok

@@ -4,7 +4,7 @@ use Rattle.vx_tree.specs.Tree.{datum, is_constant}
 use Rattle.vx_tree.specs.Columns.{columnar_tree}
 use Rattle.vx_column.specs.Applied.{Repeats}
 use Rattle.vx_column.proofs.AppliedLemmas.{not_all_repeat}
-use Rattle.vx_column.proofs.ComputedLemmas.{zipped_more}
+use Rattle.vx_column.proofs.ArgumentsLemmas.{zipped_more}
 use Rattle.vx_column.proofs.constant.constants.Goals as goal
 
 pub returns-in-None-clause-not_all : goal.returns-in-None-clause-not_all

@@ -1,7 +1,7 @@
 use Rattle.std.proofs.Common.{get_or, inl, inr, arith, sym, ap, subst, ◌∙◌}
 use Rattle.vx_tree.specs.Tree.{slots_of, slots_height, dtype, len}
-use Rattle.vx_column.proofs.ComputedLemmas.{zipped_more}
-use Rattle.vx_column.proofs.ProbedLemmas.{IsRead, IsBelow, all_read, slice_row, child_below, child_faulted, function_taken, function_row, function_faulted}
+use Rattle.vx_column.proofs.ArgumentsLemmas.{zipped_more}
+use Rattle.vx_column.proofs.CellsLemmas.{IsRead, IsBelow, all_read, slice_row, child_below, child_faulted, function_taken, function_row, function_faulted}
 use Rattle.vx_column.proofs.probe.+scalar_at.Goals as goal
 
 pub scalar_at-returns-in-Slice-clause-ok : goal.scalar_at-returns-in-Slice-clause-ok
