@@ -1,39 +1,31 @@
 -- A function of columns, from what it gives on their rows.
 use Rattle.std.proofs.Common.{◌≡◌, inl, inr, ℕ, zero, suc, ◌<◌, ◌+◌, List, [], ◌∷◌, length, map, get_or, replicate, Bool, true, false, ◌&&◌, Some, refl, sym, ◌∙◌, ap, subst, arith}
 use Rattle.std.specs.Prelude.{is_some, IsSome, nat_lt}
-use Rattle.std.specs.Cmp.{unsigned_Decides, first_so, second_so}
-use Rattle.std.specs.List.{AllZip, AllByRecursion, range_with_len}
+use Rattle.std.specs.List.{AllZip, range_with_len}
 use Rattle.std.proofs.lemmas.Bool.Decides.{nat_tests}
-use Rattle.std.proofs.lemmas.List.{get_or-replicate}
 use Rattle.vx_value.specs.Types.{DataType}
 use Rattle.vx_value.specs.Typed.{Typed}
-use Rattle.vx_value.specs.Cell.{Cell, value, fault}
+use Rattle.vx_value.specs.Cell.{Cell, value}
 use Rattle.vx_value.specs.declared.error.VortexError.{VortexError}
 use Rattle.vx_fn.specs.Apply.{apply}
 use Rattle.vx_fn.specs.ReturnTypes.{return_type}
 use Rattle.vx_fn.specs.declared.function.ScalarFnRef.{ScalarFnRef}
-use Rattle.vx_tree.specs.Tree.{Tree, node, filled_slots, dtype, len, datum, slots, is_constant, constant_of, call_of}
-use Rattle.vx_tree.specs.Cells.{rows, row_at, slots_rows, HasNoFault, IsClean, AreClean}
+use Rattle.vx_tree.specs.Tree.{Tree, dtype, datum, is_constant, constant_of, call_of}
+use Rattle.vx_tree.specs.Cells.{rows, HasNoFault}
 use Rattle.vx_tree.specs.Columns.{columnar_tree}
-use Rattle.vx_tree.specs.Keeps.{KeepsExactly}
-use Rattle.vx_tree.specs.Refusals.{all_long, types_in}
-use Rattle.vx_tree.specs.Calls.{all_of_len}
 use Rattle.vx_tree.specs.declared.columnar.Columnar.{Columnar}
-use Rattle.vx_tree.proofs.CallsLemmas.{filled_long, filled_types}
-use Rattle.vx_tree.proofs.KeepsLemmas.{rows_equal}
-use Rattle.vx_tree.proofs.RefusalsLemmas.{long_types, types_back}
-use Rattle.vx_column.specs.Applied.{IsCall, IsApplied, IsUnapplied, all_constant, gives_constant, Repeats, types_of_scalars, cells_of_scalars}
-use Rattle.vx_column.specs.Arguments.{IsArgument, IsSized, type_of_argument, value_at, types_of, row_of}
+use Rattle.vx_column.specs.Applied.{IsCall, IsApplied, IsUnapplied, all_constant, gives_constant, Repeats}
 use Rattle.vx_column.specs.Computed.{IsResult, IsNoResult, cells_of}
-use Rattle.vx_column.specs.declared.argument.Argument.{Argument}
 use Rattle.vx_column.proofs.ArgumentsLemmas.{AreRows, call_typed}
 use Rattle.vx_column.proofs.ComputedLemmas.{same_below}
 use Rattle.vx_column.proofs.KeepsLemmas.{same_exactly}
 
-pub taken : (f : ScalarFnRef) {ts : List Tree} {n : ℕ} {tys : List DataType} {row : ℕ → List Cell} → AreRows ts n tys row → IsCall f ts n → IsSome (return_type f tys)
+pub taken : (f : ScalarFnRef) {ts : List Tree} {n : ℕ} {tys : List DataType} {row : ℕ → List Cell} → AreRows ts n tys row → IsCall f ts n
+    → IsSome (return_type f tys)
 taken f {ts = ts} {n = n} same call = ap is_some (ap (return_type f) (sym same.types) ∙ call_typed f ts n call)
 
-rows_are : (f : ScalarFnRef) (ts : List Tree) (n : ℕ) (tys : List DataType) (row : ℕ → List Cell) → AreRows ts n tys row → (ty : DataType) → rows (call_of f ty n ts) ≡ cells_of f ty row n
+rows_are : (f : ScalarFnRef) (ts : List Tree) (n : ℕ) (tys : List DataType) (row : ℕ → List Cell) → AreRows ts n tys row → (ty : DataType)
+    → rows (call_of f ty n ts) ≡ cells_of f ty row n
 rows_are f ts n tys row same ty = same_below n _ _ (λ i h. ap (apply f ty) (same.cells i h))
 
 pub applied : {f : ScalarFnRef} {ts : List Tree} {n : ℕ} {tys : List DataType} {row : ℕ → List Cell} {u : Tree} →
@@ -44,7 +36,8 @@ applied {f = f} {ts = ts} {n = n} {tys = tys} {row = row} {u = u} same h kept = 
   constant_kept = kept;
 }
 
-pub unapplied : (f : ScalarFnRef) {ts : List Tree} {n : ℕ} {tys : List DataType} {row : ℕ → List Cell} → AreRows ts n tys row → (e : VortexError) → IsNoResult f tys row n e → IsUnapplied f ts n e
+pub unapplied : (f : ScalarFnRef) {ts : List Tree} {n : ℕ} {tys : List DataType} {row : ℕ → List Cell} → AreRows ts n tys row → (e : VortexError)
+    → IsNoResult f tys row n e → IsUnapplied f ts n e
 unapplied f same e (inl m) = inl m
 unapplied f {ts = ts} {n = n} {tys = tys} {row = row} same e (inr h) =
     inr (h.0, λ ty typed. λ k. h.1 ty (ap (return_type f) (sym same.types) ∙ typed) (subst HasNoFault (rows_are f ts n tys row same ty) k))
@@ -81,10 +74,12 @@ neither : (a b : Bool) → b ≡ false → (a && b) ≡ false
 neither true b h = h
 neither false b h = refl
 
-pub not_all_repeat : (n : ℕ) (xs : List Columnar) (i : ℕ) (d : Columnar) → i < length xs → is_constant (datum (columnar_tree (get_or xs i d))) ≡ false → gives_constant (map columnar_tree xs) n ≡ false
+pub not_all_repeat : (n : ℕ) (xs : List Columnar) (i : ℕ) (d : Columnar) → i < length xs → is_constant (datum (columnar_tree (get_or xs i d))) ≡ false
+    → gives_constant (map columnar_tree xs) n ≡ false
 not_all_repeat n xs i d lt h = neither (nat_lt 0 n) _ (one xs i d lt h)
   where
-    one : (xs : List Columnar) (i : ℕ) (d : Columnar) → i < length xs → is_constant (datum (columnar_tree (get_or xs i d))) ≡ false → all_constant (map columnar_tree xs) ≡ false
+    one : (xs : List Columnar) (i : ℕ) (d : Columnar) → i < length xs → is_constant (datum (columnar_tree (get_or xs i d))) ≡ false
+        → all_constant (map columnar_tree xs) ≡ false
     one [] i d lt h = absurd (omega arith)
     one (x ∷ xs) zero d lt h = ap (λ b. b && all_constant (map columnar_tree xs)) h
     one (x ∷ xs) (suc i) d lt h = neither (is_constant (datum (columnar_tree x))) _ (one xs i d (omega arith) h)

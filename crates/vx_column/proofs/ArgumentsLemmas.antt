@@ -1,30 +1,23 @@
 -- The rows of columns, as arguments show them.
-use Rattle.std.proofs.Common.{◌≡◌, inl, inr, ℕ, zero, suc, ◌<◌, ◌+◌, List, [], ◌∷◌, length, map, take, get_or, replicate, ◌++◌, Bool, true, false, ◌&&◌, Some, refl, sym, ◌∙◌, ap, subst, arith}
-use Rattle.std.specs.Prelude.{is_some, IsSome, nat_lt}
+use Rattle.std.proofs.Common.{◌≡◌, ℕ, ◌<◌, ◌+◌, List, [], ◌∷◌, length, map, take, get_or, ◌++◌, true, Some, refl, sym, ◌∙◌, ap, subst}
 use Rattle.std.specs.Cmp.{unsigned_Decides, first_so, second_so}
-use Rattle.std.specs.List.{AllZip, AllByRecursion, range_with_len}
-use Rattle.std.proofs.lemmas.Bool.Decides.{nat_tests}
+use Rattle.std.specs.List.{AllZip, AllByRecursion}
 use Rattle.std.proofs.lemmas.List.{get_or-replicate, take_more}
 use Rattle.vx_value.specs.Types.{DataType}
 use Rattle.vx_value.specs.Typed.{Typed}
 use Rattle.vx_value.specs.Cell.{Cell, value, fault}
-use Rattle.vx_value.specs.declared.error.VortexError.{VortexError}
-use Rattle.vx_fn.specs.Apply.{apply}
 use Rattle.vx_fn.specs.ReturnTypes.{return_type}
 use Rattle.vx_fn.specs.declared.function.ScalarFnRef.{ScalarFnRef}
-use Rattle.vx_tree.specs.Tree.{Tree, node, filled_slots, dtype, len, datum, slots, is_constant, constant_of, call_of}
-use Rattle.vx_tree.specs.Cells.{rows, row_at, slots_rows, HasNoFault, IsClean, AreClean}
+use Rattle.vx_tree.specs.Tree.{Tree, filled_slots, dtype, len}
+use Rattle.vx_tree.specs.Cells.{rows, row_at, slots_rows}
 use Rattle.vx_tree.specs.Columns.{columnar_tree}
-use Rattle.vx_tree.specs.Keeps.{KeepsExactly}
 use Rattle.vx_tree.specs.Refusals.{all_long, types_in}
 use Rattle.vx_tree.specs.Calls.{all_of_len}
 use Rattle.vx_tree.specs.declared.columnar.Columnar.{Columnar}
 use Rattle.vx_tree.proofs.CallsLemmas.{filled_long, filled_types}
-use Rattle.vx_tree.proofs.KeepsLemmas.{rows_equal}
 use Rattle.vx_tree.proofs.RefusalsLemmas.{long_types, types_back}
-use Rattle.vx_column.specs.Applied.{IsCall, IsApplied, IsUnapplied, all_constant, gives_constant, Repeats, types_of_scalars, cells_of_scalars}
+use Rattle.vx_column.specs.Applied.{IsCall, Repeats, types_of_scalars, cells_of_scalars}
 use Rattle.vx_column.specs.Arguments.{IsArgument, IsSized, type_of_argument, value_at, types_of, row_of}
-use Rattle.vx_column.specs.Computed.{IsResult, IsNoResult, cells_of}
 use Rattle.vx_column.specs.declared.argument.Argument.{Argument}
 
 -- two lists that match, each with one more
@@ -86,16 +79,17 @@ argument_rows =
 pub scalar_rows : (f : ScalarFnRef) (n : ℕ) (xs : List Columnar) (ss : List Typed) → IsCall f (map columnar_tree xs) n → AllZip Repeats xs ss →
     AreRows (map columnar_tree xs) n (types_of_scalars ss) (λ _. cells_of_scalars ss)
 scalar_rows =
-    are_rows (λ s. s.of_type) (λ s i. value s.value) Repeats (λ c s h. ap dtype h) (λ c s h i lt. ap (λ t. get_or (rows t) i fault) h ∙ get_or-replicate (len (columnar_tree c)) i (value s.value) fault lt)
+    are_rows (λ s. s.of_type) (λ s i. value s.value) Repeats (λ c s h. ap dtype h)
+    (λ c s h i lt. ap (λ t. get_or (rows t) i fault) h ∙ get_or-replicate (len (columnar_tree c)) i (value s.value) fault lt)
 
 pub arguments_sized : (f : ScalarFnRef) (n : ℕ) (xs : List Columnar) (args : List Argument) → IsCall f (map columnar_tree xs) n → AllZip IsArgument xs args →
     AllByRecursion (IsSized n) args
 arguments_sized f n xs args call h = by_lengths xs args h (call_lengths f (map columnar_tree xs) n call)
   where
-    by_lengths : (xs : List Columnar) (args : List Argument) → AllZip IsArgument xs args → all_of_len n (map columnar_tree xs) ≡ true → AllByRecursion (IsSized n) args
+    by_lengths : (xs : List Columnar) (args : List Argument) → AllZip IsArgument xs args → all_of_len n (map columnar_tree xs) ≡ true
+        → AllByRecursion (IsSized n) args
     by_lengths [] [] h l = tt
     by_lengths [] (a ∷ args) h l = absurd h
     by_lengths (x ∷ xs) [] h l = absurd h
     by_lengths (x ∷ xs) (a ∷ args) h l =
         (subst (λ m. IsSized m a) ((unsigned_Decides (len (columnar_tree x)) n).0 (first_so _ _ l)) h.0.sized, by_lengths xs args h.1 (second_so _ _ l))
-

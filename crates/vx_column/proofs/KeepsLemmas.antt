@@ -55,11 +55,14 @@ module _ (t : Tree) (s : Typed) (shown : datum t ≡ constant s) (well : IsWell 
   pub bools_written : (m : Nullability) (bit : Bool) (bits : List Bool) → type.bool m ≡ s.of_type → boolean bit ≡ s.value → bits ≡ replicate (len t) bit →
       IfOk r (λ c. canonical_tree c ≡ booleans bits) → IfOk r (λ c. KeepsExactly t (canonical_tree c))
   bools_written m bit bits ty v made =
-      written (booleans bits) (sym ty ∙ ap type.bool (ap nullability_of ty ∙ (known_typed t s shown well).1)) (sym (ap length made ∙ length-replicate (len t) bit))
+      written (booleans bits) (sym ty ∙ ap type.bool (ap nullability_of ty ∙ (known_typed t s shown well).1))
+      (sym (ap length made ∙ length-replicate (len t) bit))
       (ap (λ x. replicate (len t) (value x)) (sym v) ∙ map_copies (λ b. value (boolean b)) (len t) bit ∙ ap (map (λ b. value (boolean b))) (sym made)) tt
 
-  pub integers_written : (m : Nullability) (p q : PType) (z : ℤ) (zs : List ℤ) → type.primitive p m ≡ s.of_type → integer z ≡ s.value → q ≡ p → zs ≡ replicate (len t) z →
+  pub integers_written : (m : Nullability) (p q : PType) (z : ℤ) (zs : List ℤ) → type.primitive p m ≡ s.of_type → integer z ≡ s.value → q ≡ p
+      → zs ≡ replicate (len t) z →
       IfOk r (λ c. canonical_tree c ≡ integers q zs) → IfOk r (λ c. KeepsExactly t (canonical_tree c))
   integers_written m p q z zs ty v same made =
-      written (integers q zs) (sym ty ∙ (λ j. type.primitive (sym same j) ((ap nullability_of ty ∙ (known_typed t s shown well).1) j))) (sym (ap length made ∙ length-replicate (len t) z))
+      written (integers q zs) (sym ty ∙ (λ j. type.primitive (sym same j) ((ap nullability_of ty ∙ (known_typed t s shown well).1) j)))
+      (sym (ap length made ∙ length-replicate (len t) z))
       (ap (λ x. replicate (len t) (value x)) (sym v) ∙ map_copies (λ x. value (integer x)) (len t) z ∙ ap (map (λ x. value (integer x))) (sym made)) tt
