@@ -1,11 +1,11 @@
 -- The column of a function, row by row.
-use Rattle.std.proofs.Common.{◌≡◌, ◌<◌, ◌+◌, ℕ, zero, suc, ℤ, Bool, if◌then◌else◌, true, false, List, [], ◌∷◌, ◌++◌, length, map, take, get_or, Option, Some, None, Result, IfOk, refl, sym, ap, ◌∙◌, subst, arith}
+use Rattle.std.proofs.Common.{◌≡◌, ◌<◌, ◌+◌, ℕ, zero, suc, ℤ, Bool, if◌then◌else◌, true, false, List, [], ◌∷◌, ◌++◌, length, map, get_or, Option, Some, None, Result, IfOk, refl, sym, ap, ◌∙◌, subst, arith}
 use Rattle.std.specs.Prelude.{IsSome}
 use Rattle.std.proofs.Math.Bool.{not}
 use Rattle.std.proofs.lemmas.Result.{IfOk-weaker}
-use Rattle.std.specs.List.{AllZip, range_with_len}
+use Rattle.std.specs.List.{range_with_len}
 use Rattle.std.specs.Ordering.{bool_cmp, is_ne}
-use Rattle.std.proofs.lemmas.List.{length-map, map-append, take_more}
+use Rattle.std.proofs.lemmas.List.{length-map, map-append}
 use Rattle.std.proofs.lemmas.List.FromFn.{length-map-range_with_len, map-range_with_len_more, get_or-map-range_with_len}
 use Rattle.vx_value.specs.Types.{DataType, bool, primitive, same_type_Decides}
 use Rattle.vx_value.specs.Values.{null, boolean, integer}
@@ -27,18 +27,6 @@ use Rattle.vx_column.specs.Computed.{IsComputed, cells_of}
 use Rattle.vx_column.specs.declared.argument.Argument.{Argument}
 use Rattle.vx_column.specs.declared.argument.Argument.TheVariants.{Primitive}
 use Rattle.vx_column.specs.declared.argument.Integers.{Integers}
-
--- two lists that match, each with one more
-zipped_push : {A B : Type 0} (R : A → B → Type 0) (xs : List A) (ys : List B) (x : A) (y : B) → AllZip R xs ys → R x y → AllZip R (xs ++ x ∷ []) (ys ++ y ∷ [])
-zipped_push R [] [] x y h r = (r, tt)
-zipped_push R [] (b ∷ ys) x y h r = absurd h
-zipped_push R (a ∷ xs) [] x y h r = absurd h
-zipped_push R (a ∷ xs) (b ∷ ys) x y h r = (h.0, zipped_push R xs ys x y h.1 r)
-
-pub zipped_more : {A B : Type 0} (R : A → B → Type 0) (xs : List A) (ys : List B) (i : ℕ) (x : A) (y : B) →
-    i < length xs → x ≡ get_or xs i x → AllZip R (take i xs) ys → R x y → AllZip R (take (i + 1) xs) (ys ++ y ∷ [])
-zipped_more R xs ys i x y lt e h r =
-    subst (λ zs. AllZip R zs (ys ++ y ∷ [])) (sym (take_more xs i x lt)) (zipped_push R (take i xs) ys (get_or xs i x) y h (subst (λ z. R z y) e r))
 
 -- two that agree on the first n rows
 pub same_below : {A : Type 0} (n : ℕ) (f g : ℕ → A) → ((i : ℕ) → i < n → f i ≡ g i) → map f (range_with_len 0 n) ≡ map g (range_with_len 0 n)
@@ -77,7 +65,8 @@ cells_read read (x ∷ xs) = ap (λ cs. value (integer (read x)) ∷ cs) (cells_
 
 -- a fault in row i
 pub fault_at_row : (f : ScalarFnRef) (tys : List DataType) (row : ℕ → List Cell) (n i : ℕ) → i < n →
-    ((ty : DataType) → return_type f tys ≡ Some ty → apply f ty (row i) ≡ fault) → (ty : DataType) → return_type f tys ≡ Some ty → ¬ (HasNoFault (cells_of f ty row n))
+    ((ty : DataType) → return_type f tys ≡ Some ty → apply f ty (row i) ≡ fault) → (ty : DataType) → return_type f tys ≡ Some ty
+    → ¬ (HasNoFault (cells_of f ty row n))
 fault_at_row f tys row n i lt h ty typed = fault_among (λ j. apply f ty (row j)) n i lt (h ty typed)
 
 -- the types of an operator's arguments and result
@@ -97,10 +86,13 @@ module _ (op : Operator) (p : PType) where
     calculation_type c = types_are ∙ ap (λ b. Some (if b then bool NonNullable else primitive p NonNullable)) c
 
     pub calculation_fault : (n i : ℕ) (x y : ℤ) → is_comparison op ≡ false → x ≡ integer_in l i → y ≡ integer_in r i → i < n → calculated op p x y ≡ fault →
-        (ty : DataType) → return_type (Binary op) (types_of (Primitive l ∷ Primitive r ∷ [])) ≡ Some ty → ¬ (HasNoFault (cells_of (Binary op) ty (row_of (Primitive l ∷ Primitive r ∷ [])) n))
-    calculation_fault n i x y c a b lt none = fault_at_row (Binary op) (types_of (Primitive l ∷ Primitive r ∷ [])) (row_of (Primitive l ∷ Primitive r ∷ [])) n i lt here
+        (ty : DataType) → return_type (Binary op) (types_of (Primitive l ∷ Primitive r ∷ [])) ≡ Some ty
+        → ¬ (HasNoFault (cells_of (Binary op) ty (row_of (Primitive l ∷ Primitive r ∷ [])) n))
+    calculation_fault n i x y c a b lt none = fault_at_row (Binary op) (types_of (Primitive l ∷ Primitive r ∷ []))
+        (row_of (Primitive l ∷ Primitive r ∷ [])) n i lt here
       where
-        here : (ty : DataType) → return_type (Binary op) (types_of (Primitive l ∷ Primitive r ∷ [])) ≡ Some ty → apply (Binary op) ty (row_of (Primitive l ∷ Primitive r ∷ []) i) ≡ fault
+        here : (ty : DataType) → return_type (Binary op) (types_of (Primitive l ∷ Primitive r ∷ [])) ≡ Some ty
+            → apply (Binary op) ty (row_of (Primitive l ∷ Primitive r ∷ []) i) ≡ fault
         here ty typed =
             let same : ty ≡ primitive p NonNullable = cc (typed, calculation_type c) in
             ap (λ t. apply (Binary op) t (row_of (Primitive l ∷ Primitive r ∷ []) i)) same ∙ (λ j. calculated op p (sym a j) (sym b j)) ∙ none
@@ -109,7 +101,8 @@ chosen : (b : Bool) (o : Option DataType) → IsSome (if b then o else None) →
 chosen true o h = refl
 chosen false o h = absurd (cc)
 
-pub bools_compared : (op : Operator) → IsSome (return_type (Binary op) (bool NonNullable ∷ bool NonNullable ∷ [])) → return_type (Binary op) (bool NonNullable ∷ bool NonNullable ∷ []) ≡ Some (bool NonNullable)
+pub bools_compared : (op : Operator) → IsSome (return_type (Binary op) (bool NonNullable ∷ bool NonNullable ∷ []))
+    → return_type (Binary op) (bool NonNullable ∷ bool NonNullable ∷ []) ≡ Some (bool NonNullable)
 bools_compared op h =
     let same : return_type (Binary op) (bool NonNullable ∷ bool NonNullable ∷ []) ≡ operator_type op (bool NonNullable) =
     ap (λ b. if b then operator_type op (bool NonNullable) else None) ((same_type_Decides (bool NonNullable) (bool NonNullable)).1 refl) in
@@ -117,7 +110,8 @@ bools_compared op h =
 
 -- a column whose cells are those of f
 module _ (f : ScalarFnRef) (args : List Argument) (n : ℕ) (r : Result Canonical VortexError) where
-  computed : (u : Tree) → return_type f (types_of args) ≡ Some (dtype u) → len u ≡ length (rows u) → rows u ≡ cells_of f (dtype u) (row_of args) n → AreClean (slots u) →
+  computed : (u : Tree) → return_type f (types_of args) ≡ Some (dtype u) → len u ≡ length (rows u) → rows u ≡ cells_of f (dtype u) (row_of args) n
+      → AreClean (slots u) →
       is_canonical (datum u) ≡ true → IfOk r (λ c. canonical_tree c ≡ u) → IfOk r (λ c. IsComputed f args n (canonical_tree c))
   computed u typed counted shown clean canonical column =
       let long = counted ∙ ap length shown ∙ length-map-range_with_len _ 0 n in
@@ -129,7 +123,8 @@ module _ (f : ScalarFnRef) (args : List Argument) (n : ℕ) (r : Result Canonica
       ((i : ℕ) → value (boolean (test i)) ≡ apply f (bool NonNullable) (row_of args i)) → bits ≡ map test (range_with_len 0 n) →
       IfOk r (λ c. canonical_tree c ≡ booleans bits) → IfOk r (λ c. IsComputed f args n (canonical_tree c))
   bools_computed test bits typed given made =
-      computed (booleans bits) typed (sym (length-map bits (λ b. value (boolean b)))) (ap (map (λ b. value (boolean b))) made ∙ twice (range_with_len 0 n)) tt refl
+      computed (booleans bits) typed (sym (length-map bits (λ b. value (boolean b))))
+      (ap (map (λ b. value (boolean b))) made ∙ twice (range_with_len 0 n)) tt refl
     where
       twice : (is : List ℕ) → map (λ b. value (boolean b)) (map test is) ≡ map (λ i. apply f (bool NonNullable) (row_of args i)) is
       twice [] = refl

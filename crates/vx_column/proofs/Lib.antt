@@ -1,5 +1,6 @@
 pub mod AppliedLemmas
 pub mod ApplyLemmas
-pub mod CanonicalLemmas
+pub mod ArgumentsLemmas
+pub mod CellsLemmas
 pub mod ComputedLemmas
-pub mod ProbedLemmas
+pub mod KeepsLemmas

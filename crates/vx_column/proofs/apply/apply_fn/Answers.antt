@@ -2,7 +2,8 @@ use Rattle.std.proofs.Common.{◌∙◌, sym}
 use Rattle.vx_tree.specs.Tree.{datum}
 use Rattle.vx_tree.specs.Columns.{canonical_tree}
 use Rattle.vx_tree.proofs.ColumnsLemmas.{canonical_open}
-use Rattle.vx_column.proofs.AppliedLemmas.{taken, applied, unapplied, argument_rows, scalar_rows, arguments_sized, all_repeat}
+use Rattle.vx_column.proofs.AppliedLemmas.{taken, applied, unapplied, all_repeat}
+use Rattle.vx_column.proofs.ArgumentsLemmas.{argument_rows, scalar_rows, arguments_sized}
 use Rattle.vx_column.proofs.apply.apply_fn.Goals as goal
 
 pub apply_constants-requires-clause-taken : goal.apply_constants-requires-clause-taken

@@ -10,4 +10,5 @@ abbrev pub invariant-loop-index : goal.invariant-loop-index
 invariant-loop-index g l =
     (vec_len l.numbers ≡ l.index) × (l.len ≤ vec_capacity l.numbers)
     × (map (λ x. value (integer (g.T.Number.value x))) l.numbers.items
-    ≡ map (λ i. calculated g.A.Arithmetic.operator g.T.NativeInteger.kind (number_in g.T.Number.value l.left i) (number_in g.T.Number.value l.right i)) (range_with_len 0 l.index))
+    ≡ map (λ i. calculated g.A.Arithmetic.operator g.T.NativeInteger.kind (number_in g.T.Number.value l.left i) (number_in g.T.Number.value l.right i))
+    (range_with_len 0 l.index))

@@ -17,5 +17,6 @@ returns-clause-ok g c =
     let right = c.operand_of-right.ensures.numbers in
     let all : c.loop-index.index ≡ c.args.len = omega arith in
     let bits = c.in_ok-finish.ensures ∙ c.loop-index.invariant ∙ (λ j. map (λ i. holds op (int_cmp (left j i) (right j i))) (range_with_len 0 (all j))) in
-    bools_computed (Binary op) (Primitive l ∷ Primitive r ∷ []) c.args.len c.bool_column.result (λ i. holds op (int_cmp (integer_in l i) (integer_in r i))) c.in_ok-finish.field-0
+    bools_computed (Binary op) (Primitive l ∷ Primitive r ∷ []) c.args.len c.bool_column.result
+    (λ i. holds op (int_cmp (integer_in l i) (integer_in r i))) c.in_ok-finish.field-0
     (comparison_type op g.T.NativeInteger.kind l r c.requires.lhs.0 c.requires.rhs.0 c.requires.operator) (λ i. refl) bits c.bool_column.ensures.ok

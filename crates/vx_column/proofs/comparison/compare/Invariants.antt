@@ -7,4 +7,5 @@ use Rattle.vx_column.proofs.comparison.compare.Given as goal
 
 abbrev pub invariant-loop-index : goal.invariant-loop-index
 invariant-loop-index g l =
-    l.bits ≡ map (λ i. holds g.C.Comparison.operator (int_cmp (number_in g.T.Number.value l.left i) (number_in g.T.Number.value l.right i))) (range_with_len 0 l.index)
+    l.bits ≡ map (λ i. holds g.C.Comparison.operator (int_cmp (number_in g.T.Number.value l.left i) (number_in g.T.Number.value l.right i)))
+    (range_with_len 0 l.index)

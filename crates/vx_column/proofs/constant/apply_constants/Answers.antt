@@ -8,7 +8,8 @@ use Rattle.vx_column.proofs.constant.apply_constants.Goals as goal
 pub returns-in-Ok-constant-clause-ok : goal.returns-in-Ok-constant-clause-ok
 returns-in-Ok-constant-clause-ok c =
     let ss = c.args.scalars.now in
-    constant_result c.args.function.now (types_of_scalars ss) (cells_of_scalars ss) c.args.len c.in-Ok.scalar (columnar_tree c.in-Ok-constant.column) c.in-Ok.ensures.typed c.in-Ok.ensures.ok c.in-Ok-constant.ensures.ok
+    constant_result c.args.function.now (types_of_scalars ss) (cells_of_scalars ss) c.args.len c.in-Ok.scalar
+    (columnar_tree c.in-Ok-constant.column) c.in-Ok.ensures.typed c.in-Ok.ensures.ok c.in-Ok-constant.ensures.ok
 
 pub returns-in-Err-clause-err : goal.returns-in-Err-clause-err
 returns-in-Err-clause-err c =

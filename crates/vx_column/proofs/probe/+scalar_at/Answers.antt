@@ -1,7 +1,7 @@
 use Rattle.std.proofs.Common.{get_or, inl, inr, arith, sym, ap, subst, ◌∙◌}
 use Rattle.vx_tree.specs.Tree.{slots_of, slots_height, dtype, len}
-use Rattle.vx_column.proofs.ComputedLemmas.{zipped_more}
-use Rattle.vx_column.proofs.ProbedLemmas.{IsRead, IsBelow, all_read, slice_row, child_below, child_faulted, function_taken, function_row, function_faulted}
+use Rattle.vx_column.proofs.ArgumentsLemmas.{zipped_more}
+use Rattle.vx_column.proofs.CellsLemmas.{IsRead, IsBelow, all_read, slice_row, child_below, child_faulted, function_taken, function_row, function_faulted}
 use Rattle.vx_column.proofs.probe.+scalar_at.Goals as goal
 
 pub scalar_at-returns-in-Slice-clause-ok : goal.scalar_at-returns-in-Slice-clause-ok
@@ -17,13 +17,15 @@ scalar_at-returns-in-Slice-clause-err t c =
 pub function_at-unreachable-requires : goal.function_at-unreachable-requires
 function_at-unreachable-requires t c =
     let xs = c.args.slots.now in
-    let known = child_below c.args.array.now c.args.scalar_fn.now xs c.args.index c.requires.shape c.requires.well c.loop-slot.slot-index c.slot-item.result c.loop-slot-test.true in
+    let known = child_below c.args.array.now c.args.scalar_fn.now xs c.args.index c.requires.shape c.requires.well c.loop-slot.slot-index c.slot-item.result
+    c.loop-slot-test.true in
     subst (IsBelow (len c.args.array.now) (slots_height (slots_of xs))) (sym c.slot-item.is ∙ c.in_default.is) known
 
 pub function_at-scalar_at-requires : goal.function_at-scalar_at-requires
 function_at-scalar_at-requires t c =
     let xs = c.args.slots.now in
-    let known = child_below c.args.array.now c.args.scalar_fn.now xs c.args.index c.requires.shape c.requires.well c.loop-slot.slot-index c.slot-item.result c.loop-slot-test.true in
+    let known = child_below c.args.array.now c.args.scalar_fn.now xs c.args.index c.requires.shape c.requires.well c.loop-slot.slot-index c.slot-item.result
+    c.loop-slot-test.true in
     let below = subst (IsBelow (len c.args.array.now) (slots_height (slots_of xs))) (sym c.slot-item.is ∙ c.in-Some.is) known in
     let d = c.decreases in
     let i = c.requires.index in
@@ -32,7 +34,8 @@ function_at-scalar_at-requires t c =
 pub function_at-returns-in-Err-clause-err : goal.function_at-returns-in-Err-clause-err
 function_at-returns-in-Err-clause-err t c =
     let there = sym c.in-Some.is ∙ c.slot-item.is ∙ ap (get_or c.args.slots.now c.loop-slot.slot-index) c.in-Some.is in
-    let faulted = child_faulted c.args.array.now c.args.scalar_fn.now c.args.slots.now c.args.index c.requires.shape c.requires.well c.loop-slot.slot-index c.in-Some.child c.requires.index c.loop-slot-test.true there in
+    let faulted = child_faulted c.args.array.now c.args.scalar_fn.now c.args.slots.now c.args.index c.requires.shape c.requires.well c.loop-slot.slot-index
+    c.in-Some.child c.requires.index c.loop-slot-test.true there in
     elim c.in-Err.ensures.err [
       | inl m ↦ inl m
       | inr m ↦ inr (m.0, faulted m.1)
@@ -43,26 +46,31 @@ function_at-loop-slot-preserved t c =
     let i = c.args.index in
     let read = subst (λ s. IsRead i s c.in-Ok.scalar) (sym c.in-Some.is) c.in-Ok.ensures.ok in
     rw c.in_ok-push-in-Ok.ensures.items
-    (zipped_more (IsRead i) c.args.slots.now c.loop-slot.scalars.items c.loop-slot.slot-index c.slot-item.result c.in-Ok.scalar c.loop-slot-test.true c.slot-item.is c.loop-slot.invariant read)
+    (zipped_more (IsRead i) c.args.slots.now c.loop-slot.scalars.items c.loop-slot.slot-index c.slot-item.result c.in-Ok.scalar c.loop-slot-test.true
+    c.slot-item.is c.loop-slot.invariant read)
 
 pub function_at-apply_row-requires : goal.function_at-apply_row-requires
 function_at-apply_row-requires t c =
     let xs = c.args.slots.now in
     let ss = c.as_slice.result.now in
-    let read = all_read c.args.index c.loop-slot.slot-index xs c.loop-slot.scalars.items ss c.loop-slot-test.false c.as_slice.ensures.value c.loop-slot.invariant in
+    let read = all_read c.args.index c.loop-slot.slot-index xs c.loop-slot.scalars.items ss c.loop-slot-test.false c.as_slice.ensures.value
+    c.loop-slot.invariant in
     function_taken c.args.array.now c.args.scalar_fn.now xs c.args.index c.requires.shape c.requires.well ss read
 
 pub function_at-returns-in-Ok-apply_row-clause-ok : goal.function_at-returns-in-Ok-apply_row-clause-ok
 function_at-returns-in-Ok-apply_row-clause-ok t c =
     let xs = c.args.slots.now in
     let ss = c.as_slice.result.now in
-    let read = all_read c.args.index c.loop-slot.slot-index xs c.loop-slot.scalars.items ss c.loop-slot-test.false c.as_slice.ensures.value c.loop-slot.invariant in
-    function_row c.args.array.now c.args.scalar_fn.now xs c.args.index c.requires.shape c.requires.well ss read c.in-Ok-apply_row.scalar c.requires.index c.in-Ok-apply_row.ensures.typed c.in-Ok-apply_row.ensures.ok
+    let read = all_read c.args.index c.loop-slot.slot-index xs c.loop-slot.scalars.items ss c.loop-slot-test.false c.as_slice.ensures.value
+    c.loop-slot.invariant in
+    function_row c.args.array.now c.args.scalar_fn.now xs c.args.index c.requires.shape c.requires.well ss read c.in-Ok-apply_row.scalar c.requires.index
+    c.in-Ok-apply_row.ensures.typed c.in-Ok-apply_row.ensures.ok
 
 pub function_at-returns-clause-err : goal.function_at-returns-clause-err
 function_at-returns-clause-err t c =
     let xs = c.args.slots.now in
     let ss = c.as_slice.result.now in
-    let read = all_read c.args.index c.loop-slot.slot-index xs c.loop-slot.scalars.items ss c.loop-slot-test.false c.as_slice.ensures.value c.loop-slot.invariant in
+    let read = all_read c.args.index c.loop-slot.slot-index xs c.loop-slot.scalars.items ss c.loop-slot-test.false c.as_slice.ensures.value
+    c.loop-slot.invariant in
     let fault = c.in-Err-apply_row.ensures.fault in
     inr (fault.0, function_faulted c.args.array.now c.args.scalar_fn.now xs c.args.index c.requires.shape c.requires.well ss read c.requires.index fault.1)

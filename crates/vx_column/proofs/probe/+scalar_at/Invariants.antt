@@ -1,7 +1,7 @@
 use Rattle.std.proofs.Common.{◌+◌, ◌*◌, take}
 use Rattle.std.specs.List.{AllZip}
 use Rattle.vx_tree.specs.Tree.{slots_of, height, slots_height}
-use Rattle.vx_column.proofs.ProbedLemmas.{IsRead}
+use Rattle.vx_column.proofs.CellsLemmas.{IsRead}
 use Rattle.vx_column.proofs.probe.+scalar_at.Given as goal
 
 abbrev pub decreases-scalar_at : goal.decreases-scalar_at

@@ -107,7 +107,8 @@ module _ (t : Tree) (f : ScalarFnRef) (xs : List (Option Tree)) (i : ℕ)
   pub child_below : (k : ℕ) (d : Option Tree) → k < length xs → IsBelow (len t) (slots_height (slots_of xs)) (get_or xs k d)
   child_below k d lt = slot_below (len t) xs well.0 k d (slots_height (slots_of xs)) well.1 (omega arith) lt
 
-  pub child_faulted : (k : ℕ) (c : Tree) → i < len t → k < length xs → Some c ≡ get_or xs k (Some c) → slice_get (rows c) i ≡ Some fault → slice_get (rows t) i ≡ Some fault
+  pub child_faulted : (k : ℕ) (c : Tree) → i < len t → k < length xs → Some c ≡ get_or xs k (Some c) → slice_get (rows c) i ≡ Some fault
+      → slice_get (rows t) i ≡ Some fault
   child_faulted k c lt there e h = row_is lt ∙ ap Some (argument_fault i xs k c (value_of f (dtype t)) there e h)
 
   module _ (ss : List Typed) (read : AllZip (IsRead i) xs ss) where
@@ -120,7 +121,8 @@ module _ (t : Tree) (f : ScalarFnRef) (xs : List (Option Tree)) (i : ℕ)
     cells_are : i < len t → slice_get (rows t) i ≡ Some (apply f (dtype t) (cells_of_scalars ss))
     cells_are lt = row_is lt ∙ ap (λ cs. Some (apply f (dtype t) cs)) (read_cells i xs ss read)
 
-    pub function_row : (s : Typed) → i < len t → return_type f (types_of_scalars ss) ≡ Some s.of_type → apply f s.of_type (cells_of_scalars ss) ≡ value s.value →
+    pub function_row : (s : Typed) → i < len t → return_type f (types_of_scalars ss) ≡ Some s.of_type
+        → apply f s.of_type (cells_of_scalars ss) ≡ value s.value →
         (slice_get (rows t) i ≡ Some (value s.value)) × (s.of_type ≡ dtype t)
     function_row s lt r given =
         let all = types_are in

@@ -1,4 +1,4 @@
--- A constant, expanded to a column.
+-- A column that stands for a tree exactly.
 use Rattle.std.proofs.Common.{◌≡◌, ℕ, zero, suc, ℤ, Bool, List, ◌∷◌, length, map, replicate, Result, IfOk, refl, sym, ◌∙◌, ap, subst}
 use Rattle.std.proofs.lemmas.List.{length-replicate}
 use Rattle.std.proofs.lemmas.Result.{IfOk-weaker}
@@ -12,12 +12,25 @@ use Rattle.vx_value.specs.declared.dtype.Nullability.TheVariants.{NonNullable}
 use Rattle.vx_value.specs.declared.dtype.PType.{PType}
 use Rattle.vx_value.specs.declared.error.VortexError.{VortexError}
 use Rattle.vx_tree.specs.Tree.{Tree, node, constant, dtype, len, datum, slots, booleans, integers}
-use Rattle.vx_tree.specs.Cells.{rows, slots_rows, node_cells, AreClean}
+use Rattle.vx_tree.specs.Cells.{rows, slots_rows, node_cells, HasNoFault, IsClean, AreClean}
 use Rattle.vx_tree.specs.Columns.{canonical_tree}
 use Rattle.vx_tree.specs.Keeps.{KeepsExactly}
 use Rattle.vx_tree.specs.Well.{IsNode, IsWell, shapes}
 use Rattle.vx_tree.specs.declared.canonical.Canonical.{Canonical}
-use Rattle.vx_column.proofs.AppliedLemmas.{same_exactly}
+use Rattle.vx_tree.proofs.KeepsLemmas.{rows_equal}
+
+-- a tree that has another's type, length and rows, and no fault below, stands for it exactly
+root_clean : (t : Tree) → IsClean t → HasNoFault (rows t)
+root_clean (node ty n d ss) h = h.0
+
+whole_clean : (u : Tree) → AreClean (slots u) → HasNoFault (rows u) → IsClean u
+whole_clean (node ty n d ss) e h = (h, e)
+
+pub same_exactly : (t u : Tree) → dtype t ≡ dtype u → len t ≡ len u → rows t ≡ rows u → AreClean (slots u) → KeepsExactly t u
+same_exactly t u ty n e clean = record {
+  keeps = record { same_type = ty; same_len = n; same_rows = rows_equal _ _ e; still_clean = λ c. whole_clean u clean (subst HasNoFault e (root_clean t c)) };
+  equal = e;
+}
 
 map_copies : {X : Type 0} (f : X → Cell) (n : ℕ) (x : X) → replicate n (f x) ≡ map f (replicate n x)
 map_copies f zero x = refl
@@ -42,11 +55,14 @@ module _ (t : Tree) (s : Typed) (shown : datum t ≡ constant s) (well : IsWell 
   pub bools_written : (m : Nullability) (bit : Bool) (bits : List Bool) → type.bool m ≡ s.of_type → boolean bit ≡ s.value → bits ≡ replicate (len t) bit →
       IfOk r (λ c. canonical_tree c ≡ booleans bits) → IfOk r (λ c. KeepsExactly t (canonical_tree c))
   bools_written m bit bits ty v made =
-      written (booleans bits) (sym ty ∙ ap type.bool (ap nullability_of ty ∙ (known_typed t s shown well).1)) (sym (ap length made ∙ length-replicate (len t) bit))
+      written (booleans bits) (sym ty ∙ ap type.bool (ap nullability_of ty ∙ (known_typed t s shown well).1))
+      (sym (ap length made ∙ length-replicate (len t) bit))
       (ap (λ x. replicate (len t) (value x)) (sym v) ∙ map_copies (λ b. value (boolean b)) (len t) bit ∙ ap (map (λ b. value (boolean b))) (sym made)) tt
 
-  pub integers_written : (m : Nullability) (p q : PType) (z : ℤ) (zs : List ℤ) → type.primitive p m ≡ s.of_type → integer z ≡ s.value → q ≡ p → zs ≡ replicate (len t) z →
+  pub integers_written : (m : Nullability) (p q : PType) (z : ℤ) (zs : List ℤ) → type.primitive p m ≡ s.of_type → integer z ≡ s.value → q ≡ p
+      → zs ≡ replicate (len t) z →
       IfOk r (λ c. canonical_tree c ≡ integers q zs) → IfOk r (λ c. KeepsExactly t (canonical_tree c))
   integers_written m p q z zs ty v same made =
-      written (integers q zs) (sym ty ∙ (λ j. type.primitive (sym same j) ((ap nullability_of ty ∙ (known_typed t s shown well).1) j))) (sym (ap length made ∙ length-replicate (len t) z))
+      written (integers q zs) (sym ty ∙ (λ j. type.primitive (sym same j) ((ap nullability_of ty ∙ (known_typed t s shown well).1) j)))
+      (sym (ap length made ∙ length-replicate (len t) z))
       (ap (λ x. replicate (len t) (value x)) (sym v) ∙ map_copies (λ x. value (integer x)) (len t) z ∙ ap (map (λ x. value (integer x))) (sym made)) tt
