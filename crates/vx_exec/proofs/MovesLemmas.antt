@@ -186,7 +186,7 @@ pub record IsLoop (fits : Tree → Bool) (root : Tree) (fs : List Frame) (t : Tr
 pub loop_begins : (fits : Tree → Bool) (root : Tree) (fs : List Frame) → fs ≡ [] → IsLoop fits root fs root 0
 loop_begins fits root fs e =
     subst (λ x. IsLoop fits root x root 0) (sym e)
-        (record { moved = begins fits root; exactly = exactly_refl root; frames = tt; turns = omega (arith, top_paid root) })
+    (record { moved = begins fits root; exactly = exactly_refl root; frames = tt; turns = omega (arith, top_paid root) })
 
 pub loop_moves : (fits : Tree → Bool) (root : Tree) (fs gs : List Frame) (t u : Tree) (n : ℕ) → IsLoop fits root fs t n → IsMove fits fs t gs u
     → IsLoop fits root gs u (n + 1)

@@ -12,7 +12,7 @@ pub piece_read : (items room part : List ℕ) (at count : ℕ) → at + count �
 piece_read items room part at count h e =
     let l : length part ≡ count = rw e (simp (length-take, length-drop) (omega arith)) in
     rw (take_at part (drop count room) count l, e)
-        (sym (take-append-drop count (drop at items)) ∙ ap (λ l. take count (drop at items) ++ l) (drop-drop count at items))
+    (sym (take-append-drop count (drop at items)) ∙ ap (λ l. take count (drop at items) ++ l) (drop-drop count at items))
 
 -- some bytes that were taken, and then the first k of a piece, are k more
 pub takes_more : (a b c : Option (List ℕ)) (bs piece : List ℕ) (k : ℕ) → Consumes a b bs → Consumes b c (take k piece) → k ≤ length piece

@@ -23,7 +23,7 @@ number_of (c ∷ d ∷ cs) = if c == 48 then None else read_on 0 (c ∷ d ∷ cs
 abbrev pub word_command : List ℕ → Option Command
 word_command w =
     if bytes_eq w (codes "run") then Some (Run default_turns) else
-        (if bytes_eq w (codes "--help") then Some Help else (if bytes_eq w (codes "--version") then Some Version else None))
+    (if bytes_eq w (codes "--help") then Some Help else (if bytes_eq w (codes "--version") then Some Version else None))
 
 -- a command of a word and a number
 abbrev pub numbered_command : List ℕ → List ℕ → Option Command

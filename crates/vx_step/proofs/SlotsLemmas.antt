@@ -13,9 +13,12 @@ module _ (ty : DataType) (n : ℕ) (d : Data) (xs : List (Option Tree)) (i : ℕ
   slot_taken v s present well found empty =
       let here = subst (λ x. IsPresent i x) (sym e) present in
       let back : put i c (node ty n d (slots_of (set xs i None))) ≡ t = ap (node ty n d) (put_back xs i v c here found) ∙ e in
-      let root = subst IsWell (sym e) well in
-      (subst (λ x. put i c (node ty n d (slots_of (set xs i x))) ≡ t) (sym empty) back, subst (λ x. IsHole i (node ty n d (slots_of (set xs i x))))
-          (sym empty) (hole_after xs i here), subst IsNodeOf e root.0)
+      let root = subst IsWell (sym e) well in (
+        subst (λ x. put i c (node ty n d (slots_of (set xs i x))) ≡ t) (sym empty) back,
+        subst (λ x. IsHole i (node ty n d (slots_of (set xs i x))))
+            (sym empty) (hole_after xs i here),
+        subst IsNodeOf e root.0,
+      )
 
   pub slot_filled : node ty n d (slots_of (set xs i (Some c))) ≡ put i c t
   slot_filled = ap (node ty n d) (put_in xs i c) ∙ ap (put i c) e

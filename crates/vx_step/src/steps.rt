@@ -63,7 +63,9 @@ pub fn step(alloc: Global, array: &ArrayRef) -> VortexResult<ExecutionStep>
             };
             Ok(done(constant_canonicalize(alloc, constant)?))
         }
-        ArrayKind::Slice(child, start, stop) => match Canonical::try_from_array_ref(child.clone()?) {
+        ArrayKind::Slice(child, start, stop) => match Canonical::try_from_array_ref(
+            child.clone()?,
+        ) {
             Ok(column) => Ok(done(slice_canonical(alloc, &column, start..stop)?)),
             Err(_) => Ok(ExecutionStep::ExecuteSlot(0, SlotTarget::Canonical)),
         },

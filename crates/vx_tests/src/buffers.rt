@@ -4,7 +4,8 @@ ghost use Rattle.vx_mask.specs.Operands.{HasBits};
 use std::alloc::{AllocError, Global};
 use std::fmt::Debug;
 use vx_mask::{
-    BitBuffer, BitBuilder, BitEq, BitGt, BitGte, BitLt, BitLte, BitNotEq, BitOperand, BitOperation, Buffer,
+    BitBuffer, BitBuilder, BitEq, BitGt, BitGte, BitLt, BitLte, BitNotEq, BitOperand, BitOperation,
+    Buffer,
 };
 
 fn is_printed_as<T: Debug>(alloc: Global, value: &T, text: &str) -> bool {
@@ -118,9 +119,11 @@ fn compare(alloc: Global) -> Result<bool, AllocError> {
         return Ok(false);
     }
     let bits = BitOperand::Bits(&lhs);
-    Ok(are_compared(alloc, bits, BitOperand::Bits(&rhs))
-        && are_compared_to_one_bit(alloc, bits)
-        && are_words(lhs.negate(alloc), 0xb6db6db6db6db6db, 0xdb6db6db6db6db6d))
+    Ok(
+        are_compared(alloc, bits, BitOperand::Bits(&rhs))
+            && are_compared_to_one_bit(alloc, bits)
+            && are_words(lhs.negate(alloc), 0xb6db6db6db6db6db, 0xdb6db6db6db6db6d),
+    )
 }
 
 #[test]

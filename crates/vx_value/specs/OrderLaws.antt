@@ -59,9 +59,10 @@ same_value_Decides v w =
 pub same_scalar_Decides : (s t : Typed) → Decides (same_scalar s t) (s ≡ t)
 same_scalar_Decides s t =
     let types = same_type_Decides s.of_type t.of_type in
-    let values = same_value_Decides s.value t.value in
-    (λ h i. record { of_type = types.0 (first_so _ _ h) i; value = values.0 (second_so _ _ h) i },
-    λ e i. types.1 (ap (λ u. u.of_type) e) i && values.1 (ap (λ u. u.value) e) i)
+    let values = same_value_Decides s.value t.value in (
+      λ h i. record { of_type = types.0 (first_so _ _ h) i; value = values.0 (second_so _ _ h) i },
+      λ e i. types.1 (ap (λ u. u.of_type) e) i && values.1 (ap (λ u. u.value) e) i,
+    )
 
 -- values that are equal or don't compare
 abbrev level : {K : Type 0} → (K → K → Bool) → K → K → Option Ordering

@@ -18,5 +18,5 @@ returns-in_ok-put-in-Some-clause-ok g c =
     let gs = c.pop.new.self.items in
     let frame = c.in-Some.field-0 in
     let reached : is_reached g.M.Matcher.fits fs c.args.current ≡ true = sym
-        (c.is_reached.ensures ∙ ap (λ x. is_reached g.M.Matcher.fits x c.args.current) c.deref.ensures.value) ∙ c.if-is_reached.true in
+    (c.is_reached.ensures ∙ ap (λ x. is_reached g.M.Matcher.fits x c.args.current) c.deref.ensures.value) ∙ c.if-is_reached.true in
     move_pop g.M.Matcher.fits fs gs frame c.args.current c.in_ok-put-in-Some.field-0 reached c.in-Some.ensures.items c.requires c.in_ok-put-in-Some.ensures

@@ -10,9 +10,11 @@ trees_of-tree_of-requires t c =
     (let l = item_less c.args.list.now.items c.loop-value.value-index c.value-item.result h e in let d = c.decreases in omega arith, tt)
 
 pub children-trees_of-requires : goal.children-trees_of-requires
-children-trees_of-requires t c =
-    (let l = list_less c.text.result.now (view c.args.value.now) (items_view c.in-Some.list.now.items) c.in-Some.ensures in let d = c.decreases in
-    omega arith, tt)
+children-trees_of-requires t c = (
+  let l = list_less c.text.result.now (view c.args.value.now) (items_view c.in-Some.list.now.items) c.in-Some.ensures in let d = c.decreases in
+      omega arith,
+  tt,
+)
 
 pub child-tree_of-requires : goal.child-tree_of-requires
 child-tree_of-requires t c =

@@ -15,7 +15,7 @@ apply_fn-requires c =
     let ts = map columnar_tree c.in_ok-columns-in-None.columns.items in
     let call = may_call f c.args.array.now (slots_of c.args.slots.now) ts c.requires.shape c.requires.well c.in_ok-columns-in-None.ensures in
     subst (λ (xs : List Columnar). IsCall f (map columnar_tree xs) c.len.result) (sym c.as_slice.ensures.value)
-        (subst (λ n. IsCall f ts n) (sym c.len.ensures) call)
+    (subst (λ n. IsCall f ts n) (sym c.len.ensures) call)
 
 pub returns-in_ok-column-in-None-clause-ok : goal.returns-in_ok-column-in-None-clause-ok
 returns-in_ok-column-in-None-clause-ok c =
@@ -23,20 +23,20 @@ returns-in_ok-column-in-None-clause-ok c =
     let ts = map columnar_tree c.in_ok-columns-in-None.columns.items in
     let u = columnar_tree c.in_ok-column-in-None.column in
     let listed =
-        subst (λ (xs : List Columnar). IsApplied f (map columnar_tree xs) c.len.result u) c.as_slice.ensures.value c.in_ok-column-in-None.ensures.ok in
+    subst (λ (xs : List Columnar). IsApplied f (map columnar_tree xs) c.len.result u) c.as_slice.ensures.value c.in_ok-column-in-None.ensures.ok in
     let applied = subst (λ n. IsApplied f ts n u) c.len.ensures listed in
     let well : IsWell u = subst IsWell c.as_array.ensures.of c.well.ensures.formed in
     subst (λ x. IsDone c.args.array.now x) (sym c.into_array.ensures)
-        (applied_done f c.args.array.now (slots_of c.args.slots.now) ts c.requires.shape c.requires.well c.in_ok-columns-in-None.ensures
-        c.in-None.ensures u applied well c.as_array.ensures.columnar)
+    (applied_done f c.args.array.now (slots_of c.args.slots.now) ts c.requires.shape c.requires.well c.in_ok-columns-in-None.ensures
+    c.in-None.ensures u applied well c.as_array.ensures.columnar)
 
 pub returns-in_err-column-in-None-clause-err : goal.returns-in_err-column-in-None-clause-err
 returns-in_err-column-in-None-clause-err c =
     let f = c.args.scalar_fn.now in
     let ts = map columnar_tree c.in_ok-columns-in-None.columns.items in
     let stopped : (e : VortexError) → IsUnapplied f (map columnar_tree c.as_slice.result.now) c.len.result e → IsStopped c.args.array.now e = λ e h.
-        unapplied_stopped f c.args.array.now (slots_of c.args.slots.now) ts c.requires.shape c.requires.well c.in_ok-columns-in-None.ensures e
-        (subst (λ n. IsUnapplied f ts n e) c.len.ensures
-        (subst (λ (xs : List Columnar). IsUnapplied f (map columnar_tree xs) c.len.result e) c.as_slice.ensures.value h)) in
+    unapplied_stopped f c.args.array.now (slots_of c.args.slots.now) ts c.requires.shape c.requires.well c.in_ok-columns-in-None.ensures e
+    (subst (λ n. IsUnapplied f ts n e) c.len.ensures
+    (subst (λ (xs : List Columnar). IsUnapplied f (map columnar_tree xs) c.len.result e) c.as_slice.ensures.value h)) in
     let here : IsStopped c.args.array.now c.in_err-column-in-None.field-0.0 = stopped _ c.in_err-column-in-None.ensures.err in
     search rules

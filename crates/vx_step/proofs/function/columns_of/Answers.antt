@@ -14,4 +14,4 @@ loop-slot-preserved c =
     let here = subst HoldsColumn (sym c.slot-item.is) (holds_at c.args.slots.now c.loop-slot.slot-index c.slot-item.result c.requires c.loop-slot-test.true) in
     rw (take_more c.args.slots.now c.loop-slot.slot-index c.slot-item.result c.loop-slot-test.true, ← c.slot-item.is)
     (columns_more (take c.loop-slot.slot-index c.args.slots.now) c.slot-item.result (map columnar_tree c.loop-slot.columns.items)
-        (map columnar_tree c.push_column.new.columns.items) c.loop-slot.invariant here c.in_ok-push_column.ensures)
+    (map columnar_tree c.push_column.new.columns.items) c.loop-slot.invariant here c.in_ok-push_column.ensures)

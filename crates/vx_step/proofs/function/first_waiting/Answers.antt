@@ -16,5 +16,5 @@ loop-index-preserved c =
     let settled : waits slot ≡ false = search rules in
     rw (take_more c.args.slots.now c.loop-index.index slot c.loop-index-test.true, ← c.index-slots-index.is)
     (settled_more c.args.slots.now
-        (take c.loop-index.index c.args.slots.now) c.loop-index.index slot c.requires c.loop-index-test.true c.index-slots-index.is c.loop-index.invariant
-            settled)
+    (take c.loop-index.index c.args.slots.now) c.loop-index.index slot c.requires c.loop-index-test.true c.index-slots-index.is c.loop-index.invariant
+    settled)

@@ -16,11 +16,11 @@ pub unreachable-requires : goal.unreachable-requires
 unreachable-requires c =
     let n = c.in_ok-node.node in
     present_some n.slots.items c.args.slot c.index_mut.result.now (subst (λ x. IsPresent c.args.slot x) (sym c.in_ok-node.ensures) c.requires)
-        (sym c.index_mut.ensures.value ∙ sym c.take-taken.ensures.value ∙ c.in_default.is)
+    (sym c.index_mut.ensures.value ∙ sym c.take-taken.ensures.value ∙ c.in_default.is)
 
 pub returns : goal.returns
 returns c =
     let n = c.in_ok-node.node in
     slot_taken (type_of n.dtype) n.len
-        (data_of n.encoding) n.slots.items c.args.slot c.in-Some.child c.args.array c.in_ok-node.ensures c.index_mut.result.now c.take-taken.new.self
-            c.requires c.well.ensures.formed (sym c.index_mut.ensures.value ∙ sym c.take-taken.ensures.value ∙ c.in-Some.is) c.take-taken.ensures.after
+    (data_of n.encoding) n.slots.items c.args.slot c.in-Some.child c.args.array c.in_ok-node.ensures c.index_mut.result.now c.take-taken.new.self
+    c.requires c.well.ensures.formed (sym c.index_mut.ensures.value ∙ sym c.take-taken.ensures.value ∙ c.in-Some.is) c.take-taken.ensures.after

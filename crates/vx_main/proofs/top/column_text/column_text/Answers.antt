@@ -9,7 +9,7 @@ loop-index-init c = shows_none _ _ (string_bytes c.reserve.new.self) (c.in_ok-re
 pub loop-index-preserved : goal.loop-index-preserved
 loop-index-preserved c =
     shows_more _ _ (rows c.args.array.now) c.loop-index.index c.in_ok-row_of.field-0.value
-        (string_bytes c.loop-index.text) _ c.loop-index.invariant c.in_ok-row_of.ensures.ok
+    (string_bytes c.loop-index.text) _ c.loop-index.invariant c.in_ok-row_of.ensures.ok
     (c.in_ok-push_str.ensures.bytes ∙ ap (λ l. l ++ 10 ∷ []) c.in_ok-push_row.ensures)
 
 pub returns-clause-ok : goal.returns-clause-ok

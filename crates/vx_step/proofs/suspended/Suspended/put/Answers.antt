@@ -18,11 +18,11 @@ pub into_array-requires : goal.into_array-requires
 into_array-requires c =
     let n = c.self.inside.node in
     subst IsNodeOf (sym (slot_filled (type_of n.dtype) n.len
-        (data_of n.encoding) n.slots.items c.args.slot c.args.child c.args.self c.self.view_is)) c.requires.fits
+    (data_of n.encoding) n.slots.items c.args.slot c.args.child c.args.self c.self.view_is)) c.requires.fits
 
 pub returns : goal.returns
 returns c =
     let n = c.self.inside.node in
     IfOk-weaker c.into_array.result _ (λ t. t ≡ put c.args.slot c.args.child c.args.self)
-        (λ t e. e ∙ slot_filled (type_of n.dtype) n.len
-        (data_of n.encoding) n.slots.items c.args.slot c.args.child c.args.self c.self.view_is) c.into_array.ensures
+    (λ t e. e ∙ slot_filled (type_of n.dtype) n.len
+    (data_of n.encoding) n.slots.items c.args.slot c.args.child c.args.self c.self.view_is) c.into_array.ensures

@@ -10,7 +10,7 @@ returns-clause-bytes c =
     let within : c.self.inside.at + c.min-count.result ≤ length c.self.inside.bytes.items = omega arith in
     let told : c.args.self.now.bytes ≡ drop c.self.inside.at c.self.inside.bytes.items = cc in
     let all : 0 < length (c.copy_from_slice.new.self ++ drop c.min-count.result c.args.room.now) → c.min-count.result ≡ 0
-        → length c.self.inside.bytes.items ≤ c.self.inside.at + c.min-count.result = λ some none.
+    → length c.self.inside.bytes.items ≤ c.self.inside.at + c.min-count.result = λ some none.
     let room = simp (length-append, length-drop) at some in
     let least = simp (length-take, length-drop) at c.min.ensures in
     omega arith in (
