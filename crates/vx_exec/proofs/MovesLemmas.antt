@@ -11,7 +11,7 @@ use Rattle.vx_tree.proofs.ColumnsLemmas.{canonical_columnar}
 use Rattle.vx_step.specs.Turns.{data_meets, meets, target_of, top}
 use Rattle.vx_exec.specs.Frames.{filled, IsFrame, AreFrames, frames_top}
 use Rattle.vx_step.specs.Steps.{Awaits, AwaitsAt, IsDone}
-use Rattle.vx_exec.specs.Moves.{IsPop, IsPush, IsStepped, IsOneMove, IsMove, is_awaited, is_reached, Reaches, GoesOn, IsExecuted}
+use Rattle.vx_exec.specs.Moves.{IsOneMove, IsMove, is_awaited, is_reached, Reaches, GoesOn, IsExecuted}
 use Rattle.vx_step.specs.declared.steps.SlotTarget.{SlotTarget}
 use Rattle.vx_step.specs.declared.steps.SlotTarget.TheVariants.{Canonical, Columnar}
 use Rattle.vx_exec.specs.declared.turn.Frame.{Frame}

@@ -1,5 +1,5 @@
 -- The text of the rows so far.
-use Rattle.std.proofs.Common.{◌≡◌, ◌⊎◌, ℕ, ◌+◌, ◌<◌, ◌≤◌, List, [], ◌∷◌, ◌++◌, length, zero, suc, add-one, subst, take, map, slice_get, Some, refl, sym, ◌∙◌, ap, append_assoc, arith, flat_map, inl, inr, replicate, true}
+use Rattle.std.proofs.Common.{◌≡◌, ◌⊎◌, ℕ, ◌+◌, ◌<◌, ◌≤◌, List, [], ◌∷◌, ◌++◌, length, zero, suc, add-one, subst, take, map, slice_get, Some, refl, sym, ◌∙◌, ap, append_assoc, arith, flat_map, inl, inr}
 use Rattle.std.proofs.lemmas.Grind.{common_steps, flat_map-append}
 use Rattle.vx_value.specs.Types.{DataType}
 use Rattle.vx_value.specs.Values.{Value}

@@ -1,5 +1,5 @@
 -- The column that a node steps to, and why a function has none.
-use Rattle.std.proofs.Common.{◌≡◌, inl, inr, ℕ, ◌<◌, ◌≤◌, ◌&&◌, nat_lt, List, [], ◌∷◌, map, Bool, true, false, Some, None, refl, sym, ◌∙◌, ap, subst, arith}
+use Rattle.std.proofs.Common.{◌≡◌, inl, inr, ℕ, ◌<◌, ◌&&◌, nat_lt, List, [], ◌∷◌, map, true, false, Some, refl, sym, ◌∙◌, ap, subst, arith}
 use Rattle.vx_value.specs.Types.{DataType}
 use Rattle.vx_value.specs.declared.error.VortexError.{VortexError}
 use Rattle.vx_fn.specs.ReturnTypes.{return_type}
