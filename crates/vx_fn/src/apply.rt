@@ -28,7 +28,7 @@ pub fn apply_row(function: &ScalarFnRef, arguments: &[Scalar]) -> VortexResult<S
 {
     match (function, arguments) {
         (ScalarFnRef::Binary(operator), [lhs, rhs]) => operate(*operator, lhs, rhs),
-        (ScalarFnRef::Not, [input]) => negate(input),
+        (ScalarFnRef::Not, [input]) => Ok(negate(input)),
         _ => unreachable!(),
     }
 }
@@ -45,7 +45,7 @@ fn operate(operator: Operator, lhs: &Scalar, rhs: &Scalar) -> VortexResult<Scala
 {
     let operands = (lhs.kind(), rhs.kind());
     if operator.is_comparison() {
-        return compare(operator, lhs, rhs);
+        return Ok(compare(operator, lhs, rhs));
     }
     match operands {
         (ScalarKind::Primitive(x, ptype, _), ScalarKind::Primitive(y, _, _)) => {
@@ -56,28 +56,27 @@ fn operate(operator: Operator, lhs: &Scalar, rhs: &Scalar) -> VortexResult<Scala
 }
 
 /// Compares two values of one type.
-fn compare(operator: Operator, lhs: &Scalar, rhs: &Scalar) -> VortexResult<Scalar>
+fn compare(operator: Operator, lhs: &Scalar, rhs: &Scalar) -> Scalar
     requires { same_type lhs.now.of_type rhs.now.of_type ≡ true }
-    ensures { result ≡ Ok (record {
+    ensures { result ≡ record {
       of_type = bool Nullability.NonNullable;
       value = boolean (holds operator (value_cmp lhs.now.value rhs.now.value));
-    }) }
+    } }
 {
     match lhs.partial_cmp(rhs) {
-        Some(ordering) => Ok(Scalar::bool(holds(operator, ordering), Nullability::NonNullable)),
+        Some(ordering) => Scalar::bool(holds(operator, ordering), Nullability::NonNullable),
         None => unreachable!(),
     }
 }
 
 /// Negates a boolean.
-fn negate(input: &Scalar) -> VortexResult<Scalar>
+fn negate(input: &Scalar) -> Scalar
     requires { IsSome (return_type Not (input.now.of_type ∷ [])) }
-    ensures typed { IfOk result (λ s. return_type Not (input.now.of_type ∷ []) ≡ Some s.of_type) }
-    ensures ok { IfOk result (λ s. value_of Not s.of_type (input.now.value ∷ []) ≡ value s.value) }
-    ensures fault { IfErr result (λ _. ⊥) }
+    ensures typed { return_type Not (input.now.of_type ∷ []) ≡ Some result.of_type }
+    ensures value { value_of Not result.of_type (input.now.value ∷ []) ≡ value result.value }
 {
     match input.kind() {
-        ScalarKind::Bool(value, _) => Ok(Scalar::bool(!value, Nullability::NonNullable)),
+        ScalarKind::Bool(value, _) => Scalar::bool(!value, Nullability::NonNullable),
         _ => unreachable!(),
     }
 }
