@@ -90,3 +90,6 @@ module _ (f : ScalarFnRef) (ts : List Tree) (n : ℕ) (ss : Slots) (filled : ss 
     call_is_node ty long row =
         let present : all_present (shapes ss) ≡ true = ap (λ x. all_present (shapes x)) filled ∙ filled_present ts in
         (tys, shapes_of_types n (shapes ss) present (unless_none _ _ long) ∙ ap (map (λ s. Some (shape s n))) (sym typed), row)
+
+-- what a call's constructor needs
+pub ruleset calls = (call_count_refused, call_lengths_refused, call_row_refused, call_taken, call_made, call_is_node)

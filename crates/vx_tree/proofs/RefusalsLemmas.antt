@@ -38,6 +38,9 @@ later_refused x y e h k = ap (λ z. first_of_both z y) h ∙ k
 pub none_refused : (x y : Option VortexError) → x ≡ None → y ≡ None → first_of_both x y ≡ None
 none_refused x y h k = ap (λ z. first_of_both z y) h ∙ k
 
+-- refusals in turn
+pub ruleset in_turn = (first_refused, later_refused, none_refused)
+
 first_none : (x y : Option VortexError) → first_of_both x y ≡ None → x ≡ None
 first_none None y h = refl
 first_none (Some e) y h = absurd (cc)
@@ -287,6 +290,9 @@ true_is_false h = absurd (cc)
 
 pub of_another_type : (s t : DataType) → same_type s t ≡ false → ¬ (s ≡ t)
 of_another_type s t h e = true_is_false (sym ((same_type_Decides s t).1 e) ∙ h)
+
+-- what the constructor of a column of integers compares
+pub ruleset compared = (of_that_type, of_another_type, no_slots_there)
 
 -- ---- the parts that the constructors make
 

@@ -77,7 +77,7 @@ impl VTable for Primitive {
 impl PrimitiveArray {
     /// Makes the column of `values`. `InvalidArgument` with `BadType` exactly if `dtype` isn't the non-nullable type of the
     /// values.
-    #[tactic(auto, using(crate::proofs::RefusalsLemmas::of_that_type, crate::proofs::RefusalsLemmas::of_another_type, crate::proofs::RefusalsLemmas::no_slots_there))]
+    #[tactic(auto, using(crate::proofs::RefusalsLemmas::compared))]
     pub fn try_new(
         alloc: Global,
         dtype: DType,

@@ -86,7 +86,7 @@ impl VTable for ScalarFn {
         Encoding::ScalarFn(payload)
     }
 
-    #[tactic(auto, using(crate::proofs::RefusalsLemmas::first_refused, crate::proofs::RefusalsLemmas::later_refused, crate::proofs::RefusalsLemmas::none_refused))]
+    #[tactic(auto, using(crate::proofs::RefusalsLemmas::in_turn))]
     fn validate(alloc: Global, parts: &ArrayParts<ScalarFn>) -> VortexResult<()> {
         let function = &parts.payload.scalar_fn;
         check_slots(function, &parts.slots)?;
@@ -200,7 +200,7 @@ fn push_type(types: &mut Vec<DType>, slot: &Option<ArrayRef>) -> Result<(), Allo
 }
 
 /// Checks that `tag` is the function's id, and that `function` gives `dtype` on arguments of the slots' types.
-#[tactic(auto, using(crate::proofs::RefusalsLemmas::first_refused, crate::proofs::RefusalsLemmas::later_refused, crate::proofs::RefusalsLemmas::none_refused))]
+#[tactic(auto, using(crate::proofs::RefusalsLemmas::in_turn))]
 fn check_types(
     alloc: Global,
     tag: ArrayId,
@@ -268,7 +268,7 @@ impl ScalarFnArray {
     ///
     /// The first condition that fails gives the error: `InvalidArgument` with `Arity` if the function takes another number
     /// of arguments, `ChildLen` if a child doesn't have `len` rows, and `NoRow` if the function takes no such types.
-    #[tactic(auto, using(crate::proofs::CallsLemmas::call_count_refused, crate::proofs::CallsLemmas::call_lengths_refused, crate::proofs::CallsLemmas::call_row_refused, crate::proofs::CallsLemmas::call_taken, crate::proofs::CallsLemmas::call_made, crate::proofs::CallsLemmas::call_is_node))]
+    #[tactic(auto, using(crate::proofs::CallsLemmas::calls))]
     pub fn try_new_with_len(
         alloc: Global,
         scalar_fn: ScalarFnRef,
