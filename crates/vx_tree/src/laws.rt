@@ -3,7 +3,7 @@
 ghost use Rattle.std.specs.Prelude.{◌≡◌, ◌↔◌, ◌+◌, ◌*◌, ◌<◌, ◌≤◌, ℕ, List, Option, None, true, false};
 ghost use Rattle.vx_value.specs.Types.{DataType};
 ghost use Rattle.vx_value.specs.Typed.{Typed};
-ghost use Rattle.vx_tree.specs.Tree.{Tree, Slots, Data, id_of, node, function, column, constant_of, slice_of, datum, is_constant, is_canonical, is_columnar};
+ghost use Rattle.vx_tree.specs.Tree.{Tree, Slots, Data, id_of, node, constant, slice, function, column, slot, no_slots, datum, is_constant, is_canonical, is_columnar};
 ghost use Rattle.vx_tree.specs.Well.{Shape, IsNode, IsWell};
 ghost use Rattle.vx_tree.specs.Refusals.{refusal};
 ghost use Rattle.vx_tree.specs.Slots.{put};
@@ -28,12 +28,12 @@ pub fn keeping_laws()
 
 /// States the bound on turns, encoding by encoding. (own)
 pub fn execution_bounds()
-    ensures constants { (v : Typed) (n : ℕ) → cost (constant_of v n) ≡ 2 }
-    ensures constant_reach { (v : Typed) (n : ℕ) → reach (constant_of v n) ≡ 1 }
+    ensures constants { (ty : DataType) (n : ℕ) (v : Typed) → cost (node ty n (constant v) no_slots) ≡ 2 }
+    ensures constant_reach { (ty : DataType) (n : ℕ) (v : Typed) → reach (node ty n (constant v) no_slots) ≡ 1 }
     ensures columns { (ty : DataType) (n : ℕ) (d : Data) → is_canonical d ≡ true → cost (column ty n d None) ≡ 1 }
     ensures column_reach { (ty : DataType) (n : ℕ) (d : Data) → is_canonical d ≡ true → reach (column ty n d None) ≡ 1 }
-    ensures slices { (a b : ℕ) (c : Tree) → cost (slice_of a b c) ≡ cost c + 3 * reach c }
-    ensures slice_reach { (a b : ℕ) (c : Tree) → reach (slice_of a b c) ≡ reach c }
+    ensures slices { (ty : DataType) (n a b : ℕ) (c : Tree) → cost (node ty n (slice a b) (slot c no_slots)) ≡ cost c + 3 * reach c }
+    ensures slice_reach { (ty : DataType) (n a b : ℕ) (c : Tree) → reach (node ty n (slice a b) (slot c no_slots)) ≡ reach c }
     ensures functions { (ty : DataType) (n : ℕ) (f : ScalarFnOf) (ss : Slots) → cost (node ty n (function f) ss) ≡ 3 + slots_sum (λ c. 1 + cost c) ss }
     ensures function_reach { (ty : DataType) (n : ℕ) (f : ScalarFnOf) (ss : Slots) → reach (node ty n (function f) ss) ≡ 1 + slots_sum reach ss }
     ensures positive { (t : Tree) → 0 < cost t }
