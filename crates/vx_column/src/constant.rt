@@ -47,6 +47,7 @@ fn constant_of(column: &Columnar) -> Result<Option<Scalar>, AllocError>
 }
 
 /// Applies `function` to `scalars` once, and returns a constant of `len` rows. `Fault` if there is no value.
+#[tactic(auto, using(vx_fn::proofs::ReturnTypesLemmas::never_null))]
 pub(crate) fn apply_constants(
     alloc: Global,
     function: &ScalarFnRef,
