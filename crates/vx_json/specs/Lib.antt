@@ -9,6 +9,3 @@ pub mod SpelledTypes
 pub mod SpelledValues
 pub mod Spelled
 pub mod RowText
-pub mod Limits
-pub mod Causes
-pub mod Streams

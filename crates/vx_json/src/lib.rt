@@ -5,16 +5,11 @@ mod fields;
 mod functions;
 mod key;
 mod rows;
-mod stream;
 mod tree;
 mod types;
 mod values;
 
 pub use rows::{push_row, row_text};
-pub use stream::{
-    Failed, INPUT_LIMIT, MemSink, MemSource, PlainSink, PlainSource, ReadError, Sink, Source,
-    StdinSource, StdoutSink, read_all, write_all,
-};
 pub use tree::{tree_of, tree_of_bytes};
 use vx_value::{ArgKind, VortexError};
 

@@ -2,9 +2,10 @@ use std::alloc::Global;
 use std::io;
 use std::io::{Read, Write};
 use std::test::Fail;
-use vx_json::{
+use vx_json::row_text;
+use vx_stream::{
     Failed, MemSink, MemSource, PlainSink, PlainSource, ReadError, Sink, Source, StdinSource,
-    StdoutSink, read_all, row_text, write_all,
+    StdoutSink, read_all, write_all,
 };
 use vx_value::{DType, Nullability, Scalar};
 

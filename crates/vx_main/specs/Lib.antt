@@ -6,9 +6,9 @@ pub use Rattle.vx_tree.specs.Cost
 pub use Rattle.vx_tree.specs.Columns
 pub use Rattle.vx_json.specs.RowText
 pub use Rattle.vx_json.specs.Spelled
-pub use Rattle.vx_json.specs.Limits
-pub use Rattle.vx_json.specs.Causes
-pub use Rattle.vx_json.specs.Streams
+pub use Rattle.vx_stream.specs.Limits
+pub use Rattle.vx_stream.specs.Causes
+pub use Rattle.vx_stream.specs.Streams
 pub use Rattle.vx_exec.specs.Moves
 pub mod Commands
 pub mod Statuses

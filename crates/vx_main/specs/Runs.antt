@@ -6,10 +6,10 @@ use Rattle.vx_tree.specs.Cells.{rows, IsClean}
 use Rattle.vx_tree.specs.Cost.{cost}
 use Rattle.vx_json.specs.Spelled.{Spells, SpellsNone}
 use Rattle.vx_exec.specs.Moves.{IsExecuted, GoesOn}
-use Rattle.vx_json.specs.Limits.{input_limit}
+use Rattle.vx_stream.specs.Limits.{input_limit}
 use Rattle.vx_tree.specs.Columns.{IsLawful}
 use Rattle.vx_main.specs.Output.{Shows}
-use Rattle.vx_json.specs.Streams.{AppendsPrefix}
+use Rattle.vx_stream.specs.Streams.{AppendsPrefix}
 use Rattle.vx_main.specs.declared.top.words.Command.{Command}
 use Rattle.vx_main.specs.declared.top.words.Command.TheVariants.{Run, Help, Version}
 use Rattle.vx_main.specs.declared.top.words.TheConstants.{HELP, VERSION}

@@ -11,7 +11,7 @@ mod top;
 use std::process::ExitCode;
 use std::{env, io};
 pub use top::{Command, HELP, Status, VERSION, VortexSession, run, status_text};
-pub use vx_json::{
+pub use vx_stream::{
     Failed, INPUT_LIMIT, MemSink, MemSource, PlainSink, PlainSource, Sink, Source, StdinSource,
     StdoutSink,
 };

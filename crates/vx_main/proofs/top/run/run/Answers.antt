@@ -1,4 +1,4 @@
-use Rattle.vx_json.proofs.StreamsLemmas.{taken_to_the_end}
+use Rattle.vx_stream.proofs.StreamsLemmas.{taken_to_the_end}
 use Rattle.vx_main.proofs.top.run.run.Goals as goal
 
 pub returns-in-Ok-answer-clause-read_whole : goal.returns-in-Ok-answer-clause-read_whole

@@ -3,7 +3,7 @@
 ghost use Rattle.std.specs.Prelude.{ℕ, ◌<◌, List, length, Option, IfOk};
 ghost use Rattle.std.specs.Io.{ReadsAtMost, WritesAtMost};
 ghost use Rattle.std.specs.Io.KnownBytes.{ReadConsumes, WriteAppends};
-ghost use Rattle.vx_json.specs.Causes.{HasCause};
+ghost use Rattle.vx_stream.specs.Causes.{HasCause};
 
 /// The error of a read or write that failed and moved no byte. (own)
 #[derive(Clone, Copy, Debug, PartialEq, Eq)]

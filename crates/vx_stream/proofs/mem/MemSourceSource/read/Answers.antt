@@ -1,8 +1,8 @@
 use Rattle.std.proofs.Common.{◌≡◌, ◌<◌, ◌≤◌, ◌++◌, ◌+◌, length, drop, take, ◌∙◌, arith, length-append, length-drop, length-take}
 use Rattle.std.proofs.lemmas.Grind.{common_steps}
 use Rattle.std.proofs.lemmas.List.{drop_all}
-use Rattle.vx_json.proofs.StreamsLemmas.{piece_read}
-use Rattle.vx_json.proofs.stream.mem.MemSourceSource.read.Goals as goal
+use Rattle.vx_stream.proofs.StreamsLemmas.{piece_read}
+use Rattle.vx_stream.proofs.mem.MemSourceSource.read.Goals as goal
 
 pub returns-clause-bytes : goal.returns-clause-bytes
 returns-clause-bytes c =

@@ -2,7 +2,7 @@
 
 ghost use Rattle.std.specs.Prelude.{◌≡◌, ℕ};
 
-use crate::stream::{Failed, Sink, Source};
+use crate::{Failed, Sink, Source};
 use std::io::{Read, Write};
 use std::marker::Model;
 
@@ -15,7 +15,7 @@ pub struct StdinSource<R: Read> {
 }
 
 impl<R: Read> Model for StdinSource<R> {
-    ghost use Rattle.vx_json.specs.Streams.{MayTell};
+    ghost use Rattle.vx_stream.specs.Streams.{MayTell};
 
     ghost Value = { MayTell };
 
@@ -56,7 +56,7 @@ pub struct StdoutSink<W: Write> {
 }
 
 impl<W: Write> Model for StdoutSink<W> {
-    ghost use Rattle.vx_json.specs.Streams.{MayTell};
+    ghost use Rattle.vx_stream.specs.Streams.{MayTell};
 
     ghost Value = { MayTell };
 

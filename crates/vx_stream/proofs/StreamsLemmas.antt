@@ -4,7 +4,7 @@ use Rattle.std.specs.Io.KnownBytes.{Appends, Consumes}
 use Rattle.std.proofs.KnownBytes.{Consumes-trans, Appends-trans}
 use Rattle.std.proofs.Math.Seq.{take-add}
 use Rattle.std.proofs.lemmas.List.{take_at, take-append-drop, drop-drop}
-use Rattle.vx_json.specs.Streams.{TakesAll, TakesSome}
+use Rattle.vx_stream.specs.Streams.{TakesAll, TakesSome}
 
 -- a piece of a list, written over the front of a buffer, is what the list loses
 pub piece_read : (items room part : List ℕ) (at count : ℕ) → at + count ≤ length items → part ≡ take count (drop at items)

@@ -1,7 +1,7 @@
 use Rattle.std.proofs.Common.{◌∙◌, arith, length-take, length-drop}
 use Rattle.std.proofs.lemmas.List.{take_rest}
-use Rattle.vx_json.proofs.StreamsLemmas.{appends_more}
-use Rattle.vx_json.proofs.stream.write.write_all.Goals as goal
+use Rattle.vx_stream.proofs.StreamsLemmas.{appends_more}
+use Rattle.vx_stream.proofs.write.write_all.Goals as goal
 
 pub loop-done-preserved : goal.loop-done-preserved
 loop-done-preserved g c =

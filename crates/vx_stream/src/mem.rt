@@ -2,7 +2,7 @@
 
 ghost use Rattle.std.specs.Prelude.{◌≡◌, ℕ, [], Some};
 
-use crate::stream::{Failed, Sink, Source};
+use crate::{Failed, Sink, Source};
 use std::alloc::Global;
 use std::marker::Model;
 
@@ -19,7 +19,7 @@ pub struct MemSource {
 
 impl Model for MemSource {
     ghost use Rattle.std.specs.Prelude.{◌≤◌, drop, length};
-    ghost use Rattle.vx_json.specs.Streams.{Told};
+    ghost use Rattle.vx_stream.specs.Streams.{Told};
 
     ghost Value = { Told };
 
@@ -76,7 +76,7 @@ pub struct MemSink {
 }
 
 impl Model for MemSink {
-    ghost use Rattle.vx_json.specs.Streams.{Told};
+    ghost use Rattle.vx_stream.specs.Streams.{Told};
 
     ghost Value = { Told };
 

@@ -1,4 +1,5 @@
 //! Streams of bytes that count their faults.
+#![tactic(auto)]
 
 mod mem;
 mod plain;

@@ -2,10 +2,10 @@
 
 ghost use Rattle.std.specs.Prelude.{OnOk, OnErr};
 ghost use Rattle.std.specs.Io.KnownBytes.{Appends};
-ghost use Rattle.vx_json.specs.Causes.{HasCause};
-ghost use Rattle.vx_json.specs.Streams.{AppendsPrefix};
+ghost use Rattle.vx_stream.specs.Causes.{HasCause};
+ghost use Rattle.vx_stream.specs.Streams.{AppendsPrefix};
 
-use crate::stream::{Failed, Sink};
+use crate::{Failed, Sink};
 
 /// Writes all of `bytes`, piece by piece. If a write fails, the bytes that `sink` took before stay.
 pub fn write_all<K: Sink>(sink: &mut K, bytes: &[u8]) -> Result<(), Failed>

@@ -1,11 +1,11 @@
 //! Reads a source to its end.
 
 ghost use Rattle.std.specs.Prelude.{◌≡◌, ◌≢◌, ◌≤◌, ◌<◌, ℕ, List, length, Some, Err, IsErr, IfOk, IsErrOf};
-ghost use Rattle.vx_json.specs.Limits.{input_limit};
-ghost use Rattle.vx_json.specs.Causes.{Rose};
-ghost use Rattle.vx_json.specs.Streams.{TakesAll, TakesSome};
+ghost use Rattle.vx_stream.specs.Limits.{input_limit};
+ghost use Rattle.vx_stream.specs.Causes.{Rose};
+ghost use Rattle.vx_stream.specs.Streams.{TakesAll, TakesSome};
 
-use crate::stream::{Failed, Source};
+use crate::{Failed, Source};
 use std::alloc::{AllocError, Global};
 
 /// The largest input, in bytes. (own)
@@ -25,7 +25,7 @@ pub enum ReadError {
 }
 
 impl From<AllocError> for ReadError {
-    ghost use Rattle.vx_json.specs.declared.stream.read.ReadError.TheVariants.{OutOfMemory};
+    ghost use Rattle.vx_stream.specs.declared.read.ReadError.TheVariants.{OutOfMemory};
 
     ghost from_gives = { λ _ e. e ≡ OutOfMemory };
 
@@ -35,7 +35,7 @@ impl From<AllocError> for ReadError {
 }
 
 impl From<Failed> for ReadError {
-    ghost use Rattle.vx_json.specs.declared.stream.read.ReadError.TheVariants.{Failed as ReadFailed};
+    ghost use Rattle.vx_stream.specs.declared.read.ReadError.TheVariants.{Failed as ReadFailed};
 
     ghost from_gives = { λ _ e. e ≡ ReadFailed };
 

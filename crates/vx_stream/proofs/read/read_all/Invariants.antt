@@ -1,7 +1,7 @@
 use Rattle.std.proofs.Common.{◌≡◌, ◌≤◌, ◌-◌, length, vec_len}
 use Rattle.std.specs.Io.KnownBytes.{Consumes}
-use Rattle.vx_json.specs.Limits.{input_limit}
-use Rattle.vx_json.proofs.stream.read.read_all.Given as goal
+use Rattle.vx_stream.specs.Limits.{input_limit}
+use Rattle.vx_stream.proofs.read.read_all.Given as goal
 
 abbrev pub invariant-loop-bytes : goal.invariant-loop-bytes
 invariant-loop-bytes g l = record {

@@ -1,7 +1,7 @@
 use Rattle.std.proofs.Common.{◌≡◌, ◌+◌, ◌≤◌, length, arith, subst}
-use Rattle.vx_json.specs.Streams.{TakesSome}
-use Rattle.vx_json.proofs.StreamsLemmas.{takes_more}
-use Rattle.vx_json.proofs.stream.read.read_all.Goals as goal
+use Rattle.vx_stream.specs.Streams.{TakesSome}
+use Rattle.vx_stream.proofs.StreamsLemmas.{takes_more}
+use Rattle.vx_stream.proofs.read.read_all.Goals as goal
 
 pub returns-then-count-len-clause-too_large : goal.returns-then-count-len-clause-too_large
 returns-then-count-len-clause-too_large g c n told =

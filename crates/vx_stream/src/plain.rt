@@ -2,7 +2,7 @@
 
 ghost use Rattle.std.specs.Prelude.{◌≡◌, ℕ, List, [], Some};
 
-use crate::stream::{Failed, Sink, Source};
+use crate::{Failed, Sink, Source};
 use std::alloc::Global;
 use std::marker::Model;
 
@@ -49,7 +49,7 @@ pub struct PlainSink {
 }
 
 impl Model for PlainSink {
-    ghost use Rattle.vx_json.specs.Streams.{Told};
+    ghost use Rattle.vx_stream.specs.Streams.{Told};
 
     ghost Value = { Told };
 
