@@ -1,3 +1,2 @@
-pub mod ArityLemmas
 pub mod ReturnTypesLemmas
-pub mod ApplyLemmas
+pub mod BinaryLemmas
