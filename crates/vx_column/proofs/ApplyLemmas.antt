@@ -1,5 +1,6 @@
 -- Division at a native type.
-use Rattle.std.proofs.Common.{◌≡◌, ◌≢◌, ◌↔◌, ℤ, zero, suc, pos, negsuc, Bool, if◌then◌else◌, true, false, Option, Some, None, MatchOption, int_div, inl, inr, refl, sym, ap, ◌∙◌, arith}
+use Rattle.std.proofs.Common.{◌≡◌, ◌≢◌, ◌↔◌, ℤ, zero, suc, pos, negsuc, Bool, if◌then◌else◌, true, false, Option, Some, None, MatchOption, int_div, inl}
+use Rattle.std.proofs.Common.{inr, refl, sym, ap, ◌∙◌, arith}
 use Rattle.std.specs.Ordering.{int_cmp, is_eq}
 use Rattle.std.proofs.lemmas.Bool.Decides.{nat_tests}
 use Rattle.std.proofs.lemmas.Int.{ints}
