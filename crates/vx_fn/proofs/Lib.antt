@@ -1,2 +1,3 @@
+pub mod MeaningsLemmas
 pub mod ReturnTypesLemmas
 pub mod BinaryLemmas

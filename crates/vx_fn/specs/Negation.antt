@@ -1,5 +1,5 @@
 -- The negation of a boolean.
-use Rattle.std.specs.Prelude.{◌≡◌, Option, Some, None, IfSome, codes, refl}
+use Rattle.std.specs.Prelude.{Option, Some, None, IfSome, codes, refl}
 use Rattle.std.proofs.Math.Bool.{not}
 use Rattle.vx_value.specs.Types.{DataType, bool}
 use Rattle.vx_value.specs.Values.{Value, boolean}

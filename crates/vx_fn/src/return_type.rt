@@ -40,7 +40,7 @@ fn type_in_row(function: &ScalarFnRef, arguments: &[DType]) -> Option<DType>
 }
 
 /// Returns `answer`, or `None` if null is one of the values of type `argument`.
-fn no_null_type(argument: &DType, answer: Option<DType>) -> Option<DType>
+pub(crate) fn no_null_type(argument: &DType, answer: Option<DType>) -> Option<DType>
     ensures { option_map type_of result ≡ no_null_type (type_of argument.now) (option_map type_of answer) }
 {
     if argument.is_nullable() { None } else { answer }
