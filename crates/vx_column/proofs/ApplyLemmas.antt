@@ -1,5 +1,6 @@
 -- Division at a native type.
-use Rattle.std.proofs.Common.{◌≡◌, ◌≢◌, ◌↔◌, ℤ, zero, suc, pos, negsuc, Bool, if◌then◌else◌, true, false, Option, Some, None, MatchOption, int_div, inl, inr, refl, sym, ap, ◌∙◌, arith}
+use Rattle.std.proofs.Common.{◌≡◌, ◌≢◌, ◌↔◌, ℤ, zero, suc, pos, negsuc, Bool, if◌then◌else◌, true, false, Option, Some, None, MatchOption, int_div, inl}
+use Rattle.std.proofs.Common.{inr, refl, sym, ap, ◌∙◌, arith}
 use Rattle.std.specs.Ordering.{int_cmp, is_eq}
 use Rattle.std.proofs.lemmas.Bool.Decides.{nat_tests}
 use Rattle.std.proofs.lemmas.Int.{ints}
@@ -8,7 +9,7 @@ use Rattle.vx_value.specs.Values.{integer}
 use Rattle.vx_value.specs.Cell.{value, fault}
 use Rattle.vx_value.specs.IsOf.{in_range}
 use Rattle.vx_value.specs.declared.dtype.PType.{PType}
-use Rattle.vx_fn.specs.Apply.{number, quotient}
+use Rattle.vx_fn.specs.Binary.{number, quotient}
 
 number_yes : (p : PType) (z : ℤ) → in_range p z ≡ true → number p z ≡ value (integer z)
 number_yes p z h = ap (λ b. if b then value (integer z) else fault) h

@@ -4,8 +4,8 @@ ghost use Rattle.std.specs.Prelude.{◌≡◌, ◌∷◌, [], map, IfOk, IfErr, 
 ghost use Rattle.std.specs.List.{range_with_len};
 ghost use Rattle.std.specs.Ordering.{bool_cmp};
 ghost use Rattle.vx_mask.specs.Operands.{bit_in, HasBits};
-ghost use Rattle.vx_fn.specs.Apply.{holds};
-ghost use Rattle.vx_fn.specs.ReturnTypes.{is_comparison, return_type};
+ghost use Rattle.vx_fn.specs.Binary.{holds, is_comparison};
+ghost use Rattle.vx_fn.specs.ReturnTypes.{return_type};
 ghost use Rattle.vx_fn.specs.declared.function.ScalarFnRef.TheVariants.{Binary, Not};
 ghost use Rattle.vx_tree.specs.Tree.{booleans};
 ghost use Rattle.vx_tree.specs.Columns.{canonical_tree};

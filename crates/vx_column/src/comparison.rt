@@ -2,8 +2,7 @@
 
 ghost use Rattle.std.specs.Prelude.{◌≡◌, ◌∷◌, [], true, IfOk, IfErr};
 ghost use Rattle.std.specs.Ordering.{int_cmp};
-ghost use Rattle.vx_fn.specs.Apply.{holds};
-ghost use Rattle.vx_fn.specs.ReturnTypes.{is_comparison};
+ghost use Rattle.vx_fn.specs.Binary.{holds, is_comparison};
 ghost use Rattle.vx_fn.specs.declared.function.Operator.{Operator as OperatorOf};
 ghost use Rattle.vx_fn.specs.declared.function.Operator.TheVariants.{Eq, NotEq, Gt, Gte, Lt, Lte};
 ghost use Rattle.vx_fn.specs.declared.function.ScalarFnRef.TheVariants.{Binary};

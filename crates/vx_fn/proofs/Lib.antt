@@ -1,3 +1,3 @@
-pub mod ArityLemmas
+pub mod MeaningsLemmas
 pub mod ReturnTypesLemmas
-pub mod ApplyLemmas
+pub mod BinaryLemmas

@@ -1,23 +1,25 @@
--- The functions: their ids, how many arguments they take, what these are called, and the code of a function.
-use Rattle.std.specs.Prelude.{ℕ, List, [], ◌∷◌, length, codes}
+-- The functions: what each is, their ids, how many arguments they take, what these are called, and the code of a function.
+use Rattle.std.specs.Prelude.{ℕ, List, length}
 use Rattle.std.specs.Coded.{Coded}
 use denote.Enum.Declared.{row}
 use Rattle.vx_value.specs.declared.id.Id.{Id}
-use Rattle.vx_value.specs.declared.id.Id.TheVariants as id
+use Rattle.vx_fn.specs.Meanings.{Meaning}
+use Rattle.vx_fn.specs.Binary.{binary}
+use Rattle.vx_fn.specs.Negation.{negation}
 use Rattle.vx_fn.specs.declared.function.ScalarFnRef.{ScalarFnRef}
 use Rattle.vx_fn.specs.declared.function.ScalarFnRef.TheVariants as function
 use Rattle.vx_fn.specs.contracts.function.ScalarFnRef.{the_type as the_function}
 
--- its id, and what its arguments are called, in their order: a line for each function
-abbrev pub signature : ScalarFnRef → Id × List (List ℕ)
-signature (function.Binary op) = (id.Binary, codes "lhs" ∷ codes "rhs" ∷ [])
-signature function.Not = (id.Not, codes "input" ∷ [])
+-- what each is: a line for each function
+abbrev pub meaning : ScalarFnRef → Meaning
+meaning (function.Binary op) = binary op
+meaning function.Not = negation
 
 abbrev pub function_id : ScalarFnRef → Id
-function_id f = (signature f).0
+function_id f = (meaning f).id
 
 abbrev pub argument_names : ScalarFnRef → List (List ℕ)
-argument_names f = (signature f).1
+argument_names f = (meaning f).names
 
 -- how many arguments it takes: each has a name
 abbrev pub arity : ScalarFnRef → ℕ

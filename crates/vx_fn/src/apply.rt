@@ -6,7 +6,8 @@ ghost use Rattle.vx_value.specs.Values.{boolean};
 ghost use Rattle.vx_value.specs.Cell.{value, fault};
 ghost use Rattle.vx_value.specs.Order.{value_cmp};
 ghost use Rattle.vx_fn.specs.ReturnTypes.{return_type};
-ghost use Rattle.vx_fn.specs.Apply.{apply, value_of, calculated, holds, number, quotient};
+ghost use Rattle.vx_fn.specs.Apply.{apply, value_of};
+ghost use Rattle.vx_fn.specs.Binary.{calculated, holds, number, quotient};
 ghost use Rattle.vx_fn.specs.declared.function.ScalarFnRef.TheVariants.{Binary, Not};
 
 use crate::function::{Operator, ScalarFnRef};
@@ -34,7 +35,7 @@ pub fn apply_row(function: &ScalarFnRef, arguments: &[Scalar]) -> VortexResult<S
 }
 
 /// Applies `operator` to two arguments, whose types it must accept.
-#[tactic(auto, using(crate::proofs::ApplyLemmas::whole_values))]
+#[tactic(auto, using(crate::proofs::BinaryLemmas::whole_values))]
 fn operate(operator: Operator, lhs: &Scalar, rhs: &Scalar) -> VortexResult<Scalar>
     requires { IsSome (return_type (Binary operator) (lhs.now.of_type ∷ rhs.now.of_type ∷ [])) }
     ensures typed { IfOk result (λ s. return_type (Binary operator) (lhs.now.of_type ∷ rhs.now.of_type ∷ []) ≡ Some s.of_type) }

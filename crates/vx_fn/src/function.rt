@@ -2,7 +2,7 @@
 
 ghost use Rattle.std.specs.Prelude.{◌≡◌, ◌==◌, ℕ, map, option_map, slice_get};
 ghost use Rattle.vx_fn.specs.Functions.{function_id, arity, argument_names};
-ghost use Rattle.vx_fn.specs.ReturnTypes.{is_comparison};
+ghost use Rattle.vx_fn.specs.Binary.{is_comparison};
 
 use vx_value::Id;
 

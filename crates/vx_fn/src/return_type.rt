@@ -1,8 +1,12 @@
 //! The types of functions' results.
 
-ghost use Rattle.std.specs.Prelude.{◌≡◌, ◌⊎◌, map, IfOk, IfErr, Some, None, option_map};
+ghost use Rattle.std.specs.Prelude.{◌≡◌, map, IfOk, IfErr, Some, None, option_map, ◌∷◌, []};
 ghost use Rattle.vx_value.specs.View.{type_of};
-ghost use Rattle.vx_fn.specs.ReturnTypes.{return_type, no_null_type, binary_type, operator_type, not_type};
+ghost use Rattle.vx_fn.specs.ReturnTypes.{return_type};
+ghost use Rattle.vx_fn.specs.Meanings.{no_null_type};
+ghost use Rattle.vx_fn.specs.Binary.{binary_type, operator_type};
+ghost use Rattle.vx_fn.specs.Negation.{not_type};
+ghost use Rattle.vx_fn.specs.declared.function.ScalarFnRef.TheVariants.{Binary, Not};
 
 use crate::function::{Operator, ScalarFnRef};
 use vx_value::{ArgKind, DType, Nullability, VortexError, VortexResult};
@@ -29,22 +33,34 @@ fn type_in_row(function: &ScalarFnRef, arguments: &[DType]) -> Option<DType>
     ensures { option_map type_of result ≡ return_type function.now (map type_of arguments.now) }
 {
     match (function, arguments) {
-        (ScalarFnRef::Binary(operator), [lhs, rhs]) => {
-            no_null_type(lhs, no_null_type(rhs, binary_type(*operator, lhs, rhs)))
-        }
-        (ScalarFnRef::Not, [input]) => no_null_type(input, not_type(input)),
+        (ScalarFnRef::Binary(operator), [lhs, rhs]) => type_of_binary(*operator, lhs, rhs),
+        (ScalarFnRef::Not, [input]) => type_of_not(input),
         _ => None,
     }
 }
 
 /// Returns `answer`, or `None` if null is one of the values of type `argument`.
-fn no_null_type(argument: &DType, answer: Option<DType>) -> Option<DType>
+pub(crate) fn no_null_type(argument: &DType, answer: Option<DType>) -> Option<DType>
     ensures { option_map type_of result ≡ no_null_type (type_of argument.now) (option_map type_of answer) }
 {
     if argument.is_nullable() { None } else { answer }
 }
 
-/// Returns the type of an operator's result, or `None` if it doesn't accept the arguments.
+/// Returns the type of `Binary(operator)`, or `None` if it doesn't accept the arguments.
+fn type_of_binary(operator: Operator, lhs: &DType, rhs: &DType) -> Option<DType>
+    ensures { option_map type_of result ≡ return_type (Binary operator) (type_of lhs.now ∷ type_of rhs.now ∷ []) }
+{
+    no_null_type(lhs, no_null_type(rhs, binary_type(operator, lhs, rhs)))
+}
+
+/// Returns the type of `Not`, or `None` if it doesn't accept the argument.
+fn type_of_not(input: &DType) -> Option<DType>
+    ensures { option_map type_of result ≡ return_type Not (type_of input.now ∷ []) }
+{
+    no_null_type(input, not_type(input))
+}
+
+/// Returns the type of an operator's result on arguments that aren't null, or `None` if it doesn't accept them.
 fn binary_type(operator: Operator, lhs: &DType, rhs: &DType) -> Option<DType>
     ensures { option_map type_of result ≡ binary_type operator (type_of lhs.now) (type_of rhs.now) }
 {

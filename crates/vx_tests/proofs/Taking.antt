@@ -8,7 +8,7 @@ use Rattle.vx_value.specs.declared.dtype.Nullability.TheVariants.{NonNullable}
 use Rattle.vx_fn.specs.declared.function.Operator.{Operator}
 use Rattle.vx_fn.specs.declared.function.ScalarFnRef.TheVariants.{Binary}
 use Rattle.vx_fn.specs.ReturnTypes.{return_type}
-use Rattle.vx_fn.proofs.ReturnTypesLemmas.{of_one_type}
+use Rattle.vx_fn.proofs.BinaryLemmas.{of_one_type}
 use Rattle.vx_tree.proofs.ColumnsLemmas as columns
 
 of_numbers : (op : Operator) (p : PType) → IsSome (return_type (Binary op) (primitive p NonNullable ∷ primitive p NonNullable ∷ []))

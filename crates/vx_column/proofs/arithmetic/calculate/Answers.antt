@@ -3,7 +3,7 @@ use Rattle.std.specs.List.{range_with_len}
 use Rattle.vx_value.specs.Values.{integer}
 use Rattle.vx_value.specs.Cell.{value}
 use Rattle.vx_value.specs.declared.error.VortexError.TheVariants.{Fault}
-use Rattle.vx_fn.specs.Apply.{calculated}
+use Rattle.vx_fn.specs.Binary.{calculated}
 use Rattle.vx_fn.specs.declared.function.ScalarFnRef.TheVariants.{Binary}
 use Rattle.vx_tree.specs.Natives.{values_of, ptype_of}
 use Rattle.vx_column.specs.declared.argument.Argument.TheVariants.{Primitive}

@@ -1,7 +1,7 @@
 use Rattle.std.proofs.Common.{◌∷◌, [], refl}
 use Rattle.std.specs.Ordering.{bool_cmp}
 use Rattle.vx_mask.specs.Operands.{bit_in}
-use Rattle.vx_fn.specs.Apply.{holds}
+use Rattle.vx_fn.specs.Binary.{holds}
 use Rattle.vx_fn.specs.declared.function.ScalarFnRef.TheVariants.{Binary}
 use Rattle.vx_column.specs.declared.argument.Argument.TheVariants.{Bool}
 use Rattle.vx_column.proofs.ComputedLemmas.{bools_compared, bools_computed}

@@ -1,7 +1,7 @@
 use Rattle.std.proofs.Common.{◌≡◌, ◌∷◌, [], map, refl, ◌∙◌, arith}
 use Rattle.std.specs.List.{range_with_len}
 use Rattle.std.specs.Ordering.{int_cmp}
-use Rattle.vx_fn.specs.Apply.{holds}
+use Rattle.vx_fn.specs.Binary.{holds}
 use Rattle.vx_fn.specs.declared.function.ScalarFnRef.TheVariants.{Binary}
 use Rattle.vx_column.specs.Arguments.{integer_in}
 use Rattle.vx_column.specs.declared.argument.Argument.TheVariants.{Primitive}

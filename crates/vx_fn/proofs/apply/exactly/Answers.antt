@@ -1,6 +1,6 @@
 use Rattle.std.proofs.Common.{◌*ℤ◌}
 use Rattle.std.proofs.lemmas.Int.{to_z-of_z}
-use Rattle.vx_fn.proofs.ApplyLemmas.{by_fit}
+use Rattle.vx_fn.proofs.BinaryLemmas.{by_fit}
 use Rattle.vx_fn.proofs.apply.exactly.Goals as goal
 
 pub returns-in-Mul : goal.returns-in-Mul

@@ -1,5 +1,5 @@
 use Rattle.std.proofs.Common.{rules}
-use Rattle.vx_fn.proofs.ApplyLemmas.{by_quotient}
+use Rattle.vx_fn.proofs.BinaryLemmas.{by_quotient}
 use Rattle.vx_fn.proofs.apply.quotient.Goals as goal
 
 pub returns-else-y-eq0 : goal.returns-else-y-eq0

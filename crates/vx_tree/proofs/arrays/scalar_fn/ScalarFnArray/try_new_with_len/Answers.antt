@@ -6,7 +6,7 @@ use Rattle.vx_value.specs.declared.error.VortexError.{VortexError}
 use Rattle.vx_tree.specs.Tree.{Tree, slots_of}
 use Rattle.vx_tree.specs.Well.{shapes}
 use Rattle.vx_tree.specs.Refusals.{arity_refusal, lengths_refusal, types_in}
-use Rattle.vx_tree.proofs.CallsLemmas.{call_lengths_refused, call_taken, call_made}
+use Rattle.vx_tree.proofs.CallsLemmas.{call_lengths_refused, call_taken, call_made, call_is_node}
 use Rattle.vx_tree.proofs.arrays.scalar_fn.ScalarFnArray.try_new_with_len.Goals as goal
 
 -- what `?` hands on
@@ -41,3 +41,12 @@ returns-clause-valid c =
     let typed : tys ≡ types_in (shapes ss) = search rules in
     let row : return_type c.args.scalar_fn tys ≡ Some (type_of c.in_ok-dtype.dtype) = search rules in
     call_taken c.args.scalar_fn c.args.children.items c.args.len ss c.in_ok-slots.ensures tys typed (type_of c.in_ok-dtype.dtype) count long row
+
+pub from_parts_unchecked-requires : goal.from_parts_unchecked-requires
+from_parts_unchecked-requires c =
+    let ss = slots_of c.in_ok-slots.slots.items in
+    let tys = map type_of c.in_ok-types.types.items in
+    let long : lengths_refusal c.args.len (shapes ss) ≡ None = search rules in
+    let typed : tys ≡ types_in (shapes ss) = search rules in
+    let row : return_type c.args.scalar_fn tys ≡ Some (type_of c.in_ok-dtype.dtype) = search rules in
+    call_is_node c.args.scalar_fn c.args.children.items c.args.len ss c.in_ok-slots.ensures tys typed (type_of c.in_ok-dtype.dtype) long row

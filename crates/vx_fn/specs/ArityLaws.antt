@@ -1,4 +1,4 @@
--- Functions of so many arguments: each answer is of that many, and what holds of it.
+-- The laws of functions of so many arguments: each answer is of that many, and what holds of it.
 use Rattle.std.proofs.Common.{◌≡◌, List, [], ◌∷◌, length, Option, Some, None, refl, subst}
 use Rattle.std.specs.Prelude.{IfSome}
 use Rattle.vx_fn.specs.Arity.{of_one, of_two, of_three}

@@ -1,4 +1,4 @@
--- Arguments that aren't null, and numbers that no type has.
+-- Two arguments of one type, arguments that aren't null, and numbers that no type has.
 use Rattle.std.proofs.Common.{◌≡◌, zero, suc, of_z, to_z, Bool, true, false, if◌then◌else◌, arith, refl, ap, ◌∙◌, sym}
 use Rattle.std.specs.Prelude.{ℤ, pos, negsuc, FitsSigned, int_div, Option, Some, None, MatchOption}
 use Rattle.std.specs.Option.{SomeIff}
@@ -7,30 +7,25 @@ use Rattle.std.specs.Ordering.{int_cmp, is_eq}
 use Rattle.std.proofs.lemmas.Bool.Decides.{nat_tests}
 use Rattle.std.proofs.lemmas.Int.{to_z-of_z}
 use Rattle.std.specs.Prelude.{[], ◌∷◌, IsSome}
-use Rattle.vx_value.specs.Types.{DataType, nullability_of, is_nullable}
-use Rattle.vx_value.specs.Values.{Value, null}
+use Rattle.vx_value.specs.Types.{DataType, same_type}
+use Rattle.vx_value.specs.Values.{Value}
 use Rattle.vx_value.specs.Cell.{Cell, fault}
 use Rattle.vx_value.specs.IsOf.{is_of, in_range}
 use Rattle.vx_value.specs.declared.dtype.PType.{PType}
 use Rattle.vx_value.specs.declared.dtype.PType.TheVariants.{U8, U16, U32, U64, I8, I16, I32, I64}
-use Rattle.vx_fn.specs.ReturnTypes.{return_type, no_null_type, binary_type}
-use Rattle.vx_fn.specs.Apply.{no_null, operated, value_of, number, quotient}
+use Rattle.vx_fn.specs.Meanings.{no_null_type, no_null}
+use Rattle.vx_fn.specs.Binary.{operator_type, binary_type, operated, number, quotient}
+use Rattle.vx_fn.specs.ReturnTypes.{return_type}
+use Rattle.vx_fn.specs.Apply.{value_of}
 use Rattle.vx_fn.specs.declared.function.Operator.{Operator}
 use Rattle.vx_fn.specs.declared.function.ScalarFnRef.TheVariants as function
+use Rattle.vx_fn.proofs.MeaningsLemmas.{whole_value}
 
--- a value of a type that is taken isn't null
-whole_value : (s : DataType) (v : Value) (o : Option DataType) (c : Cell) → is_of s v ≡ true → IsSome (no_null_type s o) → (no_null v c ≡ c) × IsSome o
-whole_value s null o c h taken = absurd (by_test (is_nullable (nullability_of s)) h taken)
-  where
-    by_test : (b : Bool) → b ≡ true → IsSome (if b then None else o) → ⊥
-    by_test true h taken = cc
-    by_test false h taken = cc
-whole_value s _ o c h taken = (refl, by_test (is_nullable (nullability_of s)) taken)
-  where
-    by_test : (b : Bool) → IsSome (if b then None else o) → IsSome o
-    by_test true taken = absurd (cc)
-    by_test false taken = taken
+-- two arguments of one type
+pub of_one_type : (op : Operator) (s t : DataType) → same_type s t ≡ true → binary_type op s t ≡ operator_type op s
+of_one_type op s t e = ap (λ b. if b then operator_type op s else None) e
 
+-- values of types that are taken aren't null
 pub whole_values : (op : Operator) (s t ty : DataType) (v w : Value) → is_of s v ≡ true → is_of t w ≡ true →
     IsSome (return_type (function.Binary op) (s ∷ t ∷ [])) → value_of (function.Binary op) ty (v ∷ w ∷ []) ≡ operated op ty v w
 whole_values op s t ty v w h k taken =
