@@ -17,7 +17,7 @@ use Rattle.vx_tree.specs.declared.columnar.Columnar.{Columnar}
 use Rattle.vx_column.specs.Applied.{IsCall, IsApplied, IsUnapplied, all_constant, gives_constant, Repeats}
 use Rattle.vx_column.specs.Computed.{IsResult, IsNoResult, cells_of}
 use Rattle.vx_column.proofs.ArgumentsLemmas.{AreRows, call_typed}
-use Rattle.vx_column.proofs.ComputedLemmas.{same_below}
+use Rattle.vx_mask.proofs.Lists.{same_below}
 use Rattle.vx_column.proofs.KeepsLemmas.{same_exactly}
 
 pub taken : (f : ScalarFnRef) {ts : List Tree} {n : ℕ} {tys : List DataType} {row : ℕ → List Cell} → AreRows ts n tys row → IsCall f ts n

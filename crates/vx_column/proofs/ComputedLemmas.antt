@@ -2,10 +2,8 @@
 use Rattle.std.proofs.Common.{◌≡◌, ◌<◌, ◌+◌, ℕ, zero, suc, ℤ, Bool, if◌then◌else◌, true, false, List, [], ◌∷◌, ◌++◌, length, map, get_or, Option, Some}
 use Rattle.std.proofs.Common.{None, Result, IfOk, refl, sym, ap, ◌∙◌, subst, arith}
 use Rattle.std.specs.Prelude.{IsSome}
-use Rattle.std.proofs.Math.Bool.{not}
 use Rattle.std.proofs.lemmas.Result.{IfOk-weaker}
 use Rattle.std.specs.List.{range_with_len}
-use Rattle.std.specs.Ordering.{bool_cmp, is_ne}
 use Rattle.std.proofs.lemmas.List.{length-map, map-append}
 use Rattle.std.proofs.lemmas.List.FromFn.{length-map-range_with_len, map-range_with_len_more, get_or-map-range_with_len}
 use Rattle.vx_value.specs.Types.{DataType, bool, primitive, same_type_Decides}
@@ -29,14 +27,6 @@ use Rattle.vx_column.specs.Computed.{IsComputed, cells_of}
 use Rattle.vx_column.specs.declared.argument.Argument.{Argument}
 use Rattle.vx_column.specs.declared.argument.Argument.TheVariants.{Primitive}
 use Rattle.vx_column.specs.declared.argument.Integers.{Integers}
-
--- two that agree on the first n rows
-pub same_below : {A : Type 0} (n : ℕ) (f g : ℕ → A) → ((i : ℕ) → i < n → f i ≡ g i) → map f (range_with_len 0 n) ≡ map g (range_with_len 0 n)
-same_below n f g h = from f g 0 n (λ i lt. h i (omega arith))
-  where
-    from : {A : Type 0} (f g : ℕ → A) (s n : ℕ) → ((i : ℕ) → i < s + n → f i ≡ g i) → map f (range_with_len s n) ≡ map g (range_with_len s n)
-    from f g s zero h = refl
-    from f g s (suc n) h = λ j. h s (omega arith) j ∷ from f g (s + 1) n (λ i lt. h i (omega arith)) j
 
 -- one more row that is made by f
 pub rows_more : {T C : Type 0} (read : T → C) (f : ℕ → C) (out : List T) (i : ℕ) (r : T)
@@ -136,8 +126,3 @@ module _ (f : ScalarFnRef) (args : List Argument) (n : ℕ) (r : Result Canonica
       map (λ z. value (integer z)) zs ≡ cells_of f (primitive p NonNullable) (row_of args) n →
       IfOk r (λ c. canonical_tree c ≡ integers p zs) → IfOk r (λ c. IsComputed f args n (canonical_tree c))
   integers_computed p zs typed made = computed (integers p zs) typed (sym (length-map zs (λ z. value (integer z)))) made tt refl
-
--- whether a boolean isn't true
-pub differs_from_true : (b : Bool) → is_ne (bool_cmp b true) ≡ not b
-differs_from_true true = refl
-differs_from_true false = refl

@@ -1,12 +1,12 @@
 -- A column that stands for a tree exactly.
-use Rattle.std.proofs.Common.{◌≡◌, ℕ, zero, suc, ℤ, Bool, List, ◌∷◌, length, map, replicate, Result, IfOk, refl, sym, ◌∙◌, ap, subst}
+use Rattle.std.proofs.Common.{◌≡◌, ℤ, Bool, List, length, map, replicate, Result, IfOk, sym, ◌∙◌, ap, subst}
 use Rattle.std.proofs.lemmas.List.{length-replicate}
 use Rattle.std.proofs.lemmas.Result.{IfOk-weaker}
 use Rattle.vx_value.specs.Types as type
 use Rattle.vx_value.specs.Types.{nullability_of}
 use Rattle.vx_value.specs.Values.{boolean, integer}
 use Rattle.vx_value.specs.Typed.{Typed}
-use Rattle.vx_value.specs.Cell.{Cell, value}
+use Rattle.vx_value.specs.Cell.{value}
 use Rattle.vx_value.specs.declared.dtype.Nullability.{Nullability}
 use Rattle.vx_value.specs.declared.dtype.Nullability.TheVariants.{NonNullable}
 use Rattle.vx_value.specs.declared.dtype.PType.{PType}
@@ -17,6 +17,7 @@ use Rattle.vx_tree.specs.Columns.{canonical_tree}
 use Rattle.vx_tree.specs.Keeps.{KeepsExactly}
 use Rattle.vx_tree.specs.Well.{IsNode, IsWell, shapes}
 use Rattle.vx_tree.specs.declared.canonical.Canonical.{Canonical}
+use Rattle.vx_tree.proofs.NativesLemmas.{map_copies}
 use Rattle.vx_tree.proofs.KeepsLemmas.{rows_equal}
 
 -- a tree that has another's type, length and rows, and no fault below, stands for it exactly
@@ -31,10 +32,6 @@ same_exactly t u ty n e clean = record {
   keeps = record { same_type = ty; same_len = n; same_rows = rows_equal _ _ e; still_clean = λ c. whole_clean u clean (subst HasNoFault e (root_clean t c)) };
   equal = e;
 }
-
-map_copies : {X : Type 0} (f : X → Cell) (n : ℕ) (x : X) → replicate n (f x) ≡ map f (replicate n x)
-map_copies f zero x = refl
-map_copies f (suc n) x = ap (λ l. f x ∷ l) (map_copies f n x)
 
 -- what is known of a constant's node
 known_typed : (t : Tree) (s : Typed) → datum t ≡ constant s → IsWell t → (dtype t ≡ s.of_type) × (nullability_of s.of_type ≡ NonNullable)
@@ -57,7 +54,7 @@ module _ (t : Tree) (s : Typed) (shown : datum t ≡ constant s) (well : IsWell 
   bools_written m bit bits ty v made =
       written (booleans bits) (sym ty ∙ ap type.bool (ap nullability_of ty ∙ (known_typed t s shown well).1))
       (sym (ap length made ∙ length-replicate (len t) bit))
-      (ap (λ x. replicate (len t) (value x)) (sym v) ∙ map_copies (λ b. value (boolean b)) (len t) bit ∙ ap (map (λ b. value (boolean b))) (sym made)) tt
+      (ap (λ x. replicate (len t) (value x)) (sym v) ∙ sym (map_copies (λ b. value (boolean b)) (len t) bit) ∙ ap (map (λ b. value (boolean b))) (sym made)) tt
 
   pub integers_written : (m : Nullability) (p q : PType) (z : ℤ) (zs : List ℤ) → type.primitive p m ≡ s.of_type → integer z ≡ s.value → q ≡ p
       → zs ≡ replicate (len t) z →
@@ -65,4 +62,4 @@ module _ (t : Tree) (s : Typed) (shown : datum t ≡ constant s) (well : IsWell 
   integers_written m p q z zs ty v same made =
       written (integers q zs) (sym ty ∙ (λ j. type.primitive (sym same j) ((ap nullability_of ty ∙ (known_typed t s shown well).1) j)))
       (sym (ap length made ∙ length-replicate (len t) z))
-      (ap (λ x. replicate (len t) (value x)) (sym v) ∙ map_copies (λ x. value (integer x)) (len t) z ∙ ap (map (λ x. value (integer x))) (sym made)) tt
+      (ap (λ x. replicate (len t) (value x)) (sym v) ∙ sym (map_copies (λ x. value (integer x)) (len t) z) ∙ ap (map (λ x. value (integer x))) (sym made)) tt

@@ -2,16 +2,13 @@
 use Rattle.std.proofs.Common.{◌≡◌, ℕ, zero, suc, ◌+◌, ◌<◌, ◌≤◌, Bool, true, false, refl, ap, arith}
 use Rattle.vx_tree.specs.Tree.{Tree, Data, Slots, node, constant, no_slots, absent, slot, datum}
 use Rattle.vx_tree.specs.Slots.{set_slot, put, IsAbsentAt, IsHole}
+use Rattle.vx_tree.proofs.CostLemmas.{base_positive}
 use Rattle.vx_tree.specs.Cost.{cost, base_cost, slot_cost, slots_cost, extra}
-use Rattle.vx_step.specs.Turns.{meets, slot_target, target_of, base_top, slot_top, slots_top, top}
+use Rattle.vx_step.specs.Turns.{meets, slot_target, target_of, slot_top, slots_top, top}
 use Rattle.vx_step.specs.Steps.{Awaits, AwaitsAt}
 use Rattle.vx_step.specs.declared.steps.SlotTarget.{SlotTarget}
 
 -- what the encodings' tables have in common
-
-base_positive : (d : Data) → 0 < base_top d
-base_positive (constant v) = omega arith
-base_positive _ = omega arith
 
 slot_paid : (d : Data) (c e : ℕ) → c + 1 ≤ slot_cost d c e
 slot_paid (constant v) c e = omega arith

@@ -1,15 +1,13 @@
--- What the calls of the tests need: operators take two numbers of one type, and 0 is of each type.
-use Rattle.std.proofs.Common.{◌≡◌, [], ◌∷◌, pos, refl, sym, subst, true}
+-- What the calls of the tests need: operators take two numbers of one type.
+use Rattle.std.proofs.Common.{◌≡◌, [], ◌∷◌, refl, sym, subst, true}
 use Rattle.std.specs.Prelude.{IsSome}
 use Rattle.vx_value.specs.Types.{DataType, primitive, same_type_Decides}
-use Rattle.vx_value.specs.IsOf.{in_range}
 use Rattle.vx_value.specs.declared.dtype.PType.{PType}
 use Rattle.vx_value.specs.declared.dtype.Nullability.TheVariants.{NonNullable}
 use Rattle.vx_fn.specs.declared.function.Operator.{Operator}
 use Rattle.vx_fn.specs.declared.function.ScalarFnRef.TheVariants.{Binary}
 use Rattle.vx_fn.specs.ReturnTypes.{return_type}
 use Rattle.vx_fn.proofs.BinaryLemmas.{of_one_type}
-use Rattle.vx_tree.proofs.ColumnsLemmas as columns
 
 of_numbers : (op : Operator) (p : PType) → IsSome (return_type (Binary op) (primitive p NonNullable ∷ primitive p NonNullable ∷ []))
 of_numbers op p =
@@ -22,6 +20,3 @@ pub takes_numbers : (op : Operator) (p : PType) (s t : DataType) → s ≡ primi
 takes_numbers op p s t d e =
     subst (λ x. IsSome (return_type (Binary op) (x ∷ t ∷ []))) (sym d) (
     subst (λ y. IsSome (return_type (Binary op) (primitive p NonNullable ∷ y ∷ []))) (sym e) (of_numbers op p))
-
-pub zero_in_range : (p : PType) → in_range p (pos 0) ≡ true
-zero_in_range p = columns.zero_in_range p

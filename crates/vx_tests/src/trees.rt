@@ -75,7 +75,7 @@ fn slice_of(alloc: Global, items: &[i32], range: Range<usize>) -> VortexResult<S
 }
 
 // A column of `len` zeros.
-#[tactic(auto, using(crate::proofs::Taking::zero_in_range))]
+#[tactic(auto, using(vx_value::proofs::DefaultsLemmas::zero_in_range))]
 fn zeros(alloc: Global, dtype: &DType, len: usize) -> VortexResult<ArrayRef> {
     match dtype {
         DType::Bool(_) => Ok(booleans(alloc, len)?.into_array()),

@@ -1,5 +1,5 @@
 -- Which encodings are columns, and what every column is.
-use Rattle.std.proofs.Common.{◌≡◌, ◌≤◌, ℕ, zero, suc, ℤ, ◌-◌, List, [], ◌∷◌, length, map, replicate, drop, slice_range, Bool, true, false, None, pos}
+use Rattle.std.proofs.Common.{◌≡◌, ◌≤◌, ℕ, zero, suc, ℤ, ◌-◌, List, [], ◌∷◌, length, map, replicate, drop, slice_range, Bool, true, false, None}
 use Rattle.std.proofs.Common.{refl, sym, ap, subst, ◌∙◌, inl, inr, arith, length-drop}
 use Rattle.std.proofs.lemmas.Bool.{or_left, or_right}
 use Rattle.std.proofs.lemmas.List.{length-replicate, length-take-le}
@@ -10,9 +10,7 @@ use Rattle.vx_value.specs.Typed.{Typed}
 use Rattle.vx_value.specs.Cell.{value}
 use Rattle.vx_value.specs.declared.dtype.Nullability.{Nullability}
 use Rattle.vx_value.specs.declared.dtype.Nullability.TheVariants.{NonNullable}
-use Rattle.vx_value.specs.IsOf.{in_range}
 use Rattle.vx_value.specs.declared.dtype.PType.{PType}
-use Rattle.vx_value.specs.declared.dtype.PType.TheVariants.{U8, U16, U32, U64, I8, I16, I32, I64}
 use Rattle.vx_tree.specs.Tree as enc
 use Rattle.vx_tree.specs.Tree.{Tree, Data, Slots, node, no_slots, absent, slot, datum, constant_of, booleans, integers, slice_of}
 use Rattle.vx_tree.specs.Tree.{is_bool, is_primitive, is_constant, is_canonical, is_columnar}
@@ -122,17 +120,6 @@ integers_part a b p q xs ys t whole within kind range =
     (column_exactly _ _ refl (sym (ap length range ∙ length_part a b xs within)) shown (integers_known p ys).clean))
 
 -- ---- a column without rows
-
--- each integer type has 0
-pub zero_in_range : (p : PType) → in_range p (pos 0) ≡ true
-zero_in_range U8 = refl
-zero_in_range U16 = refl
-zero_in_range U32 = refl
-zero_in_range U64 = refl
-zero_in_range I8 = refl
-zero_in_range I16 = refl
-zero_in_range I32 = refl
-zero_in_range I64 = refl
 
 -- a column of integers is refused only where its type is nullable
 pub only_nullable : (ty : DataType) (p q : PType) (n : Nullability) →

@@ -6,7 +6,7 @@ use Rattle.vx_tree.specs.Cost.{cost, base_cost, slots_cost, all_reached, slots_e
 use Rattle.vx_value.specs.Types.{DataType}
 use Rattle.vx_fn.specs.declared.function.ScalarFnRef.{ScalarFnRef}
 
-base_positive : (d : Data) → 0 < base_cost d
+pub base_positive : (d : Data) → 0 < base_cost d
 base_positive (enc.constant v) = omega arith
 base_positive _ = omega arith
 

@@ -14,7 +14,7 @@ use Rattle.vx_value.specs.declared.dtype.PType.TheVariants.{U8, U16, U32, U64, I
 pub map_part : {X Y : Type 0} (f : X → Y) (xs : List X) (a b : ℕ) → slice_range (map f xs) a b ≡ map f (slice_range xs a b)
 map_part f xs a b = ap (take (b - a)) (drop-map f a xs) ∙ take-map f (b - a) (drop a xs)
 
-map_copies : {X : Type 0} (f : X → ℤ) (n : ℕ) (v : X) → map f (replicate n v) ≡ replicate n (f v)
+pub map_copies : {X Y : Type 0} (f : X → Y) (n : ℕ) (v : X) → map f (replicate n v) ≡ replicate n (f v)
 map_copies f zero v = refl
 map_copies f (suc n) v = ap (λ l. f v ∷ l) (map_copies f n v)
 

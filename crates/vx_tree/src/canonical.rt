@@ -24,7 +24,7 @@ pub enum Canonical {
 
 impl Canonical {
     /// Makes the column of type `dtype` without rows. `InvalidArgument` with `BadType` exactly if `dtype` is nullable.
-    #[tactic(auto, using(crate::proofs::ColumnsLemmas::zero_in_range, crate::proofs::ColumnsLemmas::only_nullable))]
+    #[tactic(auto, using(vx_value::proofs::DefaultsLemmas::zero_in_range, crate::proofs::ColumnsLemmas::only_nullable))]
     pub fn empty(alloc: Global, dtype: &DType) -> VortexResult<Canonical>
         ensures ok { IfOk result (λ c. canonical_tree c ≡ empty_of (type_of dtype.now)) }
         ensures valid { OnOk result (nullability_of (type_of dtype.now) ≡ NonNullable) }

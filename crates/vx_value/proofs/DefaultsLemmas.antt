@@ -8,7 +8,7 @@ use Rattle.vx_value.specs.declared.dtype.PType.{PType}
 use Rattle.vx_value.specs.declared.dtype.PType.TheVariants as ptype
 use Rattle.std.specs.Prelude.{pos}
 
-zero_in_range : (p : PType) → in_range p (pos 0) ≡ true
+pub zero_in_range : (p : PType) → in_range p (pos 0) ≡ true
 zero_in_range ptype.U8 = refl
 zero_in_range ptype.U16 = refl
 zero_in_range ptype.U32 = refl

@@ -7,7 +7,8 @@ use Rattle.vx_fn.specs.declared.function.ScalarFnRef.TheVariants.{Not}
 use Rattle.vx_tree.specs.Columns.{canonical_tree}
 use Rattle.vx_column.specs.Computed.{IsComputed}
 use Rattle.vx_column.specs.declared.argument.Argument.TheVariants.{Bool}
-use Rattle.vx_column.proofs.ComputedLemmas.{bools_computed, differs_from_true}
+use Rattle.vx_mask.proofs.Operations.{differs_from_true}
+use Rattle.vx_column.proofs.ComputedLemmas.{bools_computed}
 use Rattle.vx_column.proofs.boolean.negate.Goals as goal
 
 pub returns-clause-ok : goal.returns-clause-ok
