@@ -1,10 +1,42 @@
--- Whether two values are the same, by their codes.
-use Rattle.std.specs.Prelude.{◌≡◌, Bool, true, false, ◌&&◌, ◌==◌, refl}
+-- The codes of types given by constructors, and whether two values are the same, by their codes.
+use Rattle.std.specs.Prelude.{◌≡◌, Bool, true, false, ◌&&◌, ◌==◌, ◌⊎◌, refl}
 use Rattle.std.specs.Bool.{Decides}
 use Rattle.std.specs.Cmp.{unsigned_Decides, first_so, second_so}
-use Rattle.std.specs.Coded.{Coded}
-use Rattle.std.proofs.Common.{ap, sym, ◌∙◌}
+use Rattle.std.specs.Coded.{Coded, code_by, coded⊎, prop_coded}
+use Rattle.std.proofs.Common.{ap, sym, ◌∙◌, inl, inr}
 use base.Stored.{Gv, gnil, gnum, gcons}
+
+-- ---- a type by its constructors, one after the other
+
+infixr 30 ◌or◌
+
+-- some of A's constructors: what they hold, its code, and what they make of it
+pub record Part (A : Type 0) : Type 1 where
+  pub holds : Type 0
+  pub coded : Coded holds
+  pub make : holds → A
+
+-- one constructor
+abbrev pub part : {A T : Type 0} → Coded T → (T → A) → Part A
+part {T = T} c make = record { holds = T; coded = c; make = make }
+
+-- the constructors of two parts
+abbrev pub either : {A S T : Type 0} → (S → A) → (T → A) → S ⊎ T → A
+either f g (inl x) = f x
+either f g (inr y) = g y
+
+abbrev pub ◌or◌ : {A : Type 0} → Part A → Part A → Part A
+p or q = record { holds = p.holds ⊎ q.holds; coded = coded⊎ p.coded q.coded; make = either p.make q.make }
+
+-- no constructor: the end of each table
+abbrev pub no_part : {A : Type 0} → Part A
+no_part = record { holds = ⊥; coded = prop_coded (λ x y. absurd x); make = λ x. absurd x }
+
+-- the code of a type whose values the constructors make
+abbrev pub coded_by : {A : Type 0} (p : Part A) (split : A → p.holds) → ((x : A) → p.make (split x) ≡ x) → Coded A
+coded_by p split back = code_by p.holds p.coded split p.make back
+
+-- ---- sameness
 
 abbrev pub same_code : Gv → Gv → Bool
 same_code gnil gnil = true

@@ -1,11 +1,11 @@
 -- What a type is, without pointers.
-use Rattle.std.specs.Prelude.{◌≡◌, ℕ, Bool, true, false, ◌⊎◌, refl}
-use Rattle.std.specs.Coded.{Coded, code_by, coded_ℕ, coded×, coded⊎}
+use Rattle.std.specs.Prelude.{◌≡◌, ℕ, Bool, true, false, refl}
+use Rattle.std.specs.Coded.{Coded, coded_ℕ, coded×}
 use Rattle.std.specs.Bool.{Decides}
 use denote.Enum.Bare.{sameb, same_true, true_same, tag_one}
 use denote.Enum.Declared.{tag_of}
 use Rattle.std.proofs.Common.{inl, inr}
-use Rattle.vx_value.specs.Codes.{same_code, same_code_Decides}
+use Rattle.vx_value.specs.Codes.{Part, part, ◌or◌, no_part, coded_by, same_code, same_code_Decides}
 use Rattle.vx_value.specs.declared.dtype.Nullability.{Nullability}
 use Rattle.vx_value.specs.declared.dtype.Nullability.TheVariants.{NonNullable, Nullable}
 use Rattle.vx_value.specs.declared.dtype.PType.{PType}
@@ -39,32 +39,24 @@ coded_nullability =
 abbrev pub coded_ptype : Coded PType
 coded_ptype = record { code = λ p. coded_ℕ.code (tag_of the_ptype p); inj = λ p q e. tag_one the_ptype tt p q (coded_ℕ.inj _ _ e) }
 
--- ---- the code of a type, a line for each constructor in each of four definitions
+-- ---- the code of a type: a line for each constructor in each of two tables
 
-abbrev pub TypeParts : Type 0
-TypeParts =
-    Nullability
-    ⊎ (PType × Nullability)
+abbrev pub type_parts : Part DataType
+type_parts =
+    part coded_nullability bool
+    or part (coded× coded_ptype coded_nullability) (λ p. primitive p.0 p.1)
+    or no_part
 
-abbrev pub coded_type_parts : Coded TypeParts
-coded_type_parts =
-    coded⊎ coded_nullability (
-    coded× coded_ptype coded_nullability)
+abbrev pub type_split : DataType → type_parts.holds
+type_split (bool n) = inl n
+type_split (primitive p n) = inr (inl (p, n))
 
-abbrev pub type_to : DataType → TypeParts
-type_to (bool n) = inl n
-type_to (primitive p n) = inr (p, n)
-
-abbrev pub type_from : TypeParts → DataType
-type_from (inl n) = bool n
-type_from (inr c) = primitive c.0 c.1
-
-pub type_back : (t : DataType) → type_from (type_to t) ≡ t
+pub type_back : (t : DataType) → type_parts.make (type_split t) ≡ t
 type_back (bool n) = refl
 type_back _ = refl
 
 abbrev pub coded_type : Coded DataType
-coded_type = code_by TypeParts coded_type_parts type_to type_from type_back
+coded_type = coded_by type_parts type_split type_back
 
 -- ---- whether two types are the same
 
