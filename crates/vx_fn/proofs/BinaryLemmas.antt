@@ -7,14 +7,16 @@ use Rattle.std.specs.Ordering.{int_cmp, is_eq}
 use Rattle.std.proofs.lemmas.Bool.Decides.{nat_tests}
 use Rattle.std.proofs.lemmas.Int.{to_z-of_z}
 use Rattle.std.specs.Prelude.{[], ◌∷◌, IsSome}
-use Rattle.vx_value.specs.Types.{DataType, same_type}
+use Rattle.vx_value.specs.Types.{DataType, bool, primitive, same_type, nullability_of, is_nullable}
 use Rattle.vx_value.specs.Values.{Value}
 use Rattle.vx_value.specs.Cell.{Cell, fault}
 use Rattle.vx_value.specs.IsOf.{is_of, in_range}
+use Rattle.vx_value.specs.declared.dtype.Nullability.{Nullability}
+use Rattle.vx_value.specs.declared.dtype.Nullability.TheVariants.{NonNullable}
 use Rattle.vx_value.specs.declared.dtype.PType.{PType}
 use Rattle.vx_value.specs.declared.dtype.PType.TheVariants.{U8, U16, U32, U64, I8, I16, I32, I64}
 use Rattle.vx_fn.specs.Meanings.{no_null_type, no_null}
-use Rattle.vx_fn.specs.Binary.{operator_type, binary_type, operated, number, quotient}
+use Rattle.vx_fn.specs.Binary.{is_comparison, calculated_type, operator_type, binary_type, operated, number, quotient}
 use Rattle.vx_fn.specs.ReturnTypes.{return_type}
 use Rattle.vx_fn.specs.Apply.{value_of}
 use Rattle.vx_fn.specs.declared.function.Operator.{Operator}
@@ -32,6 +34,20 @@ whole_values op s t ty v w h k taken =
     let first = whole_value s v (no_null_type t (binary_type op s t)) (no_null w (operated op ty v w)) h taken in
     let second = whole_value t w (binary_type op s t) (operated op ty v w) k first.1 in
     first.0 ∙ second.0
+
+-- the type of a calculation is that of its arguments
+pub calculation_type : (op : Operator) (s t ty : DataType) (p : PType) (n : Nullability) → is_comparison op ≡ false → primitive p n ≡ s →
+    return_type (function.Binary op) (s ∷ t ∷ []) ≡ Some ty → ty ≡ primitive p NonNullable
+calculation_type op s t ty p n c e h = by_tests (is_nullable (nullability_of s)) (is_nullable (nullability_of t)) (same_type s t) h
+  where
+    typed : operator_type op s ≡ Some (primitive p NonNullable)
+    typed = (λ i. if c i then Some (bool NonNullable) else calculated_type (sym e i))
+
+    by_tests : (a b d : Bool) → (if a then None else (if b then None else (if d then operator_type op s else None))) ≡ Some ty → ty ≡ primitive p NonNullable
+    by_tests false false true h = cc (typed, h)
+    by_tests false false false h = absurd (cc)
+    by_tests false true d h = absurd (cc)
+    by_tests true b d h = absurd (cc)
 
 -- what a type has, an i128 is
 pub range_fits : (p : PType) (z : ℤ) → in_range p z ≡ true → FitsSigned w128 z

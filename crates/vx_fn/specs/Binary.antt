@@ -24,10 +24,14 @@ is_comparison operator.Lt = true
 is_comparison operator.Lte = true
 is_comparison _ = false
 
--- of two arguments of one type: booleans and integers compare, and integers of one type are added up to that type
+-- integers of one type are added up to that type
+abbrev pub calculated_type : DataType → Option DataType
+calculated_type (primitive p n) = Some (primitive p NonNullable)
+calculated_type _ = None
+
+-- of two arguments of one type: values of every type compare
 abbrev pub operator_type : Operator → DataType → Option DataType
-operator_type op (bool n) = if is_comparison op then Some (bool NonNullable) else None
-operator_type op (primitive p n) = Some (if is_comparison op then bool NonNullable else primitive p NonNullable)
+operator_type op t = if is_comparison op then Some (bool NonNullable) else calculated_type t
 
 abbrev pub binary_type : Operator → DataType → DataType → Option DataType
 binary_type op s t = if same_type s t then operator_type op s else None
@@ -70,17 +74,16 @@ operated op _ _ _ = fault
 
 -- no result is null
 
-operator_whole : (op : Operator) (s : DataType) → IfSome (operator_type op s) IsWhole
-operator_whole op (bool n) = by_test (is_comparison op)
+calculated_whole : (t : DataType) → IfSome (calculated_type t) IsWhole
+calculated_whole (primitive p n) = refl
+calculated_whole _ = tt
+
+operator_whole : (op : Operator) (t : DataType) → IfSome (operator_type op t) IsWhole
+operator_whole op t = by_test (is_comparison op)
   where
-    by_test : (b : Bool) → IfSome (if b then Some (bool NonNullable) else None) IsWhole
+    by_test : (b : Bool) → IfSome (if b then Some (bool NonNullable) else calculated_type t) IsWhole
     by_test true = refl
-    by_test false = tt
-operator_whole op (primitive p n) = by_test (is_comparison op)
-  where
-    by_test : (b : Bool) → IsWhole (if b then bool NonNullable else primitive p NonNullable)
-    by_test true = refl
-    by_test false = refl
+    by_test false = calculated_whole t
 
 pub binary_whole : (op : Operator) (s t : DataType) → IfSome (binary_type op s t) IsWhole
 binary_whole op s t = by_test (same_type s t)

@@ -12,9 +12,7 @@ ghost use Rattle.vx_fn.specs.declared.function.ScalarFnRef.TheVariants.{Binary, 
 
 use crate::function::{Operator, ScalarFnRef};
 use std::cmp::Ordering;
-use vx_value::{
-    DType, Nullability, PType, Scalar, ScalarKind, ScalarValue, VortexError, VortexResult,
-};
+use vx_value::{DType, Nullability, PType, Scalar, ScalarValue, VortexError, VortexResult};
 
 /// Applies `function` to `arguments`, one row of each, without allocating. The function must accept their types.
 ///
@@ -44,14 +42,16 @@ fn operate(operator: Operator, lhs: &Scalar, rhs: &Scalar) -> VortexResult<Scala
         → return_type (Binary operator) (lhs.now.of_type ∷ rhs.now.of_type ∷ []) ≡ Some t
         → value_of (Binary operator) t (lhs.now.value ∷ rhs.now.value ∷ []) ≡ fault)) }
 {
-    let operands = (lhs.kind(), rhs.kind());
+    let operands = (lhs.dtype(), lhs.value(), rhs.value());
     if operator.is_comparison() {
         return Ok(compare(operator, lhs, rhs));
     }
     match operands {
-        (ScalarKind::Primitive(x, ptype, _), ScalarKind::Primitive(y, _, _)) => {
-            calculate(operator, ptype, x, y)
-        }
+        (
+            DType::Primitive(ptype, _),
+            Some(ScalarValue::Integer(x)),
+            Some(ScalarValue::Integer(y)),
+        ) => calculate(operator, *ptype, x, y),
         _ => unreachable!(),
     }
 }
@@ -76,8 +76,10 @@ fn negate(input: &Scalar) -> Scalar
     ensures typed { return_type Not (input.now.of_type ∷ []) ≡ Some result.of_type }
     ensures value { value_of Not result.of_type (input.now.value ∷ []) ≡ value result.value }
 {
-    match input.kind() {
-        ScalarKind::Bool(value, _) => Scalar::bool(!value, Nullability::NonNullable),
+    match (input.dtype(), input.value()) {
+        (DType::Bool(_), Some(ScalarValue::Bool(value))) => {
+            Scalar::bool(!value, Nullability::NonNullable)
+        }
         _ => unreachable!(),
     }
 }

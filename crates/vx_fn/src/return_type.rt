@@ -4,7 +4,7 @@ ghost use Rattle.std.specs.Prelude.{◌≡◌, map, IfOk, IfErr, Some, None, opt
 ghost use Rattle.vx_value.specs.View.{type_of};
 ghost use Rattle.vx_fn.specs.ReturnTypes.{return_type};
 ghost use Rattle.vx_fn.specs.Meanings.{no_null_type};
-ghost use Rattle.vx_fn.specs.Binary.{binary_type, operator_type};
+ghost use Rattle.vx_fn.specs.Binary.{binary_type, operator_type, calculated_type};
 ghost use Rattle.vx_fn.specs.Negation.{not_type};
 ghost use Rattle.vx_fn.specs.declared.function.ScalarFnRef.TheVariants.{Binary, Not};
 
@@ -14,9 +14,8 @@ use vx_value::{ArgKind, DType, Nullability, VortexError, VortexResult};
 impl ScalarFnRef {
     /// Returns the type of the result if the arguments have the types `arguments`.
     ///
-    /// Comparisons accept two booleans or two integers of one type, and return a boolean. Arithmetic accepts two
-    /// integers of one type, and returns that type. `Not` accepts a boolean, and returns one. Only non-nullable types
-    /// are accepted so far.
+    /// Comparisons accept two values of one type, and return a boolean. Arithmetic accepts two integers of one type, and
+    /// returns that type. `Not` accepts a boolean, and returns one. Only non-nullable types are accepted so far.
     ///
     /// Returns `InvalidArgument` with `NoRow` exactly if the function doesn't accept these arguments.
     pub fn return_dtype(&self, arguments: &[DType]) -> VortexResult<DType>
@@ -75,13 +74,20 @@ fn binary_type(operator: Operator, lhs: &DType, rhs: &DType) -> Option<DType>
 fn operator_type(operator: Operator, dtype: &DType) -> Option<DType>
     ensures { option_map type_of result ≡ operator_type operator (type_of dtype.now) }
 {
-    match (dtype, operator.is_comparison()) {
-        (DType::Bool(_), true) => Some(DType::Bool(Nullability::NonNullable)),
-        (DType::Bool(_), false) => None,
-        (DType::Primitive(_, _), true) => Some(DType::Bool(Nullability::NonNullable)),
-        (DType::Primitive(ptype, _), false) => {
-            Some(DType::Primitive(*ptype, Nullability::NonNullable))
-        }
+    if operator.is_comparison() {
+        Some(DType::Bool(Nullability::NonNullable))
+    } else {
+        calculated_type(dtype)
+    }
+}
+
+/// Returns the type of arithmetic on values of type `dtype`, or `None` if it has none.
+fn calculated_type(dtype: &DType) -> Option<DType>
+    ensures { option_map type_of result ≡ calculated_type (type_of dtype.now) }
+{
+    match dtype {
+        DType::Primitive(ptype, _) => Some(DType::Primitive(*ptype, Nullability::NonNullable)),
+        _ => None,
     }
 }
 

@@ -1,9 +1,7 @@
 -- Whether the parts of a column of so many rows can be counted.
 use Rattle.std.specs.Prelude.{ℕ}
-use Rattle.vx_value.specs.Types as type
 use Rattle.vx_value.specs.Types.{DataType}
 
 -- a flat column's rows are its parts
 abbrev pub Fits : DataType → ℕ → Type 0
-Fits (type.bool n) rows = Unit {0}
-Fits (type.primitive p n) rows = Unit {0}
+Fits _ rows = Unit {0}

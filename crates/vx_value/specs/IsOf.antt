@@ -1,9 +1,12 @@
 -- Which values are of a type.
 use Rattle.std.specs.Prelude.{ℕ, ℤ, pos, negsuc, ◌^◌, Bool, true, false, nat_lt}
-use Rattle.vx_value.specs.Types as type
 use Rattle.vx_value.specs.Types.{DataType, nullability_of, is_nullable}
 use Rattle.vx_value.specs.Values as value
 use Rattle.vx_value.specs.Values.{Value}
+use Rattle.vx_value.specs.Storage.{storage_of}
+use Rattle.vx_value.specs.declared.dtype.Nullability.{Nullability}
+use Rattle.vx_value.specs.declared.dtype.Storage.{Storage}
+use Rattle.vx_value.specs.declared.dtype.Storage.TheVariants.{Bits, Integers}
 use Rattle.vx_value.specs.declared.dtype.PType.{PType}
 use Rattle.vx_value.specs.declared.dtype.PType.TheVariants as ptype
 
@@ -27,12 +30,15 @@ in_range ptype.I16 z = is_signed_below (2 ^ 15) z
 in_range ptype.I32 z = is_signed_below (2 ^ 31) z
 in_range ptype.I64 z = is_signed_below (2 ^ 63) z
 
--- null of the nullable types; else a line for each type
+-- null where the type has it; else a boolean stored as a bit, or an integer in the range of those stored
+abbrev pub is_stored : Nullability → Storage → Value → Bool
+is_stored n _ value.null = is_nullable n
+is_stored n Bits (value.boolean b) = true
+is_stored n (Integers p) (value.integer z) = in_range p z
+is_stored n _ _ = false
+
 abbrev pub is_of : DataType → Value → Bool
-is_of t value.null = is_nullable (nullability_of t)
-is_of (type.bool n) (value.boolean b) = true
-is_of (type.primitive p n) (value.integer z) = in_range p z
-is_of _ _ = false
+is_of t = is_stored (nullability_of t) (storage_of t)
 
 abbrev pub is_null : Value → Bool
 is_null value.null = true

@@ -3,6 +3,7 @@ pub mod Types
 pub mod Values
 pub mod Cell
 pub mod View
+pub mod Storage
 pub mod IsOf
 pub mod Typed
 pub mod Defaults
@@ -13,4 +14,3 @@ pub mod OrderLaws
 pub mod Fits
 pub mod Text
 pub mod Ids
-pub mod ScalarKinds

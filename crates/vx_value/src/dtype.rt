@@ -2,6 +2,7 @@
 
 ghost use Rattle.std.specs.Prelude.{◌≡◌, ◌↔◌, IsTrue};
 ghost use Rattle.vx_value.specs.View.{type_of};
+ghost use Rattle.vx_value.specs.Storage.{storage_of};
 ghost use Rattle.vx_value.specs.Types.{nullability_of, is_nullable};
 
 /// The nullability of a type: whether null is one of its values.
@@ -36,6 +37,15 @@ pub enum PType {
     I64,
 }
 
+/// How the values of a type are stored in a column. (own)
+#[derive(Clone, Copy, Debug, PartialEq, Eq)]
+pub enum Storage {
+    /// A bit for each row.
+    Bits,
+    /// An integer of this type for each row.
+    Integers(PType),
+}
+
 /// The logical type of an array's rows.
 #[derive(Clone, Debug, PartialEq, Eq, Hash, Drop)]
 pub enum DType {
@@ -51,6 +61,16 @@ impl DType {
         match self {
             DType::Bool(nullability) => *nullability,
             DType::Primitive(_, nullability) => *nullability,
+        }
+    }
+
+    /// Returns how the type's values are stored. (own)
+    pub fn storage(&self) -> Storage
+        ensures { result ≡ storage_of (type_of self.now) }
+    {
+        match self {
+            DType::Bool(_) => Storage::Bits,
+            DType::Primitive(ptype, _) => Storage::Integers(*ptype),
         }
     }
 

@@ -11,7 +11,6 @@ pub fn fits(dtype: &DType, rows: usize) -> bool
     ensures { IsTrue result ↔ Fits (type_of dtype.now) rows }
 {
     match dtype {
-        DType::Bool(_) => true,
-        DType::Primitive(_, _) => true,
+        _ => true,
     }
 }

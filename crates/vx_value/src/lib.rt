@@ -9,9 +9,9 @@ mod id;
 mod scalar;
 mod text;
 
-pub use dtype::{DType, Nullability, PType};
+pub use dtype::{DType, Nullability, PType, Storage};
 pub use error::{ArgKind, VortexError, VortexResult};
 pub use fitting::fits;
 pub use id::Id;
-pub use scalar::{Scalar, ScalarKind, ScalarValue};
+pub use scalar::{Scalar, ScalarValue};
 pub use text::type_text;

@@ -7,11 +7,10 @@ ghost use Rattle.vx_value.specs.Types.{nullability_of, is_nullable};
 ghost use Rattle.vx_value.specs.Defaults.{zero_of, default_of};
 ghost use Rattle.vx_value.specs.IsOf.{is_of, in_range, is_null};
 ghost use Rattle.vx_value.specs.Parts.{boolean_in, integer_in};
-ghost use Rattle.vx_value.specs.ScalarKinds.{scalar_of};
 ghost use Rattle.vx_value.specs.Types as type;
 ghost use Rattle.vx_value.specs.Values.{boolean, integer};
 
-use crate::{ArgKind, DType, Nullability, PType, VortexError, VortexResult};
+use crate::{ArgKind, DType, Nullability, PType, Storage, VortexError, VortexResult};
 use std::alloc::AllocError;
 use std::marker::Model;
 
@@ -21,17 +20,6 @@ pub enum ScalarValue {
     Bool(bool),
     /// An integer of any of the integer types.
     Integer(i128),
-}
-
-/// The type and the value of a scalar, together. (own)
-#[derive(Clone, Copy)]
-pub enum ScalarKind<'a> {
-    /// The null of a nullable type.
-    Null(&'a DType),
-    /// A boolean, of a type with this nullability.
-    Bool(bool, Nullability),
-    /// An integer in the range of its type, which has this nullability.
-    Primitive(i128, PType, Nullability),
 }
 
 /// A value with its type. The value may be null if the type is nullable.
@@ -120,9 +108,9 @@ impl Scalar {
     pub fn zero_value(dtype: DType) -> Scalar
         ensures { result ≡ record { of_type = type_of dtype; value = zero_of (type_of dtype) } }
     {
-        let value = match dtype {
-            DType::Bool(_) => ScalarValue::Bool(false),
-            DType::Primitive(_, _) => ScalarValue::Integer(0),
+        let value = match dtype.storage() {
+            Storage::Bits => ScalarValue::Bool(false),
+            Storage::Integers(_) => ScalarValue::Integer(0),
         };
         Scalar {
             dtype,
@@ -155,23 +143,6 @@ impl Scalar {
         ensures typed { is_of self.now.of_type self.now.value ≡ true }
     {
         self.value
-    }
-
-    /// Returns the type and the value together, so that a `match` on both has one arm per type. (own)
-    pub fn kind(&self) -> ScalarKind<'_>
-        ensures whole { scalar_of result ≡ self.now }
-        ensures typed { is_of self.now.of_type self.now.value ≡ true }
-    {
-        match (&self.dtype, self.value) {
-            (dtype, None) => ScalarKind::Null(dtype),
-            (DType::Bool(nullability), Some(ScalarValue::Bool(value))) => {
-                ScalarKind::Bool(value, *nullability)
-            }
-            (DType::Primitive(ptype, nullability), Some(ScalarValue::Integer(value))) => {
-                ScalarKind::Primitive(value, *ptype, *nullability)
-            }
-            _ => unreachable!(),
-        }
     }
 
     /// Returns the boolean, or `None` if the value is null or of another kind.
@@ -222,12 +193,10 @@ fn in_range(ptype: PType, number: i128) -> bool
 fn is_of(dtype: &DType, value: Option<ScalarValue>) -> bool
     ensures { result ≡ is_of (type_of dtype.now) (cell_of value) }
 {
-    match (dtype, value) {
+    match (dtype.storage(), value) {
         (_, None) => dtype.is_nullable(),
-        (DType::Bool(_), Some(ScalarValue::Bool(_))) => true,
-        (DType::Primitive(ptype, _), Some(ScalarValue::Integer(number))) => {
-            in_range(*ptype, number)
-        }
+        (Storage::Bits, Some(ScalarValue::Bool(_))) => true,
+        (Storage::Integers(ptype), Some(ScalarValue::Integer(number))) => in_range(ptype, number),
         _ => false,
     }
 }

@@ -1,0 +1,30 @@
+use Rattle.std.proofs.Common.{◌≡◌, FitsSigned, sym, ap, ◌∙◌, rules}
+use Rattle.std.proofs.Math.Facts.{to_z-of_z}
+use Rattle.std.proofs.lemmas.Result.{IfErr-weaker}
+use Rattle.std.specs.Int.{w128}
+use Rattle.vx_value.specs.Types.{primitive}
+use Rattle.vx_value.specs.Values.{integer}
+use Rattle.vx_value.specs.View.{type_of}
+use Rattle.vx_fn.specs.Binary.{operated, calculated}
+use Rattle.vx_fn.proofs.BinaryLemmas.{whole_values, calculation_type}
+use Rattle.vx_fn.proofs.apply.operate.Goals as goal
+
+pub returns-clause-fault : goal.returns-clause-fault
+returns-clause-fault c =
+    let op = c.args.operator in
+    let l = c.args.lhs.now in
+    let r = c.args.rhs.now in
+    let arm = c.in-Primitive-Some-Integer-Some-Integer in
+    let kind : primitive arm.ptype arm.field-1-0 ≡ l.of_type = sym (ap type_of arm.is-0) ∙ c.dtype.ensures.dtype in
+    let v : integer arm.x ≡ l.value = search rules in
+    let w : integer arm.y ≡ r.value = search rules in
+    let x : FitsSigned w128 arm.x = search rules in
+    let y : FitsSigned w128 arm.y = search rules in
+    IfErr-weaker c.calculate.result _ _ (λ e h. (
+      h.0,
+      λ t typed.
+          let same = calculation_type op l.of_type r.of_type t arm.ptype arm.field-1-0 (sym c.is_comparison.ensures ∙ c.if-is_comparison.false) kind typed in
+          whole_values op l.of_type r.of_type t l.value r.value c.dtype.ensures.typed c.value-2.ensures.typed c.requires
+          ∙ (λ i. operated op (same i) (sym v i) (sym w i)) ∙ (λ i. calculated op arm.ptype (sym (to_z-of_z x) i) (sym (to_z-of_z y) i)) ∙ h.1,
+    ))
+    c.calculate.ensures.fault
