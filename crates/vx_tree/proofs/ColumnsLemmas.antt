@@ -1,7 +1,7 @@
 -- Which encodings are columns, and what every column is.
-use Rattle.std.proofs.Common.{◌≡◌, ◌≤◌, ℕ, zero, suc, ℤ, ◌-◌, List, [], ◌∷◌, length, map, replicate, drop, slice_range, Bool, true, false, None}
+use Rattle.std.proofs.Common.{◌≡◌, ◌≤◌, ℕ, zero, suc, ◌-◌, List, [], ◌∷◌, length, map, replicate, drop, slice_range, true, false, None}
 use Rattle.std.proofs.Common.{refl, sym, ap, subst, ◌∙◌, inl, inr, arith, length-drop}
-use Rattle.std.proofs.lemmas.Bool.{or_left, or_right}
+use Rattle.std.proofs.lemmas.Bool.{or_left}
 use Rattle.std.proofs.lemmas.List.{length-replicate, length-take-le}
 use Rattle.vx_value.specs.Types as type
 use Rattle.vx_value.specs.Types.{DataType, nullability_of}
@@ -12,26 +12,18 @@ use Rattle.vx_value.specs.declared.dtype.Nullability.{Nullability}
 use Rattle.vx_value.specs.declared.dtype.Nullability.TheVariants.{NonNullable}
 use Rattle.vx_value.specs.declared.dtype.PType.{PType}
 use Rattle.vx_tree.specs.Tree as enc
-use Rattle.vx_tree.specs.Tree.{Tree, Data, Slots, node, no_slots, absent, slot, datum, constant_of, booleans, integers, slice_of}
+use Rattle.vx_tree.specs.Tree.{Tree, Data, Slots, node, no_slots, absent, slot, column, datum, id_of, constant_of, slice_of}
 use Rattle.vx_tree.specs.Tree.{is_bool, is_primitive, is_constant, is_canonical, is_columnar}
 use Rattle.vx_tree.specs.Well.{IsWell, shapes}
-use Rattle.vx_tree.specs.Cells.{rows, HasNoFault}
+use Rattle.vx_tree.specs.Cells.{rows, node_cells, HasNoFault}
 use Rattle.vx_tree.specs.Keeps.{KeepsExactly}
-use Rattle.vx_tree.specs.Columns.{IsColumn}
+use Rattle.vx_tree.specs.Columns.{IsColumn, canonical_id}
+use Rattle.vx_tree.proofs.CostLemmas.{column_cost}
 use Rattle.vx_tree.proofs.KeepsLemmas.{column_exactly}
 use Rattle.vx_tree.proofs.NativesLemmas.{map_part}
 
-pub bool_canonical : (d : Data) → is_bool d ≡ true → is_canonical d ≡ true
-bool_canonical d h = or_left (is_bool d) (is_primitive d) h
-
-pub primitive_canonical : (d : Data) → is_primitive d ≡ true → is_canonical d ≡ true
-primitive_canonical d h = or_right (is_bool d) (is_primitive d) h
-
 pub canonical_columnar : (d : Data) → is_canonical d ≡ true → is_columnar d ≡ true
 canonical_columnar d h = or_left (is_canonical d) (is_constant d) h
-
-pub constant_columnar : (d : Data) → is_constant d ≡ true → is_columnar d ≡ true
-constant_columnar d h = or_right (is_canonical d) (is_constant d) h
 
 pub canonical_open : (d : Data) → is_canonical d ≡ true → is_constant d ≡ false
 canonical_open (enc.constant v) h = absurd (cc)
@@ -69,32 +61,23 @@ constant_known v n = record {
   canonical_settled = λ h. absurd (cc);
 }
 
-booleans_known : (bs : List Bool) → IsColumn (booleans bs)
-booleans_known bs = record {
-  whole = items_whole boolean bs;
-  clean = (items_whole boolean bs, tt);
-  lawful = inl refl;
-  settled = omega arith;
-  canonical_settled = λ h. refl;
-}
-
-integers_known : (p : PType) (zs : List ℤ) → IsColumn (integers p zs)
-integers_known p zs = record {
-  whole = items_whole integer zs;
-  clean = (items_whole integer zs, tt);
-  lawful = inl refl;
-  settled = omega arith;
-  canonical_settled = λ h. refl;
-}
+-- a canonical column, of its type
+canonical_known : (ty : DataType) (n : ℕ) (d : Data) (ss : Slots) → is_canonical d ≡ true → id_of d ≡ canonical_id ty →
+    HasNoFault (node_cells ty n d ([] ∷ [])) → shapes ss ≡ None ∷ [] → IsColumn (node ty n d ss)
+canonical_known ty n d ss h lawful whole e = subst (λ x. IsColumn (node ty n d x)) (sym (one_empty ss e)) (record {
+  whole = whole;
+  clean = (whole, tt);
+  lawful = inl lawful;
+  settled = omega (arith, column_cost ty n d h);
+  canonical_settled = λ k. column_cost ty n d h;
+})
 
 -- a line for each encoding that is a column
 pub column_known : (t : Tree) → IsWell t → is_columnar (datum t) ≡ true → IsColumn t
 column_known (node ty n (enc.constant v) ss) w h =
     subst IsColumn (λ i. node (sym w.0.0 i) n (enc.constant v) (sym (no_shapes ss w.0.3) i)) (constant_known v n)
-column_known (node ty n (enc.bool bs) ss) w h =
-    subst IsColumn (λ i. node (sym w.0.0 i) (sym w.0.1 i) (enc.bool bs) (sym (one_empty ss w.0.2) i)) (booleans_known bs)
-column_known (node ty n (enc.primitive p zs) ss) w h =
-    subst IsColumn (λ i. node (sym w.0.0 i) (sym w.0.1 i) (enc.primitive p zs) (sym (one_empty ss w.0.2) i)) (integers_known p zs)
+column_known (node ty n (enc.bool bs) ss) w h = canonical_known ty n _ ss refl (sym (ap canonical_id w.0.0)) (items_whole boolean bs) w.0.2
+column_known (node ty n (enc.primitive p zs) ss) w h = canonical_known ty n _ ss refl (sym (ap canonical_id w.0.0)) (items_whole integer zs) w.0.2
 column_known _ w h = absurd (cc)
 
 -- ---- a range of a column's rows
@@ -102,26 +85,21 @@ column_known _ w h = absurd (cc)
 length_part : {X : Type 0} (a b : ℕ) (xs : List X) → b ≤ length xs → length (slice_range xs a b) ≡ b - a
 length_part a b xs h = length-take-le (b - a) (drop a xs) (omega (arith, length-drop a xs))
 
-pub booleans_part : (a b : ℕ) (xs ys : List Bool) (t : Tree) →
-    t ≡ booleans xs → b ≤ length xs → ys ≡ slice_range xs a b → KeepsExactly (slice_of a b t) (booleans ys)
-booleans_part a b xs ys t whole within range =
-    let shown : rows (slice_of a b (booleans xs)) ≡ rows (booleans ys) =
-    map_part (λ x. value (boolean x)) xs a b ∙ ap (map (λ x. value (boolean x))) (sym range) in
-    subst (λ x. KeepsExactly (slice_of a b x) (booleans ys)) (sym whole)
-    (column_exactly _ _ refl (sym (ap length range ∙ length_part a b xs within)) shown (booleans_known ys).clean)
-
-pub integers_part : (a b : ℕ) (p q : PType) (xs ys : List ℤ) (t : Tree) →
-    t ≡ integers p xs → b ≤ length xs → q ≡ p → ys ≡ slice_range xs a b → KeepsExactly (slice_of a b t) (integers q ys)
-integers_part a b p q xs ys t whole within kind range =
-    let shown : rows (slice_of a b (integers p xs)) ≡ rows (integers p ys) =
-    map_part (λ z. value (integer z)) xs a b ∙ ap (map (λ z. value (integer z))) (sym range) in
-    subst (λ x. KeepsExactly (slice_of a b x) (integers q ys)) (sym whole)
-    (subst (λ k. KeepsExactly (slice_of a b (integers p xs)) (integers k ys)) (sym kind)
-    (column_exactly _ _ refl (sym (ap length range ∙ length_part a b xs within)) shown (integers_known p ys).clean))
+-- of a column whose rows are the values that items are read as
+pub part_exactly : {X : Type 0} (ty : DataType) (read : X → Value) (of_items : List X → Data) →
+    ((n : ℕ) (xs : List X) → node_cells ty n (of_items xs) ([] ∷ []) ≡ map (λ x. value (read x)) xs) → (a b : ℕ) (xs ys : List X) (t : Tree) →
+    t ≡ column ty (length xs) (of_items xs) None → b ≤ length xs → ys ≡ slice_range xs a b →
+    KeepsExactly (slice_of a b t) (column ty (length ys) (of_items ys) None)
+part_exactly ty read of_items cells a b xs ys t whole within range =
+    let shown : rows (slice_of a b (column ty (length xs) (of_items xs) None)) ≡ rows (column ty (length ys) (of_items ys) None) =
+    ap (λ cs. slice_range cs a b) (cells (length xs) xs) ∙ map_part (λ x. value (read x)) xs a b ∙ ap (map (λ x. value (read x))) (sym range)
+    ∙ sym (cells (length ys) ys) in
+    let whole_part = subst HasNoFault (sym (cells (length ys) ys)) (items_whole read ys) in
+    subst (λ x. KeepsExactly (slice_of a b x) (column ty (length ys) (of_items ys) None)) (sym whole)
+    (column_exactly _ _ refl (sym (ap length range ∙ length_part a b xs within)) shown (whole_part, tt))
 
 -- ---- a column without rows
 
 -- a column of integers is refused only where its type is nullable
-pub only_nullable : (ty : DataType) (p q : PType) (n : Nullability) →
-    ty ≡ type.primitive p n → q ≡ p → ¬ (ty ≡ type.primitive q NonNullable) → ¬ (nullability_of ty ≡ NonNullable)
-only_nullable ty p q n e r h = λ k. h (e ∙ (λ i. type.primitive (sym r i) ((sym (ap nullability_of e) ∙ k) i)))
+pub only_nullable : (p q : PType) (n : Nullability) → q ≡ p → ¬ (type.primitive p n ≡ type.primitive q NonNullable) → ¬ (n ≡ NonNullable)
+only_nullable p q n r h = λ k. h (λ i. type.primitive (sym r i) (k i))

@@ -47,7 +47,7 @@ impl Columnar {
     }
 
     /// Returns the reference of the column. (own)
-    #[tactic(auto, using(crate::proofs::ColumnsLemmas::canonical_columnar, crate::proofs::ColumnsLemmas::constant_columnar))]
+    #[tactic(auto, using(std::proofs::lemmas::Bool::or_left, std::proofs::lemmas::Bool::or_right))]
     pub fn as_array(&self) -> &ArrayRef
         ensures of { result.now ≡ columnar_tree self.now }
         ensures columnar { is_columnar (datum (columnar_tree self.now)) ≡ true }

@@ -5,9 +5,6 @@ ghost use Rattle.vx_tree.specs.Tree.{len, slice_of};
 ghost use Rattle.vx_tree.specs.Keeps.{KeepsExactly};
 ghost use Rattle.vx_tree.specs.Columns.{canonical_tree};
 
-use crate::array::ArrayKind;
-use crate::arrays::boolean::BoolArray;
-use crate::arrays::primitive::PrimitiveArray;
 use crate::canonical::Canonical;
 use std::alloc::Global;
 use std::ops::Range;
@@ -24,16 +21,8 @@ pub fn slice_canonical(
     ensures ok { IfOk result (λ c. KeepsExactly (slice_of range.start range.end (canonical_tree column.now)) (canonical_tree c)) }
     ensures err { IfErr result (λ e. e ≡ VortexError.OutOfMemory) }
 {
-    let dtype = column.dtype().clone()?;
-    match column.as_array().kind() {
-        ArrayKind::Bool(bits) => {
-            let bits = bits.slice(range)?;
-            Ok(Canonical::Bool(BoolArray::try_new(alloc, dtype, bits)?))
-        }
-        ArrayKind::Primitive(values) => {
-            let values = values.slice(range)?;
-            Ok(Canonical::Primitive(PrimitiveArray::try_new(alloc, dtype, values)?))
-        }
-        _ => unreachable!(),
+    match column {
+        Canonical::Bool(column) => column.slice(alloc, range),
+        Canonical::Primitive(column) => column.slice(alloc, range),
     }
 }

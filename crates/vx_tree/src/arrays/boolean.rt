@@ -1,15 +1,19 @@
 //! Boolean columns.
 
-ghost use Rattle.std.specs.Prelude.{◌≡◌, ◌⊎◌, IfOk, IfErr, OnOk, true, refl};
+ghost use Rattle.std.specs.Prelude.{◌≡◌, ◌⊎◌, ◌≤◌, IfOk, IfErr, OnOk, true, refl, is_ok, option_map};
 ghost use Rattle.vx_value.specs.View.{type_of};
 ghost use Rattle.vx_value.specs.Types as type;
 ghost use Rattle.vx_value.specs.declared.dtype.Nullability.TheVariants.{NonNullable};
 ghost use Rattle.vx_value.specs.declared.id.Id.TheVariants as id;
-ghost use Rattle.vx_tree.specs.Tree.{bool, is_bool, booleans};
+ghost use Rattle.vx_tree.specs.Tree.{bool, is_bool, booleans, len, datum, slice_of};
+ghost use Rattle.vx_tree.specs.Keeps.{KeepsExactly};
+ghost use Rattle.vx_tree.specs.Columns.{canonical_tree, bool_column, empty_of};
 
-use crate::array::{Array, ArrayId, ArrayParts, Encoded, Encoding, VTable};
+use crate::array::{Array, ArrayId, ArrayKind, ArrayParts, ArrayRef, Encoded, Encoding, VTable};
 use crate::arrays::column::check_column;
+use crate::canonical::Canonical;
 use std::alloc::Global;
+use std::ops::Range;
 use vx_mask::BitBuffer;
 use vx_value::{ArgKind, DType, Id, Nullability, VortexError, VortexResult};
 
@@ -90,5 +94,70 @@ impl BoolArray {
             alloc,
             ArrayParts::new(Bool, dtype, len, BoolData { bits }, slots),
         )
+    }
+}
+
+impl BoolArray {
+    /// Returns the rows in `range`, which must be in order and in bounds, as a column that shares its storage. The only
+    /// error is `OutOfMemory`. (own)
+    pub(crate) fn slice(&self, alloc: Global, range: Range<usize>) -> VortexResult<Canonical>
+        requires { (range.start ≤ range.end) × (range.end ≤ len self.now) }
+        ensures ok { IfOk result (λ c. KeepsExactly (slice_of range.start range.end self.now) (canonical_tree c)) }
+        ensures err { IfErr result (λ e. e ≡ VortexError.OutOfMemory) }
+    {
+        let ArrayKind::Bool(bits) = self.as_array().kind() else {
+            unreachable!()
+        };
+        let bits = bits.slice(range)?;
+        let dtype = DType::Bool(Nullability::NonNullable);
+        Ok(Canonical::Bool(BoolArray::try_new(alloc, dtype, bits)?))
+    }
+}
+
+impl Canonical {
+    /// Makes the boolean column without rows. `InvalidArgument` with `BadType` exactly if it is to be nullable. (own)
+    pub(crate) fn empty_bool(alloc: Global, nullability: Nullability) -> VortexResult<Canonical>
+        ensures ok { IfOk result (λ c. canonical_tree c ≡ empty_of (type.bool nullability)) }
+        ensures valid { OnOk result (nullability ≡ NonNullable) }
+        ensures refused { IfErr result (λ e. (e ≡ VortexError.OutOfMemory)
+            ⊎ ((e ≡ VortexError.InvalidArgument ArgKind.BadType) × (¬ (nullability ≡ NonNullable)))) }
+    {
+        let bits = BitBuffer::repeat(alloc, false, 0)?;
+        let column = BoolArray::try_new(alloc, DType::Bool(nullability), bits)?;
+        Ok(Canonical::Bool(column))
+    }
+
+    /// Returns `array` as a column. Hands it back if it isn't a boolean column. (own)
+    pub(crate) fn from_bool(array: ArrayRef) -> Result<Canonical, ArrayRef>
+        ensures which { is_ok result ≡ is_bool (datum array) }
+        ensures ok { IfOk result (λ c. canonical_tree c ≡ array) }
+        ensures err { IfErr result (λ a. a ≡ array) }
+    {
+        match BoolArray::try_from_array_ref(array) {
+            Ok(column) => Ok(Canonical::Bool(column)),
+            Err(array) => Err(array),
+        }
+    }
+
+    /// Returns the column if it is a boolean column, else `None`.
+    pub fn as_bool(&self) -> Option<&BoolArray>
+        ensures { option_map (λ c. c.now) result ≡ bool_column self.now }
+    {
+        if let Canonical::Bool(column) = self {
+            Some(column)
+        } else {
+            None
+        }
+    }
+
+    /// Returns the column by value if it is a boolean column, else `None`.
+    pub fn into_bool(self) -> Option<BoolArray>
+        ensures { result ≡ bool_column self }
+    {
+        if let Canonical::Bool(column) = self {
+            Some(column)
+        } else {
+            None
+        }
     }
 }

@@ -1,18 +1,22 @@
 //! Integer columns.
 
-ghost use Rattle.std.specs.Prelude.{◌≡◌, ◌⊎◌, IfOk, IfErr, OnOk, true, refl};
+ghost use Rattle.std.specs.Prelude.{◌≡◌, ◌⊎◌, ◌≤◌, IfOk, IfErr, OnOk, true, refl, is_ok, option_map};
 ghost use Rattle.vx_value.specs.View.{type_of};
 ghost use Rattle.vx_value.specs.Types as type;
 ghost use Rattle.vx_value.specs.declared.dtype.Nullability.TheVariants.{NonNullable};
 ghost use Rattle.vx_tree.specs.Natives.{values_of, ptype_of};
 ghost use Rattle.vx_value.specs.declared.id.Id.TheVariants as id;
-ghost use Rattle.vx_tree.specs.Tree.{primitive, is_primitive, integers};
+ghost use Rattle.vx_tree.specs.Tree.{primitive, is_primitive, integers, len, datum, slice_of};
+ghost use Rattle.vx_tree.specs.Keeps.{KeepsExactly};
+ghost use Rattle.vx_tree.specs.Columns.{canonical_tree, primitive_column, empty_of};
 
-use crate::array::{Array, ArrayId, ArrayParts, Encoded, Encoding, VTable};
+use crate::array::{Array, ArrayId, ArrayKind, ArrayParts, ArrayRef, Encoded, Encoding, VTable};
 use crate::arrays::column::check_column;
+use crate::canonical::Canonical;
 use crate::native::PrimitiveValues;
 use std::alloc::Global;
-use vx_value::{ArgKind, DType, Id, Nullability, VortexError, VortexResult};
+use std::ops::Range;
+use vx_value::{ArgKind, DType, Id, Nullability, PType, VortexError, VortexResult};
 
 /// The tag of the primitive encoding.
 #[derive(Clone, Copy, Debug)]
@@ -102,5 +106,75 @@ impl PrimitiveArray {
             slots,
         };
         Ok(Array::from_parts_unchecked(alloc, parts)?)
+    }
+}
+
+impl PrimitiveArray {
+    /// Returns the rows in `range`, which must be in order and in bounds, as a column that shares its storage. The only
+    /// error is `OutOfMemory`. (own)
+    pub(crate) fn slice(&self, alloc: Global, range: Range<usize>) -> VortexResult<Canonical>
+        requires { (range.start ≤ range.end) × (range.end ≤ len self.now) }
+        ensures ok { IfOk result (λ c. KeepsExactly (slice_of range.start range.end self.now) (canonical_tree c)) }
+        ensures err { IfErr result (λ e. e ≡ VortexError.OutOfMemory) }
+    {
+        let ArrayKind::Primitive(values) = self.as_array().kind() else {
+            unreachable!()
+        };
+        let values = values.slice(range)?;
+        let dtype = DType::Primitive(values.ptype(), Nullability::NonNullable);
+        Ok(Canonical::Primitive(PrimitiveArray::try_new(alloc, dtype, values)?))
+    }
+}
+
+impl Canonical {
+    /// Makes the integer column without rows. `InvalidArgument` with `BadType` exactly if it is to be nullable. (own)
+    #[tactic(auto, using(vx_value::proofs::DefaultsLemmas::zero_in_range, crate::proofs::ColumnsLemmas::only_nullable))]
+    pub(crate) fn empty_primitive(
+        alloc: Global,
+        ptype: PType,
+        nullability: Nullability,
+    ) -> VortexResult<Canonical>
+        ensures ok { IfOk result (λ c. canonical_tree c ≡ empty_of (type.primitive ptype nullability)) }
+        ensures valid { OnOk result (nullability ≡ NonNullable) }
+        ensures refused { IfErr result (λ e. (e ≡ VortexError.OutOfMemory)
+            ⊎ ((e ≡ VortexError.InvalidArgument ArgKind.BadType) × (¬ (nullability ≡ NonNullable)))) }
+    {
+        let values = PrimitiveValues::repeat(alloc, ptype, 0, 0)?;
+        let column = PrimitiveArray::try_new(alloc, DType::Primitive(ptype, nullability), values)?;
+        Ok(Canonical::Primitive(column))
+    }
+
+    /// Returns `array` as a column. Hands it back if it isn't an integer column. (own)
+    pub(crate) fn from_primitive(array: ArrayRef) -> Result<Canonical, ArrayRef>
+        ensures which { is_ok result ≡ is_primitive (datum array) }
+        ensures ok { IfOk result (λ c. canonical_tree c ≡ array) }
+        ensures err { IfErr result (λ a. a ≡ array) }
+    {
+        match PrimitiveArray::try_from_array_ref(array) {
+            Ok(column) => Ok(Canonical::Primitive(column)),
+            Err(array) => Err(array),
+        }
+    }
+
+    /// Returns the column if it is an integer column, else `None`.
+    pub fn as_primitive(&self) -> Option<&PrimitiveArray>
+        ensures { option_map (λ c. c.now) result ≡ primitive_column self.now }
+    {
+        if let Canonical::Primitive(column) = self {
+            Some(column)
+        } else {
+            None
+        }
+    }
+
+    /// Returns the column by value if it is an integer column, else `None`.
+    pub fn into_primitive(self) -> Option<PrimitiveArray>
+        ensures { result ≡ primitive_column self }
+    {
+        if let Canonical::Primitive(column) = self {
+            Some(column)
+        } else {
+            None
+        }
     }
 }
