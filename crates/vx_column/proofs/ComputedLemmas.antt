@@ -22,11 +22,11 @@ use Rattle.vx_tree.specs.Tree.{Tree, dtype, len, datum, slots, booleans, integer
 use Rattle.vx_tree.specs.Cells.{rows, HasNoFault, AreClean}
 use Rattle.vx_tree.specs.Columns.{canonical_tree}
 use Rattle.vx_tree.specs.declared.canonical.Canonical.{Canonical}
-use Rattle.vx_column.specs.Arguments.{types_of, row_of, ptype_in, integer_in}
+use Rattle.vx_column.specs.Arguments.{types_of, row_of, integer_in}
 use Rattle.vx_column.specs.Computed.{IsComputed, cells_of}
 use Rattle.vx_column.specs.declared.argument.Argument.{Argument}
-use Rattle.vx_column.specs.declared.argument.Argument.TheVariants.{Primitive}
-use Rattle.vx_column.specs.declared.argument.Integers.{Integers}
+use Rattle.vx_column.specs.declared.argument.Argument.TheVariants as argument
+use Rattle.vx_column.specs.declared.argument.IntegerOperand.{IntegerOperand}
 
 -- one more row that is made by f
 pub rows_more : {T C : Type 0} (read : T → C) (f : ℕ → C) (out : List T) (i : ℕ) (r : T)
@@ -61,33 +61,19 @@ pub fault_at_row : (f : ScalarFnRef) (tys : List DataType) (row : ℕ → List C
     → ¬ (HasNoFault (cells_of f ty row n))
 fault_at_row f tys row n i lt h ty typed = fault_among (λ j. apply f ty (row j)) n i lt (h ty typed)
 
--- the types of an operator's arguments and result
-module _ (op : Operator) (p : PType) where
-  one_type : return_type (Binary op) (primitive p NonNullable ∷ primitive p NonNullable ∷ []) ≡ operator_type op (primitive p NonNullable)
-  one_type =
-      ap (λ b. if b then operator_type op (primitive p NonNullable) else None) ((same_type_Decides (primitive p NonNullable) (primitive p NonNullable)).1 refl)
-
-  module _ (l r : Integers) (left : ptype_in l ≡ p) (right : ptype_in r ≡ p) where
-    types_are : return_type (Binary op) (types_of (Primitive l ∷ Primitive r ∷ [])) ≡ operator_type op (primitive p NonNullable)
-    types_are = (λ j. return_type (Binary op) (primitive (left j) NonNullable ∷ primitive (right j) NonNullable ∷ [])) ∙ one_type
-
-    pub comparison_type : is_comparison op ≡ true → return_type (Binary op) (types_of (Primitive l ∷ Primitive r ∷ [])) ≡ Some (bool NonNullable)
-    comparison_type c = types_are ∙ ap (λ b. Some (if b then bool NonNullable else primitive p NonNullable)) c
-
-    pub calculation_type : is_comparison op ≡ false → return_type (Binary op) (types_of (Primitive l ∷ Primitive r ∷ [])) ≡ Some (primitive p NonNullable)
-    calculation_type c = types_are ∙ ap (λ b. Some (if b then bool NonNullable else primitive p NonNullable)) c
-
-    pub calculation_fault : (n i : ℕ) (x y : ℤ) → is_comparison op ≡ false → x ≡ integer_in l i → y ≡ integer_in r i → i < n → calculated op p x y ≡ fault →
-        (ty : DataType) → return_type (Binary op) (types_of (Primitive l ∷ Primitive r ∷ [])) ≡ Some ty
-        → ¬ (HasNoFault (cells_of (Binary op) ty (row_of (Primitive l ∷ Primitive r ∷ [])) n))
-    calculation_fault n i x y c a b lt none = fault_at_row (Binary op) (types_of (Primitive l ∷ Primitive r ∷ []))
-        (row_of (Primitive l ∷ Primitive r ∷ [])) n i lt here
-      where
-        here : (ty : DataType) → return_type (Binary op) (types_of (Primitive l ∷ Primitive r ∷ [])) ≡ Some ty
-            → apply (Binary op) ty (row_of (Primitive l ∷ Primitive r ∷ []) i) ≡ fault
-        here ty typed =
-            let same : ty ≡ primitive p NonNullable = cc (typed, calculation_type c) in
-            ap (λ t. apply (Binary op) t (row_of (Primitive l ∷ Primitive r ∷ []) i)) same ∙ (λ j. calculated op p (sym a j) (sym b j)) ∙ none
+-- a fault in row i of a calculation
+pub calculation_fault : (op : Operator) (p : PType) (l r : IntegerOperand) (n i : ℕ) (x y : ℤ) → x ≡ integer_in l i → y ≡ integer_in r i → i < n →
+    return_type (Binary op) (types_of (argument.Integers l ∷ argument.Integers r ∷ [])) ≡ Some (primitive p NonNullable) → calculated op p x y ≡ fault →
+    (ty : DataType) → return_type (Binary op) (types_of (argument.Integers l ∷ argument.Integers r ∷ [])) ≡ Some ty
+    → ¬ (HasNoFault (cells_of (Binary op) ty (row_of (argument.Integers l ∷ argument.Integers r ∷ [])) n))
+calculation_fault op p l r n i x y a b lt known none =
+    fault_at_row (Binary op) (types_of (argument.Integers l ∷ argument.Integers r ∷ [])) (row_of (argument.Integers l ∷ argument.Integers r ∷ [])) n i lt here
+  where
+    here : (ty : DataType) → return_type (Binary op) (types_of (argument.Integers l ∷ argument.Integers r ∷ [])) ≡ Some ty
+        → apply (Binary op) ty (row_of (argument.Integers l ∷ argument.Integers r ∷ []) i) ≡ fault
+    here ty typed =
+        let same : ty ≡ primitive p NonNullable = cc (typed, known) in
+        ap (λ t. apply (Binary op) t (row_of (argument.Integers l ∷ argument.Integers r ∷ []) i)) same ∙ (λ j. calculated op p (sym a j) (sym b j)) ∙ none
 
 chosen : (b : Bool) (o : Option DataType) → IsSome (if b then o else None) → b ≡ true
 chosen true o h = refl

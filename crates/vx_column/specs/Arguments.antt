@@ -4,6 +4,9 @@ use Rattle.vx_value.specs.Types as type
 use Rattle.vx_value.specs.Types.{DataType}
 use Rattle.vx_value.specs.Values.{Value, boolean, integer}
 use Rattle.vx_value.specs.Cell.{Cell, value, fault}
+use Rattle.vx_value.specs.View.{type_of}
+use Rattle.vx_value.specs.Storage.{storage_of}
+use Rattle.vx_value.specs.declared.dtype.Storage.TheVariants as storage
 use Rattle.vx_value.specs.IsOf.{in_range}
 use Rattle.vx_value.specs.declared.dtype.Nullability.TheVariants.{NonNullable}
 use Rattle.vx_value.specs.declared.dtype.PType.{PType}
@@ -13,47 +16,54 @@ use Rattle.vx_tree.specs.Tree.{dtype, len}
 use Rattle.vx_tree.specs.Cells.{rows}
 use Rattle.vx_tree.specs.Columns.{columnar_tree}
 use Rattle.vx_tree.specs.declared.columnar.Columnar.{Columnar}
-use Rattle.vx_column.specs.declared.argument.Integers.{Integers}
-use Rattle.vx_column.specs.declared.argument.Integers.TheVariants as integers
+use Rattle.vx_column.specs.declared.argument.IntegerOperand.{IntegerOperand}
+use Rattle.vx_column.specs.declared.argument.IntegerRows.{IntegerRows}
+use Rattle.vx_column.specs.declared.argument.IntegerRows.TheVariants as rows_in
 use Rattle.vx_column.specs.declared.argument.Argument.{Argument}
-use Rattle.vx_column.specs.declared.argument.Argument.TheVariants.{Bool, Primitive}
+use Rattle.vx_column.specs.declared.argument.Argument.TheVariants as argument
 
 -- the integer at row i, or 0 past the last one
-abbrev pub integer_in : Integers → ℕ → ℤ
-integer_in (integers.Rows vs) i = slice_index_or (values_of vs.now) i (pos 0)
-integer_in (integers.Value p z) i = z
+abbrev pub integer_at : IntegerRows → ℕ → ℤ
+integer_at (rows_in.Rows vs) i = slice_index_or (values_of vs.now) i (pos 0)
+integer_at (rows_in.Value p z) i = z
 
-abbrev pub ptype_in : Integers → PType
-ptype_in (integers.Rows vs) = ptype_of vs.now
-ptype_in (integers.Value p z) = p
+abbrev pub ptype_at : IntegerRows → PType
+ptype_at (rows_in.Rows vs) = ptype_of vs.now
+ptype_at (rows_in.Value p z) = p
 
 -- the one for every row is in the range of its type
-abbrev pub IsInRange : Integers → Type 0
-IsInRange (integers.Rows vs) = Unit {0}
-IsInRange (integers.Value p z) = in_range p z ≡ true
+abbrev pub IsInRange : IntegerRows → Type 0
+IsInRange (rows_in.Rows vs) = Unit {0}
+IsInRange (rows_in.Value p z) = in_range p z ≡ true
 
 -- there are n rows; one integer stands for any number of them
-abbrev pub HasIntegers : Integers → ℕ → Type 0
-HasIntegers (integers.Rows vs) n = length (values_of vs.now) ≡ n
-HasIntegers (integers.Value p z) n = Unit {0}
+abbrev pub HasIntegers : IntegerRows → ℕ → Type 0
+HasIntegers (rows_in.Rows vs) n = length (values_of vs.now) ≡ n
+HasIntegers (rows_in.Value p z) n = Unit {0}
 
--- n integers of type p
-abbrev pub AreIntegers : PType → Integers → ℕ → Type 0
-AreIntegers p zs n = (ptype_in zs ≡ p) × IsInRange zs × HasIntegers zs n
+abbrev pub integer_in : IntegerOperand → ℕ → ℤ
+integer_in zs = integer_at zs.rows
 
--- the value at row i: a line for each type
+abbrev pub ptype_in : IntegerOperand → PType
+ptype_in zs = ptype_at zs.rows
+
+-- n integers of type p, as the values of their type are stored
+abbrev pub AreIntegers : PType → IntegerOperand → ℕ → Type 0
+AreIntegers p zs n = (ptype_in zs ≡ p) × IsInRange zs.rows × HasIntegers zs.rows n × (storage_of (type_of zs.dtype.now) ≡ storage.Integers p)
+
+-- the value at row i: a line for each storage
 abbrev pub value_at : Argument → ℕ → Value
-value_at (Bool bs) i = boolean (bit_in bs i)
-value_at (Primitive zs) i = integer (integer_in zs i)
+value_at (argument.Bits bs) i = boolean (bit_in bs i)
+value_at (argument.Integers zs) i = integer (integer_in zs i)
 
 abbrev pub type_of_argument : Argument → DataType
-type_of_argument (Bool bs) = type.bool NonNullable
-type_of_argument (Primitive zs) = type.primitive (ptype_in zs) NonNullable
+type_of_argument (argument.Bits bs) = type.bool NonNullable
+type_of_argument (argument.Integers zs) = type_of zs.dtype.now
 
 -- it has n rows
 abbrev pub IsSized : ℕ → Argument → Type 0
-IsSized n (Bool bs) = HasBits bs n
-IsSized n (Primitive zs) = AreIntegers (ptype_in zs) zs n
+IsSized n (argument.Bits bs) = HasBits bs n
+IsSized n (argument.Integers zs) = AreIntegers (ptype_in zs) zs n
 
 -- a has the type and the rows of the column c
 pub record IsArgument (c : Columnar) (a : Argument) : Type 0 where

@@ -3,56 +3,73 @@
 ghost use Rattle.std.specs.Prelude.{◌≡◌, IfOk};
 ghost use Rattle.std.specs.List.{AllZip};
 ghost use Rattle.vx_column.specs.Arguments.{IsArgument, ptype_in};
+ghost use Rattle.vx_column.specs.declared.argument.Argument.TheVariants.{Integers};
 
 use std::alloc::{AllocError, Global};
 use vx_mask::BitOperand;
 use vx_tree::{ArrayKind, Columnar, PrimitiveValues};
-use vx_value::{PType, ScalarKind};
+use vx_value::{DType, PType, ScalarValue, Storage};
 
-/// The rows of an argument: a column, or one value for every row.
+/// The rows of an argument, by how they are stored: a column, or one value for every row.
 #[derive(Clone, Copy)]
 pub(crate) enum Argument<'a> {
-    Bool(BitOperand<'a>),
-    Primitive(Integers<'a>),
+    Bits(BitOperand<'a>),
+    Integers(IntegerOperand<'a>),
 }
 
-/// Integers of one type.
+/// Integers, and the type whose values they are.
 #[derive(Clone, Copy)]
-pub(crate) enum Integers<'a> {
+pub(crate) struct IntegerOperand<'a> {
+    pub(crate) dtype: &'a DType,
+    pub(crate) rows: IntegerRows<'a>,
+}
+
+/// Integers of one integer type.
+#[derive(Clone, Copy)]
+pub(crate) enum IntegerRows<'a> {
     /// An integer for each row.
     Rows(&'a PrimitiveValues),
     /// One integer for every row, in the range of its type.
     Value(PType, i128),
 }
 
-impl Integers<'_> {
+impl IntegerOperand<'_> {
     /// Returns the type of the integers.
     pub(crate) fn ptype(self) -> PType
         ensures { result ≡ ptype_in self.entry }
     {
-        match self {
-            Integers::Rows(values) => values.ptype(),
-            Integers::Value(ptype, _) => ptype,
+        match self.rows {
+            IntegerRows::Rows(values) => values.ptype(),
+            IntegerRows::Value(ptype, _) => ptype,
         }
     }
 }
 
 /// Returns the rows of `column`.
+#[tactic(auto, using(vx_value::proofs::StorageLemmas::stored_as_bits))]
 fn argument_of(column: &Columnar) -> Argument<'_>
     ensures { IsArgument column.now result }
 {
+    let dtype = column.dtype();
     match column.as_array().kind() {
-        ArrayKind::Bool(bits) => Argument::Bool(BitOperand::Bits(bits)),
-        ArrayKind::Primitive(values) => Argument::Primitive(Integers::Rows(values)),
-        ArrayKind::Constant(scalar) => match scalar.kind() {
-            ScalarKind::Bool(bit, _) => Argument::Bool(BitOperand::Bit(bit)),
-            ScalarKind::Primitive(wide, ptype, _) => {
-                Argument::Primitive(Integers::Value(ptype, wide))
+        ArrayKind::Bool(bits) => Argument::Bits(BitOperand::Bits(bits)),
+        ArrayKind::Primitive(values) => integer_argument(dtype, IntegerRows::Rows(values)),
+        ArrayKind::Constant(scalar) => match (scalar.dtype().storage(), scalar.value()) {
+            (_, Some(ScalarValue::Bool(bit))) => Argument::Bits(BitOperand::Bit(bit)),
+            (Storage::Integers(ptype), Some(ScalarValue::Integer(wide))) => {
+                integer_argument(dtype, IntegerRows::Value(ptype, wide))
             }
-            ScalarKind::Null(_) => unreachable!(),
+            _ => unreachable!(),
         },
         _ => unreachable!(),
     }
+}
+
+/// Returns `rows`, the values of type `dtype`, as an argument.
+fn integer_argument<'a>(dtype: &'a DType, rows: IntegerRows<'a>) -> Argument<'a>
+    ensures { result ≡ Integers (record { dtype = dtype.entry; rows = rows.entry }) }
+{
+    Argument::Integers(IntegerOperand { dtype, rows })
 }
 
 /// Returns the rows of each of `columns`.

@@ -1,20 +1,21 @@
 //! Arithmetic on integers.
 
-ghost use Rattle.std.specs.Prelude.{◌≡◌, ◌∷◌, [], false, IfOk, IfErr, MatchOption};
+ghost use Rattle.std.specs.Prelude.{◌≡◌, ◌∷◌, [], false, IfOk, IfErr, IsSome, MatchOption};
 ghost use Rattle.vx_value.specs.Values.{integer};
 ghost use Rattle.vx_value.specs.Cell.{value, fault};
 ghost use Rattle.vx_fn.specs.Binary.{calculated, is_comparison};
+ghost use Rattle.vx_fn.specs.ReturnTypes.{return_type};
 ghost use Rattle.vx_fn.specs.declared.function.Operator.{Operator as OperatorOf};
 ghost use Rattle.vx_fn.specs.declared.function.Operator.TheVariants.{Add, Sub, Mul, Div};
 ghost use Rattle.vx_fn.specs.declared.function.ScalarFnRef.TheVariants.{Binary};
 ghost use Rattle.vx_tree.specs.Tree.{integers};
 ghost use Rattle.vx_tree.specs.Natives.{values_of, ptype_of};
 ghost use Rattle.vx_tree.specs.Columns.{canonical_tree};
-ghost use Rattle.vx_column.specs.Arguments.{AreIntegers};
+ghost use Rattle.vx_column.specs.Arguments.{AreIntegers, types_of};
 ghost use Rattle.vx_column.specs.Computed.{IsComputed, IsNotComputed};
-ghost use Rattle.vx_column.specs.declared.argument.Argument.TheVariants.{Primitive};
+ghost use Rattle.vx_column.specs.declared.argument.Argument.TheVariants.{Integers};
 
-use crate::argument::Integers;
+use crate::argument::IntegerOperand;
 use crate::operand::{Operand, operand_of};
 use num_traits::{CheckedAdd, CheckedDiv, CheckedMul, CheckedSub};
 use std::alloc::Global;
@@ -99,15 +100,16 @@ pub(crate) fn primitive_column(alloc: Global, values: PrimitiveValues) -> Vortex
 #[tactic(auto, using(crate::proofs::ComputedLemmas::rows_more))]
 pub(crate) fn calculate<T: NativeInteger, A: Arithmetic>(
     alloc: Global,
-    lhs: Integers<'_>,
-    rhs: Integers<'_>,
+    lhs: IntegerOperand<'_>,
+    rhs: IntegerOperand<'_>,
     len: usize,
 ) -> VortexResult<Canonical>
     requires operator { is_comparison A.operator ≡ false }
     requires lhs { AreIntegers T.kind lhs len }
     requires rhs { AreIntegers T.kind rhs len }
-    ensures ok { IfOk result (λ c. IsComputed (Binary A.operator) (Primitive lhs.entry ∷ Primitive rhs.entry ∷ []) len (canonical_tree c)) }
-    ensures err { IfErr result (IsNotComputed (Binary A.operator) (Primitive lhs.entry ∷ Primitive rhs.entry ∷ []) len) }
+    requires taken { IsSome (return_type (Binary A.operator) (types_of (Integers lhs ∷ Integers rhs ∷ []))) }
+    ensures ok { IfOk result (λ c. IsComputed (Binary A.operator) (Integers lhs.entry ∷ Integers rhs.entry ∷ []) len (canonical_tree c)) }
+    ensures err { IfErr result (IsNotComputed (Binary A.operator) (Integers lhs.entry ∷ Integers rhs.entry ∷ []) len) }
 {
     let left: Operand<'_, T> = operand_of(lhs);
     let right: Operand<'_, T> = operand_of(rhs);

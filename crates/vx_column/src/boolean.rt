@@ -11,7 +11,7 @@ ghost use Rattle.vx_tree.specs.Tree.{booleans};
 ghost use Rattle.vx_tree.specs.Columns.{canonical_tree};
 ghost use Rattle.vx_column.specs.Arguments.{types_of, IsSized};
 ghost use Rattle.vx_column.specs.Computed.{IsComputed};
-ghost use Rattle.vx_column.specs.declared.argument.Argument.TheVariants.{Bool};
+ghost use Rattle.vx_column.specs.declared.argument.Argument.TheVariants.{Bits};
 
 use crate::argument::Argument;
 use std::alloc::{AllocError, Global};
@@ -63,8 +63,8 @@ pub(crate) fn compare_bools(
 ) -> VortexResult<Canonical>
     requires lhs { HasBits lhs len }
     requires rhs { HasBits rhs len }
-    requires taken { IsSome (return_type (Binary operator) (types_of (Bool lhs ∷ Bool rhs ∷ []))) }
-    ensures ok { IfOk result (λ c. IsComputed (Binary operator) (Bool lhs.entry ∷ Bool rhs.entry ∷ []) len (canonical_tree c)) }
+    requires taken { IsSome (return_type (Binary operator) (types_of (Bits lhs ∷ Bits rhs ∷ []))) }
+    ensures ok { IfOk result (λ c. IsComputed (Binary operator) (Bits lhs.entry ∷ Bits rhs.entry ∷ []) len (canonical_tree c)) }
     ensures err { IfErr result (λ e. e ≡ VortexError.OutOfMemory) }
 {
     let bits = compare_bits(alloc, operator, lhs, rhs, len)?;
@@ -78,7 +78,7 @@ pub(crate) fn negate(alloc: Global, input: Argument<'_>, len: usize) -> VortexRe
     ensures ok { IfOk result (λ c. IsComputed Not (input.entry ∷ []) len (canonical_tree c)) }
     ensures err { IfErr result (λ e. e ≡ VortexError.OutOfMemory) }
 {
-    let Argument::Bool(input) = input else {
+    let Argument::Bits(input) = input else {
         unreachable!()
     };
     let bits = BitBuffer::zip::<BitNotEq>(alloc, input, BitOperand::Bit(true), len)?;

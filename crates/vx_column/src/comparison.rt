@@ -1,17 +1,18 @@
 //! Comparisons of integers.
 
-ghost use Rattle.std.specs.Prelude.{◌≡◌, ◌∷◌, [], true, IfOk, IfErr};
+ghost use Rattle.std.specs.Prelude.{◌≡◌, ◌∷◌, [], true, IfOk, IfErr, IsSome};
 ghost use Rattle.std.specs.Ordering.{int_cmp};
 ghost use Rattle.vx_fn.specs.Binary.{holds, is_comparison};
+ghost use Rattle.vx_fn.specs.ReturnTypes.{return_type};
 ghost use Rattle.vx_fn.specs.declared.function.Operator.{Operator as OperatorOf};
 ghost use Rattle.vx_fn.specs.declared.function.Operator.TheVariants.{Eq, NotEq, Gt, Gte, Lt, Lte};
 ghost use Rattle.vx_fn.specs.declared.function.ScalarFnRef.TheVariants.{Binary};
 ghost use Rattle.vx_tree.specs.Columns.{canonical_tree};
-ghost use Rattle.vx_column.specs.Arguments.{AreIntegers};
+ghost use Rattle.vx_column.specs.Arguments.{AreIntegers, types_of};
 ghost use Rattle.vx_column.specs.Computed.{IsComputed};
-ghost use Rattle.vx_column.specs.declared.argument.Argument.TheVariants.{Primitive};
+ghost use Rattle.vx_column.specs.declared.argument.Argument.TheVariants.{Integers};
 
-use crate::argument::Integers;
+use crate::argument::IntegerOperand;
 use crate::boolean::bool_column;
 use crate::operand::{Operand, operand_of};
 use std::alloc::Global;
@@ -105,14 +106,15 @@ impl Comparison for NotAbove {
 #[tactic(auto, using(crate::proofs::ComputedLemmas::bits_more))]
 pub(crate) fn compare<T: NativeInteger, C: Comparison>(
     alloc: Global,
-    lhs: Integers<'_>,
-    rhs: Integers<'_>,
+    lhs: IntegerOperand<'_>,
+    rhs: IntegerOperand<'_>,
     len: usize,
 ) -> VortexResult<Canonical>
     requires operator { is_comparison C.operator ≡ true }
     requires lhs { AreIntegers T.kind lhs len }
     requires rhs { AreIntegers T.kind rhs len }
-    ensures ok { IfOk result (λ c. IsComputed (Binary C.operator) (Primitive lhs.entry ∷ Primitive rhs.entry ∷ []) len (canonical_tree c)) }
+    requires taken { IsSome (return_type (Binary C.operator) (types_of (Integers lhs ∷ Integers rhs ∷ []))) }
+    ensures ok { IfOk result (λ c. IsComputed (Binary C.operator) (Integers lhs.entry ∷ Integers rhs.entry ∷ []) len (canonical_tree c)) }
     ensures err { IfErr result (λ e. e ≡ VortexError.OutOfMemory) }
 {
     let left: Operand<'_, T> = operand_of(lhs);

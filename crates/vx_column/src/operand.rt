@@ -4,7 +4,7 @@ ghost use Rattle.std.specs.Prelude.{◌≡◌, ℕ};
 ghost use Rattle.vx_column.specs.Arguments.{integer_in, ptype_in, IsInRange, HasIntegers};
 ghost use Rattle.vx_column.specs.Operands.{number_in, HasRow, HasRows};
 
-use crate::argument::Integers;
+use crate::argument::{IntegerOperand, IntegerRows};
 use vx_tree::{NativeInteger, native_of};
 
 /// Numbers of a native type: one for each row, or one for every row.
@@ -29,19 +29,19 @@ impl<'a, T: NativeInteger> Operand<'a, T> {
 }
 
 /// Returns `integers`, which must be of the type `T`, as native numbers.
-pub(crate) fn operand_of<'a, T: NativeInteger>(integers: Integers<'a>) -> Operand<'a, T>
+pub(crate) fn operand_of<'a, T: NativeInteger>(integers: IntegerOperand<'a>) -> Operand<'a, T>
     requires kind { ptype_in integers ≡ T.kind }
-    requires ranged { IsInRange integers }
+    requires ranged { IsInRange integers.rows }
     ensures numbers { number_in T.value result ≡ integer_in integers.entry }
-    ensures rows { (n : ℕ) → HasIntegers integers.entry n → HasRows result n }
+    ensures rows { (n : ℕ) → HasIntegers integers.entry.rows n → HasRows result n }
 {
-    match integers {
-        Integers::Rows(values) => {
+    match integers.rows {
+        IntegerRows::Rows(values) => {
             let Some(buffer) = T::project(values) else {
                 unreachable!()
             };
             Operand::Rows(buffer.as_slice())
         }
-        Integers::Value(_, wide) => Operand::Value(native_of(wide)),
+        IntegerRows::Value(_, wide) => Operand::Value(native_of(wide)),
     }
 }

@@ -6,9 +6,9 @@ ghost use Rattle.vx_fn.specs.declared.function.ScalarFnRef.TheVariants.{Binary};
 ghost use Rattle.vx_tree.specs.Columns.{canonical_tree};
 ghost use Rattle.vx_column.specs.Arguments.{types_of, IsSized, AreIntegers};
 ghost use Rattle.vx_column.specs.Computed.{IsComputed, IsNotComputed};
-ghost use Rattle.vx_column.specs.declared.argument.Argument.TheVariants.{Primitive};
+ghost use Rattle.vx_column.specs.declared.argument.Argument.TheVariants.{Integers};
 
-use crate::argument::{Argument, Integers};
+use crate::argument::{Argument, IntegerOperand};
 use crate::arithmetic::{Difference, Product, Quotient, Sum, calculate};
 use crate::boolean::compare_bools;
 use crate::comparison::{Above, Below, Different, Equal, NotAbove, NotBelow, compare};
@@ -32,8 +32,8 @@ pub(crate) fn operate(
     ensures err { IfErr result (IsNotComputed (Binary operator) (lhs.entry ∷ rhs.entry ∷ []) len) }
 {
     match (lhs, rhs) {
-        (Argument::Bool(lhs), Argument::Bool(rhs)) => compare_bools(alloc, operator, lhs, rhs, len),
-        (Argument::Primitive(lhs), Argument::Primitive(rhs)) => {
+        (Argument::Bits(lhs), Argument::Bits(rhs)) => compare_bools(alloc, operator, lhs, rhs, len),
+        (Argument::Integers(lhs), Argument::Integers(rhs)) => {
             by_type!(lhs.ptype(), operate_natives(alloc, operator, lhs, rhs, len))
         }
         _ => unreachable!(),
@@ -44,14 +44,15 @@ pub(crate) fn operate(
 fn operate_natives<T: NativeInteger>(
     alloc: Global,
     operator: Operator,
-    lhs: Integers<'_>,
-    rhs: Integers<'_>,
+    lhs: IntegerOperand<'_>,
+    rhs: IntegerOperand<'_>,
     len: usize,
 ) -> VortexResult<Canonical>
     requires lhs { AreIntegers T.kind lhs len }
     requires rhs { AreIntegers T.kind rhs len }
-    ensures ok { IfOk result (λ c. IsComputed (Binary operator) (Primitive lhs.entry ∷ Primitive rhs.entry ∷ []) len (canonical_tree c)) }
-    ensures err { IfErr result (IsNotComputed (Binary operator) (Primitive lhs.entry ∷ Primitive rhs.entry ∷ []) len) }
+    requires taken { IsSome (return_type (Binary operator) (types_of (Integers lhs ∷ Integers rhs ∷ []))) }
+    ensures ok { IfOk result (λ c. IsComputed (Binary operator) (Integers lhs.entry ∷ Integers rhs.entry ∷ []) len (canonical_tree c)) }
+    ensures err { IfErr result (IsNotComputed (Binary operator) (Integers lhs.entry ∷ Integers rhs.entry ∷ []) len) }
 {
     match operator {
         Operator::Eq => compare::<T, Equal>(alloc, lhs, rhs, len),

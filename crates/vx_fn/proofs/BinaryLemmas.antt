@@ -1,5 +1,5 @@
 -- Two arguments of one type, arguments that aren't null, and numbers that no type has.
-use Rattle.std.proofs.Common.{◌≡◌, zero, suc, of_z, to_z, Bool, true, false, if◌then◌else◌, arith, refl, ap, ◌∙◌, sym}
+use Rattle.std.proofs.Common.{◌≡◌, zero, suc, of_z, to_z, Bool, true, false, if◌then◌else◌, arith, refl, ap, ◌∙◌, sym, subst}
 use Rattle.std.specs.Prelude.{ℤ, pos, negsuc, FitsSigned, int_div, Option, Some, None, MatchOption}
 use Rattle.std.specs.Option.{SomeIff}
 use Rattle.std.specs.Int.{w128, CanDivide}
@@ -7,11 +7,12 @@ use Rattle.std.specs.Ordering.{int_cmp, is_eq}
 use Rattle.std.proofs.lemmas.Bool.Decides.{nat_tests}
 use Rattle.std.proofs.lemmas.Int.{to_z-of_z}
 use Rattle.std.specs.Prelude.{[], ◌∷◌, IsSome}
-use Rattle.vx_value.specs.Types.{DataType, bool, primitive, same_type, nullability_of, is_nullable}
+use Rattle.vx_value.specs.Types.{DataType, bool, primitive, same_type, same_type_Decides, nullability_of, is_nullable}
 use Rattle.vx_value.specs.Values.{Value}
 use Rattle.vx_value.specs.Cell.{Cell, fault}
 use Rattle.vx_value.specs.IsOf.{is_of, in_range}
-use Rattle.vx_value.specs.declared.dtype.Nullability.{Nullability}
+use Rattle.vx_value.specs.Storage.{storage_of}
+use Rattle.vx_value.specs.declared.dtype.Storage.TheVariants.{Integers}
 use Rattle.vx_value.specs.declared.dtype.Nullability.TheVariants.{NonNullable}
 use Rattle.vx_value.specs.declared.dtype.PType.{PType}
 use Rattle.vx_value.specs.declared.dtype.PType.TheVariants.{U8, U16, U32, U64, I8, I16, I32, I64}
@@ -35,19 +36,33 @@ whole_values op s t ty v w h k taken =
     let second = whole_value t w (binary_type op s t) (operated op ty v w) k first.1 in
     first.0 ∙ second.0
 
--- the type of a calculation is that of its arguments
-pub calculation_type : (op : Operator) (s t ty : DataType) (p : PType) (n : Nullability) → is_comparison op ≡ false → primitive p n ≡ s →
-    return_type (function.Binary op) (s ∷ t ∷ []) ≡ Some ty → ty ≡ primitive p NonNullable
-calculation_type op s t ty p n c e h = by_tests (is_nullable (nullability_of s)) (is_nullable (nullability_of t)) (same_type s t) h
-  where
-    typed : operator_type op s ≡ Some (primitive p NonNullable)
-    typed = (λ i. if c i then Some (bool NonNullable) else calculated_type (sym e i))
+-- the type of an operator's result, where it takes the types
+module _ (op : Operator) (s t : DataType) (taken : IsSome (return_type (function.Binary op) (s ∷ t ∷ []))) where
+  by_tests : (a b c : Bool) (o : Option DataType) → IsSome (if a then None else (if b then None else (if c then o else None))) →
+      (c ≡ true) × ((if a then None else (if b then None else (if c then o else None))) ≡ o)
+  by_tests false false true o h = (refl, refl)
+  by_tests false false false o h = absurd (cc)
+  by_tests false true c o h = absurd (cc)
+  by_tests true b c o h = absurd (cc)
 
-    by_tests : (a b d : Bool) → (if a then None else (if b then None else (if d then operator_type op s else None))) ≡ Some ty → ty ≡ primitive p NonNullable
-    by_tests false false true h = cc (typed, h)
-    by_tests false false false h = absurd (cc)
-    by_tests false true d h = absurd (cc)
-    by_tests true b d h = absurd (cc)
+  tests : (same_type s t ≡ true) × (return_type (function.Binary op) (s ∷ t ∷ []) ≡ operator_type op s)
+  tests = by_tests (is_nullable (nullability_of s)) (is_nullable (nullability_of t)) (same_type s t) (operator_type op s) taken
+
+  pub one_type : s ≡ t
+  one_type = (same_type_Decides s t).0 tests.0
+
+  pub comparison_type : is_comparison op ≡ true → return_type (function.Binary op) (s ∷ t ∷ []) ≡ Some (bool NonNullable)
+  comparison_type c = tests.1 ∙ (λ i. if c i then Some (bool NonNullable) else calculated_type s)
+
+  pub calculation_type : (p : PType) → is_comparison op ≡ false → storage_of s ≡ Integers p →
+      return_type (function.Binary op) (s ∷ t ∷ []) ≡ Some (primitive p NonNullable)
+  calculation_type p c stored =
+      let calculated : return_type (function.Binary op) (s ∷ t ∷ []) ≡ calculated_type s = tests.1 ∙ (λ i. if c i then Some (bool NonNullable) else calculated_type s) in
+      calculated ∙ of_integers s (subst IsSome calculated taken) stored
+    where
+      of_integers : (s : DataType) → IsSome (calculated_type s) → storage_of s ≡ Integers p → calculated_type s ≡ Some (primitive p NonNullable)
+      of_integers (primitive q n) h e = let same : q ≡ p = cc in ap (λ k. Some (primitive k NonNullable)) same
+      of_integers _ h e = absurd (cc)
 
 -- what a type has, an i128 is
 pub range_fits : (p : PType) (z : ℤ) → in_range p z ≡ true → FitsSigned w128 z

@@ -2,36 +2,43 @@ use Rattle.std.proofs.Common.{◌≡◌, ◌∷◌, [], map, inr, refl, sym, ap,
 use Rattle.std.specs.List.{range_with_len}
 use Rattle.vx_value.specs.Values.{integer}
 use Rattle.vx_value.specs.Cell.{value}
+use Rattle.vx_value.specs.View.{type_of}
+use Rattle.vx_value.specs.declared.dtype.Storage.TheVariants as storage
 use Rattle.vx_value.specs.declared.error.VortexError.TheVariants.{Fault}
 use Rattle.vx_fn.specs.Binary.{calculated}
 use Rattle.vx_fn.specs.declared.function.ScalarFnRef.TheVariants.{Binary}
 use Rattle.vx_tree.specs.Natives.{values_of, ptype_of}
-use Rattle.vx_column.specs.declared.argument.Argument.TheVariants.{Primitive}
-use Rattle.vx_column.proofs.ComputedLemmas.{calculation_type, calculation_fault, cells_read, integers_computed}
+use Rattle.vx_column.specs.declared.argument.Argument.TheVariants.{Integers}
+use Rattle.vx_fn.proofs.BinaryLemmas.{calculation_type}
+use Rattle.vx_column.proofs.ComputedLemmas.{calculation_fault, cells_read, integers_computed}
 use Rattle.vx_column.proofs.arithmetic.calculate.Goals as goal
 
 pub returns-in_default-clause-err : goal.returns-in_default-clause-err
 returns-in_default-clause-err g c =
+    let op = g.A.Arithmetic.operator in
+    let p = g.T.NativeInteger.kind in
+    let l = c.args.lhs in
+    let r = c.args.rhs in
     let i = c.loop-index.index in
     let x = c.row.ensures ∙ ap (λ f. f i) c.operand_of-left.ensures.numbers in
     let y = c.row-in-loop-index.ensures ∙ ap (λ f. f i) c.operand_of-right.ensures.numbers in
-    inr (
-      refl {a = Fault},
-      calculation_fault g.A.Arithmetic.operator g.T.NativeInteger.kind c.args.lhs c.args.rhs c.requires.lhs.0 c.requires.rhs.0 c.args.len i _ _
-          c.requires.operator x y (omega arith) c.in_default.ensures,
-    )
+    let typed = calculation_type op (type_of l.dtype.now) (type_of r.dtype.now) c.requires.taken p c.requires.operator c.requires.lhs.3 in
+    inr (refl {a = Fault}, calculation_fault op p l r c.args.len i _ _ x y (omega arith) typed c.in_default.ensures)
 
 pub returns-clause-ok : goal.returns-clause-ok
 returns-clause-ok g c =
     let op = g.A.Arithmetic.operator in
+    let l = c.args.lhs in
+    let r = c.args.rhs in
     let read = g.T.Number.value in
     let v = c.wrap.result in
     let kind = sym c.wrap.ensures.same_kind in
     let left = c.operand_of-left.ensures.numbers in
     let right = c.operand_of-right.ensures.numbers in
     let all : c.loop-index.index ≡ c.args.len = omega arith in
-    integers_computed (Binary op) (Primitive c.args.lhs ∷ Primitive c.args.rhs ∷ []) c.args.len c.primitive_column.result (ptype_of v) (values_of v)
-    (calculation_type op (ptype_of v) c.args.lhs c.args.rhs (c.requires.lhs.0 ∙ kind) (c.requires.rhs.0 ∙ kind) c.requires.operator)
+    integers_computed (Binary op) (Integers l ∷ Integers r ∷ []) c.args.len c.primitive_column.result (ptype_of v) (values_of v)
+    (calculation_type op (type_of l.dtype.now) (type_of r.dtype.now) c.requires.taken (ptype_of v) c.requires.operator
+    (c.requires.lhs.3 ∙ ap storage.Integers kind))
     (ap (map (λ z. value (integer z))) c.wrap.ensures.values ∙ cells_read read c.in_ok-from_vec.field-0
     ∙ ap (map (λ x. value (integer (read x)))) c.in_ok-from_vec.ensures ∙ c.loop-index.invariant.2
     ∙ (λ j. map (λ i. calculated op (kind j) (left j i) (right j i)) (range_with_len 0 (all j))))

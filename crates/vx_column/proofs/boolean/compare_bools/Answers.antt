@@ -3,7 +3,7 @@ use Rattle.std.specs.Ordering.{bool_cmp}
 use Rattle.vx_mask.specs.Operands.{bit_in}
 use Rattle.vx_fn.specs.Binary.{holds}
 use Rattle.vx_fn.specs.declared.function.ScalarFnRef.TheVariants.{Binary}
-use Rattle.vx_column.specs.declared.argument.Argument.TheVariants.{Bool}
+use Rattle.vx_column.specs.declared.argument.Argument.TheVariants.{Bits}
 use Rattle.vx_column.proofs.ComputedLemmas.{bools_compared, bools_computed}
 use Rattle.vx_column.proofs.boolean.compare_bools.Goals as goal
 
@@ -12,5 +12,5 @@ returns-clause-ok c =
     let op = c.args.operator in
     let l = c.args.lhs in
     let r = c.args.rhs in
-    bools_computed (Binary op) (Bool l ∷ Bool r ∷ []) c.args.len c.bool_column.result (λ i. holds op (bool_cmp (bit_in l i) (bit_in r i))) c.in_ok-bits.bits
+    bools_computed (Binary op) (Bits l ∷ Bits r ∷ []) c.args.len c.bool_column.result (λ i. holds op (bool_cmp (bit_in l i) (bit_in r i))) c.in_ok-bits.bits
     (bools_compared op c.requires.taken) (λ i. refl) c.in_ok-bits.ensures c.bool_column.ensures.ok

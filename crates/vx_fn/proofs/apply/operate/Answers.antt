@@ -5,6 +5,8 @@ use Rattle.std.specs.Int.{w128}
 use Rattle.vx_value.specs.Types.{primitive}
 use Rattle.vx_value.specs.Values.{integer}
 use Rattle.vx_value.specs.View.{type_of}
+use Rattle.vx_value.specs.Storage.{storage_of}
+use Rattle.vx_value.specs.declared.dtype.Nullability.TheVariants.{NonNullable}
 use Rattle.vx_fn.specs.Binary.{operated, calculated}
 use Rattle.vx_fn.proofs.BinaryLemmas.{whole_values, calculation_type}
 use Rattle.vx_fn.proofs.apply.operate.Goals as goal
@@ -20,10 +22,11 @@ returns-clause-fault c =
     let w : integer arm.y ≡ r.value = search rules in
     let x : FitsSigned w128 arm.x = search rules in
     let y : FitsSigned w128 arm.y = search rules in
+    let type = calculation_type op l.of_type r.of_type c.requires arm.ptype (sym c.is_comparison.ensures ∙ c.if-is_comparison.false) (ap storage_of (sym kind)) in
     IfErr-weaker c.calculate.result _ _ (λ e h. (
       h.0,
       λ t typed.
-          let same = calculation_type op l.of_type r.of_type t arm.ptype arm.field-1-0 (sym c.is_comparison.ensures ∙ c.if-is_comparison.false) kind typed in
+          let same : t ≡ primitive arm.ptype NonNullable = cc (typed, type) in
           whole_values op l.of_type r.of_type t l.value r.value c.dtype.ensures.typed c.value-2.ensures.typed c.requires
           ∙ (λ i. operated op (same i) (sym v i) (sym w i)) ∙ (λ i. calculated op arm.ptype (sym (to_z-of_z x) i) (sym (to_z-of_z y) i)) ∙ h.1,
     ))
