@@ -1,26 +1,30 @@
 -- The function that an object spells.
-use Rattle.std.specs.Prelude.{ℕ, List, if◌then◌else◌, Option, Some, None, option_and_then, codes, bytes_eq}
+use Rattle.std.specs.Prelude.{ℕ, List, [], ◌∷◌, Option, Some, option_and_then, codes, bytes_eq}
+use Rattle.std.specs.Map.{lookup}
 use Rattle.serde_json.specs.Data.{Data}
 use Rattle.vx_fn.specs.declared.function.ScalarFnRef.{ScalarFnRef}
 use Rattle.vx_fn.specs.declared.function.ScalarFnRef.TheVariants.{Binary, Not}
 use Rattle.vx_json.specs.Fields.{keyed, text_at}
 use Rattle.vx_fn.specs.declared.function.Operator.TheVariants.{Eq, NotEq, Gt, Gte, Lt, Lte, Add, Sub, Mul, Div}
 
--- the one that a text names, and how many keys its object has, `enc`, `fn` and `args` among them: a line for each function
+-- the names of functions, and how many keys an object of each has, `enc`, `fn` and `args` among them: a line for each function
+abbrev pub named_functions : List (List ℕ × (ScalarFnRef × ℕ))
+named_functions =
+    (codes "add", (Binary Add, 3))
+    ∷ (codes "sub", (Binary Sub, 3))
+    ∷ (codes "mul", (Binary Mul, 3))
+    ∷ (codes "div", (Binary Div, 3))
+    ∷ (codes "eq", (Binary Eq, 3))
+    ∷ (codes "not_eq", (Binary NotEq, 3))
+    ∷ (codes "lt", (Binary Lt, 3))
+    ∷ (codes "lte", (Binary Lte, 3))
+    ∷ (codes "gt", (Binary Gt, 3))
+    ∷ (codes "gte", (Binary Gte, 3))
+    ∷ (codes "not", (Not, 3))
+    ∷ []
+
 abbrev pub function_named : List ℕ → Option (ScalarFnRef × ℕ)
-function_named text =
-    if bytes_eq text (codes "add") then Some (Binary Add, 3)
-    else (if bytes_eq text (codes "sub") then Some (Binary Sub, 3)
-    else (if bytes_eq text (codes "mul") then Some (Binary Mul, 3)
-    else (if bytes_eq text (codes "div") then Some (Binary Div, 3)
-    else (if bytes_eq text (codes "eq") then Some (Binary Eq, 3)
-    else (if bytes_eq text (codes "not_eq") then Some (Binary NotEq, 3)
-    else (if bytes_eq text (codes "lt") then Some (Binary Lt, 3)
-    else (if bytes_eq text (codes "lte") then Some (Binary Lte, 3)
-    else (if bytes_eq text (codes "gt") then Some (Binary Gt, 3)
-    else (if bytes_eq text (codes "gte") then Some (Binary Gte, 3)
-    else (if bytes_eq text (codes "not") then Some (Not, 3)
-    else None))))))))))
+function_named text = lookup (bytes_eq text) named_functions
 
 -- the one named under `fn`, if the object has exactly its keys
 abbrev pub function_at : Data → Option ScalarFnRef

@@ -1,19 +1,23 @@
 -- The type that a text names.
-use Rattle.std.specs.Prelude.{ℕ, List, if◌then◌else◌, Option, Some, None, codes, bytes_eq}
+use Rattle.std.specs.Prelude.{ℕ, List, [], ◌∷◌, Option, codes, bytes_eq}
+use Rattle.std.specs.Map.{lookup}
 use Rattle.vx_value.specs.Types.{DataType, bool, primitive}
 use Rattle.vx_value.specs.declared.dtype.Nullability.TheVariants.{NonNullable}
 use Rattle.vx_value.specs.declared.dtype.PType.TheVariants.{U8, U16, U32, U64, I8, I16, I32, I64}
 
--- only non-nullable types so far: a line for each
+-- the types that have a name, only non-nullable ones so far: a line for each
+abbrev pub named_types : List (List ℕ × DataType)
+named_types =
+    (codes "bool", bool NonNullable)
+    ∷ (codes "u8", primitive U8 NonNullable)
+    ∷ (codes "u16", primitive U16 NonNullable)
+    ∷ (codes "u32", primitive U32 NonNullable)
+    ∷ (codes "u64", primitive U64 NonNullable)
+    ∷ (codes "i8", primitive I8 NonNullable)
+    ∷ (codes "i16", primitive I16 NonNullable)
+    ∷ (codes "i32", primitive I32 NonNullable)
+    ∷ (codes "i64", primitive I64 NonNullable)
+    ∷ []
+
 abbrev pub type_spelled : List ℕ → Option DataType
-type_spelled text =
-    if bytes_eq text (codes "bool") then Some (bool NonNullable)
-    else (if bytes_eq text (codes "u8") then Some (primitive U8 NonNullable)
-    else (if bytes_eq text (codes "u16") then Some (primitive U16 NonNullable)
-    else (if bytes_eq text (codes "u32") then Some (primitive U32 NonNullable)
-    else (if bytes_eq text (codes "u64") then Some (primitive U64 NonNullable)
-    else (if bytes_eq text (codes "i8") then Some (primitive I8 NonNullable)
-    else (if bytes_eq text (codes "i16") then Some (primitive I16 NonNullable)
-    else (if bytes_eq text (codes "i32") then Some (primitive I32 NonNullable)
-    else (if bytes_eq text (codes "i64") then Some (primitive I64 NonNullable)
-    else None))))))))
+type_spelled text = lookup (bytes_eq text) named_types

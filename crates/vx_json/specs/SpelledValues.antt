@@ -2,9 +2,12 @@
 use Rattle.std.specs.Prelude.{ℤ, List, [], ◌∷◌, if◌then◌else◌, Option, Some, None, option_map, option_and_then}
 use Rattle.serde_json.specs.Data.{Data, Items, no_items, item}
 use Rattle.serde_json.specs.Find.{as_bool, as_number, as_integer}
-use Rattle.vx_value.specs.Types.{DataType, bool, primitive}
+use Rattle.vx_value.specs.Types.{DataType}
 use Rattle.vx_value.specs.Values.{Value, boolean, integer}
+use Rattle.vx_value.specs.Storage.{storage_of}
 use Rattle.vx_value.specs.IsOf.{in_range}
+use Rattle.vx_value.specs.declared.dtype.Storage.{Storage}
+use Rattle.vx_value.specs.declared.dtype.Storage.TheVariants.{Bits, Integers}
 use Rattle.vx_value.specs.declared.dtype.PType.{PType}
 
 -- the number, if it is in the range of the type
@@ -16,9 +19,12 @@ abbrev pub integer_spelled : PType → Data → Option ℤ
 integer_spelled p d = option_and_then (within p) (option_and_then as_integer (as_number d))
 
 -- `true` or `false` for a boolean, a whole number for an integer
+abbrev pub value_stored : Storage → Data → Option Value
+value_stored Bits d = option_map boolean (as_bool d)
+value_stored (Integers p) d = option_map integer (integer_spelled p d)
+
 abbrev pub value_spelled : DataType → Data → Option Value
-value_spelled (bool n) d = option_map boolean (as_bool d)
-value_spelled (primitive p n) d = option_map integer (integer_spelled p d)
+value_spelled t = value_stored (storage_of t)
 
 -- all items of a list, or None if one can't be read
 abbrev pub all_read : {A : Type 0} → (Data → Option A) → Items → Option (List A)

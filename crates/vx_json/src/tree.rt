@@ -10,6 +10,9 @@ ghost use Rattle.serde_json.specs.View.{view, items_view};
 ghost use Rattle.vx_value.specs.View.{type_of};
 ghost use Rattle.vx_value.specs.Types.{nullability_of};
 ghost use Rattle.vx_value.specs.declared.dtype.Nullability.TheVariants.{NonNullable};
+ghost use Rattle.serde_json.specs.Find.{as_bool};
+ghost use Rattle.vx_tree.specs.Tree.{booleans as booleans_of, integers as integers_of};
+ghost use Rattle.vx_json.specs.SpelledValues.{integer_spelled, all_read};
 ghost use Rattle.vx_json.specs.Keys.{key_text};
 ghost use Rattle.vx_json.specs.Refused.{IsRefused};
 ghost use Rattle.vx_json.specs.Spelled.{type_at, column_of_items, column_spelled, constant_spelled, slice_spelled, call_spelled, tree_spelled, trees_spelled, tree_at, trees_at, Spells, SpellsNone};
@@ -25,7 +28,7 @@ use std::alloc::Global;
 use vx_tree::{
     ArrayRef, BoolArray, ConstantArray, IntoArray, PrimitiveArray, ScalarFnArray, SliceArray,
 };
-use vx_value::{ArgKind, DType, Nullability, VortexError, VortexResult};
+use vx_value::{ArgKind, DType, Nullability, PType, VortexError, VortexResult};
 
 /// Returns the type named under `type`, which isn't nullable.
 fn dtype_of(value: &Value) -> Option<DType>
@@ -41,16 +44,28 @@ fn column_of_items(alloc: Global, dtype: DType, list: &Vec<Value>) -> VortexResu
     ensures err { IfErr result (IsRefused (column_of_items (type_of dtype) (items_view list.now.items) ≡ None)) }
 {
     match dtype {
-        DType::Bool(_) => {
-            let dtype = DType::Bool(Nullability::NonNullable);
-            Ok(BoolArray::try_new(alloc, dtype, booleans(alloc, list)?)?.into_array())
-        }
-        DType::Primitive(ptype, _) => {
-            let dtype = DType::Primitive(ptype, Nullability::NonNullable);
-            let values = integers(alloc, ptype, list)?;
-            Ok(PrimitiveArray::try_new(alloc, dtype, values)?.into_array())
-        }
+        DType::Bool(_) => bool_column(alloc, list),
+        DType::Primitive(ptype, _) => primitive_column(alloc, ptype, list),
     }
+}
+
+/// Reads a column of the booleans in `list`.
+fn bool_column(alloc: Global, list: &Vec<Value>) -> VortexResult<ArrayRef>
+    ensures ok { IfOk result (λ t. option_map booleans_of (all_read as_bool (items_view list.now.items)) ≡ Some t) }
+    ensures err { IfErr result (IsRefused (option_map booleans_of (all_read as_bool (items_view list.now.items)) ≡ None)) }
+{
+    let dtype = DType::Bool(Nullability::NonNullable);
+    Ok(BoolArray::try_new(alloc, dtype, booleans(alloc, list)?)?.into_array())
+}
+
+/// Reads a column of the integers of type `ptype` in `list`.
+fn primitive_column(alloc: Global, ptype: PType, list: &Vec<Value>) -> VortexResult<ArrayRef>
+    ensures ok { IfOk result (λ t. option_map (integers_of ptype) (all_read (integer_spelled ptype) (items_view list.now.items)) ≡ Some t) }
+    ensures err { IfErr result (IsRefused (option_map (integers_of ptype) (all_read (integer_spelled ptype) (items_view list.now.items)) ≡ None)) }
+{
+    let dtype = DType::Primitive(ptype, Nullability::NonNullable);
+    let values = integers(alloc, ptype, list)?;
+    Ok(PrimitiveArray::try_new(alloc, dtype, values)?.into_array())
 }
 
 /// Reads a column with the values in the list under `key`.

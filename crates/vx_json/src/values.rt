@@ -13,7 +13,7 @@ use serde_json::Value;
 use std::alloc::Global;
 use vx_mask::{BitBuffer, BitBuilder, Buffer};
 use vx_tree::{NativeInteger, PrimitiveValues, by_type};
-use vx_value::{DType, PType, Scalar, ScalarValue, VortexResult};
+use vx_value::{DType, PType, Scalar, ScalarValue, Storage, VortexResult};
 
 /// Reads an integer in the range of `i64` or `u64`.
 fn integer(value: &Value) -> Option<i128>
@@ -78,9 +78,9 @@ pub(crate) fn scalar(dtype: DType, value: &Value) -> Option<Scalar>
     ensures value { option_map (λ s. s.value) result ≡ value_spelled (type_of dtype) (view value.now) }
     ensures typed { IfSome result (λ s. s.of_type ≡ type_of dtype) }
 {
-    let value = match dtype {
-        DType::Bool(_) => ScalarValue::Bool(value.as_bool()?),
-        DType::Primitive(_, _) => ScalarValue::Integer(integer(value)?),
+    let value = match dtype.storage() {
+        Storage::Bits => ScalarValue::Bool(value.as_bool()?),
+        Storage::Integers(_) => ScalarValue::Integer(integer(value)?),
     };
     Scalar::try_new(dtype, Some(value)).ok()
 }
