@@ -11,7 +11,7 @@ use vx_tree::{
     SliceArray, SliceData, slice_canonical,
 };
 use vx_value::{
-    ArgKind, DType, Id, Nullability, PType, Scalar, ScalarValue, VortexError, VortexResult,
+    ArgKind, DType, Id, Nullability, PType, Scalar, ScalarValue, Storage, VortexError, VortexResult,
 };
 
 const I32: DType = DType::Primitive(PType::I32, Nullability::NonNullable);
@@ -77,11 +77,11 @@ fn slice_of(alloc: Global, items: &[i32], range: Range<usize>) -> VortexResult<S
 // A column of `len` zeros.
 #[tactic(auto, using(vx_value::proofs::DefaultsLemmas::zero_in_range))]
 fn zeros(alloc: Global, dtype: &DType, len: usize) -> VortexResult<ArrayRef> {
-    match dtype {
-        DType::Bool(_) => Ok(booleans(alloc, len)?.into_array()),
-        DType::Primitive(ptype, _) => {
-            let values = PrimitiveValues::repeat(alloc, *ptype, 0, len)?;
-            let dtype = DType::Primitive(*ptype, Nullability::NonNullable);
+    match dtype.storage() {
+        Storage::Bits => Ok(booleans(alloc, len)?.into_array()),
+        Storage::Integers(ptype) => {
+            let values = PrimitiveValues::repeat(alloc, ptype, 0, len)?;
+            let dtype = DType::Primitive(ptype, Nullability::NonNullable);
             Ok(PrimitiveArray::try_new(alloc, dtype, values)?.into_array())
         }
     }
