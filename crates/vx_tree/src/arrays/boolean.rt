@@ -6,8 +6,11 @@ ghost use Rattle.vx_value.specs.Types as type;
 ghost use Rattle.vx_value.specs.declared.dtype.Nullability.TheVariants.{NonNullable};
 ghost use Rattle.vx_value.specs.declared.id.Id.TheVariants as id;
 ghost use Rattle.vx_tree.specs.Tree.{bool, is_bool, booleans};
+ghost use Rattle.vx_tree.specs.TreeView.{tree_of};
+ghost use Rattle.vx_tree.specs.Well.{IsNodeOf};
+ghost use Rattle.vx_tree.specs.Kinds.{IsKindOf};
 
-use crate::array::{Array, ArrayId, ArrayParts, Encoded, Encoding, VTable};
+use crate::array::{Array, ArrayId, ArrayKind, ArrayParts, Encoded, Encoding, Node, VTable};
 use crate::arrays::column::check_column;
 use std::alloc::Global;
 use vx_mask::BitBuffer;
@@ -24,6 +27,17 @@ pub type BoolArray = Array<Bool>;
 #[derive(Clone, Debug, Drop)]
 pub struct BoolData {
     pub bits: BitBuffer,
+}
+
+impl BoolData {
+    /// Returns the data and children of `node`, whose data this is. (own)
+    pub(crate) fn kind_of<'a>(&'a self, node: &'a Node) -> ArrayKind<'a>
+        requires well { IsNodeOf (tree_of node.now) }
+        requires own { node.now.encoding ≡ Encoding.Bool self.now }
+        ensures { IsKindOf result (tree_of node.now) }
+    {
+        ArrayKind::Bool(&self.bits)
+    }
 }
 
 impl Encoded for Bool {

@@ -7,8 +7,11 @@ ghost use Rattle.vx_value.specs.declared.dtype.Nullability.TheVariants.{NonNulla
 ghost use Rattle.vx_tree.specs.Natives.{values_of, ptype_of};
 ghost use Rattle.vx_value.specs.declared.id.Id.TheVariants as id;
 ghost use Rattle.vx_tree.specs.Tree.{primitive, is_primitive, integers};
+ghost use Rattle.vx_tree.specs.TreeView.{tree_of};
+ghost use Rattle.vx_tree.specs.Well.{IsNodeOf};
+ghost use Rattle.vx_tree.specs.Kinds.{IsKindOf};
 
-use crate::array::{Array, ArrayId, ArrayParts, Encoded, Encoding, VTable};
+use crate::array::{Array, ArrayId, ArrayKind, ArrayParts, Encoded, Encoding, Node, VTable};
 use crate::arrays::column::check_column;
 use crate::native::PrimitiveValues;
 use std::alloc::Global;
@@ -25,6 +28,17 @@ pub type PrimitiveArray = Array<Primitive>;
 #[derive(Clone, Debug, Drop)]
 pub struct PrimitiveData {
     pub values: PrimitiveValues,
+}
+
+impl PrimitiveData {
+    /// Returns the data and children of `node`, whose data this is. (own)
+    pub(crate) fn kind_of<'a>(&'a self, node: &'a Node) -> ArrayKind<'a>
+        requires well { IsNodeOf (tree_of node.now) }
+        requires own { node.now.encoding ≡ Encoding.Primitive self.now }
+        ensures { IsKindOf result (tree_of node.now) }
+    {
+        ArrayKind::Primitive(&self.values)
+    }
 }
 
 impl Encoded for Primitive {
