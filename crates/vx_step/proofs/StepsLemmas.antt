@@ -35,7 +35,7 @@ module _ (t u : Tree) (known : IsColumn u) (ready : IsReady t) (same : KeepsExac
     falls = omega (arith, top_paid u, top_own t, less);
   }
 
-  canonical_done : is_canonical (datum u) ≡ true → gives_constant t ≡ false → 1 < base_cost (datum t) → IsDone t u
+  pub canonical_done : is_canonical (datum u) ≡ true → gives_constant t ≡ false → 1 < base_cost (datum t) → IsDone t u
   canonical_done c gives less =
       column_done (canonical_columnar (datum u) c) (canonical_open (datum u) c ∙ sym gives) (omega (arith, known.canonical_settled c, less))
 

@@ -1,6 +1,6 @@
 -- The turns that are left: they are at most the cost, and fall where a slot is taken out and where it is put back.
 use Rattle.std.proofs.Common.{◌≡◌, ℕ, zero, suc, ◌+◌, ◌<◌, ◌≤◌, Bool, true, false, refl, ap, arith}
-use Rattle.vx_tree.specs.Tree.{Tree, Data, Slots, node, constant, no_slots, absent, slot, datum}
+use Rattle.vx_tree.specs.Tree.{Tree, Data, Slots, node, no_slots, absent, slot, datum}
 use Rattle.vx_tree.specs.Slots.{set_slot, put, IsAbsentAt, IsHole}
 use Rattle.vx_tree.proofs.CostLemmas.{base_positive}
 use Rattle.vx_tree.specs.Cost.{cost, base_cost, slot_cost, slots_cost, extra}
@@ -11,8 +11,7 @@ use Rattle.vx_step.specs.declared.steps.SlotTarget.{SlotTarget}
 -- what the encodings' tables have in common
 
 slot_paid : (d : Data) (c e : ℕ) → c + 1 ≤ slot_cost d c e
-slot_paid (constant v) c e = omega arith
-slot_paid _ c e = omega arith
+slot_paid d c e = omega arith
 
 -- whatever the encodings
 

@@ -2,6 +2,7 @@
 #![tactic(auto)]
 
 mod function;
+mod slice;
 mod steps;
 mod suspended;
 

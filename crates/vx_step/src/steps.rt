@@ -7,11 +7,10 @@ ghost use Rattle.vx_step.specs.Turns.{meets};
 ghost use Rattle.vx_step.specs.Steps.{IsStep, IsStopped};
 
 use crate::function::apply_or_wait;
+use crate::slice::slice_or_wait;
 use std::alloc::Global;
 use vx_column::constant_canonicalize;
-use vx_tree::{
-    AnyCanonical, AnyColumnar, ArrayKind, ArrayRef, Canonical, Constant, IntoArray, slice_canonical,
-};
+use vx_tree::{AnyCanonical, AnyColumnar, ArrayKind, ArrayRef, Canonical, Constant, IntoArray};
 use vx_value::VortexResult;
 
 /// The form that a slot is executed to. (own)
@@ -50,7 +49,7 @@ pub enum ExecutionStep {
 /// # Errors
 ///
 /// `Fault` only if a row of `array`, or of a node in it, has no value; `OutOfMemory`.
-#[tactic(auto, using(crate::proofs::StepsLemmas::constant_done, crate::proofs::StepsLemmas::slice_done))]
+#[tactic(auto, using(crate::proofs::StepsLemmas::constant_done))]
 pub fn step(alloc: Global, array: &ArrayRef) -> VortexResult<ExecutionStep>
     requires { is_canonical (datum array.now) ≡ false }
     ensures ok { IfOk result (λ s. IsStep array.now s) }
@@ -63,12 +62,7 @@ pub fn step(alloc: Global, array: &ArrayRef) -> VortexResult<ExecutionStep>
             };
             Ok(done(constant_canonicalize(alloc, constant)?))
         }
-        ArrayKind::Slice(child, start, stop) => match Canonical::try_from_array_ref(
-            child.clone()?,
-        ) {
-            Ok(column) => Ok(done(slice_canonical(alloc, &column, start..stop)?)),
-            Err(_) => Ok(ExecutionStep::ExecuteSlot(0, SlotTarget::Canonical)),
-        },
+        ArrayKind::Slice(child, start, stop) => slice_or_wait(alloc, array, child, start..stop),
         ArrayKind::ScalarFn(function, slots) => apply_or_wait(alloc, array, function, slots),
         _ => unreachable!(),
     }
@@ -76,7 +70,7 @@ pub fn step(alloc: Global, array: &ArrayRef) -> VortexResult<ExecutionStep>
 
 /// Returns `column` as the result of a step.
 #[tactic(auto, using(vx_tree::proofs::ColumnsLemmas::column_known, vx_tree::proofs::ColumnsLemmas::canonical_columnar))]
-fn done(column: Canonical) -> ExecutionStep
+pub(crate) fn done(column: Canonical) -> ExecutionStep
     ensures done { result ≡ ExecutionStep.Done (canonical_tree column) }
     ensures canonical { is_canonical (datum (canonical_tree column)) ≡ true }
     ensures known { IsColumn (canonical_tree column) }

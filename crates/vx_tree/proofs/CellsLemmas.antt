@@ -27,12 +27,17 @@ one_counted (cs ∷ css) ty m h = h.0
 cut_counted : (a b m : ℕ) (cs : List Cell) → length cs ≡ m → a ≤ b → b ≤ m → length (take (b - a) (drop a cs)) ≡ b - a
 cut_counted a b m cs e h k = simp (length-take, length-drop) (omega arith)
 
+-- the rows of the one slot from a to b
+part_counted : (ty : DataType) (n a b : ℕ) (css : List (List Cell)) (ss : List (Option Shape)) →
+    (m : ℕ) × (ss ≡ Some (shape ty m) ∷ []) × (a ≤ b) × (b ≤ m) × (n ≡ b - a) → AreCounted css ss → length (take (b - a) (drop a (cells_at css 0))) ≡ n
+part_counted ty n a b css ss h k =
+    cut_counted a b h.0 (cells_at css 0) (one_counted css ty h.0 (subst (AreCounted css) h.1 k)) h.2 h.3 ∙ sym h.4
+
 -- a line for each encoding
 node_counted : (ty : DataType) (n : ℕ) (d : Data) (css : List (List Cell)) (ss : List (Option Shape)) →
     IsNode ty n d ss → AreCounted css ss → length (node_cells ty n d css) ≡ n
 node_counted ty n (enc.constant v) css ss h k = length-replicate n (value v.value)
-node_counted ty n (enc.slice a b) css ss h k =
-    cut_counted a b h.0 (cells_at css 0) (one_counted css ty h.0 (subst (AreCounted css) h.1 k)) h.2 h.3 ∙ sym h.4
+node_counted ty n (enc.slice a b) css ss h k = part_counted ty n a b css ss h k
 node_counted ty n (enc.function f) css ss h k = length-map-range_with_len (λ i. apply f ty (row_at css i)) 0 n
 node_counted ty n (enc.bool bs) css ss h k = length-map bs (λ b. value (boolean b)) ∙ sym h.1
 node_counted ty n (enc.primitive p zs) css ss h k = length-map zs (λ z. value (integer z)) ∙ sym h.1

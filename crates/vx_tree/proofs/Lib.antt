@@ -2,6 +2,7 @@ pub mod SlotsLemmas
 pub mod KindsLemmas
 pub mod CellsLemmas
 pub mod KeepsLemmas
+pub mod ConditionsLemmas
 pub mod RefusalsLemmas
 pub mod CallsLemmas
 pub mod CostLemmas

@@ -6,12 +6,10 @@ use Rattle.std.proofs.lemmas.List.{length-map}
 use Rattle.std.proofs.lemmas.List.Recursion.{and_push, and_fails_at}
 use Rattle.std.specs.Cmp.{unsigned_Decides, first_so, second_so}
 use Rattle.std.specs.Prelude.{◌==◌}
-use Rattle.vx_value.specs.Types as type
 use Rattle.vx_value.specs.Types.{DataType, same_type, same_type_Decides, nullability_of, is_nullable, same_nullability_Decides}
 use Rattle.vx_value.specs.Typed.{Typed}
 use Rattle.vx_value.specs.declared.dtype.Nullability.{Nullability}
 use Rattle.vx_value.specs.declared.dtype.Nullability.TheVariants.{NonNullable, Nullable}
-use Rattle.vx_value.specs.declared.error.VortexError.{VortexError}
 use Rattle.vx_value.specs.declared.error.VortexError.TheVariants.{InvalidArgument}
 use Rattle.vx_value.specs.declared.error.ArgKind.TheVariants.{SlotCount, FnSlotMissing, NodeType}
 use Rattle.vx_value.specs.declared.id.Id.{Id}
@@ -25,36 +23,10 @@ use Rattle.vx_tree.specs.Tree.{Tree, Data, id_of, slots_of, dtype, len}
 use Rattle.vx_tree.specs.Well.{Shape, shape, shape_of, shapes, IsNode}
 use Rattle.vx_tree.specs.Refusals.{refusal, column_refusal, constant_refusal, slice_refusal, function_refusal}
 use Rattle.vx_tree.specs.Refusals.{slots_refusal, types_refusal, lengths_refusal, result_refusal, arity_refusal}
-use Rattle.vx_tree.specs.Refusals.{unless, first_of_both, no_validity, all_present, all_long, types_in, type_in, is_present, is_long}
-
--- ---- the first of several refusals
-
-pub first_refused : (x y : Option VortexError) (e : VortexError) → x ≡ Some e → first_of_both x y ≡ Some e
-first_refused x y e h = ap (λ z. first_of_both z y) h
-
-pub later_refused : (x y : Option VortexError) (e : VortexError) → x ≡ None → y ≡ Some e → first_of_both x y ≡ Some e
-later_refused x y e h k = ap (λ z. first_of_both z y) h ∙ k
-
-pub none_refused : (x y : Option VortexError) → x ≡ None → y ≡ None → first_of_both x y ≡ None
-none_refused x y h k = ap (λ z. first_of_both z y) h ∙ k
-
--- refusals in turn
-pub ruleset in_turn = (first_refused, later_refused, none_refused)
-
-first_none : (x y : Option VortexError) → first_of_both x y ≡ None → x ≡ None
-first_none None y h = refl
-first_none (Some e) y h = absurd (cc)
-
-second_none : (x y : Option VortexError) → first_of_both x y ≡ None → y ≡ None
-second_none None y h = h
-second_none (Some e) y h = absurd (cc)
-
-pub unless_none : (b : Bool) (e : VortexError) → unless b e ≡ None → b ≡ true
-unless_none true e h = refl
-unless_none false e h = absurd (cc)
-
-none_unless : (b : Bool) (e : VortexError) → b ≡ true → unless b e ≡ None
-none_unless b e h = ap (λ x. unless x e) h
+use Rattle.vx_tree.specs.Conditions.{unless, first_of_both}
+use Rattle.vx_tree.specs.Refusals.{no_validity, all_present, all_long, types_in, type_in, is_present, is_long}
+use Rattle.vx_tree.proofs.ConditionsLemmas.{none_refused, first_none, second_none, unless_none, none_unless}
+use Rattle.vx_tree.proofs.SlotsLemmas.{not_one}
 
 absent_none : (s : Option Shape) → no_validity s ≡ None → s ≡ None
 absent_none None h = refl
@@ -183,14 +155,6 @@ function_kept i ty n f ss h =
     second_none (unless (same_id i (function_id f)) (InvalidArgument NodeType)) _ types in
     (types_in ss, shapes_of_types n ss (unless_none _ _ present) (unless_none _ _ lengths), result_none ty (return_type f (types_in ss)) result)
 
-pub node_unless_refused : (i : Id) (ty : DataType) (n : ℕ) (d : Data) (ss : List (Option Shape)) →
-    refusal i ty n d ss ≡ None → IsNode ty n d ss
-node_unless_refused i ty n (enc.constant v) ss h = constant_kept ty n v ss h
-node_unless_refused i ty n (enc.slice a b) ss h = slice_kept ty n a b ss h
-node_unless_refused i ty n (enc.function f) ss h = function_kept i ty n f ss h
-node_unless_refused i ty n (enc.bool bs) ss h = column_kept ty n (type.bool NonNullable) (length bs) ss h
-node_unless_refused i ty n (enc.primitive p zs) ss h = column_kept ty n (type.primitive p NonNullable) (length zs) ss h
-
 -- ---- and the parts that meet them aren't refused
 
 column_taken : (ty : DataType) (n : ℕ) (of_type : DataType) (k : ℕ) (ss : List (Option Shape)) →
@@ -236,24 +200,23 @@ function_taken ty n f ss h =
     none_refused (slots_refusal f made) _ slots (none_refused (types_refusal (function_id f) ty f made) _ types lengths) in
     subst (λ l. function_refusal (function_id f) ty n f l ≡ None) (sym h.1) e
 
+-- parts that aren't refused meet the conditions, and those that meet them aren't refused under their own id: a line for each encoding
+decided : (ty : DataType) (n : ℕ) (d : Data) (ss : List (Option Shape)) →
+    ((i : Id) → refusal i ty n d ss ≡ None → IsNode ty n d ss) × (IsNode ty n d ss → refusal (id_of d) ty n d ss ≡ None)
+decided ty n (enc.constant v) ss = (λ i. constant_kept ty n v ss, constant_taken ty n v ss)
+decided ty n (enc.slice a b) ss = (λ i. slice_kept ty n a b ss, slice_taken ty n a b ss)
+decided ty n (enc.function f) ss = (λ i. function_kept i ty n f ss, function_taken ty n f ss)
+decided ty n (enc.bool bs) ss = (λ i. column_kept ty n _ _ ss, column_taken ty n _ _ ss)
+decided ty n (enc.primitive p zs) ss = (λ i. column_kept ty n _ _ ss, column_taken ty n _ _ ss)
+
+pub node_unless_refused : (i : Id) (ty : DataType) (n : ℕ) (d : Data) (ss : List (Option Shape)) →
+    refusal i ty n d ss ≡ None → IsNode ty n d ss
+node_unless_refused i ty n d ss = (decided ty n d ss).0 i
+
 pub refused_unless_node : (ty : DataType) (n : ℕ) (d : Data) (ss : List (Option Shape)) → IsNode ty n d ss → refusal (id_of d) ty n d ss ≡ None
-refused_unless_node ty n (enc.constant v) ss h = constant_taken ty n v ss h
-refused_unless_node ty n (enc.slice a b) ss h = slice_taken ty n a b ss h
-refused_unless_node ty n (enc.function f) ss h = function_taken ty n f ss h
-refused_unless_node ty n (enc.bool bs) ss h = column_taken ty n (type.bool NonNullable) (length bs) ss h
-refused_unless_node ty n (enc.primitive p zs) ss h = column_taken ty n (type.primitive p NonNullable) (length zs) ss h
+refused_unless_node ty n d ss = (decided ty n d ss).1
 
 -- ---- what is asked of the slots, as the code asks
-
--- what is given to no slot, and to two or more, is given unless there is one
-not_one : (answer : List (Option Shape) → Option VortexError) (e : Option VortexError) → answer [] ≡ e →
-    ((s r : Option Shape) (ss : List (Option Shape)) → answer (s ∷ r ∷ ss) ≡ e) → (xs : List (Option Tree)) → length xs ≢ 1 → answer (shapes (slots_of xs)) ≡ e
-not_one answer e none more [] h = none
-not_one answer e none more (x ∷ []) h = absurd (h refl)
-not_one answer e none more (None ∷ None ∷ xs) h = more _ _ _
-not_one answer e none more (None ∷ Some u ∷ xs) h = more _ _ _
-not_one answer e none more (Some t ∷ None ∷ xs) h = more _ _ _
-not_one answer e none more (Some t ∷ Some u ∷ xs) h = more _ _ _
 
 pub slice_slot_count : (ty : DataType) (n a b : ℕ) (xs : List (Option Tree)) →
     length xs ≢ 1 → slice_refusal ty n a b (shapes (slots_of xs)) ≡ Some (InvalidArgument SlotCount)

@@ -1,8 +1,8 @@
 -- Slots as a list and as a tree has them: taking one out, filling it, and what a node's conditions say of them.
-use Rattle.std.proofs.Common.{◌≡◌, ℕ, zero, suc, ◌<◌, List, [], ◌∷◌, ◌++◌, length, get_or, set, Option, Some, None, IfSome, refl, sym, ap, arith}
+use Rattle.std.proofs.Common.{◌≡◌, ◌≢◌, ℕ, zero, suc, ◌<◌, List, [], ◌∷◌, ◌++◌, length, get_or, set, Option, Some, None, IfSome, refl, sym, ap, arith}
 use Rattle.vx_value.specs.Types.{DataType}
 use Rattle.vx_tree.specs.Tree.{Tree, absent, slot, slots_of}
-use Rattle.vx_tree.specs.Well.{shape, shape_of, shapes, AreWell, IsWell}
+use Rattle.vx_tree.specs.Well.{Shape, shape, shape_of, shapes, AreWell, IsWell}
 use Rattle.vx_tree.specs.Slots.{set_slot, IsAbsentAt, IsPresentAt}
 
 pub well_append : (xs : List (Option Tree)) (s : Option Tree) → AreWell (slots_of xs) → IfSome s IsWell → AreWell (slots_of (xs ++ s ∷ []))
@@ -76,3 +76,13 @@ pub none_there : (xs : List (Option Tree)) → shapes (slots_of xs) ≡ [] → x
 none_there [] h = refl
 none_there (None ∷ xs) h = absurd (cc)
 none_there (Some t ∷ xs) h = absurd (cc)
+
+-- what is given to no slot, and to two or more, is given unless there is one
+pub not_one : {A : Type 0} (answer : List (Option Shape) → A) (e : A) → answer [] ≡ e →
+    ((s r : Option Shape) (ss : List (Option Shape)) → answer (s ∷ r ∷ ss) ≡ e) → (xs : List (Option Tree)) → length xs ≢ 1 → answer (shapes (slots_of xs)) ≡ e
+not_one answer e none more [] h = none
+not_one answer e none more (x ∷ []) h = absurd (h refl)
+not_one answer e none more (None ∷ None ∷ xs) h = more _ _ _
+not_one answer e none more (None ∷ Some u ∷ xs) h = more _ _ _
+not_one answer e none more (Some t ∷ None ∷ xs) h = more _ _ _
+not_one answer e none more (Some t ∷ Some u ∷ xs) h = more _ _ _

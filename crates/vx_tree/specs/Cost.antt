@@ -8,15 +8,28 @@ abbrev pub all_reached : List ℕ → ℕ
 all_reached [] = 0
 all_reached (e ∷ es) = 1 + e + all_reached es
 
--- how far a slice may have to be pushed down, less one: a line for each encoding
-abbrev pub node_extra : Data → List ℕ → ℕ
-node_extra (enc.slice a b) es = sum es
-node_extra (enc.function f) es = all_reached es
-node_extra _ es = 0
+-- what an encoding adds to the bounds: the turns that a node takes itself, those for a slot by its reach, less one, and how far a
+-- slice may have to be pushed down, less one, by the same of its slots
+pub record Charge : Type 0 where
+  pub own : ℕ
+  pub by_reach : ℕ
+  pub extra : List ℕ → ℕ
+
+-- of an encoding without children
+abbrev pub leaf_charge : ℕ → Charge
+leaf_charge own = record { own = own; by_reach = 0; extra = λ es. 0 }
+
+-- a line for each encoding
+abbrev pub charge : Data → Charge
+charge (enc.constant v) = leaf_charge 2
+charge (enc.slice a b) = record { own = 2; by_reach = 3; extra = sum }
+charge (enc.function f) = record { own = 3; by_reach = 0; extra = all_reached }
+charge (enc.bool bs) = leaf_charge 1
+charge (enc.primitive p zs) = leaf_charge 1
 
 abbrev mutual
   pub extra : Tree → ℕ
-  extra (node ty n d ss) = node_extra d (slots_extra ss)
+  extra (node ty n d ss) = (charge d).extra (slots_extra ss)
 
   pub slots_extra : Slots → List ℕ
   slots_extra no_slots = []
@@ -26,17 +39,12 @@ abbrev mutual
 abbrev pub reach : Tree → ℕ
 reach t = 1 + extra t
 
--- the turns that a node takes itself, and those for a slot of cost c and reach 1 + e: a line for each encoding
+-- the turns that a node takes itself, and those for a slot of cost c and reach 1 + e
 abbrev pub base_cost : Data → ℕ
-base_cost (enc.constant v) = 2
-base_cost (enc.slice a b) = 2
-base_cost (enc.function f) = 3
-base_cost (enc.bool bs) = 1
-base_cost (enc.primitive p zs) = 1
+base_cost d = (charge d).own
 
 abbrev pub slot_cost : Data → ℕ → ℕ → ℕ
-slot_cost (enc.slice a b) c e = c + 1 + 3 * e
-slot_cost _ c e = c + 1
+slot_cost d c e = c + 1 + (charge d).by_reach * e
 
 -- at most so many turns are taken for the tree
 abbrev mutual

@@ -13,6 +13,7 @@ pub mod TreeView
 pub mod Falls
 pub mod Cells
 pub mod Well
+pub mod Conditions
 pub mod Refusals
 pub mod Calls
 pub mod Slots

@@ -17,21 +17,12 @@ use Rattle.vx_fn.specs.declared.function.ScalarFnRef.{ScalarFnRef}
 use Rattle.vx_tree.specs.Tree as enc
 use Rattle.vx_tree.specs.Tree.{Tree, Data, dtype, len}
 use Rattle.vx_tree.specs.Well.{Shape, shape}
+use Rattle.vx_tree.specs.Conditions.{first_of_both, unless}
 
 -- no tree may be in the slot of a column without nulls
 abbrev pub no_validity : Option Shape → Option VortexError
 no_validity None = None
 no_validity (Some s) = Some (InvalidArgument (SlotType 0))
-
--- the first of two refusals
-abbrev pub first_of_both : Option VortexError → Option VortexError → Option VortexError
-first_of_both None later = later
-first_of_both (Some e) later = Some e
-
--- the refusal where the test fails
-abbrev pub unless : Bool → VortexError → Option VortexError
-unless true e = None
-unless false e = Some e
 
 -- of a column of this type, with k rows
 abbrev pub column_refusal : DataType → ℕ → DataType → ℕ → List (Option Shape) → Option VortexError

@@ -1,8 +1,9 @@
 -- What an array is: a tree of nodes. Each has a type, a length in rows, data of its encoding, and slots.
-use Rattle.std.specs.Prelude.{◌≡◌, ℕ, ℤ, ◌+◌, ◌-◌, List, [], ◌∷◌, length, max, Option, Some, None, Bool, true, false, ◌||◌, ◌⊎◌, refl}
-use Rattle.std.specs.Coded.{Coded, code_by, coded_ℕ, coded_ℤ, coded_bool, coded_list, coded×, coded⊎}
+use Rattle.std.specs.Prelude.{◌≡◌, ℕ, ℤ, ◌+◌, ◌-◌, List, [], ◌∷◌, length, max, Option, Some, None, Bool, true, false, ◌||◌, refl}
+use Rattle.std.specs.Coded.{Coded, coded_ℕ, coded_ℤ, coded_bool, coded_list, coded×}
 use Rattle.std.proofs.Common.{ap, inl, inr}
 use base.Stored.{Gv, gnil, gnum, gcons}
+use Rattle.vx_value.specs.Codes.{Part, part, ◌or◌, no_part, coded_by}
 use Rattle.vx_value.specs.Types as type
 use Rattle.vx_value.specs.Types.{DataType, coded_type, coded_ptype}
 use Rattle.vx_value.specs.Typed.{Typed, coded_typed}
@@ -125,44 +126,30 @@ is_canonical d = is_bool d || is_primitive d
 abbrev pub is_columnar : Data → Bool
 is_columnar d = is_canonical d || is_constant d
 
--- ---- the code of a tree: of node data, a line for each encoding in each of four definitions
+-- ---- the code of a tree: of node data, a line for each encoding in each of two tables
 
-abbrev pub DataParts : Type 0
-DataParts =
-    Typed
-    ⊎ ((ℕ × ℕ)
-    ⊎ (ScalarFnRef
-    ⊎ (List Bool
-    ⊎ (PType × List ℤ))))
+abbrev pub data_parts : Part Data
+data_parts =
+    part coded_typed constant
+    or part (coded× coded_ℕ coded_ℕ) (λ p. slice p.0 p.1)
+    or part coded_function function
+    or part (coded_list coded_bool) bool
+    or part (coded× coded_ptype (coded_list coded_ℤ)) (λ p. primitive p.0 p.1)
+    or no_part
 
-abbrev pub coded_parts : Coded DataParts
-coded_parts =
-    coded⊎ coded_typed (
-    coded⊎ (coded× coded_ℕ coded_ℕ) (
-    coded⊎ coded_function (
-    coded⊎ (coded_list coded_bool) (
-    coded× coded_ptype (coded_list coded_ℤ)))))
-
-abbrev pub data_split : Data → DataParts
+abbrev pub data_split : Data → data_parts.holds
 data_split (constant v) = inl v
 data_split (slice a b) = inr (inl (a, b))
 data_split (function f) = inr (inr (inl f))
 data_split (bool bs) = inr (inr (inr (inl bs)))
-data_split (primitive p zs) = inr (inr (inr (inr (p, zs))))
+data_split (primitive p zs) = inr (inr (inr (inr (inl (p, zs)))))
 
-abbrev pub data_join : DataParts → Data
-data_join (inl v) = constant v
-data_join (inr (inl p)) = slice p.0 p.1
-data_join (inr (inr (inl f))) = function f
-data_join (inr (inr (inr (inl bs)))) = bool bs
-data_join (inr (inr (inr (inr p)))) = primitive p.0 p.1
-
-pub data_join_split : (d : Data) → data_join (data_split d) ≡ d
-data_join_split (constant v) = refl
-data_join_split _ = refl
+pub data_back : (d : Data) → data_parts.make (data_split d) ≡ d
+data_back (constant v) = refl
+data_back _ = refl
 
 abbrev pub coded_data : Coded Data
-coded_data = code_by DataParts coded_parts data_split data_join data_join_split
+coded_data = coded_by data_parts data_split data_back
 
 abbrev head : Gv → Gv
 head gnil = gnil

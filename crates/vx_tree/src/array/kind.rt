@@ -1,6 +1,8 @@
-//! The one place where nodes are taken apart.
+//! The one place where nodes are taken apart. What an encoding's data and children are is in the encoding's file.
 
 ghost use Rattle.std.specs.Prelude.{◌≡◌};
+ghost use Rattle.vx_tree.specs.TreeView.{tree_of};
+ghost use Rattle.vx_tree.specs.Well.{IsNodeOf};
 ghost use Rattle.vx_tree.specs.Kinds.{IsKindOf};
 
 use crate::array::{ArrayRef, Encoding, Node};
@@ -29,18 +31,20 @@ impl ArrayRef {
     pub fn kind(&self) -> ArrayKind<'_>
         ensures { IsKindOf result self.now }
     {
-        let node: &Node = &self.node;
-        match &node.encoding {
-            Encoding::Constant(data) => ArrayKind::Constant(&data.scalar),
-            Encoding::Slice(data) => {
-                let Some(child) = &node.slots[0] else {
-                    unreachable!()
-                };
-                ArrayKind::Slice(child, data.range.start, data.range.end)
-            }
-            Encoding::ScalarFn(data) => ArrayKind::ScalarFn(&data.scalar_fn, &node.slots),
-            Encoding::Bool(data) => ArrayKind::Bool(&data.bits),
-            Encoding::Primitive(data) => ArrayKind::Primitive(&data.values),
-        }
+        kind_of(&self.node)
+    }
+}
+
+/// Returns the data and children of `node`.
+fn kind_of(node: &Node) -> ArrayKind<'_>
+    requires { IsNodeOf (tree_of node.now) }
+    ensures { IsKindOf result (tree_of node.now) }
+{
+    match &node.encoding {
+        Encoding::Constant(data) => data.kind_of(node),
+        Encoding::Slice(data) => data.kind_of(node),
+        Encoding::ScalarFn(data) => data.kind_of(node),
+        Encoding::Bool(data) => data.kind_of(node),
+        Encoding::Primitive(data) => data.kind_of(node),
     }
 }

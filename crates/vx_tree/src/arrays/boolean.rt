@@ -6,10 +6,15 @@ ghost use Rattle.vx_value.specs.Types as type;
 ghost use Rattle.vx_value.specs.declared.dtype.Nullability.TheVariants.{NonNullable};
 ghost use Rattle.vx_value.specs.declared.id.Id.TheVariants as id;
 ghost use Rattle.vx_tree.specs.Tree.{bool, is_bool, booleans, len, datum, slice_of};
+ghost use Rattle.vx_tree.specs.TreeView.{tree_of};
+ghost use Rattle.vx_tree.specs.Well.{IsNodeOf};
+ghost use Rattle.vx_tree.specs.Kinds.{IsKindOf};
 ghost use Rattle.vx_tree.specs.Keeps.{KeepsExactly};
 ghost use Rattle.vx_tree.specs.Columns.{canonical_tree, bool_column, empty_of};
 
-use crate::array::{Array, ArrayId, ArrayKind, ArrayParts, ArrayRef, Encoded, Encoding, VTable};
+use crate::array::{
+    Array, ArrayId, ArrayKind, ArrayParts, ArrayRef, Encoded, Encoding, Node, VTable,
+};
 use crate::arrays::column::check_column;
 use crate::canonical::Canonical;
 use std::alloc::Global;
@@ -28,6 +33,17 @@ pub type BoolArray = Array<Bool>;
 #[derive(Clone, Debug, Drop)]
 pub struct BoolData {
     pub bits: BitBuffer,
+}
+
+impl BoolData {
+    /// Returns the data and children of `node`, whose data this is. (own)
+    pub(crate) fn kind_of<'a>(&'a self, node: &'a Node) -> ArrayKind<'a>
+        requires well { IsNodeOf (tree_of node.now) }
+        requires own { node.now.encoding ≡ Encoding.Bool self.now }
+        ensures { IsKindOf result (tree_of node.now) }
+    {
+        ArrayKind::Bool(&self.bits)
+    }
 }
 
 impl Encoded for Bool {
@@ -95,9 +111,7 @@ impl BoolArray {
             ArrayParts::new(Bool, dtype, len, BoolData { bits }, slots),
         )
     }
-}
 
-impl BoolArray {
     /// Returns the rows in `range`, which must be in order and in bounds, as a column that shares its storage. The only
     /// error is `OutOfMemory`. (own)
     pub(crate) fn slice(&self, alloc: Global, range: Range<usize>) -> VortexResult<Canonical>

@@ -5,8 +5,11 @@ ghost use Rattle.vx_value.specs.Types.{nullability_of};
 ghost use Rattle.vx_value.specs.declared.dtype.Nullability.TheVariants.{NonNullable};
 ghost use Rattle.vx_value.specs.declared.id.Id.TheVariants as id;
 ghost use Rattle.vx_tree.specs.Tree.{constant, is_constant, constant_of};
+ghost use Rattle.vx_tree.specs.TreeView.{tree_of};
+ghost use Rattle.vx_tree.specs.Well.{IsNodeOf};
+ghost use Rattle.vx_tree.specs.Kinds.{IsKindOf};
 
-use crate::array::{Array, ArrayId, ArrayParts, Encoded, Encoding, VTable};
+use crate::array::{Array, ArrayId, ArrayKind, ArrayParts, Encoded, Encoding, Node, VTable};
 use std::alloc::Global;
 use vx_value::{ArgKind, DType, Id, Scalar, VortexError, VortexResult};
 
@@ -36,6 +39,15 @@ impl ConstantData {
         ensures { result.now ≡ self.now.scalar }
     {
         &self.scalar
+    }
+
+    /// Returns the data and children of `node`, whose data this is. (own)
+    pub(crate) fn kind_of<'a>(&'a self, node: &'a Node) -> ArrayKind<'a>
+        requires well { IsNodeOf (tree_of node.now) }
+        requires own { node.now.encoding ≡ Encoding.Constant self.now }
+        ensures { IsKindOf result (tree_of node.now) }
+    {
+        ArrayKind::Constant(&self.scalar)
     }
 }
 

@@ -7,10 +7,15 @@ ghost use Rattle.vx_value.specs.declared.dtype.Nullability.TheVariants.{NonNulla
 ghost use Rattle.vx_tree.specs.Natives.{values_of, ptype_of};
 ghost use Rattle.vx_value.specs.declared.id.Id.TheVariants as id;
 ghost use Rattle.vx_tree.specs.Tree.{primitive, is_primitive, integers, len, datum, slice_of};
+ghost use Rattle.vx_tree.specs.TreeView.{tree_of};
+ghost use Rattle.vx_tree.specs.Well.{IsNodeOf};
+ghost use Rattle.vx_tree.specs.Kinds.{IsKindOf};
 ghost use Rattle.vx_tree.specs.Keeps.{KeepsExactly};
 ghost use Rattle.vx_tree.specs.Columns.{canonical_tree, primitive_column, empty_of};
 
-use crate::array::{Array, ArrayId, ArrayKind, ArrayParts, ArrayRef, Encoded, Encoding, VTable};
+use crate::array::{
+    Array, ArrayId, ArrayKind, ArrayParts, ArrayRef, Encoded, Encoding, Node, VTable,
+};
 use crate::arrays::column::check_column;
 use crate::canonical::Canonical;
 use crate::native::PrimitiveValues;
@@ -29,6 +34,17 @@ pub type PrimitiveArray = Array<Primitive>;
 #[derive(Clone, Debug, Drop)]
 pub struct PrimitiveData {
     pub values: PrimitiveValues,
+}
+
+impl PrimitiveData {
+    /// Returns the data and children of `node`, whose data this is. (own)
+    pub(crate) fn kind_of<'a>(&'a self, node: &'a Node) -> ArrayKind<'a>
+        requires well { IsNodeOf (tree_of node.now) }
+        requires own { node.now.encoding ≡ Encoding.Primitive self.now }
+        ensures { IsKindOf result (tree_of node.now) }
+    {
+        ArrayKind::Primitive(&self.values)
+    }
 }
 
 impl Encoded for Primitive {
@@ -107,9 +123,7 @@ impl PrimitiveArray {
         };
         Ok(Array::from_parts_unchecked(alloc, parts)?)
     }
-}
 
-impl PrimitiveArray {
     /// Returns the rows in `range`, which must be in order and in bounds, as a column that shares its storage. The only
     /// error is `OutOfMemory`. (own)
     pub(crate) fn slice(&self, alloc: Global, range: Range<usize>) -> VortexResult<Canonical>

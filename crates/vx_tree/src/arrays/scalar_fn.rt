@@ -3,13 +3,17 @@
 ghost use Rattle.std.specs.Prelude.{◌≡◌, ◌⊎◌, ◌++◌, map, IfOk, IfErr, OnOk, Some, None, true, false, refl};
 ghost use Rattle.vx_value.specs.View.{type_of};
 ghost use Rattle.vx_tree.specs.Tree.{function, is_function, slots_of, filled_slots};
-ghost use Rattle.vx_tree.specs.Well.{shapes};
+ghost use Rattle.vx_tree.specs.TreeView.{tree_of};
+ghost use Rattle.vx_tree.specs.Well.{shapes, IsNodeOf};
+ghost use Rattle.vx_tree.specs.Kinds.{IsKindOf};
 ghost use Rattle.vx_tree.specs.Refusals.{arity_refusal, slots_refusal, types_refusal, lengths_refusal, result_refusal};
 ghost use Rattle.vx_tree.specs.Refusals.{all_present, all_long, types_in, is_present, is_long, type_in};
 ghost use Rattle.vx_tree.specs.Calls.{call_refusal, inferred_refusal, called, inferred};
 ghost use Rattle.vx_fn.specs.ReturnTypes.{return_type};
 
-use crate::array::{Array, ArrayId, ArrayParts, ArrayRef, Encoded, Encoding, VTable};
+use crate::array::{
+    Array, ArrayId, ArrayKind, ArrayParts, ArrayRef, Encoded, Encoding, Node, VTable,
+};
 use std::alloc::{AllocError, Global};
 use vx_fn::{Arity, ScalarFnRef};
 use vx_value::{ArgKind, DType, VortexError, VortexResult};
@@ -43,6 +47,15 @@ impl ScalarFnData {
         ensures { result.now ≡ self.now.scalar_fn }
     {
         &self.scalar_fn
+    }
+
+    /// Returns the data and children of `node`, whose data this is. (own)
+    pub(crate) fn kind_of<'a>(&'a self, node: &'a Node) -> ArrayKind<'a>
+        requires well { IsNodeOf (tree_of node.now) }
+        requires own { node.now.encoding ≡ Encoding.ScalarFn self.now }
+        ensures { IsKindOf result (tree_of node.now) }
+    {
+        ArrayKind::ScalarFn(&self.scalar_fn, &node.slots)
     }
 }
 
@@ -86,7 +99,7 @@ impl VTable for ScalarFn {
         Encoding::ScalarFn(payload)
     }
 
-    #[tactic(auto, using(crate::proofs::RefusalsLemmas::in_turn))]
+    #[tactic(auto, using(crate::proofs::ConditionsLemmas::in_turn))]
     fn validate(alloc: Global, parts: &ArrayParts<ScalarFn>) -> VortexResult<()> {
         let function = &parts.payload.scalar_fn;
         check_slots(function, &parts.slots)?;
@@ -200,7 +213,7 @@ fn push_type(types: &mut Vec<DType>, slot: &Option<ArrayRef>) -> Result<(), Allo
 }
 
 /// Checks that `tag` is the function's id, and that `function` gives `dtype` on arguments of the slots' types.
-#[tactic(auto, using(crate::proofs::RefusalsLemmas::in_turn))]
+#[tactic(auto, using(crate::proofs::ConditionsLemmas::in_turn))]
 fn check_types(
     alloc: Global,
     tag: ArrayId,

@@ -3,8 +3,13 @@
 ghost use Rattle.std.specs.Prelude.{◌≡◌, ◌⊎◌, ◌-◌, ◌≤◌, ◌==◌, IfOk, IfErr, OnOk, Some, None, true, refl};
 ghost use Rattle.vx_value.specs.declared.id.Id.TheVariants as id;
 ghost use Rattle.vx_tree.specs.Tree.{Tree, len, slice, is_slice, slice_of};
+ghost use Rattle.vx_tree.specs.TreeView.{tree_of};
+ghost use Rattle.vx_tree.specs.Well.{IsNodeOf};
+ghost use Rattle.vx_tree.specs.Kinds.{IsKindOf};
 
-use crate::array::{Array, ArrayId, ArrayParts, ArrayRef, Encoded, Encoding, VTable};
+use crate::array::{
+    Array, ArrayId, ArrayKind, ArrayParts, ArrayRef, Encoded, Encoding, Node, VTable,
+};
 use std::alloc::Global;
 use std::ops::Range;
 use vx_value::{ArgKind, DType, Id, VortexError, VortexResult};
@@ -63,6 +68,18 @@ impl SliceData {
         ensures { result ≡ record { range = self.range } }
     {
         SliceDataParts { range: self.range }
+    }
+
+    /// Returns the data and children of `node`, whose data this is. (own)
+    pub(crate) fn kind_of<'a>(&'a self, node: &'a Node) -> ArrayKind<'a>
+        requires well { IsNodeOf (tree_of node.now) }
+        requires own { node.now.encoding ≡ Encoding.Slice self.now }
+        ensures { IsKindOf result (tree_of node.now) }
+    {
+        let Some(child) = &node.slots[0] else {
+            unreachable!()
+        };
+        ArrayKind::Slice(child, self.range.start, self.range.end)
     }
 }
 

@@ -1,0 +1,13 @@
+-- Conditions in turn: the refusal of the first that fails.
+use Rattle.std.specs.Prelude.{Bool, true, false, Option, Some, None}
+use Rattle.vx_value.specs.declared.error.VortexError.{VortexError}
+
+-- the first of two refusals
+abbrev pub first_of_both : Option VortexError → Option VortexError → Option VortexError
+first_of_both None later = later
+first_of_both (Some e) later = Some e
+
+-- the refusal where the test fails
+abbrev pub unless : Bool → VortexError → Option VortexError
+unless true e = None
+unless false e = Some e
