@@ -8,7 +8,7 @@ ghost use Rattle.vx_column.specs.declared.argument.Argument.TheVariants.{Integer
 use std::alloc::{AllocError, Global};
 use vx_mask::BitOperand;
 use vx_tree::{ArrayKind, Columnar, PrimitiveValues};
-use vx_value::{DType, PType, ScalarValue, Storage};
+use vx_value::{DType, PType, ScalarKind};
 
 /// The rows of an argument, by how they are stored: a column, or one value for every row.
 #[derive(Clone, Copy)]
@@ -54,12 +54,12 @@ fn argument_of(column: &Columnar) -> Argument<'_>
     match column.as_array().kind() {
         ArrayKind::Bool(bits) => Argument::Bits(BitOperand::Bits(bits)),
         ArrayKind::Primitive(values) => integer_argument(dtype, IntegerRows::Rows(values)),
-        ArrayKind::Constant(scalar) => match (scalar.dtype().storage(), scalar.value()) {
-            (_, Some(ScalarValue::Bool(bit))) => Argument::Bits(BitOperand::Bit(bit)),
-            (Storage::Integers(ptype), Some(ScalarValue::Integer(wide))) => {
+        ArrayKind::Constant(scalar) => match scalar.kind() {
+            ScalarKind::Bool(bit, _) => Argument::Bits(BitOperand::Bit(bit)),
+            ScalarKind::Integer(wide, ptype, _) => {
                 integer_argument(dtype, IntegerRows::Value(ptype, wide))
             }
-            _ => unreachable!(),
+            ScalarKind::Null(_) => unreachable!(),
         },
         _ => unreachable!(),
     }

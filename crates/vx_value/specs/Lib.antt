@@ -14,3 +14,4 @@ pub mod OrderLaws
 pub mod Fits
 pub mod Text
 pub mod Ids
+pub mod ScalarKinds

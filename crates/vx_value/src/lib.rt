@@ -13,5 +13,5 @@ pub use dtype::{DType, Nullability, PType, Storage};
 pub use error::{ArgKind, VortexError, VortexResult};
 pub use fitting::fits;
 pub use id::Id;
-pub use scalar::{Scalar, ScalarValue};
+pub use scalar::{Scalar, ScalarKind, ScalarValue};
 pub use text::type_text;

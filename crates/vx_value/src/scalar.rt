@@ -7,6 +7,7 @@ ghost use Rattle.vx_value.specs.Types.{nullability_of, is_nullable};
 ghost use Rattle.vx_value.specs.Defaults.{zero_of, default_of};
 ghost use Rattle.vx_value.specs.IsOf.{is_of, in_range, is_null};
 ghost use Rattle.vx_value.specs.Parts.{boolean_in, integer_in};
+ghost use Rattle.vx_value.specs.ScalarKinds.{scalar_of, IsStored};
 ghost use Rattle.vx_value.specs.Types as type;
 ghost use Rattle.vx_value.specs.Values.{boolean, integer};
 
@@ -20,6 +21,17 @@ pub enum ScalarValue {
     Bool(bool),
     /// An integer of any of the integer types.
     Integer(i128),
+}
+
+/// The type and the value of a scalar, together, by how the type's values are stored. (own)
+#[derive(Clone, Copy)]
+pub enum ScalarKind<'a> {
+    /// The null of a nullable type.
+    Null(&'a DType),
+    /// A boolean of this type.
+    Bool(bool, &'a DType),
+    /// An integer of this type, whose values are integers in the range of the `PType`.
+    Integer(i128, PType, &'a DType),
 }
 
 /// A value with its type. The value may be null if the type is nullable.
@@ -143,6 +155,23 @@ impl Scalar {
         ensures typed { is_of self.now.of_type self.now.value ≡ true }
     {
         self.value
+    }
+
+    /// Returns the type and the value together, so that a `match` on both has one arm per storage. (own)
+    pub fn kind(&self) -> ScalarKind<'_>
+        ensures whole { scalar_of result ≡ self.now }
+        ensures typed { is_of self.now.of_type self.now.value ≡ true }
+        ensures stored { IsStored result }
+    {
+        let dtype = &self.dtype;
+        match (dtype.storage(), self.value) {
+            (_, None) => ScalarKind::Null(dtype),
+            (Storage::Bits, Some(ScalarValue::Bool(value))) => ScalarKind::Bool(value, dtype),
+            (Storage::Integers(ptype), Some(ScalarValue::Integer(value))) => {
+                ScalarKind::Integer(value, ptype, dtype)
+            }
+            _ => unreachable!(),
+        }
     }
 
     /// Returns the boolean, or `None` if the value is null or of another kind.
