@@ -1,5 +1,6 @@
 -- The text of the rows so far.
 use Rattle.std.proofs.Common.{◌≡◌, ◌⊎◌, ℕ, ◌+◌, ◌<◌, ◌≤◌, List, [], ◌∷◌, ◌++◌, length, zero, suc, add-one, subst, take, map, slice_get, Some, refl, sym, ◌∙◌, ap, append_assoc, arith, flat_map, inl, inr}
+use Rattle.std.specs.Prelude.{codes}
 use Rattle.std.proofs.lemmas.Grind.{common_steps, flat_map-append}
 use Rattle.vx_value.specs.Types.{DataType}
 use Rattle.vx_value.specs.Values.{Value}
@@ -12,6 +13,18 @@ use Rattle.vx_json.specs.RowText.{row_text}
 use Rattle.vx_tree.specs.Tree.{Tree, len}
 use Rattle.vx_tree.proofs.CellsLemmas.{no_fault_at}
 use Rattle.vx_main.specs.Output.{Shows, head_lines, line}
+
+-- the lines of the type and of the encoding, as they are appended
+head_of : (h ty e id n : List ℕ) → (((h ++ ty) ++ 10 ∷ e) ++ id) ++ n ≡ ((h ++ ty) ++ 10 ∷ []) ++ ((e ++ id) ++ n)
+head_of h ty e id n =
+    append_assoc ((h ++ ty) ++ 10 ∷ e) id n ∙ append_assoc (h ++ ty) (10 ∷ e) (id ++ n)
+    ∙ ap (λ l. (h ++ ty) ++ 10 ∷ l) (sym (append_assoc e id n)) ∙ sym (append_assoc (h ++ ty) (10 ∷ []) ((e ++ id) ++ n))
+
+pub head_pushed : (ty id t i s₀ s₁ s₂ s₃ s₄ : List ℕ) → s₀ ≡ codes "type " → t ≡ ty → s₁ ≡ s₀ ++ t → s₂ ≡ s₁ ++ 10 ∷ codes "encoding "
+    → i ≡ id → s₃ ≡ s₂ ++ i → s₄ ≡ s₃ ++ 10 ∷ [] → s₄ ≡ line (codes "type " ++ ty) ++ line (codes "encoding " ++ id)
+head_pushed ty id t i s₀ s₁ s₂ s₃ s₄ h₀ h h₁ h₂ k h₃ h₄ =
+    h₄ ∙ ap (λ l. l ++ 10 ∷ []) (h₃ ∙ (λ j. (h₂ ∙ ap (λ l. l ++ 10 ∷ codes "encoding ") (h₁ ∙ (λ j. h₀ j ++ h j))) j ++ k j))
+    ∙ head_of (codes "type ") ty (codes "encoding ") id (10 ∷ [])
 
 -- before the first row stand the lines of the type and of the encoding
 pub shows_none : (ty : DataType) (id : Id) (text : List ℕ) → text ≡ head_lines ty id → Shows ty id [] text
