@@ -2,8 +2,8 @@ use std::alloc::AllocError;
 use std::cmp::Ordering;
 use std::hash::{DefaultHasher, Hash, Hasher};
 use vx_value::{
-    ArgKind, DType, Id, Nullability, PType, Scalar, ScalarValue, VortexError, VortexResult, fits,
-    type_text,
+    ArgKind, DType, Id, Nullability, PType, Scalar, ScalarKind, ScalarValue, VortexError,
+    VortexResult, fits, type_text,
 };
 
 const BOOL: DType = DType::Bool(Nullability::NonNullable);
@@ -194,23 +194,20 @@ fn scalar(dtype: &DType, value: Option<ScalarValue>) -> VortexResult<Scalar> {
     Ok(Scalar::try_new(dtype.clone()?, value)?.clone()?)
 }
 
-/// Checks that a scalar made by the constructor of its type is the same.
-fn is_constructed(scalar: &Scalar) -> bool {
-    match (scalar.dtype(), scalar.value()) {
-        (_, None) => scalar.is_null(),
-        (DType::Bool(nullability), Some(ScalarValue::Bool(value))) => {
-            *scalar == Scalar::bool(value, *nullability)
+/// Checks that a scalar made of the parts that `kind` gives is the same.
+fn is_of_its_kind(scalar: &Scalar) -> bool {
+    match scalar.kind() {
+        ScalarKind::Null(dtype) => dtype == scalar.dtype() && scalar.is_null(),
+        ScalarKind::Bool(value, dtype) => *scalar == Scalar::bool(value, dtype.nullability()),
+        ScalarKind::Integer(value, ptype, dtype) => {
+            *scalar == Scalar::primitive(value, ptype, dtype.nullability())
         }
-        (DType::Primitive(ptype, nullability), Some(ScalarValue::Integer(value))) => {
-            *scalar == Scalar::primitive(value, *ptype, *nullability)
-        }
-        _ => false,
     }
 }
 
 fn is_taken(row: &(DType, Option<ScalarValue>, bool)) -> bool {
     match scalar(&row.0, row.1) {
-        Ok(scalar) => row.2 && scalar.value() == row.1 && is_constructed(&scalar),
+        Ok(scalar) => row.2 && scalar.value() == row.1 && is_of_its_kind(&scalar),
         Err(e) => !row.2 && e == VortexError::InvalidArgument(ArgKind::BadValue),
     }
 }

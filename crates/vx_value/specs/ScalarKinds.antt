@@ -1,0 +1,22 @@
+-- A scalar, opened: its type and its value, together.
+use Rattle.std.specs.Prelude.{◌≡◌}
+use Rattle.vx_value.specs.Types.{DataType}
+use Rattle.vx_value.specs.Values as value
+use Rattle.vx_value.specs.Typed.{Typed}
+use Rattle.vx_value.specs.View.{type_of}
+use Rattle.vx_value.specs.Storage.{storage_of}
+use Rattle.vx_value.specs.declared.dtype.Storage.TheVariants.{Bits, Integers}
+use Rattle.vx_value.specs.declared.scalar.ScalarKind.{ScalarKind}
+use Rattle.vx_value.specs.declared.scalar.ScalarKind.TheVariants as kind
+
+-- the scalar that a kind stands for: a line for each storage
+abbrev pub scalar_of : ScalarKind → Typed
+scalar_of (kind.Null ty) = record { of_type = type_of ty.now; value = value.null }
+scalar_of (kind.Bool b ty) = record { of_type = type_of ty.now; value = value.boolean b }
+scalar_of (kind.Integer z p ty) = record { of_type = type_of ty.now; value = value.integer z }
+
+-- its type's values are stored so
+abbrev pub IsStored : ScalarKind → Type 0
+IsStored (kind.Null ty) = Unit {0}
+IsStored (kind.Bool b ty) = storage_of (type_of ty.now) ≡ Bits
+IsStored (kind.Integer z p ty) = storage_of (type_of ty.now) ≡ Integers p
