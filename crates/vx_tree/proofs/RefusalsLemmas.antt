@@ -6,7 +6,7 @@ use Rattle.std.proofs.lemmas.List.{length-map}
 use Rattle.std.proofs.lemmas.List.Recursion.{and_push, and_fails_at}
 use Rattle.std.specs.Cmp.{unsigned_Decides, first_so, second_so}
 use Rattle.std.specs.Prelude.{◌==◌}
-use Rattle.vx_value.specs.Types.{DataType, same_type, same_type_Decides, nullability_of, is_nullable, same_nullability_Decides}
+use Rattle.vx_value.specs.Types.{DataType, same_type_Decides, nullability_of, is_nullable, same_nullability_Decides}
 use Rattle.vx_value.specs.Typed.{Typed}
 use Rattle.vx_value.specs.declared.dtype.Nullability.{Nullability}
 use Rattle.vx_value.specs.declared.dtype.Nullability.TheVariants.{NonNullable, Nullable}
@@ -240,22 +240,6 @@ pub the_slot : (xs : List (Option Tree)) (s : Option Tree) → length xs ≡ 1 �
 the_slot [] s h e = absurd (omega arith)
 the_slot (r ∷ []) s h e = ap (λ z. z ∷ []) (cc)
 the_slot (r ∷ q ∷ xs) s h e = absurd (omega arith)
-
-pub no_slots_there : (xs : List (Option Tree)) → xs ≡ None ∷ [] → shapes (slots_of xs) ≡ None ∷ []
-no_slots_there xs h = ap (λ ys. shapes (slots_of ys)) h
-
--- a type, as the code compares it
-pub of_that_type : (s t : DataType) → same_type s t ≡ true → s ≡ t
-of_that_type s t h = (same_type_Decides s t).0 h
-
-true_is_false : true ≡ false → ⊥
-true_is_false h = absurd (cc)
-
-pub of_another_type : (s t : DataType) → same_type s t ≡ false → ¬ (s ≡ t)
-of_another_type s t h e = true_is_false (sym ((same_type_Decides s t).1 e) ∙ h)
-
--- what the constructor of a column of integers compares
-pub ruleset compared = (of_that_type, of_another_type, no_slots_there)
 
 -- ---- the parts that the constructors make
 

@@ -114,6 +114,17 @@ fn copy_slots(
     Ok(copy)
 }
 
+fn copy_node(alloc: Global, node: &Node) -> Result<Node, AllocError>
+    ensures { IfOk result (λ copy. tree_of copy ≡ tree_of node.now) }
+{
+    Ok(Node {
+        dtype: node.dtype.clone()?,
+        len: node.len,
+        encoding: node.encoding.clone()?,
+        slots: copy_slots(alloc, &node.slots)?,
+    })
+}
+
 fn know_slot(slot: &Option<ArrayRef>)
     ensures { IfSome slot.now IsWell }
 {
@@ -156,12 +167,7 @@ impl ArrayRef {
         let ArrayRef { node } = self;
         match Rc::try_unwrap(node) {
             Ok(node) => Ok(node),
-            Err(shared) => Ok(Node {
-                dtype: shared.dtype.clone()?,
-                len: shared.len,
-                encoding: shared.encoding.clone()?,
-                slots: copy_slots(alloc, &shared.slots)?,
-            }),
+            Err(shared) => copy_node(alloc, &shared),
         }
     }
 

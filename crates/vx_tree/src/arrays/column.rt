@@ -7,6 +7,7 @@ ghost use Rattle.vx_tree.specs.Well.{shapes};
 ghost use Rattle.vx_tree.specs.Refusals.{column_refusal};
 
 use crate::array::{ArrayParts, Encoded};
+use crate::arrays::types::is_same_type;
 use vx_value::{ArgKind, DType, VortexError, VortexResult};
 
 /// Checks that `parts` make a column of `values` values of type `of_type`.
@@ -24,7 +25,7 @@ pub(crate) fn check_column<V: Encoded>(
         return Err(VortexError::InvalidArgument(ArgKind::SlotCount));
     }
     let validity = &parts.slots[0];
-    if parts.dtype != *of_type {
+    if !is_same_type(&parts.dtype, of_type) {
         return Err(VortexError::InvalidArgument(ArgKind::BadType));
     }
     if validity.is_some() {

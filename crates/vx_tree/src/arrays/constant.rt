@@ -10,6 +10,7 @@ ghost use Rattle.vx_tree.specs.Well.{IsNodeOf};
 ghost use Rattle.vx_tree.specs.Kinds.{IsKindOf};
 
 use crate::array::{Array, ArrayId, ArrayKind, ArrayParts, Encoded, Encoding, Node, VTable};
+use crate::arrays::types::is_same_type;
 use std::alloc::Global;
 use vx_value::{ArgKind, DType, Id, Scalar, VortexError, VortexResult};
 
@@ -94,7 +95,7 @@ impl VTable for Constant {
         if parts.slots.len() != 0 {
             return Err(VortexError::InvalidArgument(ArgKind::SlotCount));
         }
-        if parts.dtype != *parts.payload.scalar.dtype() {
+        if !is_same_type(&parts.dtype, parts.payload.scalar.dtype()) {
             return Err(VortexError::InvalidArgument(ArgKind::NodeType));
         }
         if parts.dtype.is_nullable() {

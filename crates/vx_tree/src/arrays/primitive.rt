@@ -97,7 +97,6 @@ impl VTable for Primitive {
 impl PrimitiveArray {
     /// Makes the column of `values`. `InvalidArgument` with `BadType` exactly if `dtype` isn't the non-nullable type of the
     /// values.
-    #[tactic(auto, using(crate::proofs::RefusalsLemmas::compared))]
     pub fn try_new(
         alloc: Global,
         dtype: DType,
@@ -108,20 +107,13 @@ impl PrimitiveArray {
         ensures refused { IfErr result (λ e. (e ≡ VortexError.OutOfMemory)
             ⊎ ((e ≡ VortexError.InvalidArgument ArgKind.BadType) × (¬ (type_of dtype ≡ type.primitive (ptype_of values) NonNullable)))) }
     {
-        if dtype != DType::Primitive(values.ptype(), Nullability::NonNullable) {
-            return Err(VortexError::InvalidArgument(ArgKind::BadType));
-        }
         let mut slots = Vec::with_capacity(alloc, 1)?;
         slots.push(None)?;
         let len = values.len();
-        let parts = ArrayParts {
-            vtable: Primitive,
-            dtype,
-            len,
-            payload: PrimitiveData { values },
-            slots,
-        };
-        Ok(Array::from_parts_unchecked(alloc, parts)?)
+        Array::try_from_parts(
+            alloc,
+            ArrayParts::new(Primitive, dtype, len, PrimitiveData { values }, slots),
+        )
     }
 
     /// Returns the rows in `range`, which must be in order and in bounds, as a column that shares its storage. The only

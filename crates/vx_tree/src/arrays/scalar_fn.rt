@@ -14,6 +14,7 @@ ghost use Rattle.vx_fn.specs.ReturnTypes.{return_type};
 use crate::array::{
     Array, ArrayId, ArrayKind, ArrayParts, ArrayRef, Encoded, Encoding, Node, VTable,
 };
+use crate::arrays::types::is_same_type;
 use std::alloc::{AllocError, Global};
 use vx_fn::{Arity, ScalarFnRef};
 use vx_value::{ArgKind, DType, VortexError, VortexResult};
@@ -237,7 +238,7 @@ fn check_result(function: &ScalarFnRef, dtype: &DType, types: &[DType]) -> Vorte
     ensures valid { OnOk result (result_refusal (type_of dtype.now) (return_type function.now (map type_of types.now)) ≡ None) }
     ensures refused { IfErr result (λ e. result_refusal (type_of dtype.now) (return_type function.now (map type_of types.now)) ≡ Some e) }
 {
-    if *dtype == function.return_dtype(types)? {
+    if is_same_type(dtype, &function.return_dtype(types)?) {
         Ok(())
     } else {
         Err(VortexError::InvalidArgument(ArgKind::NodeType))

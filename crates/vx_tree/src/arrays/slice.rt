@@ -10,6 +10,7 @@ ghost use Rattle.vx_tree.specs.Kinds.{IsKindOf};
 use crate::array::{
     Array, ArrayId, ArrayKind, ArrayParts, ArrayRef, Encoded, Encoding, Node, VTable,
 };
+use crate::arrays::types::is_same_type;
 use std::alloc::Global;
 use std::ops::Range;
 use vx_value::{ArgKind, DType, Id, VortexError, VortexResult};
@@ -129,7 +130,7 @@ impl VTable for Slice {
         let Some(child) = &parts.slots[0] else {
             return Err(VortexError::InvalidArgument(ArgKind::SlotMissing { slot: 0 }));
         };
-        if parts.dtype != *child.dtype() {
+        if !is_same_type(&parts.dtype, child.dtype()) {
             return Err(VortexError::InvalidArgument(ArgKind::NodeType));
         }
         let (start, end) = (parts.payload.range.start, parts.payload.range.end);
