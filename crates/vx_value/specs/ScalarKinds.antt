@@ -1,6 +1,5 @@
 -- A scalar, opened: its type and its value, together.
 use Rattle.std.specs.Prelude.{◌≡◌}
-use Rattle.vx_value.specs.Types.{DataType}
 use Rattle.vx_value.specs.Values as value
 use Rattle.vx_value.specs.Typed.{Typed}
 use Rattle.vx_value.specs.View.{type_of}
