@@ -57,7 +57,8 @@ module _ (op : Operator) (s t : DataType) (taken : IsSome (return_type (function
   pub calculation_type : (p : PType) → is_comparison op ≡ false → storage_of s ≡ Integers p →
       return_type (function.Binary op) (s ∷ t ∷ []) ≡ Some (primitive p NonNullable)
   calculation_type p c stored =
-      let calculated : return_type (function.Binary op) (s ∷ t ∷ []) ≡ calculated_type s = tests.1 ∙ (λ i. if c i then Some (bool NonNullable) else calculated_type s) in
+      let calculated : return_type (function.Binary op) (s ∷ t ∷ []) ≡ calculated_type s =
+      tests.1 ∙ (λ i. if c i then Some (bool NonNullable) else calculated_type s) in
       calculated ∙ of_integers s (subst IsSome calculated taken) stored
     where
       of_integers : (s : DataType) → IsSome (calculated_type s) → storage_of s ≡ Integers p → calculated_type s ≡ Some (primitive p NonNullable)

@@ -22,7 +22,8 @@ returns-clause-fault c =
     let w : integer arm.y ≡ r.value = search rules in
     let x : FitsSigned w128 arm.x = search rules in
     let y : FitsSigned w128 arm.y = search rules in
-    let type = calculation_type op l.of_type r.of_type c.requires arm.ptype (sym c.is_comparison.ensures ∙ c.if-is_comparison.false) (ap storage_of (sym kind)) in
+    let calculates = sym c.is_comparison.ensures ∙ c.if-is_comparison.false in
+    let type = calculation_type op l.of_type r.of_type c.requires arm.ptype calculates (ap storage_of (sym kind)) in
     IfErr-weaker c.calculate.result _ _ (λ e h. (
       h.0,
       λ t typed.
