@@ -1,10 +1,11 @@
 //! Bit buffers: ranges of bits in shared words.
 
-ghost use Rattle.std.specs.Prelude.{◌≡◌, ◌+◌, ◌*◌, ◌<◌, ◌≤◌, ◌↔◌, ◌==◌, ℕ, if◌then◌else◌, IsTrue, IfOk, Some};
+ghost use Rattle.std.specs.Prelude.{◌≡◌, ◌+◌, ◌-◌, ◌*◌, ◌/◌, ◌%◌, ◌<◌, ◌≤◌, ◌↔◌, ◌==◌, ◌++◌, ℕ, false, if◌then◌else◌, IsTrue, IfOk, Some};
 ghost use Rattle.std.specs.Prelude.{length, replicate, slice_range, slice_get, take, vec_len};
 ghost use Rattle.std.specs.Int.{bit_at};
-ghost use Rattle.vx_mask.specs.Bits.{bits_of, bit_of_both};
+ghost use Rattle.vx_mask.specs.Bits.{bit_of, bits_of, bit_of_both};
 ghost use Rattle.vx_mask.specs.Logic.{bit_row};
+ghost use Rattle.vx_mask.specs.Words.{low_bits};
 
 use std::alloc::{AllocError, Global};
 use std::fmt;
@@ -55,13 +56,25 @@ pub(crate) fn filled_word(bit: bool) -> u64
 #[inline]
 #[tactic(auto, using(crate::proofs::Words::joined_bit))]
 fn joined(low: u64, high: u64, by: usize) -> u64
-    requires { by < 64 }
+    requires some { 0 < by }
+    requires within { by < 64 }
     ensures { (i : ℕ) → i < 64 → bit_at result i ≡ bit_of_both low high (by + i) }
 {
+    (low >> by) | (high << (64 - by))
+}
+
+/// Returns the 64 bits from bit `by` of the word at `place` on, and 0 for those past the last word.
+#[inline]
+fn word_at(words: &[u64], place: usize, by: usize) -> u64
+    requires place { place < length words.now }
+    requires by { by < 64 }
+    ensures { (i : ℕ) → i < 64 → (bit_at result i == 1) ≡ bit_of words.now (64 * place + by + i) }
+{
+    let low = words[place];
     if by == 0 {
         low
     } else {
-        (low >> by) | (high << (64 - by))
+        joined(low, words.get(place + 1).copied().unwrap_or(0), by)
     }
 }
 
@@ -138,11 +151,30 @@ impl BitBuffer {
         requires { 64 * k < length self.now }
         ensures { (i : ℕ) → i < 64 → 64 * k + i < length self.now → (bit_at result i == 1) ≡ bit_row self.now (64 * k + i) }
     {
-        let from = self.start + 64 * k;
-        let words = self.words.as_ref().as_slice();
-        let place = from / 64;
-        let high = words.get(place + 1).copied().unwrap_or(0);
-        joined(words[place], high, from % 64)
+        word_at(self.words.as_ref(), self.start / 64 + k, self.start % 64)
+    }
+
+    /// Returns the 64 bits from `index` on, with the first one in the lowest place. Bits past the end are unspecified.
+    #[inline]
+    pub(crate) fn word_from(&self, index: usize) -> u64
+        requires { index < length self.now }
+        ensures { (i : ℕ) → i < 64 → index + i < length self.now → (bit_at result i == 1) ≡ bit_row self.now (index + i) }
+    {
+        let from = self.start + index;
+        word_at(self.words.as_ref(), from / 64, from % 64)
+    }
+
+    /// Returns the bits from the last multiple of 64 on, with the first one in the lowest place, and 0 past the end.
+    #[inline]
+    pub(crate) fn last_word(&self) -> u64
+        ensures { take (64 * (length self.now / 64)) self.now ++ low_bits 64 result ≡ self.now ++ replicate (64 - length self.now % 64) false }
+    {
+        let len = self.len();
+        if len % 64 == 0 {
+            0
+        } else {
+            self.word(len / 64) & ((1 << (len % 64)) - 1)
+        }
     }
 
     /// Returns the bits at `range` without copying them: the result shares the storage. Fails only if the storage

@@ -1,0 +1,14 @@
+use Rattle.std.proofs.Common.{◌≡◌, ◌+◌, ◌*◌, ◌/◌, ◌%◌, ◌<◌, ◌≤◌, length, arith, ap, ◌∙◌}
+use Rattle.vx_mask.proofs.BitsLemmas.{length_part}
+use Rattle.vx_mask.proofs.Words.{row_of_part}
+use Rattle.vx_mask.proofs.bits.BitBuffer.word_from.Goals as goal
+
+pub returns : goal.returns
+returns c i h within =
+    let words = c.self.inside.words.value.items in
+    let s = c.self.inside.start in
+    let n = c.self.inside.len in
+    let same : c.deref.result.now ≡ words = c.deref.ensures.value ∙ ap (λ v. v.items) c.as_ref.ensures in
+    let bounds : s + n ≤ 64 * length words = omega arith in
+    let row : c.args.index + i < n = omega (arith, length_part words s n bounds, ap length c.self.view_is) in
+    rw (← c.self.view_is) (row_of_part _ words s n ((s + c.args.index) / 64) ((s + c.args.index) % 64) (c.args.index) i _ same bounds (omega arith) row (c.word_at.ensures i h))

@@ -1,0 +1,77 @@
+//! Counts and places of the true bits of whole buffers, 64 at a time.
+
+ghost use Rattle.std.specs.Prelude.{◌≡◌, ◌-◌};
+ghost use Rattle.vx_mask.specs.Places.{true_count, true_place};
+
+use crate::bits::BitBuffer;
+use crate::word::{first_one, last_one, nth_one, ones_in};
+
+impl BitBuffer {
+    /// Returns the number of true bits.
+    pub fn true_count(&self) -> usize
+        ensures { result ≡ true_count self.now }
+    {
+        let mut count = 0;
+        for k in 0..self.len() / 64 {
+            count += ones_in(self.word(k));
+        }
+        count + ones_in(self.last_word())
+    }
+
+    /// Returns the index of the true bit that has `k` true bits before it, or `None` if there are at most `k`. (own)
+    pub fn rank(&self, k: usize) -> Option<usize>
+        ensures { result ≡ true_place self.now k }
+    {
+        let full = self.len() / 64;
+        let mut left = k;
+        for place in 0..full {
+            let word = self.word(place);
+            let ones = ones_in(word);
+            if left < ones {
+                return Some(64 * place + nth_one(word, left));
+            }
+            left -= ones;
+        }
+        let word = self.last_word();
+        if left < ones_in(word) {
+            Some(64 * full + nth_one(word, left))
+        } else {
+            None
+        }
+    }
+
+    /// Returns the index of the first true bit, or `None` if there is none. (own)
+    pub fn first(&self) -> Option<usize>
+        ensures { result ≡ true_place self.now 0 }
+    {
+        let full = self.len() / 64;
+        for k in 0..full {
+            let word = self.word(k);
+            if word != 0 {
+                return Some(64 * k + first_one(word));
+            }
+        }
+        let word = self.last_word();
+        if word != 0 {
+            Some(64 * full + first_one(word))
+        } else {
+            None
+        }
+    }
+
+    /// Returns the index of the last true bit, or `None` if there is none. (own)
+    pub fn last(&self) -> Option<usize>
+        ensures { result ≡ true_place self.now (true_count self.now - 1) }
+    {
+        let mut k = self.len() / 64;
+        let mut word = self.last_word();
+        while word == 0 {
+            if k == 0 {
+                return None;
+            }
+            k -= 1;
+            word = self.word(k);
+        }
+        Some(64 * k + last_one(word))
+    }
+}
