@@ -71,7 +71,8 @@ pub combine_end : (words : List ℕ) (bits inner : List Bool) (n : ℕ) → bits
     → take (length bits) (bits_of words) ≡ combined bits inner
 combine_end words bits inner n is =
     let rest = combined (replicate n false) (drop (true_count bits) inner) in
-    ap (take (length bits)) (is ∙ combined-append bits (replicate n false) inner) ∙ take_at (combined bits inner) rest (length bits) (length-combined bits inner)
+    ap (take (length bits)) (is ∙ combined-append bits (replicate n false) inner)
+    ∙ take_at (combined bits inner) rest (length bits) (length-combined bits inner)
 
 -- at the start there are no words
 pub combine_none : (words : List ℕ) (inner : List Bool) → length words ≡ 0 → bits_of words ≡ combined [] inner

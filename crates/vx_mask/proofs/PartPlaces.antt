@@ -16,7 +16,8 @@ pub part_within : (bits : List Bool) (from w : ℕ) → IsWordFrom bits from w �
 part_within bits from w is within =
     (0, from + 64, sym (next_word bits from w is within) ∙ sym (take-append-le (from + 64) bits (replicate 0 false) within))
 
-pub part_last : (bits : List Bool) (k w : ℕ) → k ≡ length bits / 64 → take (64 * (length bits / 64)) bits ++ low_bits 64 w ≡ bits ++ replicate (64 - length bits % 64) false
+pub part_last : (bits : List Bool) (k w : ℕ) → k ≡ length bits / 64
+    → take (64 * (length bits / 64)) bits ++ low_bits 64 w ≡ bits ++ replicate (64 - length bits % 64) false
     → IsPart bits (64 * k) w
 part_last bits k w at is =
     let padded = bits ++ replicate (64 - length bits % 64) false in (
@@ -37,7 +38,8 @@ pub count_more : (bits : List Bool) (from next w : ℕ) → IsWordFrom bits from
 count_more bits from next w is at within =
     ap (λ n. true_count (take n bits)) at ∙ ap true_count (next_word bits from w is (omega arith)) ∙ true_count-append (take from bits) (low_bits 64 w)
 
-pub count_last : (bits : List Bool) (k w : ℕ) → k ≡ length bits / 64 → take (64 * (length bits / 64)) bits ++ low_bits 64 w ≡ bits ++ replicate (64 - length bits % 64) false
+pub count_last : (bits : List Bool) (k w : ℕ) → k ≡ length bits / 64
+    → take (64 * (length bits / 64)) bits ++ low_bits 64 w ≡ bits ++ replicate (64 - length bits % 64) false
     → true_count (take (64 * k) bits) + true_count (low_bits 64 w) ≡ true_count bits
 count_last bits k w at is =
     ap (λ n. true_count (take (64 * n) bits) + true_count (low_bits 64 w)) at

@@ -28,7 +28,8 @@ count_no (true ∷ bits) (suc i) set = ap suc (count_no bits i set)
 count_no (false ∷ bits) (suc i) set = count_no bits i set
 
 -- n more bits have up to n more true ones
-count_between : (bits : List Bool) (i j : ℕ) → i ≤ j → (true_count (take i bits) ≤ true_count (take j bits)) × (true_count (take j bits) ≤ true_count (take i bits) + (j - i))
+count_between : (bits : List Bool) (i j : ℕ) → i ≤ j
+    → (true_count (take i bits) ≤ true_count (take j bits)) × (true_count (take j bits) ≤ true_count (take i bits) + (j - i))
 count_between bits i j order =
     let n = j - i in
     let end : j ≡ i + n = omega arith in

@@ -32,9 +32,9 @@ impl BitBuffer {
             }
             left -= ones;
         }
-        let word = self.last_word();
-        if left < ones_in(word) {
-            Some(64 * full + nth_one(word, left))
+        let last = self.last_word();
+        if left < ones_in(last) {
+            Some(64 * full + nth_one(last, left))
         } else {
             None
         }
@@ -51,9 +51,9 @@ impl BitBuffer {
                 return Some(64 * k + first_one(word));
             }
         }
-        let word = self.last_word();
-        if word != 0 {
-            Some(64 * full + first_one(word))
+        let last = self.last_word();
+        if last != 0 {
+            Some(64 * full + first_one(last))
         } else {
             None
         }

@@ -20,7 +20,7 @@ pub fn place_laws()
 
 /// States that choosing by combined bits is choosing twice, and how many items are chosen. (own)
 pub fn choice_laws<T>()
-    ensures twice { (outer inner : List Bool) (items : List T) → chosen (combined outer inner) items ≡ chosen inner (chosen outer items) }
-    ensures count { (bits : List Bool) (items : List T) → length items ≡ length bits → length (chosen bits items) ≡ true_count bits }
-    ensures combined_count { (outer inner : List Bool) (items : List T) → length inner ≡ true_count outer → length items ≡ length outer → length (chosen (combined outer inner) items) ≡ true_count inner }
+    ensures twice { (outer inner : List Bool) (xs : List T) → chosen (combined outer inner) xs ≡ chosen inner (chosen outer xs) }
+    ensures count { (bits : List Bool) (xs : List T) → length xs ≡ length bits → length (chosen bits xs) ≡ true_count bits }
+    ensures combined_count { (outer inner : List Bool) (xs : List T) → length inner ≡ true_count outer → length xs ≡ length outer → length (chosen (combined outer inner) xs) ≡ true_count inner }
 {}

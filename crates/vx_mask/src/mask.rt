@@ -121,7 +121,7 @@ impl Mask {
     /// Returns the mask of the rows that `inner` chooses among those that `self` chooses, or `None` if the length of `inner`
     /// isn't the number of rows that `self` chooses. Fails only if there is no memory for its bits.
     pub fn intersect_by_rank(&self, alloc: Global, inner: &Mask) -> Result<Option<Mask>, AllocError>
-        ensures { IfOk result (λ mask. mask ≡ (if length (bits_in inner.now) == true_count (bits_in self.now) then Some (mask_of (combined (bits_in self.now) (bits_in inner.now))) else None)) }
+        ensures { let outer = bits_in self.now in let bits = bits_in inner.now in IfOk result (λ mask. mask ≡ (if length bits == true_count outer then Some (mask_of (combined outer bits)) else None)) }
     {
         if inner.len() == self.true_count() {
             Ok(Some(self.combined(alloc, inner)?))

@@ -19,14 +19,16 @@ found c =
     place_in_part bits from word 0 0 c.first_one.result (part_within bits from word c.word-word.ensures (omega arith)) (omega arith) (omega arith)
     (omega (arith, cleared_count 64 word (omega arith) (omega arith))) c.first_one.ensures
 
-found_last : (c : goal.After-first_one-then-word-ne0-2) → true_place c.args.self.now 0 ≡ Some (64 * (c.len-full.result / 64) + c.first_one-then-word-ne0-2.result)
+found_last : (c : goal.After-first_one-then-last-ne0)
+    → true_place c.args.self.now 0 ≡ Some (64 * (c.len-full.result / 64) + c.first_one-then-last-ne0.result)
 found_last c =
     let bits = c.args.self.now in
     let full = c.len-full.result / 64 in
-    let word = c.last_word-word.result in
+    let word = c.last_word-last.result in
     let before : true_count (take (64 * full) bits) ≡ 0 = ap (λ n. true_count (take (64 * n) bits)) (omega arith) ∙ c.loop-k.invariant in
-    place_in_part bits (64 * full) word 0 0 c.first_one-then-word-ne0-2.result (part_last bits full word (omega arith) c.last_word-word.ensures) (omega arith) (omega arith)
-    (omega (arith, cleared_count 64 word (omega arith) (omega arith))) c.first_one-then-word-ne0-2.ensures
+    let part = part_last bits full word (omega arith) c.last_word-last.ensures in
+    place_in_part bits (64 * full) word 0 0 c.first_one-then-last-ne0.result part (omega arith) (omega arith)
+    (omega (arith, cleared_count 64 word (omega arith) (omega arith))) c.first_one-then-last-ne0.ensures
 
 pub overflow_add-result : goal.overflow_add-result
 overflow_add-result c = record { fits = omega (arith, (place_is c.args.self.now 0 _ (found c)).0) }
@@ -40,15 +42,15 @@ loop-k-preserved c =
     let none : true_count (low_bits 64 c.word-word.result) ≡ 0 = ap (λ w. true_count (low_bits 64 w)) c.if-word-ne0.false ∙ low_bits-zero 64 in
     omega (arith, none, count_more c.args.self.now (64 * k) (64 * (k + 1)) c.word-word.result c.word-word.ensures (omega arith) (omega arith))
 
-pub overflow_add-result-then-word-ne0-2 : goal.overflow_add-result-then-word-ne0-2
-overflow_add-result-then-word-ne0-2 c = record { fits = omega (arith, (place_is c.args.self.now 0 _ (found_last c)).0) }
+pub overflow_add-result-then-last-ne0 : goal.overflow_add-result-then-last-ne0
+overflow_add-result-then-last-ne0 c = record { fits = omega (arith, (place_is c.args.self.now 0 _ (found_last c)).0) }
 
-pub returns-then-word-ne0-2 : goal.returns-then-word-ne0-2
-returns-then-word-ne0-2 c = sym (found_last c)
+pub returns-then-last-ne0 : goal.returns-then-last-ne0
+returns-then-last-ne0 c = sym (found_last c)
 
-pub returns-else-word-ne0-2 : goal.returns-else-word-ne0-2
-returns-else-word-ne0-2 c =
+pub returns-else-last-ne0 : goal.returns-else-last-ne0
+returns-else-last-ne0 c =
     let bits = c.args.self.now in
-    let none : true_count (low_bits 64 c.last_word-word.result) ≡ 0 = ap (λ w. true_count (low_bits 64 w)) c.if-word-ne0-2.false ∙ low_bits-zero 64 in
-    let all = count_last bits c.loop-k.k c.last_word-word.result (omega arith) c.last_word-word.ensures in
+    let none : true_count (low_bits 64 c.last_word-last.result) ≡ 0 = ap (λ w. true_count (low_bits 64 w)) c.if-last-ne0.false ∙ low_bits-zero 64 in
+    let all = count_last bits c.loop-k.k c.last_word-last.result (omega arith) c.last_word-last.ensures in
     sym (true_place-past bits 0 (omega (arith, all, none)))

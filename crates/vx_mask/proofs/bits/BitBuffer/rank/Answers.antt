@@ -16,14 +16,15 @@ found c =
     place_in_part bits from c.word-word.result c.args.k c.loop-place.left c.nth_one.result
     (part_within bits from c.word-word.result c.word-word.ensures (omega arith)) (omega arith) c.loop-place.invariant (omega arith) c.nth_one.ensures
 
-found_last : (c : goal.After-nth_one-then-left-ones_in) → true_place c.args.self.now c.args.k ≡ Some (64 * (c.len-full.result / 64) + c.nth_one-then-left-ones_in.result)
+found_last : (c : goal.After-nth_one-then-left-ones_in)
+    → true_place c.args.self.now c.args.k ≡ Some (64 * (c.len-full.result / 64) + c.nth_one-then-left-ones_in.result)
 found_last c =
     let bits = c.args.self.now in
     let full = c.len-full.result / 64 in
     let before : c.loop-place.left + true_count (take (64 * full) bits) ≡ c.args.k =
     ap (λ n. c.loop-place.left + true_count (take (64 * n) bits)) (omega arith) ∙ c.loop-place.invariant in
-    place_in_part bits (64 * full) c.last_word-word.result c.args.k c.loop-place.left c.nth_one-then-left-ones_in.result
-    (part_last bits full c.last_word-word.result (omega arith) c.last_word-word.ensures) (omega arith) before (omega arith) c.nth_one-then-left-ones_in.ensures
+    place_in_part bits (64 * full) c.last_word-last.result c.args.k c.loop-place.left c.nth_one-then-left-ones_in.result
+    (part_last bits full c.last_word-last.result (omega arith) c.last_word-last.ensures) (omega arith) before (omega arith) c.nth_one-then-left-ones_in.ensures
 
 pub overflow_add-result : goal.overflow_add-result
 overflow_add-result c = record { fits = omega (arith, (place_is c.args.self.now c.args.k _ (found c)).0) }
@@ -45,5 +46,5 @@ returns-then-left-ones_in c = sym (found_last c)
 pub returns-else-left-ones_in : goal.returns-else-left-ones_in
 returns-else-left-ones_in c =
     let bits = c.args.self.now in
-    let all = count_last bits c.loop-place.place c.last_word-word.result (omega arith) c.last_word-word.ensures in
+    let all = count_last bits c.loop-place.place c.last_word-last.result (omega arith) c.last_word-last.ensures in
     sym (true_place-past bits c.args.k (omega (arith, all)))

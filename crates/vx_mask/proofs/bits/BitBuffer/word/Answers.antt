@@ -11,4 +11,6 @@ returns c i h within =
     let same : c.deref.result.now ≡ words = c.deref.ensures.value ∙ ap (λ v. v.items) c.as_ref.ensures in
     let bounds : s + n ≤ 64 * length words = omega arith in
     let row : 64 * c.args.k + i < n = omega (arith, length_part words s n bounds, ap length c.self.view_is) in
-    rw (← c.self.view_is) (row_of_part _ words s n (s / 64 + c.args.k) (s % 64) (64 * c.args.k) i _ same bounds (omega arith) row (c.word_at.ensures i h))
+    let place = s / 64 + c.args.k in
+    let by = s % 64 in
+    rw (← c.self.view_is) (row_of_part _ words s n place by (64 * c.args.k) i _ same bounds (omega arith) row (c.word_at.ensures i h))

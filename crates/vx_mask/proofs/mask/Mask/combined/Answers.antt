@@ -18,7 +18,8 @@ returns-in-AllTrue-default c =
     rw result c.in_form.ensures
 
 -- an inner mask that is all true chooses what the outer one does
-all_chosen : (outer inner : Mask) (n : ℕ) → inner ≡ AllTrue n → length (bits_in inner) ≡ true_count (bits_in outer) → combined (bits_in outer) (bits_in inner) ≡ bits_in outer
+all_chosen : (outer inner : Mask) (n : ℕ) → inner ≡ AllTrue n → length (bits_in inner) ≡ true_count (bits_in outer)
+    → combined (bits_in outer) (bits_in inner) ≡ bits_in outer
 all_chosen outer inner n is size =
     let copies : bits_in inner ≡ replicate n true = ap bits_in is in
     ap (combined (bits_in outer)) copies ∙ combined-trues (bits_in outer) n (omega (arith, ap length copies, length-replicate n true))
