@@ -2,13 +2,14 @@
 use Rattle.std.specs.Prelude.{◌==◌, bit_and}
 use Rattle.std.proofs.Common.{◌≡◌, ◌<◌, ◌≤◌, ◌+◌, ◌-◌, ◌*◌, ◌/◌, ◌%◌, ◌^◌, ℕ, zero, suc, Bool, true, false, cond, List, [], ◌∷◌, length}
 use Rattle.std.proofs.Common.{arith, refl, sym, ◌∙◌, ap, ap₂, pow-suc}
-use Rattle.std.proofs.Math.Nat.{mul_assoc}
+use Rattle.std.proofs.Math.Nat.{mul_assoc, mul_comm, mod-eq_of_lt}
+use lib.Count.{count_trailing_zeros}
 use lib.Bits.{and_le_l, and_mask}
 use lib.Lanes.{mask_l}
 use Rattle.vx_mask.specs.Places.{combined}
 use Rattle.vx_mask.specs.Words.{low_bits}
 use Rattle.vx_mask.proofs.PlacesLemmas.{length-combined}
-use Rattle.vx_mask.proofs.WordBits.{by_digit, clear_odd, clear_even, length-low_bits}
+use Rattle.vx_mask.proofs.WordBits.{by_digit, lowest_bit, clear_odd, clear_even, length-low_bits}
 
 -- of the n lowest bits, the true ones of the outer word replaced by the lowest ones of the inner word, in order
 unfoldable pub spread_bits : ℕ → ℕ → ℕ → ℕ
@@ -67,10 +68,19 @@ spread_digit (suc n) outer inner some h =
     omega (arith, taken, others))
 
 pub spread_bits-step : (n outer inner : ℕ) → 0 < outer → outer < 2 ^ n
-    → spread_bits n outer inner ≡ (outer - bit_and outer (outer - 1)) * bit_and inner 1 + spread_bits n (bit_and outer (outer - 1)) (inner / 2)
+    → spread_bits n outer inner
+    ≡ bit_and inner 1 * 2 ^ count_trailing_zeros n outer % 2 ^ n + spread_bits n (bit_and outer (outer - 1)) (inner / 2)
 spread_bits-step n outer inner some h =
     let rest = bit_and outer (outer - 1) in
-    spread_digit n outer inner some h ∙ ap (λ d. (outer - rest) * d + spread_bits n rest (inner / 2)) (sym (and_mask inner 1))
+    let digit = inner % 2 in
+    let lowest = lowest_bit n outer some h in
+    let taken : (outer - rest) * digit ≡ bit_and inner 1 * 2 ^ count_trailing_zeros n outer =
+    ap (λ x. x * digit) lowest ∙ mul_comm (2 ^ count_trailing_zeros n outer) digit
+    ∙ ap (λ x. x * 2 ^ count_trailing_zeros n outer) (sym (and_mask inner 1)) in
+    let step = spread_digit n outer inner some h in
+    let fits = spread_bits-lt n outer inner in
+    let small : bit_and inner 1 * 2 ^ count_trailing_zeros n outer < 2 ^ n = omega (arith, step, fits, taken) in
+    step ∙ ap (λ x. x + spread_bits n rest (inner / 2)) (taken ∙ sym (mod-eq_of_lt small))
 
 -- ---- as lists
 digit_of : (w : ℕ) → cond (w % 2 == 1) 1 0 ≡ w % 2

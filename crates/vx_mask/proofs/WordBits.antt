@@ -142,3 +142,17 @@ some_word n (suc w) h = omega arith
 
 pub true_count-le_size : (n w : ℕ) → true_count (low_bits n w) ≤ n
 true_count-le_size n w = omega (arith, true_count-le-length (low_bits n w), length-low_bits n w)
+
+-- the lowest true bit alone
+pub lowest_bit : (n w : ℕ) → 0 < w → w < 2 ^ n → w - bit_and w (w - 1) ≡ 2 ^ count_trailing_zeros n w
+unfolding count_trailing_zeros
+lowest_bit zero w some h = absurd (omega arith)
+lowest_bit (suc n) w some h =
+    by_digit (λ d. w - bit_and w (w - 1) ≡ 2 ^ under d (count_trailing_zeros n (w / 2))) w
+    (λ even.
+    let less = bit_and (w / 2) (w / 2 - 1) in
+    let half = lowest_bit n (w / 2) (omega arith) (omega (arith, pow-suc 2 n)) in
+    let cleared = clear_even w some even in
+    let twice = pow-suc 2 (count_trailing_zeros n (w / 2)) in
+    omega arith)
+    (λ odd. omega (arith, clear_odd w odd))

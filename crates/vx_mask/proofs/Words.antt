@@ -86,9 +86,8 @@ bit_from words place by i low high within low_is high_is h =
     ]
 
 -- bit i of a word that is read from the words is row `index + i` of the part that begins at s
-pub row_of_part : (all words : List ℕ) (s n place by index i : ℕ) (bit : Bool) → all ≡ words → s + n ≤ 64 * length words
-    → 64 * place + by ≡ s + index → index + i < n
-    → bit ≡ bit_of all (64 * place + by + i) → bit ≡ get_or (take n (drop s (bits_of words))) (index + i) false
-row_of_part all words s n place by index i bit same bounds at within is =
+pub row_of_part : (words : List ℕ) (s n place by index i : ℕ) (bit : Bool) → s + n ≤ 64 * length words → 64 * place + by ≡ s + index
+    → index + i < n → bit ≡ bit_of words (64 * place + by + i) → bit ≡ get_or (take n (drop s (bits_of words))) (index + i) false
+row_of_part words s n place by index i bit bounds at within is =
     let from : 64 * place + by + i ≡ s + (index + i) = omega arith in
-    is ∙ ap (λ ws. bit_of ws (64 * place + by + i)) same ∙ ap (bit_of words) from ∙ sym (bit_of_part words s n (index + i) within bounds)
+    is ∙ ap (bit_of words) from ∙ sym (bit_of_part words s n (index + i) within bounds)

@@ -7,6 +7,7 @@ ghost use Rattle.vx_mask.specs.Bits.{bit_of, bits_of, bit_of_both};
 ghost use Rattle.vx_mask.specs.Logic.{bit_row};
 ghost use Rattle.vx_mask.specs.Words.{low_bits};
 
+use crate::bit_slice::BitSlice;
 use std::alloc::{AllocError, Global};
 use std::fmt;
 use std::marker::Model;
@@ -50,32 +51,6 @@ pub(crate) fn filled_word(bit: bool) -> u64
     ensures { result ≡ (if bit then u64.MAX else 0) }
 {
     if bit { u64::MAX } else { 0 }
-}
-
-/// Returns the 64 bits from bit `by` of `low` on, continued in `high`.
-#[inline]
-#[tactic(auto, using(crate::proofs::Words::joined_bit))]
-fn joined(low: u64, high: u64, by: usize) -> u64
-    requires some { 0 < by }
-    requires within { by < 64 }
-    ensures { (i : ℕ) → i < 64 → bit_at result i ≡ bit_of_both low high (by + i) }
-{
-    (low >> by) | (high << (64 - by))
-}
-
-/// Returns the 64 bits from bit `by` of the word at `place` on, and 0 for those past the last word.
-#[inline]
-fn word_at(words: &[u64], place: usize, by: usize) -> u64
-    requires place { place < length words.now }
-    requires by { by < 64 }
-    ensures { (i : ℕ) → i < 64 → (bit_at result i == 1) ≡ bit_of words.now (64 * place + by + i) }
-{
-    let low = words[place];
-    if by == 0 {
-        low
-    } else {
-        joined(low, words.get(place + 1).copied().unwrap_or(0), by)
-    }
 }
 
 #[tactic(auto, using(crate::proofs::BitsLemmas::length_part))]
@@ -151,17 +126,16 @@ impl BitBuffer {
         requires { 64 * k < length self.now }
         ensures { (i : ℕ) → i < 64 → 64 * k + i < length self.now → (bit_at result i == 1) ≡ bit_row self.now (64 * k + i) }
     {
-        word_at(self.words.as_ref(), self.start / 64 + k, self.start % 64)
+        self.as_bits().word(k)
     }
 
-    /// Returns the 64 bits from `index` on, with the first one in the lowest place. Bits past the end are unspecified.
+    /// Returns the 64 bits from index `64 * k` on, with the first one in the lowest place. All are within the range.
     #[inline]
-    pub(crate) fn word_from(&self, index: usize) -> u64
-        requires { index < length self.now }
-        ensures { (i : ℕ) → i < 64 → index + i < length self.now → (bit_at result i == 1) ≡ bit_row self.now (index + i) }
+    pub(crate) fn full_word(&self, k: usize) -> u64
+        requires { 64 * k + 64 ≤ length self.now }
+        ensures { (i : ℕ) → i < 64 → 64 * k + i < length self.now → (bit_at result i == 1) ≡ bit_row self.now (64 * k + i) }
     {
-        let from = self.start + index;
-        word_at(self.words.as_ref(), from / 64, from % 64)
+        self.as_bits().full_word(k)
     }
 
     /// Returns the bits from the last multiple of 64 on, with the first one in the lowest place, and 0 past the end.
@@ -169,12 +143,15 @@ impl BitBuffer {
     pub(crate) fn last_word(&self) -> u64
         ensures { take (64 * (length self.now / 64)) self.now ++ low_bits 64 result ≡ self.now ++ replicate (64 - length self.now % 64) false }
     {
-        let len = self.len();
-        if len % 64 == 0 {
-            0
-        } else {
-            self.word(len / 64) & ((1 << (len % 64)) - 1)
-        }
+        self.as_bits().last_word()
+    }
+
+    /// Borrows the bits.
+    #[inline]
+    pub(crate) fn as_bits(&self) -> BitSlice<'_>
+        ensures { result ≡ self.now }
+    {
+        BitSlice::new(self.words.as_ref(), self.start, self.len)
     }
 
     /// Returns the bits at `range` without copying them: the result shares the storage. Fails only if the storage

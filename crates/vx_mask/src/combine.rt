@@ -4,13 +4,14 @@ ghost use Rattle.std.specs.Prelude.{◌≡◌, ◌+◌, ◌≤◌, IfOk, length,
 ghost use Rattle.vx_mask.specs.Places.{true_count, combined};
 ghost use Rattle.vx_mask.specs.Words.{low_bits};
 
+use crate::bit_slice::BitSlice;
 use crate::bits::BitBuffer;
-use crate::word::spread;
+use crate::word::{ones_in, spread};
 use std::alloc::{AllocError, Global};
 
-impl BitBuffer {
-    /// Replaces the true bits of the word `outer` by the bits from `index` on, in order, and returns the word with the
-    /// number of them.
+impl BitSlice<'_> {
+    /// Replaces the true bits of the word `outer` by the bits from `index` on, in order. Returns the word, and how many true
+    /// bits `outer` has.
     #[inline]
     fn spread_over(&self, outer: u64, index: usize) -> (u64, usize)
         requires { index + true_count (low_bits 64 outer) ≤ length self.now }
@@ -24,16 +25,12 @@ impl BitBuffer {
         if outer == u64::MAX {
             (word, 64)
         } else {
-            spread(outer, word)
+            (spread(outer, word), ones_in(outer))
         }
     }
 
-    /// Replaces the true bits by the bits of `inner`, in order. Fails only if there is no memory for the result. (own)
-    pub fn intersect_by_rank(
-        &self,
-        alloc: Global,
-        inner: &BitBuffer,
-    ) -> Result<BitBuffer, AllocError>
+    /// Replaces the true bits by the bits of `inner`, in order. Fails only if there is no memory for the result.
+    fn combined(&self, alloc: Global, inner: &BitSlice<'_>) -> Result<BitBuffer, AllocError>
         requires { length inner.now ≡ true_count self.now }
         ensures { IfOk result (λ b. b ≡ combined self.now inner.now) }
     {
@@ -41,12 +38,26 @@ impl BitBuffer {
         let mut words = Vec::with_capacity(alloc, full + 1)?;
         let mut used = 0;
         for k in 0..full {
-            let (word, ones) = inner.spread_over(self.word(k), used);
+            let (word, ones) = inner.spread_over(self.full_word(k), used);
             words.push_reserved(word);
             used += ones;
         }
         let (word, _) = inner.spread_over(self.last_word(), used);
         words.push_reserved(word);
         BitBuffer::from_words(alloc, words, self.len())
+    }
+}
+
+impl BitBuffer {
+    /// Replaces the true bits by the bits of `inner`, in order. Fails only if there is no memory for the result.
+    pub(crate) fn intersect_by_rank(
+        &self,
+        alloc: Global,
+        inner: &BitBuffer,
+    ) -> Result<BitBuffer, AllocError>
+        requires { length inner.now ≡ true_count self.now }
+        ensures { IfOk result (λ b. b ≡ combined self.now inner.now) }
+    {
+        self.as_bits().combined(alloc, &inner.as_bits())
     }
 }

@@ -13,19 +13,19 @@ impl BitBuffer {
     {
         let mut count = 0;
         for k in 0..self.len() / 64 {
-            count += ones_in(self.word(k));
+            count += ones_in(self.full_word(k));
         }
         count + ones_in(self.last_word())
     }
 
-    /// Returns the index of the true bit that has `k` true bits before it, or `None` if there are at most `k`. (own)
-    pub fn rank(&self, k: usize) -> Option<usize>
+    /// Returns the index of the true bit with `k` true bits before it, or `None` if there are at most `k`.
+    pub(crate) fn rank(&self, k: usize) -> Option<usize>
         ensures { result ≡ true_place self.now k }
     {
         let full = self.len() / 64;
         let mut left = k;
         for place in 0..full {
-            let word = self.word(place);
+            let word = self.full_word(place);
             let ones = ones_in(word);
             if left < ones {
                 return Some(64 * place + nth_one(word, left));
@@ -40,13 +40,13 @@ impl BitBuffer {
         }
     }
 
-    /// Returns the index of the first true bit, or `None` if there is none. (own)
-    pub fn first(&self) -> Option<usize>
+    /// Returns the index of the first true bit, or `None` if there is none.
+    pub(crate) fn first(&self) -> Option<usize>
         ensures { result ≡ true_place self.now 0 }
     {
         let full = self.len() / 64;
         for k in 0..full {
-            let word = self.word(k);
+            let word = self.full_word(k);
             if word != 0 {
                 return Some(64 * k + first_one(word));
             }
@@ -59,8 +59,8 @@ impl BitBuffer {
         }
     }
 
-    /// Returns the index of the last true bit, or `None` if there is none. (own)
-    pub fn last(&self) -> Option<usize>
+    /// Returns the index of the last true bit, or `None` if there is none.
+    pub(crate) fn last(&self) -> Option<usize>
         ensures { result ≡ true_place self.now (true_count self.now - 1) }
     {
         let mut k = self.len() / 64;
@@ -70,7 +70,7 @@ impl BitBuffer {
                 return None;
             }
             k -= 1;
-            word = self.word(k);
+            word = self.full_word(k);
         }
         Some(64 * k + last_one(word))
     }

@@ -2,6 +2,7 @@
 //! range, and a mask the list of its bits.
 #![tactic(auto)]
 
+mod bit_slice;
 mod bits;
 mod buffer;
 mod builder;

@@ -10,19 +10,19 @@ use crate::mask_values::MaskValues;
 use std::alloc::{AllocError, Global};
 use std::ops::Range;
 
-/// A choice of rows. In contracts a mask is the list of its bits, `bits_in`: the rows at its true bits are chosen.
+/// A choice of rows: those at its true bits. In contracts `bits_in` gives the list of its bits.
 #[derive(Debug, Drop)]
 pub enum Mask {
-    /// All of so many rows.
+    /// Chooses all of this many rows.
     AllTrue(usize),
-    /// None of so many rows.
+    /// Chooses none of this many rows.
     AllFalse(usize),
-    /// Some rows, but not all.
+    /// Chooses some rows, but not all.
     Values(MaskValues),
 }
 
 impl Mask {
-    /// Makes a mask of `bits`, which it counts. (own)
+    /// Makes the mask whose bits are `bits`, and counts them. Bits that are all true or all false aren't kept. (own)
     pub fn from_bits(bits: BitBuffer) -> Mask
         ensures { result ≡ mask_of bits }
     {
@@ -67,14 +67,14 @@ impl Mask {
         }
     }
 
-    /// Checks whether all bits are true, as those of no rows are.
+    /// Checks whether all bits are true. A mask of no rows has all bits true.
     pub fn all_true(&self) -> bool
         ensures { result ≡ is_all_true (bits_in self.now) }
     {
         self.true_count() == self.len()
     }
 
-    /// Checks whether all bits are false, as those of no rows are.
+    /// Checks whether all bits are false. A mask of no rows has all bits false.
     pub fn all_false(&self) -> bool
         ensures { result ≡ is_all_false (bits_in self.now) }
     {
@@ -92,7 +92,7 @@ impl Mask {
         }
     }
 
-    /// Returns the index of the true bit that has `k` true bits before it, or `None` if there are at most `k`.
+    /// Returns the index of the true bit with `k` true bits before it, or `None` if there are at most `k`.
     pub fn rank(&self, k: usize) -> Option<usize>
         ensures { result ≡ true_place (bits_in self.now) k }
     {
@@ -103,8 +103,8 @@ impl Mask {
         }
     }
 
-    /// Returns the mask of the rows at `range`; bits are shared and not copied. Fails only if they can't be shared once
-    /// more.
+    /// Returns the mask of the rows at `range` without copying its bits: the result shares them. Fails only if they can't be
+    /// shared once more.
     pub fn slice(&self, range: Range<usize>) -> Result<Mask, AllocError>
         requires order { range.start ≤ range.end }
         requires bounds { range.end ≤ length (bits_in self.now) }
@@ -118,8 +118,9 @@ impl Mask {
         }
     }
 
-    /// Returns the mask of the rows that `inner` chooses among those that `self` chooses, or `None` if the length of `inner`
-    /// isn't the number of rows that `self` chooses. Fails only if there is no memory for its bits.
+    /// Returns the mask of the rows that `inner` chooses among those that `self` chooses: bit `k` of `inner` takes the place of
+    /// true bit `k` of `self`. Returns `None` if `inner` doesn't have as many rows as `self` chooses. Fails only if there is
+    /// no memory for the bits.
     pub fn intersect_by_rank(&self, alloc: Global, inner: &Mask) -> Result<Option<Mask>, AllocError>
         ensures { let outer = bits_in self.now in let bits = bits_in inner.now in IfOk result (λ mask. mask ≡ (if length bits == true_count outer then Some (mask_of (combined outer bits)) else None)) }
     {
@@ -173,7 +174,7 @@ impl Mask {
         }
     }
 
-    /// Returns the rows that the mask chooses if they are consecutive and there is one, or `None`. (own)
+    /// Returns the range of the rows that the mask chooses, or `None` if it chooses none or they aren't consecutive. (own)
     pub fn contiguous_range(&self) -> Option<Range<usize>>
         ensures { MatchOption result ((a b : ℕ) → IsRun (bits_in self.now) a b → ⊥) (λ range. IsRun (bits_in self.now) range.start range.end) }
     {

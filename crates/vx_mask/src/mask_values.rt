@@ -9,7 +9,7 @@ use std::fmt;
 use std::marker::Model;
 use std::ops::Range;
 
-/// Bits of which at least one is true and one is false, with the number of true ones.
+/// Bits that are neither all true nor all false, with the number of true ones.
 #[derive(Drop)]
 pub struct MaskValues {
     bits: BitBuffer,
@@ -55,7 +55,7 @@ impl MaskValues {
         self.bits.len()
     }
 
-    /// Returns the number of true bits, which is stored.
+    /// Returns the number of true bits, without counting them.
     #[inline]
     pub fn true_count(&self) -> usize
         ensures count { result ≡ true_count self.now }
@@ -65,7 +65,7 @@ impl MaskValues {
         self.count
     }
 
-    /// Returns the rows of the true bits if no false bit stands between them, or `None`. (own)
+    /// Returns the range of the true bits, or `None` if a false bit stands between two of them. (own)
     pub fn contiguous_range(&self) -> Option<Range<usize>>
         ensures { MatchOption result ((a b : ℕ) → IsRun self.now a b → ⊥) (λ range. IsRun self.now range.start range.end) }
     {

@@ -42,22 +42,18 @@ pub(crate) fn nth_one(word: u64, k: usize) -> usize
     first_one(left)
 }
 
-/// Replaces the true bits of `outer` by the bits of `inner`, in order, and returns the word with the number of them.
+/// Replaces the true bits of `outer` by the bits of `inner`, in order.
 #[inline]
-pub(crate) fn spread(outer: u64, inner: u64) -> (u64, usize)
-    ensures word { low_bits 64 result.0 ≡ combined (low_bits 64 outer) (low_bits 64 inner) }
-    ensures ones { result.1 ≡ true_count (low_bits 64 outer) }
+pub(crate) fn spread(outer: u64, inner: u64) -> u64
+    ensures { low_bits 64 result ≡ combined (low_bits 64 outer) (low_bits 64 inner) }
 {
     let mut left = outer;
     let mut bits = inner;
     let mut word = 0;
-    let mut ones = 0;
     while left != 0 {
-        let rest = left & (left - 1);
-        word += (left - rest) * (bits & 1);
+        word += (bits & 1) << left.trailing_zeros();
         bits >>= 1;
-        left = rest;
-        ones += 1;
+        left &= left - 1;
     }
-    (word, ones)
+    word
 }

@@ -1,14 +1,9 @@
 use Rattle.std.proofs.Common.{◌≡◌, ◌+◌}
-use Rattle.vx_mask.specs.Places.{true_count}
-use Rattle.vx_mask.specs.Words.{low_bits}
 use Rattle.vx_mask.proofs.Spread.{spread_bits}
 use Rattle.vx_mask.proofs.word.spread.Given as goal
 
 abbrev pub invariant-loop-left : goal.invariant-loop-left
-invariant-loop-left l = record {
-  word : l.word + spread_bits 64 l.left l.bits ≡ spread_bits 64 l.outer l.inner;
-  ones : l.ones + true_count (low_bits 64 l.left) ≡ true_count (low_bits 64 l.outer);
-}
+invariant-loop-left l = l.word + spread_bits 64 l.left l.bits ≡ spread_bits 64 l.outer l.inner
 
 abbrev pub decreases-loop-left : goal.decreases-loop-left
 decreases-loop-left l = l.left

@@ -15,8 +15,8 @@ found : (c : goal.After-first_one) → true_place c.args.self.now 0 ≡ Some (64
 found c =
     let bits = c.args.self.now in
     let from = 64 * c.loop-k.k in
-    let word = c.word-word.result in
-    place_in_part bits from word 0 0 c.first_one.result (part_within bits from word c.word-word.ensures (omega arith)) (omega arith) (omega arith)
+    let word = c.full_word-word.result in
+    place_in_part bits from word 0 0 c.first_one.result (part_within bits from word c.full_word-word.ensures (omega arith)) (omega arith) (omega arith)
     (omega (arith, cleared_count 64 word (omega arith) (omega arith))) c.first_one.ensures
 
 found_last : (c : goal.After-first_one-then-last-ne0)
@@ -39,8 +39,8 @@ returns-then-word-ne0 c = sym (found c)
 pub loop-k-preserved : goal.loop-k-preserved
 loop-k-preserved c =
     let k = c.loop-k.k in
-    let none : true_count (low_bits 64 c.word-word.result) ≡ 0 = ap (λ w. true_count (low_bits 64 w)) c.if-word-ne0.false ∙ low_bits-zero 64 in
-    omega (arith, none, count_more c.args.self.now (64 * k) (64 * (k + 1)) c.word-word.result c.word-word.ensures (omega arith) (omega arith))
+    let none : true_count (low_bits 64 c.full_word-word.result) ≡ 0 = ap (λ w. true_count (low_bits 64 w)) c.if-word-ne0.false ∙ low_bits-zero 64 in
+    omega (arith, none, count_more c.args.self.now (64 * k) (64 * (k + 1)) c.full_word-word.result c.full_word-word.ensures (omega arith) (omega arith))
 
 pub overflow_add-result-then-last-ne0 : goal.overflow_add-result-then-last-ne0
 overflow_add-result-then-last-ne0 c = record { fits = omega (arith, (place_is c.args.self.now 0 _ (found_last c)).0) }

@@ -32,11 +32,11 @@ loop-word-preserved c =
     let none : true_count (low_bits 64 c.loop-word.word) ≡ 0 = ap (λ w. true_count (low_bits 64 w)) c.loop-word-test.true ∙ low_bits-zero 64 in
     let within : 64 * c.loop-word.k ≤ length bits = c.loop-word.invariant.within in
     let counted = c.loop-word.invariant.counted in
-    let more = count_more bits (64 * k) (64 * c.loop-word.k) c.word-word.result c.word-word.ensures (omega arith) within in
+    let more = count_more bits (64 * k) (64 * c.loop-word.k) c.full_word-word.result c.full_word-word.ensures (omega arith) within in
     record {
       fits = omega arith;
       within = omega arith;
-      part = part_within bits (64 * k) c.word-word.result c.word-word.ensures (omega arith);
+      part = part_within bits (64 * k) c.full_word-word.result c.full_word-word.ensures (omega arith);
       counted = omega (arith, none, more, counted);
     }
 

@@ -13,8 +13,8 @@ found : (c : goal.After-nth_one) → true_place c.args.self.now c.args.k ≡ Som
 found c =
     let bits = c.args.self.now in
     let from = 64 * c.loop-place.place in
-    place_in_part bits from c.word-word.result c.args.k c.loop-place.left c.nth_one.result
-    (part_within bits from c.word-word.result c.word-word.ensures (omega arith)) (omega arith) c.loop-place.invariant (omega arith) c.nth_one.ensures
+    place_in_part bits from c.full_word-word.result c.args.k c.loop-place.left c.nth_one.result
+    (part_within bits from c.full_word-word.result c.full_word-word.ensures (omega arith)) (omega arith) c.loop-place.invariant (omega arith) c.nth_one.ensures
 
 found_last : (c : goal.After-nth_one-then-left-ones_in)
     → true_place c.args.self.now c.args.k ≡ Some (64 * (c.len-full.result / 64) + c.nth_one-then-left-ones_in.result)
@@ -35,7 +35,7 @@ returns-then-left-ones c = sym (found c)
 pub loop-place-preserved : goal.loop-place-preserved
 loop-place-preserved c =
     let place = c.loop-place.place in
-    omega (arith, count_more c.args.self.now (64 * place) (64 * (place + 1)) c.word-word.result c.word-word.ensures (omega arith) (omega arith))
+    omega (arith, count_more c.args.self.now (64 * place) (64 * (place + 1)) c.full_word-word.result c.full_word-word.ensures (omega arith) (omega arith))
 
 pub overflow_add-result-then-left-ones_in : goal.overflow_add-result-then-left-ones_in
 overflow_add-result-then-left-ones_in c = record { fits = omega (arith, (place_is c.args.self.now c.args.k _ (found_last c)).0) }

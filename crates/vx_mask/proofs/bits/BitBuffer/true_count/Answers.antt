@@ -10,12 +10,12 @@ pub overflow_add-count : goal.overflow_add-count
 overflow_add-count c =
     let bits = c.args.self.now in
     let next = 64 * (c.loop-k.k + 1) in
-    let more = count_more bits (64 * c.loop-k.k) next c.word.result c.word.ensures (omega arith) (omega arith) in
+    let more = count_more bits (64 * c.loop-k.k) next c.full_word.result c.full_word.ensures (omega arith) (omega arith) in
     record { fits = omega (arith, more, true_count-take-le next bits, true_count-le-length bits) }
 
 pub loop-k-preserved : goal.loop-k-preserved
 loop-k-preserved c =
-    let more = count_more c.args.self.now (64 * c.loop-k.k) (64 * (c.loop-k.k + 1)) c.word.result c.word.ensures (omega arith) (omega arith) in
+    let more = count_more c.args.self.now (64 * c.loop-k.k) (64 * (c.loop-k.k + 1)) c.full_word.result c.full_word.ensures (omega arith) (omega arith) in
     omega (arith, more)
 
 pub overflow_add-result : goal.overflow_add-result

@@ -1,7 +1,7 @@
 use Rattle.std.proofs.Common.{◌≡◌, ◌≤◌, ◌+◌, ◌*◌, take, vec_len, vec_capacity}
 use Rattle.vx_mask.specs.Bits.{bits_of}
 use Rattle.vx_mask.specs.Places.{true_count, combined}
-use Rattle.vx_mask.proofs.bits.BitBuffer.intersect_by_rank.Given as goal
+use Rattle.vx_mask.proofs.bit_slice.BitSlice.combined.Given as goal
 
 abbrev pub invariant-loop-k : goal.invariant-loop-k
 invariant-loop-k l = record {

@@ -5,7 +5,7 @@ use Rattle.vx_mask.proofs.PlacesLemmas.{true_count-trues}
 use Rattle.vx_mask.proofs.WordBits.{low_bits-zero, cleared_count}
 use Rattle.vx_mask.proofs.Parts.{low_bits-trues}
 use Rattle.vx_mask.proofs.CombinedWords.{over_none, over_word, over_all}
-use Rattle.vx_mask.proofs.bits.BitBuffer.spread_over.Goals as goal
+use Rattle.vx_mask.proofs.bit_slice.BitSlice.spread_over.Goals as goal
 
 pub returns-then-outer-eq0 : goal.returns-then-outer-eq0
 returns-then-outer-eq0 c =
@@ -33,4 +33,4 @@ returns-then-outer-eq18446744073709551615-clause-ones c =
 
 pub returns-else-outer-eq18446744073709551615-clause-word : goal.returns-else-outer-eq18446744073709551615-clause-word
 returns-else-outer-eq18446744073709551615-clause-word c =
-    c.spread.ensures.word ∙ over_word c.args.self.now c.args.index c.args.outer c.word_from-word.result c.word_from-word.ensures c.requires
+    c.spread.ensures ∙ over_word c.args.self.now c.args.index c.args.outer c.word_from-word.result c.word_from-word.ensures c.requires

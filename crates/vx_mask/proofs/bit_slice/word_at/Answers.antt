@@ -1,8 +1,8 @@
-use Rattle.std.proofs.Common.{◌≡◌, ◌+◌, slice_index, arith, ap, ◌∙◌, refl}
 use Rattle.std.specs.Prelude.{◌==◌}
 use Rattle.std.specs.Option.{unwrap_or}
+use Rattle.std.proofs.Common.{◌≡◌, ◌+◌, slice_index, arith, ap, ◌∙◌, refl}
 use Rattle.vx_mask.proofs.Words.{bit_from}
-use Rattle.vx_mask.proofs.bits.word_at.Goals as goal
+use Rattle.vx_mask.proofs.bit_slice.word_at.Goals as goal
 
 pub returns-else-by-eq0 : goal.returns-else-by-eq0
 returns-else-by-eq0 c i h =

@@ -6,7 +6,7 @@ use Rattle.vx_mask.proofs.PlacesLemmas.{true_count-nil, true_count-le-length}
 use Rattle.vx_mask.proofs.Parts.{next_word}
 use Rattle.vx_mask.proofs.PartPlaces.{count_more, count_last, true_count-take-le}
 use Rattle.vx_mask.proofs.CombinedWords.{combine_none, combine_more, combine_end}
-use Rattle.vx_mask.proofs.bits.BitBuffer.intersect_by_rank.Goals as goal
+use Rattle.vx_mask.proofs.bit_slice.BitSlice.combined.Goals as goal
 
 pub loop-k-init : goal.loop-k-init
 loop-k-init c = record {
@@ -20,14 +20,14 @@ pub spread_over-word-requires : goal.spread_over-word-requires
 spread_over-word-requires c =
     let bits = c.args.self.now in
     let next = 64 * (c.loop-k.k + 1) in
-    let more = count_more bits (64 * c.loop-k.k) next c.word.result c.word.ensures (omega arith) (omega arith) in
+    let more = count_more bits (64 * c.loop-k.k) next c.full_word.result c.full_word.ensures (omega arith) (omega arith) in
     omega (arith, more, true_count-take-le next bits)
 
 pub overflow_add-used : goal.overflow_add-used
 overflow_add-used c =
     let bits = c.args.self.now in
     let next = 64 * (c.loop-k.k + 1) in
-    let more = count_more bits (64 * c.loop-k.k) next c.word.result c.word.ensures (omega arith) (omega arith) in
+    let more = count_more bits (64 * c.loop-k.k) next c.full_word.result c.full_word.ensures (omega arith) (omega arith) in
     record { fits = omega (arith, more, true_count-take-le next bits, true_count-le-length bits) }
 
 pub loop-k-preserved : goal.loop-k-preserved
@@ -35,16 +35,16 @@ loop-k-preserved c =
     let bits = c.args.self.now in
     let inner = c.args.inner.now in
     let from = 64 * c.loop-k.k in
-    let more = count_more bits from (64 * (c.loop-k.k + 1)) c.word.result c.word.ensures (omega arith) (omega arith) in
+    let more = count_more bits from (64 * (c.loop-k.k + 1)) c.full_word.result c.full_word.ensures (omega arith) (omega arith) in
     let next : from + 64 ≡ 64 * (c.loop-k.k + 1) = omega arith in
     record {
       count = omega arith;
       room = omega arith;
       used = omega (arith, more);
       done = ap bits_of c.push_reserved.ensures.items
-          ∙ combine_more c.loop-k.words.items (take from bits) inner c.word.result c.spread_over-word.result.0 c.loop-k.used
+          ∙ combine_more c.loop-k.words.items (take from bits) inner c.full_word.result c.spread_over-word.result.0 c.loop-k.used
           c.loop-k.invariant.done c.loop-k.invariant.used c.spread_over-word.ensures.word
-          ∙ ap (λ l. combined l inner) (sym (next_word bits from c.word.result c.word.ensures (omega arith)) ∙ ap (λ n. take n bits) next);
+          ∙ ap (λ l. combined l inner) (sym (next_word bits from c.full_word.result c.full_word.ensures (omega arith)) ∙ ap (λ n. take n bits) next);
     }
 
 pub spread_over-word-requires-2 : goal.spread_over-word-requires-2
