@@ -27,7 +27,7 @@ count_no (false ∷ bits) zero set = refl
 count_no (true ∷ bits) (suc i) set = ap suc (count_no bits i set)
 count_no (false ∷ bits) (suc i) set = count_no bits i set
 
--- n more bits have up to n more true ones
+-- the count grows by no more than the bits
 count_between : (bits : List Bool) (i j : ℕ) → i ≤ j
     → (true_count (take i bits) ≤ true_count (take j bits)) × (true_count (take j bits) ≤ true_count (take i bits) + (j - i))
 count_between bits i j order =
@@ -75,7 +75,7 @@ ordered bits a z e = elim (cases_lt z a) [
 pub ends_order : (bits : List Bool) (a z : ℕ) → AreEnds bits a z → (a ≤ z) × (z < length bits)
 ends_order bits a z found = let e = ends bits a z found in (ordered bits a z e, e.inside)
 
--- as many true bits as places between them are a run
+-- if all places from a to z count, they are a run
 pub run_from_count : (bits : List Bool) (a z : ℕ) → AreEnds bits a z → z - a < true_count bits → IsRun bits a (z + 1)
 run_from_count bits a z found many =
     let e = ends bits a z found in
@@ -100,7 +100,7 @@ run_from_count bits a z found many =
       ),
     )
 
--- and fewer are none
+-- if fewer count, there is no run
 pub no_run_from_count : (bits : List Bool) (a z : ℕ) → AreEnds bits a z → true_count bits ≤ z - a → (start end : ℕ) → IsRun bits start end → ⊥
 no_run_from_count bits a z found few start end run =
     let e = ends bits a z found in
@@ -111,7 +111,7 @@ no_run_from_count bits a z found few start end run =
     let all = count_run bits a (suc z - a) (λ j lower upper. (run.1 j).1 (omega arith, omega arith)) in
     omega (arith, all, ap (λ n. true_count (take n bits)) size)
 
--- no bits that are true are no run
+-- without a true bit there is no run
 pub no_run_of_none : (bits : List Bool) → true_count bits ≡ 0 → (start end : ℕ) → IsRun bits start end → ⊥
 no_run_of_none bits none start end run =
     let set = (run.1 start).1 (omega arith, run.0) in

@@ -115,7 +115,7 @@ low_bits-twice n m =
     let half : 2 * m / 2 ≡ m = omega arith in
     ap₂ (λ d h. (d == 1) ∷ low_bits n h) digit half
 
--- the k-th true bit is the next one's predecessor once the lowest is gone
+-- without the lowest true bit, the k-th one is the next of before
 pub cleared_place : (n w k : ℕ) → 0 < w → true_place (low_bits n (bit_and w (w - 1))) k ≡ true_place (low_bits n w) (suc k)
 unfolding low_bits true_place
 cleared_place zero w k some = refl
