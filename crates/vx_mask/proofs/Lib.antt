@@ -1,6 +1,14 @@
 pub mod Lists
 pub mod BitsLemmas
+pub mod PlacesLemmas
 pub mod Words
+pub mod WordBits
+pub mod Parts
+pub mod PartPlaces
+pub mod Runs
+pub mod MasksLemmas
+pub mod CombinedWords
+pub mod Spread
 pub mod Pushes
 pub mod Operations
 pub mod OperandsLemmas

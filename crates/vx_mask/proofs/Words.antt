@@ -1,6 +1,6 @@
 -- The 64 bits from a place on, of the two words that hold them.
 use Rattle.std.specs.Prelude.{◌==◌, bit_or, slice_index}
-use Rattle.std.proofs.Common.{◌≡◌, ◌<◌, ◌≤◌, ◌+◌, ◌-◌, ◌*◌, ◌/◌, ◌%◌, ◌^◌, ℕ, false, List, length, get_or, take, drop}
+use Rattle.std.proofs.Common.{◌≡◌, ◌<◌, ◌≤◌, ◌+◌, ◌-◌, ◌*◌, ◌/◌, ◌%◌, ◌^◌, ℕ, Bool, false, List, length, get_or, take, drop}
 use Rattle.std.proofs.Common.{arith, sym, ◌∙◌, ap, refl, inl, inr, mod-lt, add-zero}
 use Rattle.std.specs.Int.{bit_at}
 use Rattle.std.proofs.Math.Nat.{div-div-eq-div-mul}
@@ -72,25 +72,22 @@ held_by : (words : List ℕ) (p place at word : ℕ) → p / 64 ≡ place → p 
     → (bit_at word at == 1) ≡ bit_of words p
 held_by words p place at word p_place p_at is = rw (p_place, p_at, is) refl
 
--- bit i from place `from` of the words on, by the two words that may hold it
-bit_from : (words : List ℕ) (from i low high : ℕ) → low ≡ slice_index words (from / 64) → high ≡ slice_index words (from / 64 + 1) → i < 64
-    → (bit_of_both low high (from % 64 + i) == 1) ≡ bit_of words (from + i)
-bit_from words from i low high low_is high_is h =
-    elim (cases_lt (from % 64 + i) 64) [
+-- bit i from place `by` of a word on, by that word and the next one
+pub bit_from : (words : List ℕ) (place by i low high : ℕ) → by < 64 → low ≡ slice_index words place → high ≡ slice_index words (place + 1) → i < 64
+    → (bit_of_both low high (by + i) == 1) ≡ bit_of words (64 * place + by + i)
+bit_from words place by i low high within low_is high_is h =
+    elim (cases_lt (by + i) 64) [
       | inl lt ↦
-          ap (λ x. x == 1) (of_low low high (from % 64 + i) lt)
-          ∙ held_by words (from + i) (from / 64) (from % 64 + i) low (omega arith) (omega arith) low_is
+          ap (λ x. x == 1) (of_low low high (by + i) lt)
+          ∙ held_by words (64 * place + by + i) place (by + i) low (omega arith) (omega arith) low_is
       | inr ge ↦
-          ap (λ x. x == 1) (of_high low high (from % 64 + i) ge)
-          ∙ held_by words (from + i) (from / 64 + 1) (from % 64 + i - 64) high (omega arith) (omega arith) high_is
+          ap (λ x. x == 1) (of_high low high (by + i) ge)
+          ∙ held_by words (64 * place + by + i) (place + 1) (by + i - 64) high (omega arith) (omega arith) high_is
     ]
 
--- bit i of the word that is joined for the 64 rows from 64 * k on
-pub word_row : (words : List ℕ) (s n k low high joined : ℕ) → s + n ≤ 64 * length words
-    → low ≡ slice_index words ((s + 64 * k) / 64) → high ≡ slice_index words ((s + 64 * k) / 64 + 1)
-    → ((i : ℕ) → i < 64 → bit_at joined i ≡ bit_of_both low high ((s + 64 * k) % 64 + i))
-    → (i : ℕ) → i < 64 → 64 * k + i < n → (bit_at joined i == 1) ≡ get_or (take n (drop s (bits_of words))) (64 * k + i) false
-word_row words s n k low high joined bounds low_is high_is bits i h within =
-    let place : s + 64 * k + i ≡ s + (64 * k + i) = omega arith in
-    ap (λ x. x == 1) (bits i h) ∙ bit_from words (s + 64 * k) i low high low_is high_is h ∙ ap (bit_of words) place
-    ∙ sym (bit_of_part words s n (64 * k + i) within bounds)
+-- bit i of a word that is read from the words is row `index + i` of the part that begins at s
+pub row_of_part : (words : List ℕ) (s n place by index i : ℕ) (bit : Bool) → s + n ≤ 64 * length words → 64 * place + by ≡ s + index
+    → index + i < n → bit ≡ bit_of words (64 * place + by + i) → bit ≡ get_or (take n (drop s (bits_of words))) (index + i) false
+row_of_part words s n place by index i bit bounds at within is =
+    let from : 64 * place + by + i ≡ s + (index + i) = omega arith in
+    is ∙ ap (bit_of words) from ∙ sym (bit_of_part words s n (index + i) within bounds)

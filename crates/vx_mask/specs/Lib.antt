@@ -1,3 +1,6 @@
 pub mod Bits
 pub mod Logic
+pub mod Masks
 pub mod Operands
+pub mod Places
+pub mod Words

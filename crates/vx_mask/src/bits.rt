@@ -1,11 +1,13 @@
 //! Bit buffers: ranges of bits in shared words.
 
-ghost use Rattle.std.specs.Prelude.{◌≡◌, ◌+◌, ◌*◌, ◌<◌, ◌≤◌, ◌↔◌, ◌==◌, ℕ, if◌then◌else◌, IsTrue, IfOk, Some};
+ghost use Rattle.std.specs.Prelude.{◌≡◌, ◌+◌, ◌-◌, ◌*◌, ◌/◌, ◌%◌, ◌<◌, ◌≤◌, ◌↔◌, ◌==◌, ◌++◌, ℕ, false, if◌then◌else◌, IsTrue, IfOk, Some};
 ghost use Rattle.std.specs.Prelude.{length, replicate, slice_range, slice_get, take, vec_len};
 ghost use Rattle.std.specs.Int.{bit_at};
-ghost use Rattle.vx_mask.specs.Bits.{bits_of, bit_of_both};
+ghost use Rattle.vx_mask.specs.Bits.{bit_of, bits_of, bit_of_both};
 ghost use Rattle.vx_mask.specs.Logic.{bit_row};
+ghost use Rattle.vx_mask.specs.Words.{low_bits};
 
+use crate::bit_slice::BitSlice;
 use std::alloc::{AllocError, Global};
 use std::fmt;
 use std::marker::Model;
@@ -49,20 +51,6 @@ pub(crate) fn filled_word(bit: bool) -> u64
     ensures { result ≡ (if bit then u64.MAX else 0) }
 {
     if bit { u64::MAX } else { 0 }
-}
-
-/// Returns the 64 bits from bit `by` of `low` on, continued in `high`.
-#[inline]
-#[tactic(auto, using(crate::proofs::Words::joined_bit))]
-fn joined(low: u64, high: u64, by: usize) -> u64
-    requires { by < 64 }
-    ensures { (i : ℕ) → i < 64 → bit_at result i ≡ bit_of_both low high (by + i) }
-{
-    if by == 0 {
-        low
-    } else {
-        (low >> by) | (high << (64 - by))
-    }
 }
 
 #[tactic(auto, using(crate::proofs::BitsLemmas::length_part))]
@@ -138,11 +126,32 @@ impl BitBuffer {
         requires { 64 * k < length self.now }
         ensures { (i : ℕ) → i < 64 → 64 * k + i < length self.now → (bit_at result i == 1) ≡ bit_row self.now (64 * k + i) }
     {
-        let from = self.start + 64 * k;
-        let words = self.words.as_ref().as_slice();
-        let place = from / 64;
-        let high = words.get(place + 1).copied().unwrap_or(0);
-        joined(words[place], high, from % 64)
+        self.as_bits().word(k)
+    }
+
+    /// Returns the 64 bits from index `64 * k` on, with the first one in the lowest place. All are within the range.
+    #[inline]
+    pub(crate) fn full_word(&self, k: usize) -> u64
+        requires { 64 * k + 64 ≤ length self.now }
+        ensures { (i : ℕ) → i < 64 → 64 * k + i < length self.now → (bit_at result i == 1) ≡ bit_row self.now (64 * k + i) }
+    {
+        self.as_bits().full_word(k)
+    }
+
+    /// Returns the bits from the last multiple of 64 on, with the first one in the lowest place, and 0 past the end.
+    #[inline]
+    pub(crate) fn last_word(&self) -> u64
+        ensures { take (64 * (length self.now / 64)) self.now ++ low_bits 64 result ≡ self.now ++ replicate (64 - length self.now % 64) false }
+    {
+        self.as_bits().last_word()
+    }
+
+    /// Borrows the bits.
+    #[inline]
+    pub(crate) fn as_bits(&self) -> BitSlice<'_>
+        ensures { result ≡ self.now }
+    {
+        BitSlice::new(self.words.as_ref(), self.start, self.len)
     }
 
     /// Returns the bits at `range` without copying them: the result shares the storage. Fails only if the storage
