@@ -9,7 +9,6 @@ use base.Stored.{Gv, gnil, gnum, gcons}
 -- ---- a type by its constructors, one after the other
 
 infixr 30 ◌or◌
-
 -- some of A's constructors: what they hold, its code, and what they make of it
 pub record Part (A : Type 0) : Type 1 where
   pub holds : Type 0

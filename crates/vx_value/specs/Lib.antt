@@ -1,5 +1,6 @@
 pub mod Codes
 pub mod Types
+pub mod Nullabilities
 pub mod Values
 pub mod Cell
 pub mod View
