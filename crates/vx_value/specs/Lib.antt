@@ -1,6 +1,7 @@
 pub mod Codes
 pub mod Types
 pub mod Nullabilities
+pub mod Decimals
 pub mod Values
 pub mod Cell
 pub mod View

@@ -2,6 +2,7 @@
 #![tactic(auto)]
 
 mod compare;
+mod decimal;
 mod dtype;
 mod error;
 mod fitting;
@@ -9,6 +10,7 @@ mod id;
 mod scalar;
 mod text;
 
+pub use decimal::{DecimalDType, DecimalType};
 pub use dtype::{DType, Nullability, PType};
 pub use error::{ArgKind, VortexError, VortexResult};
 pub use fitting::fits;
