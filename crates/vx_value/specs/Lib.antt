@@ -6,6 +6,7 @@ pub mod Values
 pub mod Cell
 pub mod View
 pub mod IsOf
+pub mod Casts
 pub mod Typed
 pub mod Defaults
 pub mod Parts
