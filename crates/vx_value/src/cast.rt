@@ -22,7 +22,9 @@ impl Scalar {
         ensures err { IfErr result
             (λ e. (e ≡ VortexError.OutOfMemory)
             ⊎ (e ≡ VortexError.InvalidArgument ArgKind.NoRow)
-            ⊎ ((e ≡ VortexError.Fault) × (cast_value self.now.of_type (type_of dtype.now) self.now.value ≡ cell.fault))) }
+            ⊎ ((e ≡ VortexError.Fault)
+            × (has_cast self.now.of_type (type_of dtype.now) ≡ true)
+            × (cast_value self.now.of_type (type_of dtype.now) self.now.value ≡ cell.fault))) }
     {
         if !has_cast(self.dtype(), dtype) {
             return Err(VortexError::InvalidArgument(ArgKind::NoRow));
