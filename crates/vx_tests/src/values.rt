@@ -2,8 +2,8 @@ use std::alloc::AllocError;
 use std::cmp::Ordering;
 use std::hash::{DefaultHasher, Hash, Hasher};
 use vx_value::{
-    ArgKind, DType, Id, Nullability, PType, Scalar, ScalarKind, ScalarValue, VortexError,
-    VortexResult, fits, type_text,
+    ArgKind, DType, DecimalDType, DecimalType, Id, Nullability, PType, Scalar, ScalarKind,
+    ScalarValue, VortexError, VortexResult, fits, type_text,
 };
 
 const BOOL: DType = DType::Bool(Nullability::NonNullable);
@@ -118,6 +118,54 @@ const ORDERS: [(
     (U8, ONE, I8, ONE, None),
     (I32, ONE, NULLABLE_I32, ONE, None),
     (NULLABLE_BOOL, None, NULLABLE_I32, None, None),
+];
+
+const NO_ROW: VortexError = VortexError::InvalidArgument(ArgKind::NoRow);
+
+/// A type and a value, the type that it is cast to, and what the cast gives.
+const CASTS: [(
+    DType,
+    Option<ScalarValue>,
+    DType,
+    VortexResult<Option<ScalarValue>>,
+); 10] = [
+    (
+        I32,
+        Some(ScalarValue::Integer(255)),
+        U8,
+        Ok(Some(ScalarValue::Integer(255))),
+    ),
+    (
+        I32,
+        Some(ScalarValue::Integer(256)),
+        U8,
+        Err(VortexError::Fault),
+    ),
+    (I32, MINUS_ONE, U8, Err(VortexError::Fault)),
+    (I32, MINUS_ONE, NULLABLE_I32, Ok(MINUS_ONE)),
+    (NULLABLE_I32, ONE, I32, Ok(ONE)),
+    (NULLABLE_I32, None, NULLABLE_I32, Ok(None)),
+    (NULLABLE_I32, None, U8, Err(VortexError::Fault)),
+    (NULLABLE_BOOL, None, BOOL, Err(VortexError::Fault)),
+    (NULLABLE_BOOL, None, NULLABLE_I32, Err(NO_ROW)),
+    (BOOL, TRUE, U8, Err(NO_ROW)),
+];
+
+/// A precision, a scale, and the narrowest integers that hold the decimals, or `None` if there is no such type.
+const DECIMALS: [(u8, u8, Option<DecimalType>); 13] = [
+    (1, 0, Some(DecimalType::I8)),
+    (2, 2, Some(DecimalType::I8)),
+    (3, 0, Some(DecimalType::I16)),
+    (4, 1, Some(DecimalType::I16)),
+    (5, 5, Some(DecimalType::I32)),
+    (9, 0, Some(DecimalType::I32)),
+    (10, 2, Some(DecimalType::I64)),
+    (18, 18, Some(DecimalType::I64)),
+    (19, 0, Some(DecimalType::I128)),
+    (38, 38, Some(DecimalType::I128)),
+    (0, 0, None),
+    (39, 0, None),
+    (2, 3, None),
 ];
 
 const ERROR_TEXTS: [(VortexError, &str); 16] = [
@@ -241,6 +289,37 @@ fn has_order(
     }
 }
 
+/// Checks what a cast gives, and that a cast to the scalar's own type gives the same scalar.
+fn is_cast(
+    row: &(
+        DType,
+        Option<ScalarValue>,
+        DType,
+        VortexResult<Option<ScalarValue>>,
+    ),
+) -> bool {
+    let Ok(scalar) = scalar(&row.0, row.1) else {
+        return false;
+    };
+    match (scalar.cast(&row.0), scalar.cast(&row.2)) {
+        (Ok(same), Ok(cast)) => {
+            same == scalar && *cast.dtype() == row.2 && row.3 == Ok(cast.value())
+        }
+        (Ok(same), Err(e)) => same == scalar && row.3 == Err(e),
+        _ => false,
+    }
+}
+
+fn is_decimal(row: &(u8, u8, Option<DecimalType>)) -> bool {
+    match DecimalDType::try_new(row.0, row.1) {
+        Ok(decimal) => {
+            (decimal.precision(), decimal.scale()) == (row.0, row.1)
+                && row.2 == Some(DecimalType::smallest_decimal_value_type(&decimal))
+        }
+        Err(e) => row.2 == None && e == VortexError::InvalidArgument(ArgKind::BadType),
+    }
+}
+
 fn is_id(text: &str, id: Option<Id>) -> bool {
     Id::parse(text) == id
         && match id {
@@ -285,6 +364,30 @@ fn scalars_in_order(rt: HostRuntime) {
     for row in &ORDERS {
         assert!(rt; has_order(row));
     }
+}
+
+#[test]
+fn casts(rt: HostRuntime) {
+    for row in &CASTS {
+        assert!(rt; is_cast(row));
+    }
+}
+
+#[test]
+fn decimals(rt: HostRuntime) {
+    for row in &DECIMALS {
+        assert!(rt; is_decimal(row));
+    }
+}
+
+#[test]
+fn nullabilities(rt: HostRuntime) {
+    assert!(rt; I32.as_nullable() == Ok(NULLABLE_I32) && NULLABLE_I32.as_nonnullable() == Ok(I32));
+    assert!(rt; BOOL.union_nullability(Nullability::NonNullable) == Ok(BOOL));
+    assert!(rt; BOOL.union_nullability(Nullability::Nullable) == Ok(NULLABLE_BOOL));
+    assert!(rt; NULLABLE_BOOL.union_nullability(Nullability::NonNullable) == Ok(NULLABLE_BOOL));
+    assert!(rt; I32.eq_ignore_nullability(&NULLABLE_I32) && !I32.eq_ignore_nullability(&U8));
+    assert!(rt; *Scalar::default_value(I32).into_nullable().dtype() == NULLABLE_I32);
 }
 
 #[test]

@@ -1,3 +1,6 @@
 pub mod OrderLemmas
 pub mod DefaultsLemmas
 pub mod StorageLemmas
+pub mod DecimalsLemmas
+pub mod NullabilitiesLemmas
+pub mod CastsLemmas

@@ -1,10 +1,13 @@
 pub mod Codes
 pub mod Types
+pub mod Nullabilities
+pub mod Decimals
 pub mod Values
 pub mod Cell
 pub mod View
 pub mod Storage
 pub mod IsOf
+pub mod Casts
 pub mod Typed
 pub mod Defaults
 pub mod Parts

@@ -1,9 +1,12 @@
 //! Logical types, as in the original's `dtype` module.
 
-ghost use Rattle.std.specs.Prelude.{◌≡◌, ◌↔◌, IsTrue};
+ghost use Rattle.std.specs.Prelude.{◌≡◌, ◌↔◌, IsTrue, IfOk};
 ghost use Rattle.vx_value.specs.View.{type_of};
 ghost use Rattle.vx_value.specs.Storage.{storage_of};
 ghost use Rattle.vx_value.specs.Types.{nullability_of, is_nullable};
+ghost use Rattle.vx_value.specs.Nullabilities.{with_nullability, union, same_but_nullability};
+
+use std::alloc::AllocError;
 
 /// The nullability of a type: whether null is one of its values.
 #[derive(Clone, Copy, Debug, PartialEq, Eq, Hash)]
@@ -20,6 +23,16 @@ impl Nullability {
         match self {
             Nullability::NonNullable => false,
             Nullability::Nullable => true,
+        }
+    }
+
+    /// Returns `Nullable` if one of the two is.
+    fn union(self, other: Nullability) -> Nullability
+        ensures { result ≡ union self other }
+    {
+        match self {
+            Nullability::NonNullable => other,
+            Nullability::Nullable => Nullability::Nullable,
         }
     }
 }
@@ -79,5 +92,57 @@ impl DType {
         ensures { result ≡ is_nullable (nullability_of (type_of self.now)) }
     {
         self.nullability().is_nullable()
+    }
+
+    /// Returns the nullable type that is otherwise the same. Fails only if there is no memory for it.
+    pub fn as_nullable(&self) -> Result<DType, AllocError>
+        ensures { IfOk result (λ t. type_of t ≡ with_nullability Nullability.Nullable (type_of self.now)) }
+    {
+        self.with_nullability(Nullability::Nullable)
+    }
+
+    /// Returns the non-nullable type that is otherwise the same. Fails only if there is no memory for it.
+    pub fn as_nonnullable(&self) -> Result<DType, AllocError>
+        ensures { IfOk result (λ t. type_of t ≡ with_nullability Nullability.NonNullable (type_of self.now)) }
+    {
+        self.with_nullability(Nullability::NonNullable)
+    }
+
+    /// Returns the type with nullability `nullability`. Fails only if there is no memory for it.
+    pub fn with_nullability(&self, nullability: Nullability) -> Result<DType, AllocError>
+        ensures { IfOk result (λ t. type_of t ≡ with_nullability nullability (type_of self.now)) }
+    {
+        Ok(self.clone()?.into_nullability(nullability))
+    }
+
+    /// Returns the type, nullable if it is or `other` is. Fails only if there is no memory for it.
+    pub fn union_nullability(&self, other: Nullability) -> Result<DType, AllocError>
+        ensures { IfOk result (λ t. type_of t ≡ with_nullability (union (nullability_of (type_of self.now)) other) (type_of self.now)) }
+    {
+        self.with_nullability(self.nullability().union(other))
+    }
+
+    /// Checks whether two types are the same apart from their own nullability. That of nested types counts.
+    #[tactic(auto, using(crate::specs::Nullabilities::same_but_nullability_Decides))]
+    pub fn eq_ignore_nullability(&self, other: &DType) -> bool
+        ensures value { result ≡ same_but_nullability (type_of self.now) (type_of other.now) }
+        ensures same { IsTrue result
+            ↔ (with_nullability Nullability.NonNullable (type_of self.now) ≡ with_nullability Nullability.NonNullable (type_of other.now)) }
+    {
+        match (self, other) {
+            (DType::Bool(_), DType::Bool(_)) => true,
+            (DType::Primitive(left, _), DType::Primitive(right, _)) => left == right,
+            _ => false,
+        }
+    }
+
+    /// Returns the type with nullability `nullability`, without allocating.
+    pub(crate) fn into_nullability(self, nullability: Nullability) -> DType
+        ensures { type_of result ≡ with_nullability nullability (type_of self) }
+    {
+        match self {
+            DType::Bool(_) => DType::Bool(nullability),
+            DType::Primitive(ptype, _) => DType::Primitive(ptype, nullability),
+        }
     }
 }

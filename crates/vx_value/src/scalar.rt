@@ -4,6 +4,7 @@ ghost use Rattle.std.specs.Prelude.{◌≡◌, ◌↔◌, IfOk, IfErr, IsErrOf, 
 ghost use Rattle.vx_value.specs.View.{type_of, value_of, cell_of};
 ghost use Rattle.vx_value.specs.Values.{Value, null};
 ghost use Rattle.vx_value.specs.Types.{nullability_of, is_nullable};
+ghost use Rattle.vx_value.specs.Nullabilities.{with_nullability};
 ghost use Rattle.vx_value.specs.Defaults.{zero_of, default_of};
 ghost use Rattle.vx_value.specs.IsOf.{is_of, in_range, is_null};
 ghost use Rattle.vx_value.specs.Parts.{boolean_in, integer_in};
@@ -200,10 +201,30 @@ impl Scalar {
     {
         self.value.is_none()
     }
+
+    /// Returns the same value of the nullable type, without allocating.
+    #[tactic(auto, using(crate::proofs::NullabilitiesLemmas::nullable_typed))]
+    pub fn into_nullable(self) -> Scalar
+        ensures { result ≡ record { of_type = with_nullability Nullability.Nullable self.of_type; value = self.value } }
+    {
+        let Scalar { dtype, value } = self;
+        Scalar {
+            dtype: dtype.into_nullability(Nullability::Nullable),
+            value,
+        }
+    }
+
+    /// Makes a scalar of type `dtype` from `value`, which must be of that type. `None` is null.
+    pub(crate) fn new(dtype: DType, value: Option<ScalarValue>) -> Scalar
+        requires { is_of (type_of dtype) (cell_of value) ≡ true }
+        ensures { result ≡ record { of_type = type_of dtype; value = cell_of value } }
+    {
+        Scalar { dtype, value }
+    }
 }
 
 /// Checks whether `number` is in the range of `ptype`.
-fn in_range(ptype: PType, number: i128) -> bool
+pub(crate) fn in_range(ptype: PType, number: i128) -> bool
     ensures { result ≡ in_range ptype number }
 {
     match ptype {

@@ -1,0 +1,39 @@
+-- Decimal types: which there are, which numbers have so many digits, and how wide an integer holds these.
+use Rattle.std.specs.Prelude.{◌≡◌, ℕ, ℤ, ◌≤◌, ◌^◌, Bool, true, nat_lt, nat_le, nat_abs, if◌then◌else◌, FitsSigned}
+use Rattle.std.specs.Int.{Width, w8, w16, w32, w64, w128}
+use mir.Val.{bits}
+use Rattle.vx_value.specs.declared.decimal.DecimalType.{DecimalType}
+use Rattle.vx_value.specs.declared.decimal.DecimalType.TheVariants.{I8, I16, I32, I64, I128}
+
+-- from 1 to 38 digits, at most all of them behind the point
+abbrev pub IsDecimal : ℕ → ℕ → Type 0
+IsDecimal precision scale = (1 ≤ precision) × (precision ≤ 38) × (scale ≤ precision)
+
+-- the number, without its point, has at most so many digits
+abbrev pub has_digits : ℕ → ℤ → Bool
+has_digits precision z = nat_lt (nat_abs z) (10 ^ precision)
+
+abbrev pub width_of : DecimalType → Width
+width_of I8 = w8
+width_of I16 = w16
+width_of I32 = w32
+width_of I64 = w64
+width_of I128 = w128
+
+-- to 2, 4, 9, 18 and 38 digits
+abbrev pub smallest_width : ℕ → DecimalType
+smallest_width precision =
+    if nat_le precision 2 then I8 else
+    if nat_le precision 4 then I16 else
+    if nat_le precision 9 then I32 else
+    if nat_le precision 18 then I64 else
+    I128
+
+-- each number of so many digits fits
+abbrev pub HoldsDigits : DecimalType → ℕ → Type 0
+HoldsDigits t precision = (z : ℤ) → has_digits precision z ≡ true → FitsSigned (width_of t) z
+
+-- each fits, and no narrower integer holds them all
+pub record IsNarrowest (t : DecimalType) (precision : ℕ) : Type 0 where
+  pub holds : HoldsDigits t precision
+  pub narrowest : (other : DecimalType) → HoldsDigits other precision → bits (width_of t) ≤ bits (width_of other)
