@@ -1,3 +1,4 @@
+-- What a mask stands for: a list of bits.
 use Rattle.std.specs.Prelude.{true, false, Bool, not, List, length, replicate, if◌then◌else◌}
 use Rattle.std.specs.List.{list_all}
 use Rattle.vx_mask.specs.declared.mask.Mask.{Mask}

@@ -15,12 +15,14 @@ pub fn mask_laws()
 /// bits before it. (own)
 pub fn place_laws()
     ensures below_count { (bits : List Bool) (k : ℕ) → IsSome (true_place bits k) ↔ (k < true_count bits) }
-    ensures exact { (bits : List Bool) (k p : ℕ) → (true_place bits k ≡ Some p) ↔ ((p < length bits) × (bit_row bits p ≡ true) × (true_count (take p bits) ≡ k)) }
+    ensures exact { (bits : List Bool) (k p : ℕ)
+        → (true_place bits k ≡ Some p) ↔ ((p < length bits) × (bit_row bits p ≡ true) × (true_count (take p bits) ≡ k)) }
 {}
 
 /// States that choosing by combined bits is choosing twice, and how many items are chosen. (own)
 pub fn choice_laws<T>()
     ensures twice { (outer inner : List Bool) (xs : List T) → chosen (combined outer inner) xs ≡ chosen inner (chosen outer xs) }
     ensures count { (bits : List Bool) (xs : List T) → length xs ≡ length bits → length (chosen bits xs) ≡ true_count bits }
-    ensures combined_count { (outer inner : List Bool) (xs : List T) → length inner ≡ true_count outer → length xs ≡ length outer → length (chosen (combined outer inner) xs) ≡ true_count inner }
+    ensures combined_count { (outer inner : List Bool) (xs : List T) → length inner ≡ true_count outer
+        → length xs ≡ length outer → length (chosen (combined outer inner) xs) ≡ true_count inner }
 {}

@@ -122,7 +122,8 @@ impl Mask {
     /// true bit `k` of `self`. Returns `None` if `inner` doesn't have as many rows as `self` chooses. Fails only if there is
     /// no memory for the bits.
     pub fn intersect_by_rank(&self, alloc: Global, inner: &Mask) -> Result<Option<Mask>, AllocError>
-        ensures { let outer = bits_in self.now in let bits = bits_in inner.now in IfOk result (λ mask. mask ≡ (if length bits == true_count outer then Some (mask_of (combined outer bits)) else None)) }
+        ensures { let outer = bits_in self.now in let bits = bits_in inner.now in
+            IfOk result (λ mask. mask ≡ (if length bits == true_count outer then Some (mask_of (combined outer bits)) else None)) }
     {
         if inner.len() == self.true_count() {
             Ok(Some(self.combined(alloc, inner)?))
