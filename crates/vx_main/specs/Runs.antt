@@ -60,10 +60,13 @@ pub record IsFaulty (bytes : List ℕ) : Type 0 where
   pub spelled : Spells bytes tree
   pub unclean : ¬ (IsClean tree)
 
--- why an input that was read has no answer
+-- why an input that was read has no answer, by the status: a line for each that there can be
 abbrev pub HasNoAnswer : List ℕ → ℕ → Status → Type 0
-HasNoAnswer bytes turns s = (s ≡ Memory) ⊎ ((s ≡ BadInput) × SpellsNone bytes) ⊎ ((s ≡ Fault) × IsFaulty bytes) ⊎
-    ((s ≡ TurnLimit turns turns) × IsCostly bytes turns)
+HasNoAnswer bytes limit Memory = Unit {0}
+HasNoAnswer bytes limit BadInput = SpellsNone bytes
+HasNoAnswer bytes limit Fault = IsFaulty bytes
+HasNoAnswer bytes limit (TurnLimit n turns) = (n ≡ limit) × (turns ≡ limit) × IsCostly bytes limit
+HasNoAnswer bytes limit _ = ⊥
 
 -- what a run needs of its input: it isn't too large, and spells a tree without faults that costs at most `limit` turns
 abbrev pub Suffices : Command → Option (List ℕ) → Type 0

@@ -53,18 +53,12 @@ fn booleans(alloc: Global, len: usize) -> VortexResult<BoolArray> {
     BoolArray::try_new(alloc, BOOL, BitBuffer::repeat(alloc, true, len)?)
 }
 
-fn seven(nullability: Nullability) -> VortexResult<Scalar> {
-    Scalar::try_new(
-        DType::Primitive(PType::I32, nullability),
-        Some(ScalarValue::Integer(7)),
-    )
+fn seven(nullability: Nullability) -> Scalar {
+    Scalar::primitive(7, PType::I32, nullability)
 }
 
 fn sevens(alloc: Global, nullability: Nullability, len: usize) -> VortexResult<ConstantArray> {
-    match seven(nullability) {
-        Ok(scalar) => ConstantArray::new(alloc, scalar, len),
-        Err(e) => Err(e),
-    }
+    ConstantArray::new(alloc, seven(nullability), len)
 }
 
 fn slice_of(alloc: Global, items: &[i32], range: Range<usize>) -> VortexResult<SliceArray> {
@@ -143,7 +137,7 @@ fn column_of_parts(
 }
 
 fn constant_of_parts(alloc: Global, dtype: DType) -> VortexResult<ConstantArray> {
-    let payload = ConstantData::new(seven(Nullability::NonNullable)?);
+    let payload = ConstantData::new(seven(Nullability::NonNullable));
     Array::try_from_parts(
         alloc,
         ArrayParts::new(Constant, dtype, 1, payload, Vec::new(alloc)),
@@ -255,7 +249,7 @@ fn constants_of_any_length(rt: HostRuntime) -> Result<(), Fail> {
     assert!(rt; is_refused(constant_of_parts(alloc, BOOL), ArgKind::NodeType));
     let array = sevens(alloc, Nullability::NonNullable, usize::MAX)?;
     assert!(rt; array.len() == usize::MAX && array.scalar().as_integer() == Some(7));
-    let column = Columnar::constant(alloc, seven(Nullability::NonNullable)?, 3)?;
+    let column = Columnar::constant(alloc, seven(Nullability::NonNullable), 3)?;
     assert!(rt; column.len() == 3 && !column.clone()?.is_empty());
     assert!(rt; reads_as(&column.into_array(), &I32, Id::Constant, None));
     Ok(())
