@@ -5,18 +5,18 @@ ghost use Rattle.vx_json.specs.RowText.{row_text};
 
 use itoa::Buffer;
 use std::alloc::{AllocError, Global};
-use vx_value::{Scalar, ScalarKind, VortexResult};
+use vx_value::{Scalar, ScalarValue, VortexResult};
 
 /// Appends the text of a row: `null`, `true`, `false`, or an integer in decimal. If memory runs out, part of it may
 /// have been appended. (own)
 pub fn push_row(text: &mut String, scalar: &Scalar) -> Result<(), AllocError>
     ensures { OnOk result (string_bytes text.new ≡ string_bytes text.old ++ row_text scalar.now.value) }
 {
-    match scalar.kind() {
-        ScalarKind::Null(_) => text.push_str("null"),
-        ScalarKind::Bool(true, _) => text.push_str("true"),
-        ScalarKind::Bool(false, _) => text.push_str("false"),
-        ScalarKind::Integer(number, _, _) => text.push_str(Buffer::new().format(number)),
+    match scalar.value() {
+        None => text.push_str("null"),
+        Some(ScalarValue::Bool(true)) => text.push_str("true"),
+        Some(ScalarValue::Bool(false)) => text.push_str("false"),
+        Some(ScalarValue::Integer(number)) => text.push_str(Buffer::new().format(number)),
     }
 }
 
