@@ -1,6 +1,8 @@
 //! The operations on masks by hand, over words of 64 bits: the peer of `tests/speed/masks`.
 //!
-//!     masks OPERATION BITS     OPERATION is none, count, range or combine; BITS is half, few or run
+//!     masks OPERATION BITS     OPERATION is none, count, mask, range, both or combine; BITS is half, few or run
+//!
+//! `none`, `mask` and `both` do what the others need first, so that it can be taken off.
 
 #[inline(never)]
 fn count(words: &[u64]) -> usize {
@@ -73,15 +75,26 @@ fn bits(len: usize, which: &str) -> Vec<u64> {
     words
 }
 
+fn told(operation: &str, which: &str) -> usize {
+    let outer = bits(1 << 24, which);
+    if operation == "none" {
+        return 1 << 24;
+    }
+    let chosen = count(&outer);
+    match operation {
+        "count" | "mask" => return chosen,
+        "range" => return range(&outer, chosen).map_or(0, |(first, _)| first),
+        _ => {}
+    }
+    let inner = bits(chosen, "half");
+    if operation == "both" {
+        return count(&inner);
+    }
+    let _inner_count = std::hint::black_box(count(&inner));
+    count(&combine(&outer, &inner))
+}
+
 fn main() {
     let words: Vec<String> = std::env::args().collect();
-    let outer = bits(1 << 24, &words[2]);
-    let inner = bits(count(&outer), "half");
-    let told = match words[1].as_str() {
-        "count" => count(&outer),
-        "range" => range(&outer, count(&outer)).map_or(0, |(first, _)| first),
-        "combine" => count(&combine(&outer, &inner)),
-        _ => 0,
-    };
-    println!("{told}");
+    println!("{}", told(&words[1], &words[2]));
 }
