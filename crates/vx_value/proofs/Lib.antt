@@ -4,3 +4,4 @@ pub mod StorageLemmas
 pub mod DecimalsLemmas
 pub mod NullabilitiesLemmas
 pub mod CastsLemmas
+pub mod BytesLemmas

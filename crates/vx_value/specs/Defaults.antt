@@ -1,16 +1,20 @@
 -- The value of a type where none is given.
-use Rattle.std.specs.Prelude.{false, if◌then◌else◌, pos}
+use Rattle.std.specs.Prelude.{[], false, if◌then◌else◌, pos}
 use Rattle.vx_value.specs.Types.{DataType, nullability_of, is_nullable}
 use Rattle.vx_value.specs.Values as value
 use Rattle.vx_value.specs.Values.{Value}
 use Rattle.vx_value.specs.Storage.{storage_of}
 use Rattle.vx_value.specs.declared.dtype.Storage.{Storage}
-use Rattle.vx_value.specs.declared.dtype.Storage.TheVariants.{Bits, Integers}
+use Rattle.vx_value.specs.declared.dtype.Storage.TheVariants.{Nulls, Bits, Integers, Decimals, Text, Bytes}
 
--- false, or 0
+-- false, 0, or no bytes; null where there is nothing else
 abbrev pub zero_stored : Storage → Value
+zero_stored Nulls = value.null
 zero_stored Bits = value.boolean false
 zero_stored (Integers p) = value.integer (pos 0)
+zero_stored (Decimals p s) = value.decimal (pos 0) s
+zero_stored Text = value.bytes []
+zero_stored Bytes = value.bytes []
 
 abbrev pub zero_of : DataType → Value
 zero_of t = zero_stored (storage_of t)

@@ -6,10 +6,14 @@ use Rattle.vx_value.specs.Types.{DataType, same_type, same_type_Decides}
 use Rattle.vx_value.specs.declared.dtype.Nullability.{Nullability}
 use Rattle.vx_value.specs.declared.dtype.Nullability.TheVariants.{NonNullable, Nullable}
 
--- the type with this nullability: a line for each type
+-- the type with this nullability, which null alone has not: a line for each type
 abbrev pub with_nullability : Nullability → DataType → DataType
+with_nullability n type.null = type.null
 with_nullability n (type.bool m) = type.bool n
 with_nullability n (type.primitive p m) = type.primitive p n
+with_nullability n (type.decimal p s m) = type.decimal p s n
+with_nullability n (type.utf8 m) = type.utf8 n
+with_nullability n (type.binary m) = type.binary n
 
 -- nullable if one of the two is
 abbrev pub union : Nullability → Nullability → Nullability

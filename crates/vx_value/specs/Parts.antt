@@ -1,7 +1,10 @@
--- The boolean or the number that a value is.
-use Rattle.std.specs.Prelude.{Bool, ℤ, Option, Some, None}
+-- The boolean, the number or the bytes that a value is.
+use Rattle.std.specs.Prelude.{Bool, ℕ, ℤ, List, Option, Some, None}
 use Rattle.vx_value.specs.Values as value
 use Rattle.vx_value.specs.Values.{Value}
+use Rattle.vx_value.specs.Types as type
+use Rattle.vx_value.specs.Types.{DataType}
+use Rattle.vx_value.specs.Typed.{Typed}
 
 -- the boolean; none for any other value
 abbrev pub boolean_in : Value → Option Bool
@@ -12,3 +15,21 @@ boolean_in _ = None
 abbrev pub integer_in : Value → Option ℤ
 integer_in (value.integer z) = Some z
 integer_in _ = None
+
+-- the number without its point, and how many digits stand behind it; none for any other value
+abbrev pub decimal_in : Value → Option (ℤ × ℕ)
+decimal_in (value.decimal z s) = Some (z, s)
+decimal_in _ = None
+
+-- the bytes; none for any other value
+abbrev pub bytes_in : Value → Option (List ℕ)
+bytes_in (value.bytes bs) = Some bs
+bytes_in _ = None
+
+-- the bytes of a text, by its type; none for any other value
+abbrev pub text_of : DataType → Value → Option (List ℕ)
+text_of (type.utf8 n) v = bytes_in v
+text_of _ v = None
+
+abbrev pub text_in : Typed → Option (List ℕ)
+text_in s = text_of s.of_type s.value

@@ -1,5 +1,6 @@
 -- The text of a type.
 use Rattle.std.specs.Prelude.{ℕ, List, [], ◌++◌, codes}
+use Rattle.std.specs.Fmt.{decimal}
 use Rattle.vx_value.specs.Types as type
 use Rattle.vx_value.specs.Types.{DataType, nullability_of}
 use Rattle.vx_value.specs.declared.dtype.Nullability.{Nullability}
@@ -24,8 +25,17 @@ ptype_text ptype.I64 = codes "i64"
 
 -- apart from its nullability
 abbrev pub bare_text : DataType → List ℕ
+bare_text type.null = codes "null"
 bare_text (type.bool n) = codes "bool"
 bare_text (type.primitive p n) = ptype_text p
+bare_text (type.decimal p s n) = codes "decimal(" ++ decimal p ++ codes "," ++ decimal s ++ codes ")"
+bare_text (type.utf8 n) = codes "utf8"
+bare_text (type.binary n) = codes "binary"
+
+-- null has no mark, since it is always nullable
+abbrev pub type_mark : DataType → List ℕ
+type_mark type.null = []
+type_mark t = mark (nullability_of t)
 
 abbrev pub type_text : DataType → List ℕ
-type_text t = bare_text t ++ mark (nullability_of t)
+type_text t = bare_text t ++ type_mark t

@@ -5,6 +5,7 @@ use Rattle.std.specs.Bool.{Decides}
 use denote.Enum.Bare.{sameb, same_true, true_same, tag_one}
 use denote.Enum.Declared.{tag_of}
 use Rattle.std.proofs.Common.{inl, inr}
+use base.Stored.{coded_unit}
 use Rattle.vx_value.specs.Codes.{Part, part, ◌or◌, no_part, coded_by, same_code, same_code_Decides}
 use Rattle.vx_value.specs.declared.dtype.Nullability.{Nullability}
 use Rattle.vx_value.specs.declared.dtype.Nullability.TheVariants.{NonNullable, Nullable}
@@ -13,12 +14,21 @@ use Rattle.vx_value.specs.contracts.dtype.Nullability.{the_type as the_nullabili
 use Rattle.vx_value.specs.contracts.dtype.PType.{the_type as the_ptype}
 
 pub data DataType : Type 0 where
+  null : DataType
   bool : Nullability → DataType
   primitive : PType → Nullability → DataType
+  -- so many digits, so many of them behind the point
+  decimal : ℕ → ℕ → Nullability → DataType
+  utf8 : Nullability → DataType
+  binary : Nullability → DataType
 
 abbrev pub nullability_of : DataType → Nullability
+nullability_of null = Nullable
 nullability_of (bool n) = n
 nullability_of (primitive p n) = n
+nullability_of (decimal p s n) = n
+nullability_of (utf8 n) = n
+nullability_of (binary n) = n
 
 abbrev pub is_nullable : Nullability → Bool
 is_nullable NonNullable = false
@@ -43,16 +53,24 @@ coded_ptype = record { code = λ p. coded_ℕ.code (tag_of the_ptype p); inj = �
 
 abbrev pub type_parts : Part DataType
 type_parts =
-    part coded_nullability bool
+    part coded_unit (λ _. null)
+    or part coded_nullability bool
     or part (coded× coded_ptype coded_nullability) (λ p. primitive p.0 p.1)
+    or part (coded× coded_ℕ (coded× coded_ℕ coded_nullability)) (λ p. decimal p.0 p.1.0 p.1.1)
+    or part coded_nullability utf8
+    or part coded_nullability binary
     or no_part
 
 abbrev pub type_split : DataType → type_parts.holds
-type_split (bool n) = inl n
-type_split (primitive p n) = inr (inl (p, n))
+type_split null = inl tt
+type_split (bool n) = inr (inl n)
+type_split (primitive p n) = inr (inr (inl (p, n)))
+type_split (decimal p s n) = inr (inr (inr (inl (p, (s, n)))))
+type_split (utf8 n) = inr (inr (inr (inr (inl n))))
+type_split (binary n) = inr (inr (inr (inr (inr (inl n)))))
 
 pub type_back : (t : DataType) → type_parts.make (type_split t) ≡ t
-type_back (bool n) = refl
+type_back null = refl
 type_back _ = refl
 
 abbrev pub coded_type : Coded DataType

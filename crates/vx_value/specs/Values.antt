@@ -1,6 +1,6 @@
 -- What a value is, without pointers: null, or a value of some type.
-use Rattle.std.specs.Prelude.{◌≡◌, Bool, ℤ, refl}
-use Rattle.std.specs.Coded.{Coded, coded_bool, coded_ℤ}
+use Rattle.std.specs.Prelude.{◌≡◌, Bool, ℕ, ℤ, List, refl}
+use Rattle.std.specs.Coded.{Coded, coded_bool, coded_ℕ, coded_ℤ, coded×, coded_list}
 use Rattle.std.proofs.Common.{inl, inr}
 use base.Stored.{coded_unit}
 use Rattle.vx_value.specs.Codes.{Part, part, ◌or◌, no_part, coded_by}
@@ -9,6 +9,9 @@ pub data Value : Type 0 where
   null : Value
   boolean : Bool → Value
   integer : ℤ → Value
+  -- the number without its point, and how many of its digits stand behind it
+  decimal : ℤ → ℕ → Value
+  bytes : List ℕ → Value
 
 -- ---- the code of a value: a line for each constructor in each of two tables
 
@@ -17,12 +20,16 @@ value_parts =
     part coded_unit (λ _. null)
     or part coded_bool boolean
     or part coded_ℤ integer
+    or part (coded× coded_ℤ coded_ℕ) (λ p. decimal p.0 p.1)
+    or part (coded_list coded_ℕ) bytes
     or no_part
 
 abbrev pub value_split : Value → value_parts.holds
 value_split null = inl tt
 value_split (boolean b) = inr (inl b)
 value_split (integer z) = inr (inr (inl z))
+value_split (decimal z s) = inr (inr (inr (inl (z, s))))
+value_split (bytes bs) = inr (inr (inr (inr (inl bs))))
 
 pub value_back : (v : Value) → value_parts.make (value_split v) ≡ v
 value_back null = refl

@@ -4,7 +4,7 @@ ghost use Rattle.std.specs.Prelude.{◌≡◌, ◌↔◌, IsTrue, IsSome, fold};
 ghost use Rattle.std.specs.Cmp.{decided, partial_equiv_from_equiv};
 ghost use Rattle.std.specs.Hash.{same_Alike};
 ghost use Rattle.vx_value.specs.Types.{same_type};
-ghost use Rattle.vx_value.specs.View.{type_of, cell_of};
+ghost use Rattle.vx_value.specs.View.{type_of, cell_seen};
 ghost use Rattle.vx_value.specs.Order.{value_cmp, same_value, same_scalar, scalar_cmp};
 ghost use Rattle.vx_value.specs.Writes.{scalar_writes};
 ghost use Rattle.vx_value.specs.OrderLaws.{same_scalar_Decides, scalar_cmp_order};
@@ -43,7 +43,7 @@ impl Hash for Scalar {
     }
 }
 
-/// Orders scalars of one type: null first, then `false` before `true`, and integers by size.
+/// Orders scalars of one type: null first, then `false` before `true`, numbers by size, and bytes in order.
 /// Returns `None` if the types differ.
 impl PartialOrd for Scalar {
     ghost partial_cmp = { scalar_cmp };
@@ -74,8 +74,8 @@ fn same_type(left: &DType, right: &DType) -> bool
 }
 
 /// Checks whether two values are the same. `None` is null.
-fn same_value(left: Option<ScalarValue>, right: Option<ScalarValue>) -> bool
-    ensures { result ≡ same_value (cell_of left) (cell_of right) }
+fn same_value(left: Option<&ScalarValue>, right: Option<&ScalarValue>) -> bool
+    ensures { result ≡ same_value (cell_seen left.entry) (cell_seen right.entry) }
 {
     left == right
 }
@@ -83,8 +83,8 @@ fn same_value(left: Option<ScalarValue>, right: Option<ScalarValue>) -> bool
 /// Compares two values. `None` is null.
 ///
 /// No type has values of two kinds. They compare by their kinds, so that the order is total.
-fn value_order(left: Option<ScalarValue>, right: Option<ScalarValue>) -> Ordering
-    ensures { result ≡ value_cmp (cell_of left) (cell_of right) }
+fn value_order(left: Option<&ScalarValue>, right: Option<&ScalarValue>) -> Ordering
+    ensures { result ≡ value_cmp (cell_seen left.entry) (cell_seen right.entry) }
 {
     left.cmp(&right)
 }

@@ -1,7 +1,7 @@
 //! Decimal types, as in the original's `dtype` module.
 
 ghost use Rattle.std.specs.Prelude.{◌≡◌, IfOk, IfErr, OnOk};
-ghost use Rattle.vx_value.specs.Decimals.{IsDecimal, smallest_width, IsNarrowest};
+ghost use Rattle.vx_value.specs.Decimals.{IsDecimal, has_digits, smallest_width, IsNarrowest};
 
 use crate::{ArgKind, VortexError, VortexResult};
 
@@ -44,6 +44,17 @@ impl DecimalDType {
     }
 }
 
+/// A decimal number: the integer that is left without its point, and how many of its digits stand behind the point. (own)
+///
+/// Values of one scale are ordered by size; those of two scales compare by `unscaled` first.
+#[derive(Clone, Copy, Debug, PartialEq, Eq, PartialOrd, Ord, Hash)]
+pub struct DecimalValue {
+    /// The number times ten to the power of `scale`.
+    pub unscaled: i128,
+    /// How many digits stand behind the point.
+    pub scale: u8,
+}
+
 /// The integers that a decimal column is stored in, by width in bits. A decimal is stored without its point.
 #[derive(Clone, Copy, Debug, PartialEq, Eq, Hash)]
 pub enum DecimalType {
@@ -61,6 +72,16 @@ impl DecimalType {
         ensures narrowest { IsNarrowest result decimal.now.precision }
     {
         smallest_width(decimal.precision)
+    }
+}
+
+/// Checks whether `number` has at most `precision` digits.
+pub(crate) fn has_digits(precision: u8, number: i128) -> bool
+    ensures { result ≡ has_digits precision number }
+{
+    match 10_u128.checked_pow(precision as u32) {
+        Some(bound) => number.unsigned_abs() < bound,
+        None => true,
     }
 }
 

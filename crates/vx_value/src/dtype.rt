@@ -6,6 +6,7 @@ ghost use Rattle.vx_value.specs.Storage.{storage_of};
 ghost use Rattle.vx_value.specs.Types.{nullability_of, is_nullable};
 ghost use Rattle.vx_value.specs.Nullabilities.{with_nullability, union, same_but_nullability};
 
+use crate::DecimalDType;
 use std::alloc::AllocError;
 
 /// The nullability of a type: whether null is one of its values.
@@ -53,17 +54,30 @@ pub enum PType {
 /// How the values of a type are stored in a column. (own)
 #[derive(Clone, Copy, Debug, PartialEq, Eq)]
 pub enum Storage {
+    /// Nothing: each row is null.
+    Nulls,
     /// A bit for each row.
     Bits,
     /// An integer of this type for each row.
     Integers(PType),
+    /// A decimal of at most `precision` digits for each row, `scale` of them behind the point: an integer, without the point.
+    Decimals { precision: u8, scale: u8 },
+    /// Bytes for each row, which are UTF-8.
+    Text,
+    /// Bytes for each row.
+    Bytes,
 }
 
 /// The logical type of an array's rows.
 #[derive(Clone, Debug, PartialEq, Eq, Hash, Drop)]
 pub enum DType {
+    /// Null alone, so always nullable.
+    Null,
     Bool(Nullability),
     Primitive(PType, Nullability),
+    Decimal(DecimalDType, Nullability),
+    Utf8(Nullability),
+    Binary(Nullability),
 }
 
 impl DType {
@@ -72,8 +86,12 @@ impl DType {
         ensures { result ≡ nullability_of (type_of self.now) }
     {
         match self {
+            DType::Null => Nullability::Nullable,
             DType::Bool(nullability) => *nullability,
             DType::Primitive(_, nullability) => *nullability,
+            DType::Decimal(_, nullability) => *nullability,
+            DType::Utf8(nullability) => *nullability,
+            DType::Binary(nullability) => *nullability,
         }
     }
 
@@ -82,8 +100,15 @@ impl DType {
         ensures { result ≡ storage_of (type_of self.now) }
     {
         match self {
+            DType::Null => Storage::Nulls,
             DType::Bool(_) => Storage::Bits,
             DType::Primitive(ptype, _) => Storage::Integers(*ptype),
+            DType::Decimal(decimal, _) => Storage::Decimals {
+                precision: decimal.precision(),
+                scale: decimal.scale(),
+            },
+            DType::Utf8(_) => Storage::Text,
+            DType::Binary(_) => Storage::Bytes,
         }
     }
 
@@ -101,14 +126,15 @@ impl DType {
         self.with_nullability(Nullability::Nullable)
     }
 
-    /// Returns the non-nullable type that is otherwise the same. Fails only if there is no memory for it.
+    /// Returns the non-nullable type that is otherwise the same; `Null`, which is always nullable, stays. Fails only if there is
+    /// no memory for it.
     pub fn as_nonnullable(&self) -> Result<DType, AllocError>
         ensures { IfOk result (λ t. type_of t ≡ with_nullability Nullability.NonNullable (type_of self.now)) }
     {
         self.with_nullability(Nullability::NonNullable)
     }
 
-    /// Returns the type with nullability `nullability`. Fails only if there is no memory for it.
+    /// Returns the type with nullability `nullability`; `Null` stays. Fails only if there is no memory for it.
     pub fn with_nullability(&self, nullability: Nullability) -> Result<DType, AllocError>
         ensures { IfOk result (λ t. type_of t ≡ with_nullability nullability (type_of self.now)) }
     {
@@ -130,8 +156,12 @@ impl DType {
             ↔ (with_nullability Nullability.NonNullable (type_of self.now) ≡ with_nullability Nullability.NonNullable (type_of other.now)) }
     {
         match (self, other) {
+            (DType::Null, DType::Null) => true,
             (DType::Bool(_), DType::Bool(_)) => true,
             (DType::Primitive(left, _), DType::Primitive(right, _)) => left == right,
+            (DType::Decimal(left, _), DType::Decimal(right, _)) => left == right,
+            (DType::Utf8(_), DType::Utf8(_)) => true,
+            (DType::Binary(_), DType::Binary(_)) => true,
             _ => false,
         }
     }
@@ -141,8 +171,12 @@ impl DType {
         ensures { type_of result ≡ with_nullability nullability (type_of self) }
     {
         match self {
+            DType::Null => DType::Null,
             DType::Bool(_) => DType::Bool(nullability),
             DType::Primitive(ptype, _) => DType::Primitive(ptype, nullability),
+            DType::Decimal(decimal, _) => DType::Decimal(decimal, nullability),
+            DType::Utf8(_) => DType::Utf8(nullability),
+            DType::Binary(_) => DType::Binary(nullability),
         }
     }
 }

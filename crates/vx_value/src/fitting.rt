@@ -10,7 +10,5 @@ use crate::DType;
 pub fn fits(dtype: &DType, rows: usize) -> bool
     ensures { IsTrue result ↔ Fits (type_of dtype.now) rows }
 {
-    match dtype {
-        _ => true,
-    }
+    true
 }

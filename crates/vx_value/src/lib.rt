@@ -1,6 +1,7 @@
 //! The types, scalars and errors of array trees.
 #![tactic(auto)]
 
+mod bytes;
 mod cast;
 mod compare;
 mod decimal;
@@ -12,7 +13,8 @@ mod laws;
 mod scalar;
 mod text;
 
-pub use decimal::{DecimalDType, DecimalType};
+pub use bytes::ByteBuffer;
+pub use decimal::{DecimalDType, DecimalType, DecimalValue};
 pub use dtype::{DType, Nullability, PType, Storage};
 pub use error::{ArgKind, VortexError, VortexResult};
 pub use fitting::fits;

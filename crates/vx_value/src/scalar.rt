@@ -1,27 +1,34 @@
 //! Scalars, as in the original's `scalar` module.
 
-ghost use Rattle.std.specs.Prelude.{◌≡◌, ◌↔◌, IfOk, IfErr, IsErrOf, OnOk, true, false, option_copied};
-ghost use Rattle.vx_value.specs.View.{type_of, value_of, cell_of};
+ghost use Rattle.std.specs.Prelude.{◌≡◌, ◌↔◌, IfOk, IfErr, IsErrOf, OnOk, true, false, option_copied, option_map};
+ghost use Rattle.vx_value.specs.View.{type_of, value_of, cell_of, cell_seen};
 ghost use Rattle.vx_value.specs.Values.{Value, null};
 ghost use Rattle.vx_value.specs.Types.{nullability_of, is_nullable};
 ghost use Rattle.vx_value.specs.Nullabilities.{with_nullability};
 ghost use Rattle.vx_value.specs.Defaults.{zero_of, default_of};
 ghost use Rattle.vx_value.specs.IsOf.{is_of, in_range, is_null};
-ghost use Rattle.vx_value.specs.Parts.{boolean_in, integer_in};
+ghost use Rattle.vx_value.specs.Parts.{boolean_in, integer_in, decimal_in, bytes_in, text_in};
 ghost use Rattle.vx_value.specs.ScalarKinds.{scalar_of, IsStored};
 ghost use Rattle.vx_value.specs.Types as type;
 ghost use Rattle.vx_value.specs.Values.{boolean, integer};
 
-use crate::{ArgKind, DType, Nullability, PType, Storage, VortexError, VortexResult};
+use crate::decimal::has_digits;
+use crate::{
+    ArgKind, ByteBuffer, DType, DecimalValue, Nullability, PType, Storage, VortexError,
+    VortexResult,
+};
 use std::alloc::AllocError;
 use std::marker::Model;
 
 /// A value that isn't null. `Scalar` holds its type.
-#[derive(Clone, Copy, Debug, PartialEq, Eq, PartialOrd, Ord, Hash)]
+#[derive(Clone, Debug, PartialEq, Eq, PartialOrd, Ord, Hash, Drop)]
 pub enum ScalarValue {
     Bool(bool),
     /// An integer of any of the integer types.
     Integer(i128),
+    Decimal(DecimalValue),
+    /// The bytes of a `Utf8` or of a `Binary` value, shared.
+    Bytes(ByteBuffer),
 }
 
 /// The type and the value of a scalar, together, by how the type's values are stored. (own)
@@ -33,6 +40,12 @@ pub enum ScalarKind<'a> {
     Bool(bool, &'a DType),
     /// An integer of this type, whose values are integers in the range of the `PType`.
     Integer(i128, PType, &'a DType),
+    /// A decimal of this type.
+    Decimal(DecimalValue, &'a DType),
+    /// A text of this type: its bytes, which are UTF-8.
+    Utf8(&'a ByteBuffer, &'a DType),
+    /// Bytes of this type.
+    Binary(&'a ByteBuffer, &'a DType),
 }
 
 /// A value with its type. The value may be null if the type is nullable.
@@ -63,7 +76,7 @@ impl Clone for Scalar {
     fn clone(&self) -> Result<Scalar, AllocError> {
         Ok(Scalar {
             dtype: self.dtype.clone()?,
-            value: self.value,
+            value: self.value.clone()?,
         })
     }
 }
@@ -80,7 +93,7 @@ impl Scalar {
             (λ e. (e ≡ VortexError.InvalidArgument ArgKind.BadValue)
             × (is_of (type_of dtype) (cell_of value) ≡ false)) }
     {
-        if is_of(&dtype, value) {
+        if is_of(&dtype, value.as_ref()) {
             Ok(Scalar { dtype, value })
         } else {
             Err(VortexError::InvalidArgument(ArgKind::BadValue))
@@ -116,19 +129,21 @@ impl Scalar {
         Scalar { dtype, value: None }
     }
 
-    /// Returns the zero value of type `dtype`: `false` or 0.
+    /// Returns the zero value of type `dtype`: `false`, 0, or no bytes; null if the type is `Null`.
     #[tactic(auto, using(crate::proofs::DefaultsLemmas::zero_typed))]
     pub fn zero_value(dtype: DType) -> Scalar
         ensures { result ≡ record { of_type = type_of dtype; value = zero_of (type_of dtype) } }
     {
         let value = match dtype.storage() {
-            Storage::Bits => ScalarValue::Bool(false),
-            Storage::Integers(_) => ScalarValue::Integer(0),
+            Storage::Nulls => None,
+            Storage::Bits => Some(ScalarValue::Bool(false)),
+            Storage::Integers(_) => Some(ScalarValue::Integer(0)),
+            Storage::Decimals { scale, .. } => {
+                Some(ScalarValue::Decimal(DecimalValue { unscaled: 0, scale }))
+            }
+            Storage::Text | Storage::Bytes => Some(ScalarValue::Bytes(ByteBuffer::empty())),
         };
-        Scalar {
-            dtype,
-            value: Some(value),
-        }
+        Scalar { dtype, value }
     }
 
     /// Returns the default value of type `dtype`: null if the type is nullable, else its zero value.
@@ -151,11 +166,11 @@ impl Scalar {
     }
 
     /// Returns the value, or `None` if it is null.
-    pub fn value(&self) -> Option<ScalarValue>
-        ensures value { cell_of result ≡ self.now.value }
+    pub fn value(&self) -> Option<&ScalarValue>
+        ensures value { cell_seen result ≡ self.now.value }
         ensures typed { is_of self.now.of_type self.now.value ≡ true }
     {
-        self.value
+        self.value.as_ref()
     }
 
     /// Returns the type and the value together, so that a `match` on both has one arm per storage. (own)
@@ -165,12 +180,17 @@ impl Scalar {
         ensures stored { IsStored result }
     {
         let dtype = &self.dtype;
-        match (dtype.storage(), self.value) {
+        match (dtype.storage(), &self.value) {
             (_, None) => ScalarKind::Null(dtype),
-            (Storage::Bits, Some(ScalarValue::Bool(value))) => ScalarKind::Bool(value, dtype),
+            (Storage::Bits, Some(ScalarValue::Bool(value))) => ScalarKind::Bool(*value, dtype),
             (Storage::Integers(ptype), Some(ScalarValue::Integer(value))) => {
-                ScalarKind::Integer(value, ptype, dtype)
+                ScalarKind::Integer(*value, ptype, dtype)
             }
+            (Storage::Decimals { .. }, Some(ScalarValue::Decimal(value))) => {
+                ScalarKind::Decimal(*value, dtype)
+            }
+            (Storage::Text, Some(ScalarValue::Bytes(bytes))) => ScalarKind::Utf8(bytes, dtype),
+            (Storage::Bytes, Some(ScalarValue::Bytes(bytes))) => ScalarKind::Binary(bytes, dtype),
             _ => unreachable!(),
         }
     }
@@ -179,8 +199,8 @@ impl Scalar {
     pub fn as_bool(&self) -> Option<bool>
         ensures { result ≡ boolean_in self.now.value }
     {
-        match self.value {
-            Some(ScalarValue::Bool(boolean)) => Some(boolean),
+        match &self.value {
+            Some(ScalarValue::Bool(boolean)) => Some(*boolean),
             _ => None,
         }
     }
@@ -189,8 +209,38 @@ impl Scalar {
     pub fn as_integer(&self) -> Option<i128>
         ensures { result ≡ integer_in self.now.value }
     {
-        match self.value {
-            Some(ScalarValue::Integer(number)) => Some(number),
+        match &self.value {
+            Some(ScalarValue::Integer(number)) => Some(*number),
+            _ => None,
+        }
+    }
+
+    /// Returns the decimal, or `None` if the value is null or of another kind.
+    pub fn as_decimal(&self) -> Option<DecimalValue>
+        ensures { option_map (λ d. (d.unscaled, d.scale)) result ≡ decimal_in self.now.value }
+    {
+        match &self.value {
+            Some(ScalarValue::Decimal(decimal)) => Some(*decimal),
+            _ => None,
+        }
+    }
+
+    /// Returns the bytes of a text or of a binary value, or `None` if the value is null or of another kind.
+    pub fn as_bytes(&self) -> Option<&[u8]>
+        ensures { option_map (λ s. s.now) result ≡ bytes_in self.now.value }
+    {
+        match &self.value {
+            Some(ScalarValue::Bytes(bytes)) => Some(bytes.as_slice()),
+            _ => None,
+        }
+    }
+
+    /// Returns the text, or `None` if the value is null or isn't of type `Utf8`.
+    pub fn as_utf8(&self) -> Option<&str>
+        ensures { option_map (λ s. s.now) result ≡ text_in self.now }
+    {
+        match self.kind() {
+            ScalarKind::Utf8(bytes, _) => bytes.as_str(),
             _ => None,
         }
     }
@@ -240,13 +290,18 @@ pub(crate) fn in_range(ptype: PType, number: i128) -> bool
 }
 
 /// Checks whether `value` is of type `dtype`. `None` is null.
-fn is_of(dtype: &DType, value: Option<ScalarValue>) -> bool
-    ensures { result ≡ is_of (type_of dtype.now) (cell_of value) }
+fn is_of(dtype: &DType, value: Option<&ScalarValue>) -> bool
+    ensures { result ≡ is_of (type_of dtype.now) (cell_seen value.entry) }
 {
     match (dtype.storage(), value) {
         (_, None) => dtype.is_nullable(),
         (Storage::Bits, Some(ScalarValue::Bool(_))) => true,
-        (Storage::Integers(ptype), Some(ScalarValue::Integer(number))) => in_range(ptype, number),
+        (Storage::Integers(ptype), Some(ScalarValue::Integer(number))) => in_range(ptype, *number),
+        (Storage::Decimals { precision, scale }, Some(ScalarValue::Decimal(decimal))) => {
+            decimal.scale == scale && has_digits(precision, decimal.unscaled)
+        }
+        (Storage::Text, Some(ScalarValue::Bytes(bytes))) => bytes.as_str().is_some(),
+        (Storage::Bytes, Some(ScalarValue::Bytes(_))) => true,
         _ => false,
     }
 }

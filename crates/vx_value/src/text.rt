@@ -1,13 +1,15 @@
 //! Types as text.
 
-ghost use Rattle.std.specs.Prelude.{◌≡◌, ◌++◌, OnOk, IfOk, string_bytes};
+ghost use Rattle.std.specs.Prelude.{◌≡◌, ◌++◌, OnOk, IfOk, codes, string_bytes};
+ghost use Rattle.std.specs.Fmt.{decimal};
 ghost use Rattle.vx_value.specs.View.{type_of};
-ghost use Rattle.vx_value.specs.Text.{type_text, bare_text, mark, ptype_text};
+ghost use Rattle.vx_value.specs.Text.{type_text, bare_text, type_mark, mark, ptype_text};
 
-use crate::{DType, Nullability, PType};
+use crate::{DType, DecimalDType, Nullability, PType};
+use itoa::Buffer;
 use std::alloc::{AllocError, Global};
 
-/// Returns the text of `dtype`, for example `i32`, followed by `?` if the type is nullable.
+/// Returns the text of `dtype`, for example `i32` or `decimal(10,2)`, followed by `?` if the type is nullable. `null` has no mark.
 ///
 /// Fails only if there is no memory for the text. (own)
 pub fn type_text(alloc: Global, dtype: &DType) -> Result<String, AllocError>
@@ -15,7 +17,7 @@ pub fn type_text(alloc: Global, dtype: &DType) -> Result<String, AllocError>
 {
     let mut text = String::new(alloc);
     push_bare(&mut text, dtype)?;
-    text.push_str(mark(dtype.nullability()))?;
+    text.push_str(type_mark(dtype))?;
     Ok(text)
 }
 
@@ -24,8 +26,34 @@ fn push_bare(text: &mut String, dtype: &DType) -> Result<(), AllocError>
     ensures { OnOk result (string_bytes text.new ≡ string_bytes text.old ++ bare_text (type_of dtype.now)) }
 {
     match dtype {
+        DType::Null => text.push_str("null"),
         DType::Bool(_) => text.push_str("bool"),
         DType::Primitive(ptype, _) => text.push_str(ptype_text(*ptype)),
+        DType::Decimal(decimal, _) => push_decimal(text, *decimal),
+        DType::Utf8(_) => text.push_str("utf8"),
+        DType::Binary(_) => text.push_str("binary"),
+    }
+}
+
+/// Appends the text of a decimal type.
+fn push_decimal(text: &mut String, dtype: DecimalDType) -> Result<(), AllocError>
+    ensures { OnOk result (string_bytes text.new
+        ≡ string_bytes text.old ++ codes "decimal(" ++ decimal dtype.precision ++ codes "," ++ decimal dtype.scale ++ codes ")") }
+{
+    text.push_str("decimal(")?;
+    text.push_str(Buffer::new().format(dtype.precision()))?;
+    text.push_str(",")?;
+    text.push_str(Buffer::new().format(dtype.scale()))?;
+    text.push_str(")")
+}
+
+/// Returns the mark of a nullable type, or the empty text.
+fn type_mark(dtype: &DType) -> &'static str
+    ensures { result.now ≡ type_mark (type_of dtype.now) }
+{
+    match dtype {
+        DType::Null => "",
+        _ => mark(dtype.nullability()),
     }
 }
 
