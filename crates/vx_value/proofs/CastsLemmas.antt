@@ -1,5 +1,8 @@
 -- What a cast gives is of the target type, and a cast to the type itself changes nothing.
-use Rattle.std.proofs.Common.{◌≡◌, Bool, true, false, refl, ap, sym, ◌∙◌, if◌then◌else◌, Some, is_some}
+use Rattle.std.proofs.Common.{◌≡◌, ℕ, ◌-◌, nat_le, Bool, true, false, refl, ap, sym, ◌∙◌, if◌then◌else◌, Some, None, is_some}
+use Rattle.std.specs.Prelude.{ℤ, pos, ◌*ℤ◌, int_div, int_rem}
+use Rattle.std.specs.Ordering.{int_cmp, is_eq}
+use Rattle.std.specs.Cmp.{unsigned_Decides}
 use Rattle.vx_value.specs.Types as type
 use Rattle.vx_value.specs.Types.{DataType, nullability_of, is_nullable}
 use Rattle.vx_value.specs.Values as value
@@ -8,11 +11,14 @@ use Rattle.vx_value.specs.Cell as cell
 use Rattle.vx_value.specs.Cell.{Cell}
 use Rattle.vx_value.specs.IsOf.{is_of, is_null}
 use Rattle.vx_value.specs.Nullabilities.{same_but_nullability, same_but_nullability_Decides}
-use Rattle.vx_value.specs.Casts.{to_integer, other_row, by_row, has_cast, cast_value}
+use Rattle.vx_value.specs.Casts.{to_integer, sized, power, shortened, rescaled, to_decimal, to_bool, to_text, to_bytes, into}
+use Rattle.vx_value.specs.Casts.{has_other_row, other_row, by_row, has_cast, cast_value}
+use Rattle.vx_value.specs.Decimals.{has_digits}
 use Rattle.vx_value.specs.declared.dtype.PType.{PType}
 use Rattle.vx_value.specs.declared.dtype.Nullability.{Nullability}
 use Rattle.vx_value.specs.declared.dtype.Nullability.TheVariants.{NonNullable}
 use Rattle.vx_value.proofs.NullabilitiesLemmas.{is_of_either}
+use Rattle.vx_value.proofs.DefaultsLemmas.{both_true}
 
 -- a value that a test gives
 tested : (b : Bool) (v w : Value) → (if b then cell.value v else cell.fault) ≡ cell.value w → (b ≡ true) × (v ≡ w)
@@ -34,10 +40,57 @@ integer_typed : (p : PType) (n : Nullability) (v w : Value) → to_integer p v �
 integer_typed p n (value.integer z) w e = tested_typed (type.primitive p n) (value.integer z) w e
 integer_typed p n _ w e = absurd (cc)
 
--- what each further row gives is of the type: a line for each
+sized_typed : (p s : ℕ) (n : Nullability) (z : ℤ) (w : Value) → sized p s z ≡ cell.value w → is_of (type.decimal p s n) w ≡ true
+sized_typed p s n z w e =
+    let found : (has_digits p z ≡ true) × (value.decimal z s ≡ w) = tested (has_digits p z) (value.decimal z s) w e in
+    ap (is_of (type.decimal p s n)) (sym found.1) ∙ both_true ((unsigned_Decides s s).1 refl) found.0
+
+shortened_typed : (p s : ℕ) (n : Nullability) (z : ℤ) (k : ℕ) (w : Value) → shortened p s z k ≡ cell.value w → is_of (type.decimal p s n) w ≡ true
+shortened_typed p s n z k w e = by_test (is_eq (int_cmp (int_rem z (power k)) (pos 0))) e
+  where
+    by_test : (b : Bool) → (if b then sized p s (int_div z (power k)) else cell.fault) ≡ cell.value w → is_of (type.decimal p s n) w ≡ true
+    by_test true e = sized_typed p s n (int_div z (power k)) w e
+    by_test false e = absurd (cc)
+
+rescaled_typed : (p s : ℕ) (n : Nullability) (z : ℤ) (r : ℕ) (w : Value) → rescaled p s z r ≡ cell.value w → is_of (type.decimal p s n) w ≡ true
+rescaled_typed p s n z r w e = by_test (nat_le r s) e
+  where
+    by_test : (b : Bool) → (if b then sized p s (z *ℤ power (s - r)) else shortened p s z (r - s)) ≡ cell.value w → is_of (type.decimal p s n) w ≡ true
+    by_test true e = sized_typed p s n (z *ℤ power (s - r)) w e
+    by_test false e = shortened_typed p s n z (r - s) w e
+
+decimal_typed : (p s : ℕ) (n : Nullability) (v w : Value) → to_decimal p s v ≡ cell.value w → is_of (type.decimal p s n) w ≡ true
+decimal_typed p s n (value.integer z) w e = rescaled_typed p s n z 0 w e
+decimal_typed p s n (value.decimal z r) w e = rescaled_typed p s n z r w e
+decimal_typed p s n _ w e = absurd (cc)
+
+bool_typed : (n : Nullability) (v w : Value) → to_bool v ≡ cell.value w → is_of (type.bool n) w ≡ true
+bool_typed n (value.boolean b) w e = let stays : value.boolean b ≡ w = cc in ap (is_of (type.bool n)) (sym stays)
+bool_typed n _ w e = absurd (cc)
+
+text_typed : (n : Nullability) (v w : Value) → to_text v ≡ cell.value w → is_of (type.utf8 n) w ≡ true
+text_typed n (value.bytes bs) w e = tested_typed (type.utf8 n) (value.bytes bs) w e
+text_typed n _ w e = absurd (cc)
+
+bytes_typed : (n : Nullability) (v w : Value) → to_bytes v ≡ cell.value w → is_of (type.binary n) w ≡ true
+bytes_typed n (value.bytes bs) w e = let stays : value.bytes bs ≡ w = cc in ap (is_of (type.binary n)) (sym stays)
+bytes_typed n _ w e = absurd (cc)
+
+-- what a cast to a type gives is of the type: a line for each
+pub into_typed : (t : DataType) (v w : Value) → into t v ≡ cell.value w → is_of t w ≡ true
+into_typed (type.bool n) v w e = bool_typed n v w e
+into_typed (type.primitive p n) v w e = integer_typed p n v w e
+into_typed (type.decimal p s n) v w e = decimal_typed p s n v w e
+into_typed (type.utf8 n) v w e = text_typed n v w e
+into_typed (type.binary n) v w e = bytes_typed n v w e
+into_typed type.null v w e = absurd (cc)
+
 other_typed : (s t : DataType) (v w : Value) → by_row (other_row s t) v ≡ cell.value w → is_of t w ≡ true
-other_typed (type.primitive p m) (type.primitive q n) v w e = integer_typed q n v w e
-other_typed _ _ v w e = absurd (cc)
+other_typed s t v w e = by_test (has_other_row s t) e
+  where
+    by_test : (b : Bool) → by_row (if b then Some (into t) else None) v ≡ cell.value w → is_of t w ≡ true
+    by_test true e = into_typed t v w e
+    by_test false e = absurd (cc)
 
 -- what the first row that takes the types gives is of the type
 row_typed : (b : Bool) (s t : DataType) (v w : Value) → b ≡ same_but_nullability s t → is_null v ≡ false → is_of s v ≡ true

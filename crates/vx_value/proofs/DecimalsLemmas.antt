@@ -18,7 +18,7 @@ holds_to t p h below =
     let lower : 2 ^ hbits (width_of t) < 2 ^ hbits (width_of t) = fits.sfits in
     omega arith
 
-ten_to : {p q : ℕ} → p ≤ q → 10 ^ p ≤ 10 ^ q
+pub ten_to : {p q : ℕ} → p ≤ q → 10 ^ p ≤ 10 ^ q
 ten_to h = pow-le-pow_right (omega arith) h
 
 -- the numbers of the precision fit

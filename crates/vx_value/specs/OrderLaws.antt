@@ -2,7 +2,7 @@
 use Rattle.std.specs.Prelude.{◌≡◌, ℕ, ℤ, Bool, true, false, Option, Some, None, ◌&&◌, if◌then◌else◌, option_map, refl}
 use Rattle.std.specs.Bool.{Decides}
 use Rattle.std.specs.Cmp.{IsEquivalence, IsTotalOrder, IsPartialOrder, decided, first_so, second_so, signed_Decides, unsigned_Decides}
-use Rattle.std.specs.Cmp.{bool_cmp_total, int_cmp_total, nat_cmp_total, on_total, then_total, on_po, then_po, partial_order_from_total, tied_itself}
+use Rattle.std.specs.Cmp.{bool_cmp_total, int_cmp_total, nat_cmp_total, unsigned_ties, on_total, then_total, on_po, then_po, partial_order_from_total, tied_itself}
 use Rattle.std.specs.Cmp.Lexicographic.{options_total, nat_list_cmp_total, bytes_decides, texts_ties}
 use Rattle.std.specs.Option.{option_cmp}
 use Rattle.std.specs.declared.cmp.Ordering.{Ordering}
@@ -67,7 +67,7 @@ value_alike (value.integer y) (value.integer z) h = ap value.integer ((signed_De
 value_alike (value.decimal y r) (value.decimal z s) h =
     let found = both_equal (int_cmp y z) (nat_cmp r s) h in
     let number : y ≡ z = (signed_Decides y z).0 found.0 in
-    let scale : r ≡ s = (unsigned_Decides r s).0 found.1 in
+    let scale : r ≡ s = (unsigned_Decides r s).0 (unsigned_ties r s ∙ found.1) in
     λ i. value.decimal (number i) (scale i)
 value_alike (value.bytes bs) (value.bytes cs) h = ap value.bytes ((bytes_decides bs cs).0 (texts_ties bs cs ∙ h))
 value_alike _ _ h = absurd (cc)

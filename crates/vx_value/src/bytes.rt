@@ -1,6 +1,6 @@
 //! Shared bytes, as in the original's `buffer` crate.
 
-ghost use Rattle.std.specs.Prelude.{◌≡◌, ◌↔◌, ◌==◌, [], length, is_some, refl, IsTrue, IfOk, IfSome, Some, string_bytes};
+ghost use Rattle.std.specs.Prelude.{◌≡◌, ◌↔◌, ◌==◌, [], length, refl, Some, is_some, IfOk, IfSome, IsTrue, string_bytes};
 ghost use Rattle.std.specs.Str.{is_utf8, bytes_eq};
 ghost use Rattle.std.specs.Cmp.{partial_equiv_from_equiv};
 ghost use Rattle.std.specs.Cmp.Lexicographic.{bytes_decides, nat_list_eq_equiv, nat_list_cmp_total, texts_po, texts_ties};
@@ -96,6 +96,7 @@ impl ByteBuffer {
     }
 
     /// Returns the bytes as text, or `None` if they aren't UTF-8. Reads all of them. (own)
+    #[tactic(auto, using(crate::proofs::BytesLemmas::is_text, crate::proofs::BytesLemmas::is_no_text))]
     pub fn as_str(&self) -> Option<&str>
         ensures which { is_some result ≡ is_utf8 self.now }
         ensures text { IfSome result (λ text. text.now ≡ self.now) }
@@ -110,7 +111,7 @@ impl PartialEq for ByteBuffer {
 
     ghost laws = { partial_equiv_from_equiv nat_list_eq_equiv };
 
-    #[tactic(auto, using(std::specs::Cmp::Lexicographic::bytes_decides))]
+    #[tactic(auto, using(crate::proofs::BytesLemmas::bytes_eq_is))]
     fn eq(&self, other: &ByteBuffer) -> bool
         ensures value { result ≡ bytes_eq self.now other.now }
         ensures equal { IsTrue result ↔ (self.now ≡ other.now) }
