@@ -1,11 +1,19 @@
 -- What equality and the order of scalars say of types and values.
-use Rattle.std.specs.Prelude.{◌≡◌, Bool, true, false, Some, None, if◌then◌else◌, ◌↔◌, IsTrue, IsSome, refl}
+use Rattle.std.specs.Prelude.{◌≡◌, Bool, true, false, ◌&&◌, Option, Some, None, if◌then◌else◌, ◌↔◌, IsTrue, IsSome, refl}
 use Rattle.std.specs.declared.cmp.Ordering.{Ordering}
-use Rattle.std.specs.declared.cmp.Ordering.TheVariants.{Equal}
+use Rattle.std.specs.declared.cmp.Ordering.TheVariants.{Less, Equal, Greater}
+use Rattle.std.specs.Ordering.{is_eq, ordering_then}
 use Rattle.vx_value.specs.Types.{same_type, same_type_Decides}
 use Rattle.vx_value.specs.Typed.{Typed}
-use Rattle.vx_value.specs.Order.{value_cmp, same_scalar, scalar_cmp}
-use Rattle.vx_value.specs.OrderLaws.{same_scalar_Decides, scalar_cmp_order}
+use Rattle.vx_value.specs.Order.{value_cmp, same_value, same_scalar, scalar_cmp}
+use Rattle.vx_value.specs.OrderLaws.{same_value_Decides, same_scalar_Decides, scalar_cmp_order}
+use Rattle.std.proofs.Common.{ap}
+
+-- an order of two parts finds no difference exactly where neither does
+pub then_ties : (o p : Ordering) → is_eq (ordering_then o p) ≡ (is_eq o && is_eq p)
+then_ties Less p = refl
+then_ties Equal p = refl
+then_ties Greater p = refl
 
 -- equal exactly where the type and the value are the same
 pub same_scalar_is : (s t : Typed) → IsTrue (same_scalar s t) ↔ (s ≡ t)
@@ -28,3 +36,25 @@ scalar_cmp_is_equal s t =
     let level = scalar_cmp_order.matches_eq s t in
     let same = same_scalar_Decides s t in
     (λ h. same.0 (level.1 h), λ e. level.0 (same.1 e))
+
+-- the same, of scalars of one type
+pub one_type_is : (s t : Typed) → s.of_type ≡ t.of_type → IsTrue (same_value s.value t.value) ↔ (s ≡ t)
+one_type_is s t e =
+    let same = same_value_Decides s.value t.value in
+    (λ h i. record { of_type = e i; value = same.0 h i }, λ p. same.1 (λ i. (p i).value))
+
+pub one_type_order : (s t : Typed) → s.of_type ≡ t.of_type → (Some (value_cmp s.value t.value) ≡ Some Equal) ↔ (s ≡ t)
+one_type_order s t e =
+    let same = same_value_Decides s.value t.value in (
+      λ h i. record { of_type = e i; value = same.0 (λ j. is_some_eq (h j)) i },
+      λ p. ap Some (equal_if (value_cmp s.value t.value) (same.1 (λ i. (p i).value))),
+    )
+  where
+    is_some_eq : Option Ordering → Bool
+    is_some_eq (Some o) = is_eq o
+    is_some_eq None = false
+
+    equal_if : (o : Ordering) → is_eq o ≡ true → o ≡ Equal
+    equal_if Equal h = refl
+    equal_if Less h = absurd (cc)
+    equal_if Greater h = absurd (cc)

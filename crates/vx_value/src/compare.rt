@@ -19,7 +19,7 @@ impl PartialEq for Scalar {
 
     ghost laws = { partial_equiv_from_equiv (decided same_scalar same_scalar_Decides) };
 
-    #[tactic(auto, using(crate::proofs::OrderLemmas::same_scalar_is))]
+    #[tactic(auto, using(crate::proofs::OrderLemmas::same_scalar_is, crate::proofs::OrderLemmas::one_type_is))]
     fn eq(&self, other: &Scalar) -> bool
         ensures value { result ≡ same_scalar self.now other.now }
         ensures equal { IsTrue result ↔ (self.now ≡ other.now) }
@@ -50,7 +50,7 @@ impl PartialOrd for Scalar {
 
     ghost laws = { scalar_cmp_order };
 
-    #[tactic(auto, using(crate::proofs::OrderLemmas::scalar_cmp_is_some, crate::proofs::OrderLemmas::scalar_cmp_is_equal))]
+    #[tactic(auto, using(crate::proofs::OrderLemmas::scalar_cmp_is_some, crate::proofs::OrderLemmas::scalar_cmp_is_equal, crate::proofs::OrderLemmas::one_type_order))]
     fn partial_cmp(&self, other: &Scalar) -> Option<Ordering>
         ensures value { result ≡ scalar_cmp self.now other.now }
         ensures compared { IsSome result ↔ (self.now.of_type ≡ other.now.of_type) }
@@ -74,6 +74,7 @@ fn same_type(left: &DType, right: &DType) -> bool
 }
 
 /// Checks whether two values are the same. `None` is null.
+#[tactic(auto, using(crate::proofs::OrderLemmas::then_ties, crate::proofs::BytesLemmas::bytes_eq_by_cmp))]
 fn same_value(left: Option<&ScalarValue>, right: Option<&ScalarValue>) -> bool
     ensures { result ≡ same_value (cell_seen left.entry) (cell_seen right.entry) }
 {

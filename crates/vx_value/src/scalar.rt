@@ -5,7 +5,7 @@ ghost use Rattle.vx_value.specs.View.{type_of, value_of, cell_of, cell_seen};
 ghost use Rattle.vx_value.specs.Values.{Value, null};
 ghost use Rattle.vx_value.specs.Types.{nullability_of, is_nullable};
 ghost use Rattle.vx_value.specs.Nullabilities.{with_nullability};
-ghost use Rattle.vx_value.specs.Defaults.{zero_of, default_of};
+ghost use Rattle.vx_value.specs.Defaults.{zero_stored, zero_of, default_of};
 ghost use Rattle.vx_value.specs.IsOf.{is_of, in_range, is_null};
 ghost use Rattle.vx_value.specs.Parts.{boolean_in, integer_in, decimal_in, bytes_in, text_in};
 ghost use Rattle.vx_value.specs.ScalarKinds.{scalar_of, IsStored};
@@ -134,15 +134,7 @@ impl Scalar {
     pub fn zero_value(dtype: DType) -> Scalar
         ensures { result ≡ record { of_type = type_of dtype; value = zero_of (type_of dtype) } }
     {
-        let value = match dtype.storage() {
-            Storage::Nulls => None,
-            Storage::Bits => Some(ScalarValue::Bool(false)),
-            Storage::Integers(_) => Some(ScalarValue::Integer(0)),
-            Storage::Decimals { scale, .. } => {
-                Some(ScalarValue::Decimal(DecimalValue { unscaled: 0, scale }))
-            }
-            Storage::Text | Storage::Bytes => Some(ScalarValue::Bytes(ByteBuffer::empty())),
-        };
+        let value = zero_of(dtype.storage());
         Scalar { dtype, value }
     }
 
@@ -270,6 +262,22 @@ impl Scalar {
         ensures { result ≡ record { of_type = type_of dtype; value = cell_of value } }
     {
         Scalar { dtype, value }
+    }
+}
+
+/// Returns the zero value of types that are stored so; `None` is null.
+fn zero_of(storage: Storage) -> Option<ScalarValue>
+    ensures { cell_of result ≡ zero_stored storage }
+{
+    match storage {
+        Storage::Nulls => None,
+        Storage::Bits => Some(ScalarValue::Bool(false)),
+        Storage::Integers(_) => Some(ScalarValue::Integer(0)),
+        Storage::Decimals { scale, .. } => Some(ScalarValue::Decimal(DecimalValue {
+            unscaled: 0,
+            scale,
+        })),
+        Storage::Text | Storage::Bytes => Some(ScalarValue::Bytes(ByteBuffer::empty())),
     }
 }
 
