@@ -4,16 +4,14 @@ use Rattle.std.specs.Coded.{Coded}
 use denote.Enum.Declared.{row}
 use Rattle.vx_value.specs.declared.id.Id.{Id}
 use Rattle.vx_fn.specs.Meanings.{Meaning}
-use Rattle.vx_fn.specs.Binary.{binary}
-use Rattle.vx_fn.specs.Negation.{negation}
 use Rattle.vx_fn.specs.declared.function.ScalarFnRef.{ScalarFnRef}
 use Rattle.vx_fn.specs.declared.function.ScalarFnRef.TheVariants as function
 use Rattle.vx_fn.specs.contracts.function.ScalarFnRef.{the_type as the_function}
 
 -- what each is: a line for each function
 abbrev pub meaning : ScalarFnRef → Meaning
-meaning (function.Binary op) = binary op
-meaning function.Not = negation
+meaning (function.Binary op) = Rattle.vx_fn.specs.Binary.binary op
+meaning function.Not = Rattle.vx_fn.specs.Negation.negation
 
 abbrev pub function_id : ScalarFnRef → Id
 function_id f = (meaning f).id

@@ -1,9 +1,11 @@
 //! Scalar functions, as in the original's `scalar_fn` module.
 
-ghost use Rattle.std.specs.Prelude.{◌≡◌, ◌==◌, ℕ, map, option_map, slice_get};
+ghost use Rattle.std.specs.Prelude.{◌≡◌, ◌==◌, ℕ, option_map, slice_get};
 ghost use Rattle.vx_fn.specs.Functions.{function_id, arity, argument_names};
 ghost use Rattle.vx_fn.specs.Binary.{is_comparison};
 
+use crate::functions::by_function;
+use crate::row_function::RowFunction;
 use vx_value::Id;
 
 /// A binary operator.
@@ -76,7 +78,7 @@ impl ScalarFnRef {
     pub fn id(&self) -> Id
         ensures { result ≡ function_id self.now }
     {
-        self.signature().0
+        by_function!(self, function => function.id())
     }
 
     /// Returns the name of the argument at `index`, counted from 0: `lhs` and `rhs`, or `input`. Returns `None` if the
@@ -84,24 +86,15 @@ impl ScalarFnRef {
     pub fn child_name(&self, index: usize) -> Option<&'static str>
         ensures { option_map (λ s. s.now) result ≡ slice_get (argument_names self.now) index }
     {
-        self.signature().1.get(index).copied()
+        by_function!(self, function => function.child_names())
+            .get(index)
+            .copied()
     }
 
     /// Returns the number of arguments that the function takes.
     pub fn arity(&self) -> Arity
         ensures { result ≡ Arity.Exact (arity self.now) }
     {
-        Arity::Exact(self.signature().1.len())
-    }
-
-    /// Returns the function's id, and the names of its arguments, in order. (own)
-    fn signature(&self) -> (Id, &'static [&'static str])
-        ensures id { result.0 ≡ function_id self.now }
-        ensures names { map (λ s. s.now) result.1.now ≡ argument_names self.now }
-    {
-        match self {
-            ScalarFnRef::Binary(_) => (Id::Binary, &["lhs", "rhs"]),
-            ScalarFnRef::Not => (Id::Not, &["input"]),
-        }
+        Arity::Exact(by_function!(self, function => function.child_names()).len())
     }
 }

@@ -3,7 +3,9 @@
 
 mod apply;
 mod function;
+mod functions;
 mod return_type;
+mod row_function;
 
 pub use apply::apply_row;
 pub use function::{Arity, Operator, ScalarFnRef};

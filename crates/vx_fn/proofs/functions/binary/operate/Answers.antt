@@ -9,7 +9,7 @@ use Rattle.vx_value.specs.Storage.{storage_of}
 use Rattle.vx_value.specs.declared.dtype.Nullability.TheVariants.{NonNullable}
 use Rattle.vx_fn.specs.Binary.{operated, calculated}
 use Rattle.vx_fn.proofs.BinaryLemmas.{whole_values, calculation_type}
-use Rattle.vx_fn.proofs.apply.operate.Goals as goal
+use Rattle.vx_fn.proofs.functions.binary.operate.Goals as goal
 
 pub returns-clause-fault : goal.returns-clause-fault
 returns-clause-fault c =

@@ -1,7 +1,7 @@
 use Rattle.std.proofs.Common.{◌*ℤ◌}
 use Rattle.std.proofs.lemmas.Int.{to_z-of_z}
 use Rattle.vx_fn.proofs.BinaryLemmas.{by_fit}
-use Rattle.vx_fn.proofs.apply.exactly.Goals as goal
+use Rattle.vx_fn.proofs.functions.binary.exactly.Goals as goal
 
 pub returns-in-Mul : goal.returns-in-Mul
 returns-in-Mul c p =
