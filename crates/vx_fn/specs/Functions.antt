@@ -2,6 +2,7 @@
 use Rattle.std.specs.Prelude.{ℕ, List, length}
 use Rattle.std.specs.Coded.{Coded}
 use denote.Enum.Declared.{row}
+use Rattle.vx_value.specs.View.{type_of}
 use Rattle.vx_value.specs.declared.id.Id.{Id}
 use Rattle.vx_fn.specs.Meanings.{Meaning}
 use Rattle.vx_fn.specs.declared.function.ScalarFnRef.{ScalarFnRef}
@@ -11,7 +12,14 @@ use Rattle.vx_fn.specs.contracts.function.ScalarFnRef.{the_type as the_function}
 -- what each is: a line for each function
 abbrev pub meaning : ScalarFnRef → Meaning
 meaning (function.Binary op) = Rattle.vx_fn.specs.Binary.binary op
+meaning (function.Between options) = Rattle.vx_fn.specs.Between.between options
 meaning function.Not = Rattle.vx_fn.specs.Negation.negation
+meaning function.Mask = Rattle.vx_fn.specs.Mask.mask
+meaning function.Zip = Rattle.vx_fn.specs.Zip.zip
+meaning function.FillNull = Rattle.vx_fn.specs.FillNull.fill_null
+meaning function.IsNull = Rattle.vx_fn.specs.IsNull.null_test
+meaning function.IsNotNull = Rattle.vx_fn.specs.IsNull.value_test
+meaning (function.Cast target) = Rattle.vx_fn.specs.Cast.conversion (type_of target)
 
 abbrev pub function_id : ScalarFnRef → Id
 function_id f = (meaning f).id

@@ -5,8 +5,17 @@ pub use Rattle.vx_value.specs.Typed
 pub mod Arity
 pub mod ArityLaws
 pub mod Meanings
+pub mod Comparisons
+pub mod Arithmetic
+pub mod Logic
 pub mod Binary
+pub mod Between
 pub mod Negation
+pub mod Mask
+pub mod Zip
+pub mod FillNull
+pub mod IsNull
+pub mod Cast
 pub mod Functions
 pub mod ReturnTypes
 pub mod Apply

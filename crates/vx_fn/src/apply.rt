@@ -1,6 +1,6 @@
 //! Applying functions to a row.
 
-ghost use Rattle.std.specs.Prelude.{◌≡◌, map, IfOk, IfErr, IsSome, Some};
+ghost use Rattle.std.specs.Prelude.{◌≡◌, ◌⊎◌, map, IfOk, IfErr, IsSome, Some};
 ghost use Rattle.vx_value.specs.Types.{DataType};
 ghost use Rattle.vx_value.specs.Cell.{value, fault};
 ghost use Rattle.vx_fn.specs.ReturnTypes.{return_type};
@@ -11,16 +11,17 @@ use crate::functions::by_function;
 use crate::row_function::RowFunction;
 use vx_value::{Scalar, VortexError, VortexResult};
 
-/// Applies `function` to `arguments`, one row of each, without allocating. The function must accept their types.
+/// Applies `function` to `arguments`, one row of each. The function must accept their types. No text or bytes are copied.
 ///
-/// Returns `Fault` exactly if the row has no value: the result is out of its type's range, or a divisor is 0. (own)
+/// Returns `Fault` exactly if the row has no value: the result is out of its type's range, a divisor is 0, or a cast has no value.
+/// (own)
 pub fn apply_row(function: &ScalarFnRef, arguments: &[Scalar]) -> VortexResult<Scalar>
     requires { IsSome (return_type function.now (map (λ s. s.of_type) arguments.now)) }
     ensures typed { IfOk result (λ s. return_type function.now (map (λ s. s.of_type) arguments.now) ≡ Some s.of_type) }
     ensures ok { IfOk result (λ s. apply function.now s.of_type (map (λ a. value a.value) arguments.now) ≡ value s.value) }
-    ensures fault { IfErr result (λ e. (e ≡ VortexError.Fault) × ((t : DataType)
+    ensures fault { IfErr result (λ e. (e ≡ VortexError.OutOfMemory) ⊎ ((e ≡ VortexError.Fault) × ((t : DataType)
         → return_type function.now (map (λ s. s.of_type) arguments.now) ≡ Some t
-        → apply function.now t (map (λ a. value a.value) arguments.now) ≡ fault)) }
+        → apply function.now t (map (λ a. value a.value) arguments.now) ≡ fault))) }
 {
     by_function!(function, function => function.apply(arguments))
 }

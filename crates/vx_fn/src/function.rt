@@ -2,11 +2,12 @@
 
 ghost use Rattle.std.specs.Prelude.{◌≡◌, ◌==◌, ℕ, option_map, slice_get};
 ghost use Rattle.vx_fn.specs.Functions.{function_id, arity, argument_names};
-ghost use Rattle.vx_fn.specs.Binary.{is_comparison};
+ghost use Rattle.vx_fn.specs.Binary.{is_comparison, is_logical};
 
+use crate::functions::between::BetweenOptions;
 use crate::functions::by_function;
 use crate::row_function::RowFunction;
-use vx_value::Id;
+use vx_value::{DType, Id};
 
 /// A binary operator.
 #[derive(Clone, Copy, Debug, PartialEq, Eq, Hash)]
@@ -31,6 +32,10 @@ pub enum Operator {
     Mul,
     /// `lhs / rhs`, truncated toward zero. Overflow and a divisor of 0 are faults.
     Div,
+    /// `lhs && rhs`: false if a side is, else null if a side is.
+    And,
+    /// `lhs || rhs`: true if a side is, else null if a side is.
+    Or,
 }
 
 impl Operator {
@@ -44,15 +49,39 @@ impl Operator {
             _ => false,
         }
     }
+
+    /// Checks whether the operator joins two booleans, null among them. (own)
+    pub fn is_logical(self) -> bool
+        ensures { result ≡ is_logical self }
+    {
+        match self {
+            Operator::And | Operator::Or => true,
+            _ => false,
+        }
+    }
 }
 
 /// A scalar function: computes one value for each row of its arguments.
-#[derive(Clone, Copy, Debug, PartialEq, Eq, Hash)]
+#[derive(Clone, Debug, PartialEq, Eq, Hash, Drop)]
 pub enum ScalarFnRef {
     /// A binary operator, of the arguments `lhs` and `rhs`.
     Binary(Operator),
+    /// Whether `array` lies between `lower` and `upper`.
+    Between(BetweenOptions),
     /// The negation of a boolean, the argument `input`.
     Not,
+    /// `input` if `mask` is true, else null.
+    Mask,
+    /// `if_true` if `mask` is true, else `if_false`.
+    Zip,
+    /// `input`, or `fill_value` if it is null.
+    FillNull,
+    /// Whether `input` is null.
+    IsNull,
+    /// Whether `input` isn't null.
+    IsNotNull,
+    /// `input` as a value of this type.
+    Cast(DType),
 }
 
 /// The number of arguments that a function takes.
@@ -81,8 +110,8 @@ impl ScalarFnRef {
         by_function!(self, function => function.id())
     }
 
-    /// Returns the name of the argument at `index`, counted from 0: `lhs` and `rhs`, or `input`. Returns `None` if the
-    /// function has no such argument.
+    /// Returns the name of the argument at `index`, counted from 0, for example `lhs` or `input`. Returns `None`
+    /// if the function has no such argument.
     pub fn child_name(&self, index: usize) -> Option<&'static str>
         ensures { option_map (λ s. s.now) result ≡ slice_get (argument_names self.now) index }
     {

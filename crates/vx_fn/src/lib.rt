@@ -4,8 +4,10 @@
 mod apply;
 mod function;
 mod functions;
+mod order;
 mod return_type;
 mod row_function;
 
 pub use apply::apply_row;
 pub use function::{Arity, Operator, ScalarFnRef};
+pub use functions::between::{BetweenOptions, StrictComparison};

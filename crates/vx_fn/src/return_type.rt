@@ -1,6 +1,6 @@
 //! The types of functions' results.
 
-ghost use Rattle.std.specs.Prelude.{◌≡◌, map, IfOk, IfErr, Some, None};
+ghost use Rattle.std.specs.Prelude.{◌≡◌, ◌⊎◌, map, IfOk, IfErr, Some, None};
 ghost use Rattle.vx_value.specs.View.{type_of};
 ghost use Rattle.vx_fn.specs.ReturnTypes.{return_type};
 
@@ -12,17 +12,17 @@ use vx_value::{ArgKind, DType, VortexError, VortexResult};
 impl ScalarFnRef {
     /// Returns the type of the result if the arguments have the types `arguments`.
     ///
-    /// Comparisons accept two values of one type, and return a boolean. Arithmetic accepts two integers of one type, and
-    /// returns that type. `Not` accepts a boolean, and returns one. Only non-nullable types are accepted so far.
+    /// Types that differ in nullability alone count as one type. Unless a function says otherwise, the result is nullable if
+    /// an argument is.
     ///
-    /// Returns `InvalidArgument` with `NoRow` exactly if the function doesn't accept these arguments.
+    /// Returns `InvalidArgument` with `NoRow` exactly if the function doesn't accept these arguments, or `OutOfMemory`.
     pub fn return_dtype(&self, arguments: &[DType]) -> VortexResult<DType>
         ensures ok { IfOk result (λ t. return_type self.now (map type_of arguments.now) ≡ Some (type_of t)) }
-        ensures refused { IfErr result (λ e. (e ≡ VortexError.InvalidArgument ArgKind.NoRow)
-            × (return_type self.now (map type_of arguments.now) ≡ None)) }
+        ensures refused { IfErr result (λ e. (e ≡ VortexError.OutOfMemory)
+            ⊎ ((e ≡ VortexError.InvalidArgument ArgKind.NoRow)
+            × (return_type self.now (map type_of arguments.now) ≡ None))) }
     {
-        by_function!(self, function => function.return_dtype(arguments)).ok_or(
-            VortexError::InvalidArgument(ArgKind::NoRow),
-        )
+        let dtype = by_function!(self, function => function.return_dtype(arguments))?;
+        dtype.ok_or(VortexError::InvalidArgument(ArgKind::NoRow))
     }
 }

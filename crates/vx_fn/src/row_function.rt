@@ -1,12 +1,14 @@
 //! What every scalar function is, whichever it is.
 
-ghost use Rattle.std.specs.Prelude.{◌≡◌, map, option_map, IfOk, IfErr, IsSome, Some};
+ghost use Rattle.std.specs.Prelude.{◌≡◌, ◌⊎◌, map, option_map, IfOk, IfErr, IsSome, Some};
 ghost use Rattle.vx_value.specs.Types.{DataType};
-ghost use Rattle.vx_value.specs.View.{type_of};
+ghost use Rattle.vx_value.specs.View.{type_of, cell_of};
+ghost use Rattle.vx_value.specs.IsOf.{is_of};
 ghost use Rattle.vx_value.specs.Cell.{value, fault};
-ghost use Rattle.vx_fn.specs.Meanings.{Meaning, no_null_type};
+ghost use Rattle.vx_fn.specs.Meanings.{Meaning};
 ghost use Rattle.vx_fn.specs.Apply.{on_values};
 
+use std::alloc::AllocError;
 use vx_value::{DType, Id, Scalar, VortexError, VortexResult};
 
 /// A scalar function. Each has a file in `functions`. (own)
@@ -22,24 +24,19 @@ pub(crate) trait RowFunction {
     fn child_names(&self) -> &'static [&'static str]
         ensures { map (λ s. s.now) result.now ≡ (meaning self.now).names };
 
-    /// Returns the type of the result, or `None` if the function doesn't accept the arguments.
-    fn return_dtype(&self, arguments: &[DType]) -> Option<DType>
-        ensures { option_map type_of result ≡ (meaning self.now).types (map type_of arguments.now) };
+    /// Returns the type of the result, or `None` if the function doesn't accept the arguments. Fails only if there is no memory
+    /// for the type.
+    fn return_dtype(&self, arguments: &[DType]) -> Result<Option<DType>, AllocError>
+        ensures { IfOk result (λ t. option_map type_of t ≡ (meaning self.now).types (map type_of arguments.now)) };
 
-    /// Applies the function to one row of its arguments, whose types it must accept. `Fault` if the row has no value.
+    /// Applies the function to one row of its arguments, whose types it must accept. `Fault` if the row has no value;
+    /// `OutOfMemory`.
     fn apply(&self, arguments: &[Scalar]) -> VortexResult<Scalar>
         requires { IsSome ((meaning self.now).types (map (λ s. s.of_type) arguments.now)) }
         ensures typed { IfOk result (λ s. (meaning self.now).types (map (λ s. s.of_type) arguments.now) ≡ Some s.of_type) }
         ensures ok { IfOk result (λ s. on_values ((meaning self.now).value s.of_type) (map (λ a. value a.value) arguments.now)
             ≡ value s.value) }
-        ensures fault { IfErr result (λ e. (e ≡ VortexError.Fault) × ((t : DataType)
+        ensures fault { IfErr result (λ e. (e ≡ VortexError.OutOfMemory) ⊎ ((e ≡ VortexError.Fault) × ((t : DataType)
             → (meaning self.now).types (map (λ s. s.of_type) arguments.now) ≡ Some t
-            → on_values ((meaning self.now).value t) (map (λ a. value a.value) arguments.now) ≡ fault)) };
-}
-
-/// Returns `answer`, or `None` if null is one of the values of type `argument`.
-pub(crate) fn no_null_type(argument: &DType, answer: Option<DType>) -> Option<DType>
-    ensures { option_map type_of result ≡ no_null_type (type_of argument.now) (option_map type_of answer) }
-{
-    if argument.is_nullable() { None } else { answer }
+            → on_values ((meaning self.now).value t) (map (λ a. value a.value) arguments.now) ≡ fault))) };
 }

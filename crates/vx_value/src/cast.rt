@@ -41,8 +41,8 @@ impl Scalar {
     }
 }
 
-/// Checks whether there is a cast from `from` to `to`.
-fn has_cast(from: &DType, to: &DType) -> bool
+/// Checks whether there is a cast from `from` to `to`. (own)
+pub fn has_cast(from: &DType, to: &DType) -> bool
     ensures { result ≡ has_cast (type_of from.now) (type_of to.now) }
 {
     from.eq_ignore_nullability(to) || has_other_row(from, to)

@@ -27,8 +27,8 @@ impl Nullability {
         }
     }
 
-    /// Returns `Nullable` if one of the two is.
-    fn union(self, other: Nullability) -> Nullability
+    /// Returns `Nullable` if one of the two is. (own)
+    pub fn union(self, other: Nullability) -> Nullability
         ensures { result ≡ union self other }
     {
         match self {

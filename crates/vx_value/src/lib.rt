@@ -14,6 +14,7 @@ mod scalar;
 mod text;
 
 pub use bytes::ByteBuffer;
+pub use cast::has_cast;
 pub use decimal::{DecimalDType, DecimalType, DecimalValue};
 pub use dtype::{DType, Nullability, PType, Storage};
 pub use error::{ArgKind, VortexError, VortexResult};

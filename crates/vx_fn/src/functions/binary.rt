@@ -1,17 +1,24 @@
 //! The binary operators.
 
-ghost use Rattle.std.specs.Prelude.{◌≡◌, option_map, IfOk, IfErr, IsSome, Some, MatchOption, ◌∷◌, [], true};
-ghost use Rattle.vx_value.specs.Types.{DataType, bool, primitive, same_type};
-ghost use Rattle.vx_value.specs.Values.{boolean};
-ghost use Rattle.vx_value.specs.View.{type_of};
-ghost use Rattle.vx_value.specs.Cell.{value, fault};
-ghost use Rattle.vx_value.specs.Order.{value_cmp};
-ghost use Rattle.vx_fn.specs.Binary.{binary, binary_type, operator_type, calculated_type, calculated, holds, number, quotient};
+ghost use Rattle.std.specs.Prelude.{◌≡◌, ◌⊎◌, option_map, IfOk, IfErr, IsSome, Some, MatchOption, ◌∷◌, [], ℤ, true, false};
+ghost use Rattle.vx_value.specs.Types.{DataType};
+ghost use Rattle.vx_value.specs.Nullabilities.{with_nullability};
+ghost use Rattle.vx_value.specs.View.{type_of, value_of, cell_of};
+ghost use Rattle.vx_value.specs.IsOf.{is_of};
+ghost use Rattle.vx_value.specs.Cell.{Cell, value, fault};
+ghost use Rattle.vx_fn.specs.Binary.{binary, operator_type, operated, is_logical};
+ghost use Rattle.vx_fn.specs.Comparisons.{holds};
+ghost use Rattle.vx_fn.specs.Arithmetic.{calculated_by, divided, IsBounded};
+ghost use Rattle.vx_fn.specs.Logic.{kleene_and, kleene_or};
 
 use crate::function::Operator;
-use crate::row_function::{RowFunction, no_null_type};
+use crate::order::is_ordered;
+use crate::row_function::RowFunction;
+use std::alloc::AllocError;
 use std::cmp::Ordering;
-use vx_value::{DType, Id, Nullability, PType, Scalar, ScalarValue, VortexError, VortexResult};
+use vx_value::{
+    DType, DecimalValue, Id, Nullability, Scalar, ScalarValue, VortexError, VortexResult,
+};
 
 impl RowFunction for Operator {
     ghost meaning = { binary };
@@ -24,10 +31,10 @@ impl RowFunction for Operator {
         &["lhs", "rhs"]
     }
 
-    fn return_dtype(&self, arguments: &[DType]) -> Option<DType> {
+    fn return_dtype(&self, arguments: &[DType]) -> Result<Option<DType>, AllocError> {
         match arguments {
-            [lhs, rhs] => no_null_type(lhs, no_null_type(rhs, binary_type(*self, lhs, rhs))),
-            _ => None,
+            [lhs, rhs] => Ok(binary_type(*self, lhs, rhs)),
+            _ => Ok(None),
         }
     }
 
@@ -39,40 +46,40 @@ impl RowFunction for Operator {
     }
 }
 
-/// Returns the type of an operator's result on arguments that aren't null, or `None` if it doesn't accept them.
+/// Returns the type of an operator's result, or `None` if it doesn't accept the arguments.
 fn binary_type(operator: Operator, lhs: &DType, rhs: &DType) -> Option<DType>
-    ensures { option_map type_of result ≡ binary_type operator (type_of lhs.now) (type_of rhs.now) }
+    ensures { option_map type_of result ≡ (binary operator).types (type_of lhs.now ∷ type_of rhs.now ∷ []) }
 {
-    if *lhs == *rhs {
-        operator_type(operator, lhs)
+    if lhs.eq_ignore_nullability(rhs) {
+        operator_type(operator, lhs, lhs.nullability().union(rhs.nullability()))
     } else {
         None
     }
 }
 
-/// Returns the type of an operator's result on two arguments of type `dtype`, or `None` if it doesn't accept them.
-fn operator_type(operator: Operator, dtype: &DType) -> Option<DType>
-    ensures { option_map type_of result ≡ operator_type operator (type_of dtype.now) }
+/// Returns the type of an operator's result on two arguments of type `dtype`, or `None` if it doesn't accept them. The result
+/// has nullability `nullability`.
+fn operator_type(operator: Operator, dtype: &DType, nullability: Nullability) -> Option<DType>
+    ensures { option_map type_of result ≡ option_map (with_nullability nullability) (operator_type operator (type_of dtype.now)) }
 {
-    if operator.is_comparison() {
-        Some(DType::Bool(Nullability::NonNullable))
-    } else {
-        calculated_type(dtype)
-    }
-}
-
-/// Returns the type of arithmetic on values of type `dtype`, or `None` if it has none.
-fn calculated_type(dtype: &DType) -> Option<DType>
-    ensures { option_map type_of result ≡ calculated_type (type_of dtype.now) }
-{
-    match dtype {
-        DType::Primitive(ptype, _) => Some(DType::Primitive(*ptype, Nullability::NonNullable)),
+    match (operator, dtype) {
+        (Operator::Eq | Operator::NotEq, _) => Some(DType::Bool(nullability)),
+        (Operator::Gt | Operator::Gte | Operator::Lt | Operator::Lte, _) if is_ordered(dtype) => {
+            Some(DType::Bool(nullability))
+        }
+        (Operator::Add | Operator::Sub, DType::Decimal(decimal, _)) => {
+            Some(DType::Decimal(*decimal, nullability))
+        }
+        (
+            Operator::Add | Operator::Sub | Operator::Mul | Operator::Div,
+            DType::Primitive(ptype, _),
+        ) => Some(DType::Primitive(*ptype, nullability)),
+        (Operator::And | Operator::Or, DType::Bool(_)) => Some(DType::Bool(nullability)),
         _ => None,
     }
 }
 
 /// Applies `operator` to two arguments, whose types it must accept.
-#[tactic(auto, using(crate::proofs::BinaryLemmas::whole_values))]
 fn operate(operator: Operator, lhs: &Scalar, rhs: &Scalar) -> VortexResult<Scalar>
     requires { IsSome ((binary operator).types (lhs.now.of_type ∷ rhs.now.of_type ∷ [])) }
     ensures typed { IfOk result (λ s. (binary operator).types (lhs.now.of_type ∷ rhs.now.of_type ∷ []) ≡ Some s.of_type) }
@@ -81,32 +88,70 @@ fn operate(operator: Operator, lhs: &Scalar, rhs: &Scalar) -> VortexResult<Scala
         → (binary operator).types (lhs.now.of_type ∷ rhs.now.of_type ∷ []) ≡ Some t
         → (binary operator).value t (lhs.now.value ∷ rhs.now.value ∷ []) ≡ fault)) }
 {
-    let operands = (lhs.dtype(), lhs.value(), rhs.value());
-    if operator.is_comparison() {
-        return Ok(compare(operator, lhs, rhs));
+    let Some(dtype) = binary_type(operator, lhs.dtype(), rhs.dtype()) else {
+        unreachable!();
+    };
+    if operator.is_logical() {
+        let answer = join(operator, lhs.as_bool(), rhs.as_bool());
+        return fitted(dtype, answer.map(ScalarValue::Bool));
     }
-    match operands {
-        (
-            DType::Primitive(ptype, _),
-            Some(ScalarValue::Integer(x)),
-            Some(ScalarValue::Integer(y)),
-        ) => calculate(operator, *ptype, x, y),
-        _ => unreachable!(),
+    match (lhs.value(), rhs.value()) {
+        (Some(x), Some(y)) => operate_values(operator, dtype, x, y),
+        _ => Ok(Scalar::null(dtype)),
     }
 }
 
-/// Compares two values of one type.
-fn compare(operator: Operator, lhs: &Scalar, rhs: &Scalar) -> Scalar
-    requires { same_type lhs.now.of_type rhs.now.of_type ≡ true }
-    ensures { result ≡ record {
-      of_type = bool Nullability.NonNullable;
-      value = boolean (holds operator (value_cmp lhs.now.value rhs.now.value));
-    } }
+/// Joins two truth values, where `None` is null, by `And`, or by `Or` if `operator` isn't `And`.
+fn join(operator: Operator, lhs: Option<bool>, rhs: Option<bool>) -> Option<bool>
+    ensures and { operator ≡ Operator.And → result ≡ kleene_and lhs rhs }
+    ensures or { operator ≡ Operator.Or → result ≡ kleene_or lhs rhs }
 {
-    match lhs.partial_cmp(rhs) {
-        Some(ordering) => Scalar::bool(holds(operator, ordering), Nullability::NonNullable),
-        None => unreachable!(),
+    let decides = operator == Operator::Or;
+    if lhs == Some(decides) || rhs == Some(decides) {
+        Some(decides)
+    } else if lhs.is_none() || rhs.is_none() {
+        None
+    } else {
+        Some(!decides)
     }
+}
+
+/// Applies `operator`, which isn't logical, to two values that aren't null. The result is of type `dtype`; `Fault` if there
+/// is none.
+fn operate_values(
+    operator: Operator,
+    dtype: DType,
+    lhs: &ScalarValue,
+    rhs: &ScalarValue,
+) -> VortexResult<Scalar>
+    requires { is_logical operator ≡ false }
+    ensures ok { IfOk result (λ s. (s.of_type ≡ type_of dtype)
+        × (operated operator (type_of dtype) (value_of lhs.now) (value_of rhs.now) ≡ value s.value)) }
+    ensures fault { IfErr result (λ e. (e ≡ VortexError.Fault)
+        × (operated operator (type_of dtype) (value_of lhs.now) (value_of rhs.now) ≡ fault)) }
+{
+    let value = match (&dtype, lhs, rhs) {
+        (DType::Bool(_), _, _) => ScalarValue::Bool(holds(operator, lhs.cmp(rhs))),
+        (DType::Primitive(_, _), ScalarValue::Integer(x), ScalarValue::Integer(y)) => {
+            ScalarValue::Integer(exactly(operator, *x, *y)?)
+        }
+        (DType::Decimal(decimal, _), ScalarValue::Decimal(x), ScalarValue::Decimal(y)) => {
+            ScalarValue::Decimal(DecimalValue {
+                unscaled: exactly(operator, x.unscaled, y.unscaled)?,
+                scale: decimal.scale(),
+            })
+        }
+        _ => return Err(VortexError::Fault),
+    };
+    fitted(dtype, Some(value))
+}
+
+/// Returns `value`, where `None` is null, as a scalar of type `dtype`; `Fault` if the type doesn't have it.
+fn fitted(dtype: DType, value: Option<ScalarValue>) -> VortexResult<Scalar>
+    ensures ok { IfOk result (λ s. (s.of_type ≡ type_of dtype) × (s.value ≡ cell_of value) × (is_of (type_of dtype) (cell_of value) ≡ true)) }
+    ensures fault { IfErr result (λ e. (e ≡ VortexError.Fault) × (is_of (type_of dtype) (cell_of value) ≡ false)) }
+{
+    Scalar::try_new(dtype, value).map_err(|_| VortexError::Fault)
 }
 
 /// Checks whether a comparison holds of two values that compare as `ordering`.
@@ -124,49 +169,24 @@ fn holds(operator: Operator, ordering: Ordering) -> bool
     }
 }
 
-/// Applies `operator` to two integers of type `ptype`.
-fn calculate(operator: Operator, ptype: PType, x: i128, y: i128) -> VortexResult<Scalar>
-    ensures ok { IfOk result (λ s. (s.of_type ≡ primitive ptype Nullability.NonNullable)
-        × (calculated operator ptype x y ≡ value s.value)) }
-    ensures fault { IfErr result (λ e. (e ≡ VortexError.Fault) × (calculated operator ptype x y ≡ fault)) }
+/// Applies `operator` to two integers; `Fault` if no type has the result.
+fn exactly(operator: Operator, x: i128, y: i128) -> VortexResult<i128>
+    ensures ok { IfOk result (λ z. (fit : ℤ → Cell) → calculated_by operator fit x y ≡ fit z) }
+    ensures fault { IfErr result (λ e. (e ≡ VortexError.Fault) × ((fit : ℤ → Cell) → IsBounded fit → calculated_by operator fit x y ≡ fault)) }
 {
-    match exactly(operator, x, y) {
-        Some(z) => number(ptype, z),
-        None => Err(VortexError::Fault),
-    }
-}
-
-/// Returns `z` as a value of type `ptype`, or `Fault` if it is out of the type's range.
-fn number(ptype: PType, z: i128) -> VortexResult<Scalar>
-    ensures ok { IfOk result (λ s. (s.of_type ≡ primitive ptype Nullability.NonNullable)
-        × (number ptype z ≡ value s.value)) }
-    ensures fault { IfErr result (λ e. (e ≡ VortexError.Fault) × (number ptype z ≡ fault)) }
-{
-    match Scalar::try_new(
-        DType::Primitive(ptype, Nullability::NonNullable),
-        Some(ScalarValue::Integer(z)),
-    ) {
-        Ok(scalar) => Ok(scalar),
-        Err(_) => Err(VortexError::Fault),
-    }
-}
-
-/// Applies `operator` to two integers; `None` if no type has the result.
-fn exactly(operator: Operator, x: i128, y: i128) -> Option<i128>
-    ensures { (p : PType) → MatchOption result (calculated operator p x y ≡ fault) (λ z. calculated operator p x y ≡ number p z) }
-{
-    match operator {
+    let result = match operator {
         Operator::Add => x.checked_add(y),
         Operator::Sub => x.checked_sub(y),
         Operator::Mul => x.checked_mul(y),
         Operator::Div => quotient(x, y),
         _ => None,
-    }
+    };
+    result.ok_or(VortexError::Fault)
 }
 
 /// `x / y` truncated toward zero; `None` on division by zero or overflow.
 fn quotient(x: i128, y: i128) -> Option<i128>
-    ensures { (p : PType) → MatchOption result (quotient p x y ≡ fault) (λ z. quotient p x y ≡ number p z) }
+    ensures { MatchOption result ((fit : ℤ → Cell) → IsBounded fit → divided fit x y ≡ fault) (λ z. (fit : ℤ → Cell) → divided fit x y ≡ fit z) }
 {
     if y == 0 { None } else { x.checked_div(y) }
 }

@@ -3,10 +3,11 @@
 ghost use Rattle.std.specs.Prelude.{◌≡◌, option_map, IsSome, Some, ◌∷◌, []};
 ghost use Rattle.vx_value.specs.View.{type_of};
 ghost use Rattle.vx_value.specs.Cell.{value};
-ghost use Rattle.vx_fn.specs.Negation.{negation, not_type};
+ghost use Rattle.vx_fn.specs.Negation.{negation};
 
-use crate::row_function::{RowFunction, no_null_type};
-use vx_value::{DType, Id, Nullability, Scalar, ScalarValue, VortexResult};
+use crate::row_function::RowFunction;
+use std::alloc::AllocError;
+use vx_value::{DType, Id, Scalar, VortexResult};
 
 /// The negation of a boolean, the argument `input`. (own)
 pub(crate) struct Not;
@@ -22,10 +23,10 @@ impl RowFunction for Not {
         &["input"]
     }
 
-    fn return_dtype(&self, arguments: &[DType]) -> Option<DType> {
+    fn return_dtype(&self, arguments: &[DType]) -> Result<Option<DType>, AllocError> {
         match arguments {
-            [input] => no_null_type(input, not_type(input)),
-            _ => None,
+            [input] => Ok(not_type(input)),
+            _ => Ok(None),
         }
     }
 
@@ -37,12 +38,12 @@ impl RowFunction for Not {
     }
 }
 
-/// Returns the type of the negation of a value of type `dtype`, or `None` if it has none.
-fn not_type(dtype: &DType) -> Option<DType>
-    ensures { option_map type_of result ≡ not_type (type_of dtype.now) }
+/// Returns the type of the negation of a value of type `input`, or `None` if it has none.
+fn not_type(input: &DType) -> Option<DType>
+    ensures { option_map type_of result ≡ negation.types (type_of input.now ∷ []) }
 {
-    match dtype {
-        DType::Bool(_) => Some(DType::Bool(Nullability::NonNullable)),
+    match input {
+        DType::Bool(nullability) => Some(DType::Bool(*nullability)),
         _ => None,
     }
 }
@@ -53,10 +54,9 @@ fn negate(input: &Scalar) -> Scalar
     ensures typed { negation.types (input.now.of_type ∷ []) ≡ Some result.of_type }
     ensures value { negation.value result.of_type (input.now.value ∷ []) ≡ value result.value }
 {
-    match (input.dtype(), input.value()) {
-        (DType::Bool(_), Some(ScalarValue::Bool(value))) => {
-            Scalar::bool(!value, Nullability::NonNullable)
-        }
+    match (input.dtype(), input.as_bool()) {
+        (DType::Bool(nullability), Some(value)) => Scalar::bool(!value, *nullability),
+        (DType::Bool(nullability), None) => Scalar::null(DType::Bool(*nullability)),
         _ => unreachable!(),
     }
 }

@@ -1,0 +1,20 @@
+-- Whether a value is null, or isn't.
+use Rattle.std.specs.Prelude.{Bool, Option, Some, codes}
+use Rattle.std.proofs.Math.Bool.{not}
+use Rattle.vx_value.specs.Types.{DataType, bool}
+use Rattle.vx_value.specs.Values.{Value, boolean}
+use Rattle.vx_value.specs.Cell.{Cell, value}
+use Rattle.vx_value.specs.IsOf.{is_null}
+use Rattle.vx_value.specs.declared.dtype.Nullability.TheVariants.{NonNullable}
+use Rattle.vx_value.specs.declared.id.Id.TheVariants as id
+use Rattle.vx_fn.specs.Meanings.{Meaning, taking_one, kept}
+
+-- values of every type are tested
+abbrev pub test_type : DataType → Option DataType
+test_type s = Some (bool NonNullable)
+
+abbrev pub null_test : Meaning
+null_test = taking_one kept kept id.IsNull (codes "input") test_type (λ ty v. value (boolean (is_null v)))
+
+abbrev pub value_test : Meaning
+value_test = taking_one kept kept id.IsNotNull (codes "input") test_type (λ ty v. value (boolean (not (is_null v))))

@@ -1,0 +1,108 @@
+//! Whether a value lies between two others.
+
+ghost use Rattle.std.specs.Prelude.{◌≡◌, option_map, IsSome, Some, ◌∷◌, []};
+ghost use Rattle.vx_value.specs.View.{type_of};
+ghost use Rattle.vx_value.specs.Cell.{value};
+ghost use Rattle.vx_fn.specs.Between.{between, is_below};
+
+use crate::order::is_ordered;
+use crate::row_function::RowFunction;
+use std::alloc::AllocError;
+use std::cmp::Ordering;
+use vx_value::{DType, Id, Scalar, VortexResult};
+
+/// Whether a bound is below the values that it bounds, or may be one of them.
+#[derive(Clone, Copy, Debug, PartialEq, Eq, Hash)]
+pub enum StrictComparison {
+    /// `<`.
+    Strict,
+    /// `<=`.
+    NonStrict,
+}
+
+/// How `Between` compares a value with its bounds.
+#[derive(Clone, Copy, Debug, PartialEq, Eq, Hash)]
+pub struct BetweenOptions {
+    /// Compares the lower bound with the value.
+    pub lower_strict: StrictComparison,
+    /// Compares the value with the upper bound.
+    pub upper_strict: StrictComparison,
+}
+
+impl RowFunction for BetweenOptions {
+    ghost meaning = { between };
+
+    fn id(&self) -> Id {
+        Id::Between
+    }
+
+    fn child_names(&self) -> &'static [&'static str] {
+        &["array", "lower", "upper"]
+    }
+
+    fn return_dtype(&self, arguments: &[DType]) -> Result<Option<DType>, AllocError> {
+        match arguments {
+            [array, lower, upper] => Ok(between_type(*self, array, lower, upper)),
+            _ => Ok(None),
+        }
+    }
+
+    fn apply(&self, arguments: &[Scalar]) -> VortexResult<Scalar> {
+        match arguments {
+            [array, lower, upper] => Ok(lies_between(*self, array, lower, upper)),
+            _ => unreachable!(),
+        }
+    }
+}
+
+/// Returns the type of the result, or `None` if the arguments aren't of one type whose values have an order.
+fn between_type(
+    options: BetweenOptions,
+    array: &DType,
+    lower: &DType,
+    upper: &DType,
+) -> Option<DType>
+    ensures { option_map type_of result ≡ (between options).types (type_of array.now ∷ type_of lower.now ∷ type_of upper.now ∷ []) }
+{
+    let _ = options;
+    if array.eq_ignore_nullability(lower)
+        && array.eq_ignore_nullability(upper)
+        && is_ordered(array)
+    {
+        let bounds = lower.nullability().union(upper.nullability());
+        Some(DType::Bool(array.nullability().union(bounds)))
+    } else {
+        None
+    }
+}
+
+/// Checks whether a value lies between two others; null if one of the three is.
+fn lies_between(options: BetweenOptions, array: &Scalar, lower: &Scalar, upper: &Scalar) -> Scalar
+    requires { IsSome ((between options).types (array.now.of_type ∷ lower.now.of_type ∷ upper.now.of_type ∷ [])) }
+    ensures typed { (between options).types (array.now.of_type ∷ lower.now.of_type ∷ upper.now.of_type ∷ []) ≡ Some result.of_type }
+    ensures value { (between options).value result.of_type (array.now.value ∷ lower.now.value ∷ upper.now.value ∷ []) ≡ value result.value }
+{
+    let bounds = lower
+        .dtype()
+        .nullability()
+        .union(upper.dtype().nullability());
+    let nullability = array.dtype().nullability().union(bounds);
+    match (array.value(), lower.value(), upper.value()) {
+        (Some(value), Some(least), Some(greatest)) => Scalar::bool(
+            is_below(options.lower_strict, least.cmp(value))
+                && is_below(options.upper_strict, value.cmp(greatest)),
+            nullability,
+        ),
+        _ => Scalar::null(DType::Bool(nullability)),
+    }
+}
+
+/// Checks whether the first of two values that compare as `ordering` is below the other, or may be the same.
+fn is_below(comparison: StrictComparison, ordering: Ordering) -> bool
+    ensures { result ≡ is_below comparison ordering }
+{
+    match comparison {
+        StrictComparison::Strict => ordering.is_lt(),
+        StrictComparison::NonStrict => ordering.is_le(),
+    }
+}

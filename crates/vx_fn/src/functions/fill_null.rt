@@ -1,0 +1,55 @@
+//! Values in place of nulls.
+
+ghost use Rattle.std.specs.Prelude.{◌≡◌, IfOk, IfErr, IsSome, Some, ◌∷◌, [], option_map};
+ghost use Rattle.vx_value.specs.View.{type_of};
+ghost use Rattle.vx_value.specs.Cell.{value};
+ghost use Rattle.vx_fn.specs.FillNull.{fill_null};
+
+use crate::row_function::RowFunction;
+use std::alloc::AllocError;
+use vx_value::{DType, Id, Scalar, VortexError, VortexResult};
+
+/// `input`, or the argument `fill_value` if it is null. (own)
+pub(crate) struct FillNull;
+
+impl RowFunction for FillNull {
+    ghost meaning = { λ _. fill_null };
+
+    fn id(&self) -> Id {
+        Id::FillNull
+    }
+
+    fn child_names(&self) -> &'static [&'static str] {
+        &["input", "fill_value"]
+    }
+
+    fn return_dtype(&self, arguments: &[DType]) -> Result<Option<DType>, AllocError> {
+        match arguments {
+            [input, fill_value] if input.eq_ignore_nullability(fill_value) => {
+                Ok(Some(fill_value.clone()?))
+            }
+            _ => Ok(None),
+        }
+    }
+
+    fn apply(&self, arguments: &[Scalar]) -> VortexResult<Scalar> {
+        match arguments {
+            [input, fill_value] => filled(input, fill_value),
+            _ => unreachable!(),
+        }
+    }
+}
+
+/// Returns `input`, or `fill_value` if it is null. The only error is `OutOfMemory`.
+fn filled(input: &Scalar, fill_value: &Scalar) -> VortexResult<Scalar>
+    requires { IsSome (fill_null.types (input.now.of_type ∷ fill_value.now.of_type ∷ [])) }
+    ensures typed { IfOk result (λ s. fill_null.types (input.now.of_type ∷ fill_value.now.of_type ∷ []) ≡ Some s.of_type) }
+    ensures value { IfOk result (λ s. fill_null.value s.of_type (input.now.value ∷ fill_value.now.value ∷ []) ≡ value s.value) }
+    ensures err { IfErr result (λ e. e ≡ VortexError.OutOfMemory) }
+{
+    if input.is_null() {
+        Ok(fill_value.clone()?)
+    } else {
+        input.cast(fill_value.dtype())
+    }
+}

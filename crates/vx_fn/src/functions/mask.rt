@@ -1,0 +1,51 @@
+//! A value where a mask is true, null where it is false.
+
+ghost use Rattle.std.specs.Prelude.{◌≡◌, ◌⊎◌, IfOk, IfErr, IsSome, Some, ◌∷◌, [], option_map};
+ghost use Rattle.vx_value.specs.View.{type_of};
+ghost use Rattle.vx_value.specs.Cell.{value};
+ghost use Rattle.vx_fn.specs.Mask.{mask};
+
+use crate::row_function::RowFunction;
+use std::alloc::AllocError;
+use vx_value::{DType, Id, Nullability, Scalar, VortexResult};
+
+/// `input` if the argument `mask` is true, else null. (own)
+pub(crate) struct Mask;
+
+impl RowFunction for Mask {
+    ghost meaning = { λ _. mask };
+
+    fn id(&self) -> Id {
+        Id::Mask
+    }
+
+    fn child_names(&self) -> &'static [&'static str] {
+        &["input", "mask"]
+    }
+
+    fn return_dtype(&self, arguments: &[DType]) -> Result<Option<DType>, AllocError> {
+        match arguments {
+            [input, DType::Bool(Nullability::NonNullable)] => Ok(Some(input.as_nullable()?)),
+            _ => Ok(None),
+        }
+    }
+
+    fn apply(&self, arguments: &[Scalar]) -> VortexResult<Scalar> {
+        match arguments {
+            [input, mask] => Ok(masked(input, mask)?),
+            _ => unreachable!(),
+        }
+    }
+}
+
+/// Returns `input` if `mask` is true, else null.
+fn masked(input: &Scalar, mask: &Scalar) -> Result<Scalar, AllocError>
+    requires { IsSome (mask.types (input.now.of_type ∷ mask.now.of_type ∷ [])) }
+    ensures typed { IfOk result (λ s. mask.types (input.now.of_type ∷ mask.now.of_type ∷ []) ≡ Some s.of_type) }
+    ensures value { IfOk result (λ s. mask.value s.of_type (input.now.value ∷ mask.now.value ∷ []) ≡ value s.value) }
+{
+    match mask.as_bool() {
+        Some(true) => Ok(input.clone()?.into_nullable()),
+        _ => Ok(Scalar::null(input.dtype().as_nullable()?)),
+    }
+}

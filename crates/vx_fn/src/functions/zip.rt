@@ -1,0 +1,58 @@
+//! One value where a mask is true, another where it is false.
+
+ghost use Rattle.std.specs.Prelude.{◌≡◌, ◌⊎◌, IfOk, IfErr, IsSome, Some, ◌∷◌, [], option_map};
+ghost use Rattle.vx_value.specs.View.{type_of};
+ghost use Rattle.vx_value.specs.Cell.{value};
+ghost use Rattle.vx_fn.specs.Zip.{zip};
+
+use crate::row_function::RowFunction;
+use std::alloc::AllocError;
+use vx_value::{DType, Id, Scalar, VortexError, VortexResult};
+
+/// `if_true` if the argument `mask` is true, else `if_false`. (own)
+pub(crate) struct Zip;
+
+impl RowFunction for Zip {
+    ghost meaning = { λ _. zip };
+
+    fn id(&self) -> Id {
+        Id::Zip
+    }
+
+    fn child_names(&self) -> &'static [&'static str] {
+        &["if_true", "if_false", "mask"]
+    }
+
+    fn return_dtype(&self, arguments: &[DType]) -> Result<Option<DType>, AllocError> {
+        match arguments {
+            [if_true, if_false, DType::Bool(_)] if if_true.eq_ignore_nullability(if_false) => {
+                Ok(Some(if_true.union_nullability(if_false.nullability())?))
+            }
+            _ => Ok(None),
+        }
+    }
+
+    fn apply(&self, arguments: &[Scalar]) -> VortexResult<Scalar> {
+        match arguments {
+            [if_true, if_false, mask] => zipped(if_true, if_false, mask),
+            _ => unreachable!(),
+        }
+    }
+}
+
+/// Returns `if_true` if `choice` is true, else `if_false`. The only error is `OutOfMemory`.
+fn zipped(if_true: &Scalar, if_false: &Scalar, choice: &Scalar) -> VortexResult<Scalar>
+    requires { IsSome (zip.types (if_true.now.of_type ∷ if_false.now.of_type ∷ choice.now.of_type ∷ [])) }
+    ensures typed { IfOk result (λ s. zip.types (if_true.now.of_type ∷ if_false.now.of_type ∷ choice.now.of_type ∷ []) ≡ Some s.of_type) }
+    ensures value { IfOk result (λ s. zip.value s.of_type (if_true.now.value ∷ if_false.now.value ∷ choice.now.value ∷ []) ≡ value s.value) }
+    ensures err { IfErr result (λ e. e ≡ VortexError.OutOfMemory) }
+{
+    let dtype = if_true
+        .dtype()
+        .union_nullability(if_false.dtype().nullability())?;
+    let chosen = match choice.as_bool() {
+        Some(true) => if_true,
+        _ => if_false,
+    };
+    chosen.cast(&dtype)
+}
