@@ -1,7 +1,7 @@
 -- What a cast gives is of the target type, and a cast to the type itself changes nothing.
 use Rattle.std.proofs.Common.{◌≡◌, ℕ, ◌-◌, nat_le, Bool, true, false, refl, ap, sym, ◌∙◌, if◌then◌else◌, Some, None, is_some}
 use Rattle.std.specs.Prelude.{ℤ, pos, ◌*ℤ◌, int_div, int_rem}
-use Rattle.std.specs.Ordering.{int_cmp, is_eq}
+use Rattle.std.specs.Ordering.{int_eq}
 use Rattle.std.specs.Cmp.{unsigned_Decides}
 use Rattle.vx_value.specs.Types as type
 use Rattle.vx_value.specs.Types.{DataType, nullability_of, is_nullable}
@@ -11,7 +11,7 @@ use Rattle.vx_value.specs.Cell as cell
 use Rattle.vx_value.specs.Cell.{Cell}
 use Rattle.vx_value.specs.IsOf.{is_of, is_null}
 use Rattle.vx_value.specs.Nullabilities.{same_but_nullability, same_but_nullability_Decides}
-use Rattle.vx_value.specs.Casts.{to_integer, sized, power, shortened, rescaled, to_decimal, to_bool, to_text, to_bytes, into}
+use Rattle.vx_value.specs.Casts.{to_integer, sized, power, lengthened, shortened, rescaled, to_decimal, to_bool, to_text, to_bytes, into}
 use Rattle.vx_value.specs.Casts.{has_other_row, other_row, by_row, has_cast, cast_value}
 use Rattle.vx_value.specs.Decimals.{has_digits}
 use Rattle.vx_value.specs.declared.dtype.PType.{PType}
@@ -46,7 +46,7 @@ sized_typed p s n z w e =
     ap (is_of (type.decimal p s n)) (sym found.1) ∙ both_true ((unsigned_Decides s s).1 refl) found.0
 
 shortened_typed : (p s : ℕ) (n : Nullability) (z : ℤ) (k : ℕ) (w : Value) → shortened p s z k ≡ cell.value w → is_of (type.decimal p s n) w ≡ true
-shortened_typed p s n z k w e = by_test (is_eq (int_cmp (int_rem z (power k)) (pos 0))) e
+shortened_typed p s n z k w e = by_test (int_eq (int_rem z (power k)) (pos 0)) e
   where
     by_test : (b : Bool) → (if b then sized p s (int_div z (power k)) else cell.fault) ≡ cell.value w → is_of (type.decimal p s n) w ≡ true
     by_test true e = sized_typed p s n (int_div z (power k)) w e
@@ -55,7 +55,7 @@ shortened_typed p s n z k w e = by_test (is_eq (int_cmp (int_rem z (power k)) (p
 rescaled_typed : (p s : ℕ) (n : Nullability) (z : ℤ) (r : ℕ) (w : Value) → rescaled p s z r ≡ cell.value w → is_of (type.decimal p s n) w ≡ true
 rescaled_typed p s n z r w e = by_test (nat_le r s) e
   where
-    by_test : (b : Bool) → (if b then sized p s (z *ℤ power (s - r)) else shortened p s z (r - s)) ≡ cell.value w → is_of (type.decimal p s n) w ≡ true
+    by_test : (b : Bool) → (if b then lengthened p s z (s - r) else shortened p s z (r - s)) ≡ cell.value w → is_of (type.decimal p s n) w ≡ true
     by_test true e = sized_typed p s n (z *ℤ power (s - r)) w e
     by_test false e = shortened_typed p s n z (r - s) w e
 

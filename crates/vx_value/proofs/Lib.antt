@@ -5,3 +5,4 @@ pub mod DecimalsLemmas
 pub mod NullabilitiesLemmas
 pub mod CastsLemmas
 pub mod BytesLemmas
+pub mod DigitsLemmas

@@ -1,6 +1,6 @@
 -- Which casts there are, and what each makes of a value.
 use Rattle.std.specs.Prelude.{ℕ, ℤ, pos, ◌*ℤ◌, ◌-◌, ◌^◌, int_div, int_rem, nat_le, Bool, true, false, Option, Some, None, is_some, if◌then◌else◌}
-use Rattle.std.specs.Ordering.{int_cmp, is_eq}
+use Rattle.std.specs.Ordering.{int_eq}
 use Rattle.std.specs.Str.{is_utf8}
 use Rattle.vx_value.specs.Types as type
 use Rattle.vx_value.specs.Types.{DataType, nullability_of, is_nullable}
@@ -28,13 +28,17 @@ sized p s z = if has_digits p z then cell.value (value.decimal z s) else cell.fa
 abbrev pub power : ℕ → ℤ
 power k = pos (10 ^ k)
 
+-- a number with k zeros more
+abbrev pub lengthened : ℕ → ℕ → ℤ → ℕ → Cell
+lengthened p s z k = sized p s (z *ℤ power k)
+
 -- a number with its last k digits left out, a fault if one isn't 0
 abbrev pub shortened : ℕ → ℕ → ℤ → ℕ → Cell
-shortened p s z k = if is_eq (int_cmp (int_rem z (power k)) (pos 0)) then sized p s (int_div z (power k)) else cell.fault
+shortened p s z k = if int_eq (int_rem z (power k)) (pos 0) then sized p s (int_div z (power k)) else cell.fault
 
 -- a number with r digits behind the point, written with s digits there
 abbrev pub rescaled : ℕ → ℕ → ℤ → ℕ → Cell
-rescaled p s z r = if nat_le r s then sized p s (z *ℤ power (s - r)) else shortened p s z (r - s)
+rescaled p s z r = if nat_le r s then lengthened p s z (s - r) else shortened p s z (r - s)
 
 -- an integer has no digits behind the point
 abbrev pub to_decimal : ℕ → ℕ → Value → Cell

@@ -1,13 +1,10 @@
 //! Casts of scalars, as in the original's `scalar` module.
 
-ghost use Rattle.std.specs.Prelude.{◌≡◌, ◌↔◌, ◌⊎◌, ◌≤◌, IfOk, IfErr, IsErrOf, MatchOption, true, false, is_some};
-ghost use Rattle.std.specs.Prelude.{pos, ◌*ℤ◌, int_div, int_rem, FitsSigned};
-ghost use Rattle.std.specs.Int.{w128};
-ghost use Rattle.std.specs.Ordering.{int_cmp, is_eq};
+ghost use Rattle.std.specs.Prelude.{◌≡◌, ◌↔◌, ◌⊎◌, ◌≤◌, IfOk, IfErr, IsErrOf, true, false};
 ghost use Rattle.vx_value.specs.View.{type_of, value_of, cell_of, cell_seen};
 ghost use Rattle.vx_value.specs.Values.{integer};
 ghost use Rattle.vx_value.specs.Cell as cell;
-ghost use Rattle.vx_value.specs.Casts.{to_integer, power, rescaled, into, has_other_row, has_cast, cast_value};
+ghost use Rattle.vx_value.specs.Casts.{to_integer, sized, lengthened, shortened, rescaled, into, has_other_row, has_cast, cast_value};
 
 use crate::decimal::has_digits;
 use crate::scalar::in_range;
@@ -18,10 +15,20 @@ use crate::{
 
 impl Scalar {
     /// Returns the value as one of type `dtype`, by the first of these casts that takes the two types:
-    /// to the same type, apart from nullability, the value itself; from an integer to an integer type, the same number.
+    ///
+    /// - to the same type, apart from nullability: the value itself;
+    /// - from `Null` to any nullable type: null;
+    /// - from an integer type to an integer type: the same number;
+    /// - from an integer type to a decimal type: the same number;
+    /// - from a decimal type to a decimal type: the same number;
+    /// - from `Utf8` to `Binary`: the bytes of the text;
+    /// - from `Binary` to `Utf8`: the text that the bytes are.
+    ///
+    /// Null stays null. Nothing is rounded.
     ///
     /// Returns `InvalidArgument` with `NoRow` exactly if there is no such cast, and `Fault` exactly if there is one
-    /// and the value is null and `dtype` isn't nullable, or out of the range of `dtype`.
+    /// and the value is null and `dtype` isn't nullable, or it isn't null and `dtype` doesn't have it: an integer out of range,
+    /// a number with more digits than the precision of `dtype` or a digit other than 0 past its scale, or bytes that aren't UTF-8.
     pub fn cast(&self, dtype: &DType) -> VortexResult<Scalar>
         ensures ok { IfOk result (λ s. (s.of_type ≡ type_of dtype.now)
             × (cast_value self.now.of_type (type_of dtype.now) self.now.value ≡ cell.value s.value)) }
@@ -122,38 +129,49 @@ fn rescaled(dtype: DecimalDType, number: i128, scale: u8) -> VortexResult<Scalar
     ensures ok { IfOk result (λ v. rescaled dtype.precision dtype.scale number scale ≡ cell.value (value_of v)) }
     ensures err { IfErr result (λ e. (e ≡ VortexError.Fault) × (rescaled dtype.precision dtype.scale number scale ≡ cell.fault)) }
 {
-    let number = if scale <= dtype.scale() {
-        lengthened(number, dtype.scale() - scale)
+    if scale <= dtype.scale() {
+        lengthened(dtype, number, dtype.scale() - scale)
     } else {
-        shortened(number, scale - dtype.scale())
-    };
-    match number {
-        Some(unscaled) if has_digits(dtype.precision(), unscaled) => {
-            Ok(ScalarValue::Decimal(DecimalValue {
-                unscaled,
-                scale: dtype.scale(),
-            }))
-        }
-        _ => Err(VortexError::Fault),
+        shortened(dtype, number, scale - dtype.scale())
     }
 }
 
-/// Returns `number` with `digits` zeros more, or `None` if no `i128` is that.
-fn lengthened(number: i128, digits: u8) -> Option<i128>
-    requires { digits ≤ 38 }
-    ensures { MatchOption result (¬ FitsSigned w128 (number *ℤ power digits)) (λ z. z ≡ number *ℤ power digits) }
+/// Returns the decimal of type `dtype` whose digits are those of `number` and `digits` zeros more.
+fn lengthened(dtype: DecimalDType, number: i128, digits: u8) -> VortexResult<ScalarValue>
+    requires { digits ≤ dtype.scale }
+    ensures ok { IfOk result (λ v. lengthened dtype.precision dtype.scale number digits ≡ cell.value (value_of v)) }
+    ensures err { IfErr result (λ e. (e ≡ VortexError.Fault) × (lengthened dtype.precision dtype.scale number digits ≡ cell.fault)) }
 {
-    number.checked_mul(10_i128.pow(digits as u32))
+    match number.checked_mul(10_i128.pow(digits as u32)) {
+        Some(unscaled) => sized(dtype, unscaled),
+        None => Err(VortexError::Fault),
+    }
 }
 
-/// Returns `number` without its last `digits` digits, or `None` if one of them isn't 0.
-fn shortened(number: i128, digits: u8) -> Option<i128>
-    ensures { MatchOption result (is_eq (int_cmp (int_rem number (power digits)) (pos 0)) ≡ false)
-        (λ z. (is_eq (int_cmp (int_rem number (power digits)) (pos 0)) ≡ true) × (z ≡ int_div number (power digits))) }
+/// Returns the decimal of type `dtype` whose digits are those of `number` without its last `digits`, which must be zeros.
+fn shortened(dtype: DecimalDType, number: i128, digits: u8) -> VortexResult<ScalarValue>
+    ensures ok { IfOk result (λ v. shortened dtype.precision dtype.scale number digits ≡ cell.value (value_of v)) }
+    ensures err { IfErr result (λ e. (e ≡ VortexError.Fault) × (shortened dtype.precision dtype.scale number digits ≡ cell.fault)) }
 {
     match 10_i128.checked_pow(digits as u32) {
-        Some(power) if number % power == 0 => Some(number / power),
-        None if number == 0 => Some(0),
-        _ => None,
+        Some(power) if number % power == 0 => sized(dtype, number / power),
+        Some(_) => Err(VortexError::Fault),
+        None if number == 0 => sized(dtype, 0),
+        None => Err(VortexError::Fault),
+    }
+}
+
+/// Returns the decimal of type `dtype` that is `unscaled` without its point.
+fn sized(dtype: DecimalDType, unscaled: i128) -> VortexResult<ScalarValue>
+    ensures ok { IfOk result (λ v. sized dtype.precision dtype.scale unscaled ≡ cell.value (value_of v)) }
+    ensures err { IfErr result (λ e. (e ≡ VortexError.Fault) × (sized dtype.precision dtype.scale unscaled ≡ cell.fault)) }
+{
+    if has_digits(dtype.precision(), unscaled) {
+        Ok(ScalarValue::Decimal(DecimalValue {
+            unscaled,
+            scale: dtype.scale(),
+        }))
+    } else {
+        Err(VortexError::Fault)
     }
 }
