@@ -20,7 +20,7 @@ power_fits k h = let most : 10 ^ k ≤ 10 ^ 38 = ten_to h in record { sfits = om
 
 -- and no power of more
 power_past : (k : ℕ) → ¬ FitsSigned w128 (power k) → 10 ^ 39 ≤ 10 ^ k
-power_past k past = 
+power_past k past =
     let zeros : ¬ (k ≤ 38) = λ h. past (power_fits k h) in
     let more : 39 ≤ k = omega (arith, zeros) in
     ten_to more
@@ -48,7 +48,7 @@ power_divides z d k f g e =
     let above : pos 0 <ℤ power k = grind arith in
     let fits : FitsSigned w128 (int_div z (power k)) = quot_fits w128 z (power k) f above in
     let found : (0 < of_z w128 (power k)) × FitsSigned w128 (int_div (to_z w128 (of_z w128 z)) (to_z w128 (of_z w128 (power k)))) =
-        (omega arith, simp (to_z-of_z w128 z f, to_z-of_z w128 (power k) g) fits) in
+    (omega arith, simp (to_z-of_z w128 z f, to_z-of_z w128 (power k) g) fits) in
     subst (λ x. (0 < of_z w128 x) × FitsSigned w128 (int_div (to_z w128 (of_z w128 z)) (to_z w128 (of_z w128 x)))) (sym e) found
 
 -- a number that 128 bits hold is its own rest by a power that they don't

@@ -69,7 +69,7 @@ pub enum Storage {
 }
 
 /// The logical type of an array's rows.
-#[derive(Clone, Debug, PartialEq, Eq, Hash, Drop)]
+#[derive(Debug, PartialEq, Eq, Hash, Drop)]
 pub enum DType {
     /// Null alone, so always nullable.
     Null,
@@ -78,6 +78,21 @@ pub enum DType {
     Decimal(DecimalDType, Nullability),
     Utf8(Nullability),
     Binary(Nullability),
+}
+
+impl Clone for DType {
+    ghost is_clone = { λ a b. b ≡ a };
+
+    fn clone(&self) -> Result<DType, AllocError> {
+        Ok(match self {
+            DType::Null => DType::Null,
+            DType::Bool(nullability) => DType::Bool(*nullability),
+            DType::Primitive(ptype, nullability) => DType::Primitive(*ptype, *nullability),
+            DType::Decimal(decimal, nullability) => DType::Decimal(*decimal, *nullability),
+            DType::Utf8(nullability) => DType::Utf8(*nullability),
+            DType::Binary(nullability) => DType::Binary(*nullability),
+        })
+    }
 }
 
 impl DType {
