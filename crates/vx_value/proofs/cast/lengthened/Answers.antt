@@ -3,7 +3,7 @@ use Rattle.std.proofs.lemmas.Int.{to_z-of_z}
 use Rattle.std.specs.Int.{w128}
 use Rattle.vx_value.specs.declared.decimal.DecimalDType.{DecimalDType}
 use Rattle.vx_value.specs.Casts.{power}
-use Rattle.vx_value.proofs.DigitsLemmas.{power_fits, past_digits}
+use Rattle.vx_value.proofs.CastsLemmas.{power_fits, past_digits}
 use Rattle.vx_value.proofs.cast.lengthened.Goals as goal
 
 digits_few : (d : DecimalDType) (k : ℕ) → k ≤ d.scale → k ≤ 38
@@ -15,5 +15,5 @@ pow-requires c = power_fits c.args.digits (digits_few c.args.dtype c.args.digits
 pub returns-in-None-clause-err : goal.returns-in-None-clause-err
 returns-in-None-clause-err c =
     let past : ¬ FitsSigned w128 (c.args.number *ℤ power c.args.digits) =
-        λ f. c.in-None.ensures (simp (to_z-of_z w128 c.args.number c.ranges.number, c.pow.ensures, to_z-of_z w128 (power c.args.digits) (power_fits c.args.digits (digits_few c.args.dtype c.args.digits c.requires))) f) in
+    λ f. c.in-None.ensures (simp (to_z-of_z w128 c.args.number c.ranges.number, c.pow.ensures, to_z-of_z w128 (power c.args.digits) (power_fits c.args.digits (digits_few c.args.dtype c.args.digits c.requires))) f) in
     (refl, past_digits c.args.dtype.precision c.args.dtype.scale _ c.args.dtype.is_decimal.1 past)
