@@ -1,8 +1,13 @@
--- What a cast gives is of the target type, and a cast to the type itself changes nothing.
-use Rattle.std.proofs.Common.{◌≡◌, ℕ, ◌-◌, nat_le, Bool, true, false, refl, ap, sym, ◌∙◌, if◌then◌else◌, Some, None, is_some}
-use Rattle.std.specs.Prelude.{ℤ, pos, ◌*ℤ◌, int_div, int_rem}
+-- What a cast gives: of the target type, the same for the type itself, and by the target alone; what 128 bits hold of the numbers in it.
+use Rattle.std.proofs.Common.{◌≡◌, ◌≤◌, ◌<◌, ◌^◌, ℕ, zero, suc, ◌-◌, nat_le, Bool, true, false, ◌&&◌, ◌==◌, refl, ap, sym, ◌∙◌, subst, if◌then◌else◌, Some, None, is_some}
+use Rattle.std.proofs.Common.{ℤ, pos, negsuc, ◌*ℤ◌, ◌<ℤ◌, nat_abs, of_z, to_z, FitsSigned, arith, ltb-true}
+use Rattle.std.specs.Prelude.{int_div, int_rem, neg_ℤ}
+use Rattle.std.specs.Int.{w128}
 use Rattle.std.specs.Ordering.{int_eq}
-use Rattle.std.specs.Cmp.{unsigned_Decides}
+use Rattle.std.specs.Cmp.{unsigned_Decides, first_so, second_so}
+use Rattle.std.proofs.Math.Nat.{mul-one, mod-eq_of_lt, sub_self, le_refl}
+use Rattle.std.proofs.lemmas.Int.{quot_fits, fits_signed_from_abs, to_z-of_z}
+use Rattle.std.proofs.lemmas.Bool.{false_from_ne_true, le-leb}
 use Rattle.vx_value.specs.Types as type
 use Rattle.vx_value.specs.Types.{DataType, nullability_of, is_nullable}
 use Rattle.vx_value.specs.Values as value
@@ -12,12 +17,13 @@ use Rattle.vx_value.specs.Cell.{Cell}
 use Rattle.vx_value.specs.IsOf.{is_of, is_null}
 use Rattle.vx_value.specs.Nullabilities.{same_but_nullability, same_but_nullability_Decides}
 use Rattle.vx_value.specs.Casts.{to_integer, sized, power, lengthened, shortened, rescaled, to_decimal, to_bool, to_text, to_bytes, into}
-use Rattle.vx_value.specs.Casts.{has_other_row, other_row, by_row, has_cast, cast_value}
+use Rattle.vx_value.specs.Casts.{has_other_row, other_row, by_row, has_cast, cast_value, cast_to}
 use Rattle.vx_value.specs.Decimals.{has_digits}
 use Rattle.vx_value.specs.declared.dtype.PType.{PType}
 use Rattle.vx_value.specs.declared.dtype.Nullability.{Nullability}
 use Rattle.vx_value.specs.declared.dtype.Nullability.TheVariants.{NonNullable}
 use Rattle.vx_value.proofs.NullabilitiesLemmas.{is_of_either}
+use Rattle.vx_value.proofs.DecimalsLemmas.{ten_to}
 use Rattle.vx_value.proofs.DefaultsLemmas.{both_true}
 
 -- a value that a test gives
@@ -114,3 +120,102 @@ cast_to_self t = ap (λ b. is_some (if b then Some cell.value else other_row t t
 pub cast_unchanged : (t : DataType) (v : Value) → is_of t v ≡ true → cast_value t t v ≡ cell.value v
 cast_unchanged t value.null h = ap (λ b. if b then cell.value value.null else cell.fault) h
 cast_unchanged t v h = ap (λ b. by_row (if b then Some cell.value else other_row t t) v) (same_self t)
+
+-- ---- by the target alone
+
+-- a number of so many digits, written with no further digit
+kept_scale : (p s : ℕ) (z : ℤ) → has_digits p z ≡ true → rescaled p s z s ≡ cell.value (value.decimal z s)
+kept_scale p s z h =
+    ap (λ b. if b then lengthened p s z (s - s) else shortened p s z (s - s)) (le-leb s s (le_refl s))
+    ∙ ap (lengthened p s z) (sub_self s)
+    ∙ ap (sized p s) (times_one z)
+    ∙ ap (λ b. if b then cell.value (value.decimal z s) else cell.fault) h
+  where
+    times_one : (z : ℤ) → z *ℤ power 0 ≡ z
+    times_one (pos n) = ap pos (mul-one n)
+    times_one (negsuc n) = ap (λ m. neg_ℤ (pos m)) (mul-one (suc n))
+
+kept_decimal : (p s : ℕ) (z : ℤ) (r : ℕ) → ((r == s) && has_digits p z) ≡ true → rescaled p s z r ≡ cell.value (value.decimal z r)
+kept_decimal p s z r h =
+    let same : r ≡ s = (unsigned_Decides r s).0 (first_so (r == s) (has_digits p z) h) in
+    subst (λ x. rescaled p x z r ≡ cell.value (value.decimal z r)) same (kept_scale p r z (second_so (r == s) (has_digits p z) h))
+
+-- a value that is of the target type stays: a line for each type
+kept : (t : DataType) (v : Value) → is_null v ≡ false → is_of t v ≡ true → into t v ≡ cell.value v
+kept (type.bool n) (value.boolean b) there h = refl
+kept (type.primitive p n) (value.integer z) there h = ap (λ b. if b then cell.value (value.integer z) else cell.fault) h
+kept (type.decimal p s n) (value.decimal z r) there h = kept_decimal p s z r h
+kept (type.utf8 n) (value.bytes bs) there h = ap (λ b. if b then cell.value (value.bytes bs) else cell.fault) h
+kept (type.binary n) (value.bytes bs) there h = refl
+kept _ _ there h = absurd (cc)
+
+other_by_target : (s t : DataType) (v : Value) → is_some (other_row s t) ≡ true → by_row (other_row s t) v ≡ into t v
+other_by_target s t v e = by_test (has_other_row s t) e
+  where
+    by_test : (b : Bool) → is_some (if b then Some (into t) else None) ≡ true → by_row (if b then Some (into t) else None) v ≡ into t v
+    by_test true e = refl
+    by_test false e = absurd (cc)
+
+row_by_target : (b : Bool) (s t : DataType) (v : Value) → b ≡ same_but_nullability s t → is_null v ≡ false → is_of s v ≡ true
+    → is_some (if b then Some cell.value else other_row s t) ≡ true
+    → by_row (if b then Some cell.value else other_row s t) v ≡ into t v
+row_by_target true s t v same there h e = sym (kept t v there (same_typed s t v (sym same) there h))
+row_by_target false s t v same there h e = other_by_target s t v e
+
+pub cast_by_target : (s t : DataType) (v : Value) → is_of s v ≡ true → has_cast s t ≡ true → cast_value s t v ≡ cast_to t v
+cast_by_target s t value.null h e = refl
+cast_by_target s t v h e = row_by_target (same_but_nullability s t) s t v refl refl h e
+
+-- ---- numbers of so many digits beside those that 128 bits hold
+
+-- 128 bits hold each power of ten of at most 38 zeros
+pub power_fits : (k : ℕ) → k ≤ 38 → FitsSigned w128 (power k)
+power_fits k h = let most : 10 ^ k ≤ 10 ^ 38 = ten_to h in record { sfits = omega arith }
+
+-- and no power of more
+power_past : (k : ℕ) → ¬ FitsSigned w128 (power k) → 10 ^ 39 ≤ 10 ^ k
+power_past k past =
+    let zeros : ¬ (k ≤ 38) = λ h. past (power_fits k h) in
+    let more : 39 ≤ k = omega (arith, zeros) in
+    ten_to more
+
+-- they hold each number of at most 38 digits
+digits_fit : (p : ℕ) (z : ℤ) → p ≤ 38 → has_digits p z ≡ true → FitsSigned w128 z
+digits_fit p z h e =
+    let most : 10 ^ p ≤ 10 ^ 38 = ten_to h in
+    let below : nat_abs z < 10 ^ p = ltb-true (nat_abs z) (10 ^ p) e in
+    fits_signed_from_abs w128 z (omega arith)
+
+no_digits : (p : ℕ) (z : ℤ) → p ≤ 38 → ¬ FitsSigned w128 z → has_digits p z ≡ false
+no_digits p z h past = false_from_ne_true (has_digits p z) (λ e. past (digits_fit p z h e))
+
+-- a number that 128 bits don't hold is of no decimal type
+pub past_digits : (p s : ℕ) (z : ℤ) → p ≤ 38 → ¬ FitsSigned w128 z → sized p s z ≡ cell.fault
+past_digits p s z h past = ap (λ b. if b then cell.value (value.decimal z s) else cell.fault) (no_digits p z h past)
+
+-- dividing by a power of ten is safe
+pub power_divides : (z d : ℤ) (k : ℕ) → FitsSigned w128 z → FitsSigned w128 (power k) → d ≡ power k
+    → (0 < of_z w128 d) × FitsSigned w128 (int_div (to_z w128 (of_z w128 z)) (to_z w128 (of_z w128 d)))
+power_divides z d k f g e =
+    let least : 0 ≤ k = omega arith in
+    let one : 10 ^ 0 ≤ 10 ^ k = ten_to least in
+    let above : pos 0 <ℤ power k = grind arith in
+    let fits : FitsSigned w128 (int_div z (power k)) = quot_fits w128 z (power k) f above in
+    let found : (0 < of_z w128 (power k)) × FitsSigned w128 (int_div (to_z w128 (of_z w128 z)) (to_z w128 (of_z w128 (power k)))) =
+    (omega arith, simp (to_z-of_z w128 z f, to_z-of_z w128 (power k) g) fits) in
+    subst (λ x. (0 < of_z w128 x) × FitsSigned w128 (int_div (to_z w128 (of_z w128 z)) (to_z w128 (of_z w128 x)))) (sym e) found
+
+-- a number that 128 bits hold is its own rest by a power that they don't
+rest_is : (z : ℤ) (k : ℕ) → FitsSigned w128 z → ¬ FitsSigned w128 (power k) → int_rem z (power k) ≡ z
+rest_is (pos n) k f past = let large : 10 ^ 39 ≤ 10 ^ k = power_past k past in ap pos (mod-eq_of_lt (omega (arith, f.sfits)))
+rest_is (negsuc n) k f past = let large : 10 ^ 39 ≤ 10 ^ k = power_past k past in ap (λ m. neg_ℤ (pos m)) (mod-eq_of_lt (omega (arith, f.sfits)))
+
+not_zero : (z : ℤ) → ¬ (of_z w128 z ≡ 0) → int_eq z (pos 0) ≡ false
+not_zero (pos zero) there = absurd (there refl)
+not_zero (pos (suc n)) there = grind arith
+not_zero (negsuc n) there = refl
+
+-- so none but 0 ends in so many zeros
+pub shortened_past : (p s : ℕ) (z : ℤ) (k : ℕ) → FitsSigned w128 z → ¬ FitsSigned w128 (power k) → ¬ (of_z w128 z ≡ 0) → shortened p s z k ≡ cell.fault
+shortened_past p s z k f past there =
+    ap (λ b. if b then sized p s (int_div z (power k)) else cell.fault) (ap (λ x. int_eq x (pos 0)) (rest_is z k f past) ∙ not_zero z there)

@@ -5,4 +5,3 @@ pub mod DecimalsLemmas
 pub mod NullabilitiesLemmas
 pub mod CastsLemmas
 pub mod BytesLemmas
-pub mod DigitsLemmas

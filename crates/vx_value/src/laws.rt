@@ -5,11 +5,13 @@ ghost use Rattle.vx_value.specs.Types.{DataType};
 ghost use Rattle.vx_value.specs.Values.{Value};
 ghost use Rattle.vx_value.specs.Cell.{value};
 ghost use Rattle.vx_value.specs.IsOf.{is_of};
-ghost use Rattle.vx_value.specs.Casts.{has_cast, cast_value};
+ghost use Rattle.vx_value.specs.Casts.{has_cast, cast_value, cast_to};
 
-/// States that a cast to a value's own type changes nothing, and that what a cast gives is of the target type. (own)
+/// States that a cast to a value's own type changes nothing, that what a cast gives is of the target type, and that the target
+/// alone says what it gives. (own)
 pub fn cast_laws()
     ensures own_type { (t : DataType) → has_cast t t ≡ true }
     ensures unchanged { (t : DataType) (v : Value) → is_of t v ≡ true → cast_value t t v ≡ value v }
     ensures typed { (s t : DataType) (v w : Value) → is_of s v ≡ true → cast_value s t v ≡ value w → is_of t w ≡ true }
+    ensures by_target { (s t : DataType) (v : Value) → is_of s v ≡ true → has_cast s t ≡ true → cast_value s t v ≡ cast_to t v }
 {}

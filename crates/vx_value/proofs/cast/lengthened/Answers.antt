@@ -3,7 +3,7 @@ use Rattle.std.proofs.lemmas.Int.{to_z-of_z}
 use Rattle.std.specs.Int.{w128}
 use Rattle.vx_value.specs.declared.decimal.DecimalDType.{DecimalDType}
 use Rattle.vx_value.specs.Casts.{power}
-use Rattle.vx_value.proofs.DigitsLemmas.{power_fits, past_digits}
+use Rattle.vx_value.proofs.CastsLemmas.{power_fits, past_digits}
 use Rattle.vx_value.proofs.cast.lengthened.Goals as goal
 
 digits_few : (d : DecimalDType) (k : ℕ) → k ≤ d.scale → k ≤ 38

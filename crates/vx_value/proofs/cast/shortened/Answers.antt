@@ -1,5 +1,5 @@
 use Rattle.std.proofs.Common.{refl}
-use Rattle.vx_value.proofs.DigitsLemmas.{power_divides, shortened_past}
+use Rattle.vx_value.proofs.CastsLemmas.{power_divides, shortened_past}
 use Rattle.vx_value.proofs.cast.shortened.Goals as goal
 
 pub nonzero_rem-number : goal.nonzero_rem-number

@@ -1,4 +1,4 @@
-use Rattle.std.proofs.Common.{◌≡◌, true, rules}
+use Rattle.std.proofs.Common.{◌≡◌, true, rules, sym, subst}
 use Rattle.vx_value.specs.Types.{DataType}
 use Rattle.vx_value.specs.Values.{Value}
 use Rattle.vx_value.specs.View.{type_of, cell_of, cell_seen}
@@ -14,4 +14,5 @@ new-requires c =
     let made : Value = cell_of c.in_ok-value.value in
     let source : is_of from given ≡ true = search rules in
     let target : is_of to made ≡ true = cast_typed from to given made source c.in_ok-value.ensures.ok in
-    ?
+    let same : type_of c.in_ok-clone.field-0 ≡ to = search rules in
+    subst (λ t. is_of t made ≡ true) (sym same) target
