@@ -3,7 +3,8 @@ use Rattle.std.specs.Prelude.{◌≡◌, ℕ, List, [], ◌∷◌, length, Optio
 use Rattle.vx_value.specs.Types.{DataType, nullability_of}
 use Rattle.vx_value.specs.Nullabilities.{with_nullability, union}
 use Rattle.vx_value.specs.Values.{Value, null}
-use Rattle.vx_value.specs.Cell.{Cell, value, fault}
+use Rattle.vx_value.specs.Cell as cell
+use Rattle.vx_value.specs.Cell.{Cell, fault}
 use Rattle.vx_value.specs.declared.id.Id.{Id}
 use Rattle.vx_fn.specs.Arity.{of_one, of_two, of_three}
 use Rattle.vx_fn.specs.ArityLaws.{on_one, on_two, on_three}
@@ -28,7 +29,7 @@ widened s answer = option_map (widen s) answer
 
 -- a null argument gives null
 abbrev pub null_through : Value → Cell → Cell
-null_through null c = value null
+null_through null c = cell.value null
 null_through _ c = c
 
 -- nothing

@@ -38,13 +38,13 @@ impl RowFunction for Mask {
     }
 }
 
-/// Returns `input` if `mask` is true, else null.
-fn masked(input: &Scalar, mask: &Scalar) -> Result<Scalar, AllocError>
-    requires { IsSome (mask.types (input.now.of_type ∷ mask.now.of_type ∷ [])) }
-    ensures typed { IfOk result (λ s. mask.types (input.now.of_type ∷ mask.now.of_type ∷ []) ≡ Some s.of_type) }
-    ensures value { IfOk result (λ s. mask.value s.of_type (input.now.value ∷ mask.now.value ∷ []) ≡ value s.value) }
+/// Returns `input` if `choice` is true, else null.
+fn masked(input: &Scalar, choice: &Scalar) -> Result<Scalar, AllocError>
+    requires { IsSome (mask.types (input.now.of_type ∷ choice.now.of_type ∷ [])) }
+    ensures typed { IfOk result (λ s. mask.types (input.now.of_type ∷ choice.now.of_type ∷ []) ≡ Some s.of_type) }
+    ensures value { IfOk result (λ s. mask.value s.of_type (input.now.value ∷ choice.now.value ∷ []) ≡ value s.value) }
 {
-    match mask.as_bool() {
+    match choice.as_bool() {
         Some(true) => Ok(input.clone()?.into_nullable()),
         _ => Ok(Scalar::null(input.dtype().as_nullable()?)),
     }
