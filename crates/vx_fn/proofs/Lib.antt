@@ -1,3 +1,5 @@
-pub mod MeaningsLemmas
 pub mod ReturnTypesLemmas
 pub mod BinaryLemmas
+pub mod ZipLemmas
+pub mod FillNullLemmas
+pub mod CastLemmas

@@ -6,6 +6,7 @@ mod function;
 mod functions;
 mod order;
 mod return_type;
+mod retyped;
 mod row_function;
 
 pub use apply::apply_row;

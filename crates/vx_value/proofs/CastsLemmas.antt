@@ -35,7 +35,7 @@ tested_typed : (t : DataType) (v w : Value) → (if is_of t v then cell.value v 
 tested_typed t v w e = let found : (is_of t v ≡ true) × (v ≡ w) = tested (is_of t v) v w e in ap (is_of t) (sym found.1) ∙ found.0
 
 -- a type that is the same up to nullability has the same values but for null
-same_typed : (s t : DataType) (v : Value) → same_but_nullability s t ≡ true → is_null v ≡ false → is_of s v ≡ true → is_of t v ≡ true
+pub same_typed : (s t : DataType) (v : Value) → same_but_nullability s t ≡ true → is_null v ≡ false → is_of s v ≡ true → is_of t v ≡ true
 same_typed s t v e there h =
     sym (is_of_either NonNullable t v there)
     ∙ ap (λ u. is_of u v) (sym ((same_but_nullability_Decides s t).0 e))

@@ -1,5 +1,5 @@
 -- Which values a type has once its nullability is set.
-use Rattle.std.proofs.Common.{◌≡◌, true, false, refl, ap, ◌∙◌}
+use Rattle.std.proofs.Common.{◌≡◌, true, false, refl, ap, sym, ◌∙◌}
 use Rattle.vx_value.specs.Types as type
 use Rattle.vx_value.specs.Types.{DataType, nullability_of, is_nullable}
 use Rattle.vx_value.specs.Values as value
@@ -8,9 +8,9 @@ use Rattle.vx_value.specs.IsOf.{is_of, is_stored, is_null}
 use Rattle.vx_value.specs.Storage.{storage_of}
 use Rattle.vx_value.specs.declared.dtype.Storage.{Storage}
 use Rattle.vx_value.specs.declared.dtype.Storage.TheVariants.{Bits, Integers, Decimals, Text, Bytes}
-use Rattle.vx_value.specs.Nullabilities.{with_nullability}
+use Rattle.vx_value.specs.Nullabilities.{with_nullability, union, same_but_nullability, same_but_nullability_Decides}
 use Rattle.vx_value.specs.declared.dtype.Nullability.{Nullability}
-use Rattle.vx_value.specs.declared.dtype.Nullability.TheVariants.{Nullable}
+use Rattle.vx_value.specs.declared.dtype.Nullability.TheVariants.{NonNullable, Nullable}
 
 -- a type's values are stored alike, whatever its nullability
 storage_kept : (n : Nullability) (t : DataType) → storage_of (with_nullability n t) ≡ storage_of t
@@ -42,3 +42,38 @@ null_typed t = ap is_nullable (nullable_once t)
 pub nullable_typed : (t : DataType) (v : Value) → is_of t v ≡ true → is_of (with_nullability Nullable t) v ≡ true
 nullable_typed t value.null h = null_typed t
 nullable_typed t v h = is_of_either Nullable t v refl ∙ h
+
+-- set twice, the second stays
+set_twice : (m n : Nullability) (t : DataType) → with_nullability m (with_nullability n t) ≡ with_nullability m t
+set_twice m n type.null = refl
+set_twice m n _ = refl
+
+-- types that are the same but for their nullability are the same once it is set
+pub set_alike : (n : Nullability) (s t : DataType) → same_but_nullability s t ≡ true → with_nullability n s ≡ with_nullability n t
+set_alike n s t e =
+    sym (set_twice n NonNullable s) ∙ ap (with_nullability n) ((same_but_nullability_Decides s t).0 e) ∙ set_twice n NonNullable t
+
+-- a type that is nullable where another is has its values
+still_typed : (m : Nullability) (t : DataType) (v : Value) → (is_nullable (nullability_of t) ≡ true → m ≡ Nullable) → is_of t v ≡ true
+    → is_of (with_nullability m t) v ≡ true
+still_typed m t value.null h there = ap (λ n. is_of (with_nullability n t) value.null) (h there) ∙ null_typed t
+still_typed m t v h there = is_of_either m t v refl ∙ there
+
+union_first : (m n : Nullability) → is_nullable m ≡ true → union m n ≡ Nullable
+union_first Nullable n h = refl
+union_first NonNullable n h = absurd (cc)
+
+union_second : (m n : Nullability) → is_nullable n ≡ true → union m n ≡ Nullable
+union_second Nullable n h = refl
+union_second NonNullable Nullable h = refl
+union_second NonNullable NonNullable h = absurd (cc)
+
+-- of two types that are the same but for their nullability, the values of each are of the type that is nullable where one of them is
+pub first_typed : (s t : DataType) (v : Value) → is_of s v ≡ true → is_of (with_nullability (union (nullability_of s) (nullability_of t)) s) v ≡ true
+first_typed s t v h = still_typed (union (nullability_of s) (nullability_of t)) s v (union_first (nullability_of s) (nullability_of t)) h
+
+pub second_typed : (s t : DataType) (v : Value) → same_but_nullability s t ≡ true → is_of t v ≡ true
+    → is_of (with_nullability (union (nullability_of s) (nullability_of t)) s) v ≡ true
+second_typed s t v e h =
+    ap (λ u. is_of u v) (set_alike (union (nullability_of s) (nullability_of t)) s t e)
+    ∙ still_typed (union (nullability_of s) (nullability_of t)) t v (union_second (nullability_of s) (nullability_of t)) h

@@ -3,6 +3,7 @@
 ghost use Rattle.std.specs.Prelude.{◌≡◌, ◌↔◌, ◌⊎◌, ◌≤◌, IfOk, IfErr, IsErrOf, true, false};
 ghost use Rattle.vx_value.specs.View.{type_of, value_of, cell_of, cell_seen};
 ghost use Rattle.vx_value.specs.Values.{integer};
+ghost use Rattle.vx_value.specs.IsOf.{is_of};
 ghost use Rattle.vx_value.specs.Cell as cell;
 ghost use Rattle.vx_value.specs.Casts.{to_integer, sized, lengthened, shortened, rescaled, into, has_other_row, has_cast, cast_value};
 
@@ -39,6 +40,7 @@ impl Scalar {
             ⊎ ((e ≡ VortexError.Fault)
             × (has_cast self.now.of_type (type_of dtype.now) ≡ true)
             × (cast_value self.now.of_type (type_of dtype.now) self.now.value ≡ cell.fault))) }
+        ensures typed { is_of self.now.of_type self.now.value ≡ true }
     {
         if !has_cast(self.dtype(), dtype) {
             return Err(VortexError::InvalidArgument(ArgKind::NoRow));

@@ -1,15 +1,19 @@
 //! Whether a value lies between two others.
 
-ghost use Rattle.std.specs.Prelude.{◌≡◌, option_map, IsSome, Some, ◌∷◌, []};
+ghost use Rattle.std.specs.Prelude.{◌≡◌, option_map, IsSome, IfSome, Some, None, ◌∷◌, []};
+ghost use Rattle.vx_value.specs.Types.{bool, nullability_of};
+ghost use Rattle.vx_value.specs.Nullabilities.{union};
 ghost use Rattle.vx_value.specs.View.{type_of};
 ghost use Rattle.vx_value.specs.Cell.{value};
-ghost use Rattle.vx_fn.specs.Between.{between, is_below};
+ghost use Rattle.vx_fn.specs.Between.{between, between_type, is_below};
+ghost use Rattle.vx_fn.specs.Arity.{of_three};
+ghost use Rattle.vx_fn.specs.Meanings.{widened};
 
 use crate::order::is_ordered;
 use crate::row_function::RowFunction;
 use std::alloc::AllocError;
 use std::cmp::Ordering;
-use vx_value::{DType, Id, Scalar, VortexResult};
+use vx_value::{DType, Id, Nullability, Scalar, VortexResult};
 
 /// Whether a bound is below the values that it bounds, or may be one of them.
 #[derive(Clone, Copy, Debug, PartialEq, Eq, Hash)]
@@ -42,7 +46,7 @@ impl RowFunction for BetweenOptions {
 
     fn return_dtype(&self, arguments: &[DType]) -> Result<Option<DType>, AllocError> {
         match arguments {
-            [array, lower, upper] => Ok(between_type(*self, array, lower, upper)),
+            [array, lower, upper] => Ok(nullability_between(array, lower, upper).map(DType::Bool)),
             _ => Ok(None),
         }
     }
@@ -55,22 +59,18 @@ impl RowFunction for BetweenOptions {
     }
 }
 
-/// Returns the type of the result, or `None` if the arguments aren't of one type whose values have an order.
-fn between_type(
-    options: BetweenOptions,
-    array: &DType,
-    lower: &DType,
-    upper: &DType,
-) -> Option<DType>
-    ensures { option_map type_of result ≡ (between options).types (type_of array.now ∷ type_of lower.now ∷ type_of upper.now ∷ []) }
+/// Returns the nullability of the result, or `None` if the arguments aren't of one type whose values have an order.
+fn nullability_between(array: &DType, lower: &DType, upper: &DType) -> Option<Nullability>
+    ensures typed { option_map bool result ≡ of_three widened None between_type (type_of array.now ∷ type_of lower.now ∷ type_of upper.now ∷ []) }
+    ensures value { IfSome result (λ n. n
+        ≡ union (nullability_of (type_of array.now)) (union (nullability_of (type_of lower.now)) (nullability_of (type_of upper.now)))) }
 {
-    let _ = options;
     if array.eq_ignore_nullability(lower)
         && array.eq_ignore_nullability(upper)
         && is_ordered(array)
     {
         let bounds = lower.nullability().union(upper.nullability());
-        Some(DType::Bool(array.nullability().union(bounds)))
+        Some(array.nullability().union(bounds))
     } else {
         None
     }
@@ -82,11 +82,9 @@ fn lies_between(options: BetweenOptions, array: &Scalar, lower: &Scalar, upper: 
     ensures typed { (between options).types (array.now.of_type ∷ lower.now.of_type ∷ upper.now.of_type ∷ []) ≡ Some result.of_type }
     ensures value { (between options).value result.of_type (array.now.value ∷ lower.now.value ∷ upper.now.value ∷ []) ≡ value result.value }
 {
-    let bounds = lower
-        .dtype()
-        .nullability()
-        .union(upper.dtype().nullability());
-    let nullability = array.dtype().nullability().union(bounds);
+    let Some(nullability) = nullability_between(array.dtype(), lower.dtype(), upper.dtype()) else {
+        unreachable!();
+    };
     match (array.value(), lower.value(), upper.value()) {
         (Some(value), Some(least), Some(greatest)) => Scalar::bool(
             is_below(options.lower_strict, least.cmp(value))

@@ -1,13 +1,17 @@
 //! Casts, by their target.
 
+ghost use Rattle.std.specs.Prelude.{◌≡◌, ◌⊎◌, IfOk, IfErr, IsSome, Some};
+ghost use Rattle.vx_value.specs.Types.{DataType};
+ghost use Rattle.vx_value.specs.View.{type_of};
+ghost use Rattle.vx_value.specs.Casts.{cast_to};
+ghost use Rattle.vx_value.specs.Cell.{value, fault};
+ghost use Rattle.vx_fn.specs.Cast.{conversion, cast_type};
+
 use crate::row_function::RowFunction;
 use std::alloc::AllocError;
-use vx_value::{DType, Id, Scalar, VortexResult, has_cast};
+use vx_value::{DType, Id, Scalar, VortexError, VortexResult, has_cast};
 
 impl RowFunction for DType {
-    ghost use Rattle.vx_value.specs.View.{type_of};
-    ghost use Rattle.vx_fn.specs.Cast.{conversion};
-
     ghost meaning = { λ target. conversion (type_of target) };
 
     fn id(&self) -> Id {
@@ -27,8 +31,21 @@ impl RowFunction for DType {
 
     fn apply(&self, arguments: &[Scalar]) -> VortexResult<Scalar> {
         match arguments {
-            [input] => input.cast(self),
+            [input] => converted(input, self),
             _ => unreachable!(),
         }
     }
+}
+
+/// Casts `input` to `target`, to which there must be a cast. `Fault` if the target doesn't have the value; `OutOfMemory`.
+#[tactic(auto, using(crate::proofs::CastLemmas::cast_taken, vx_value::proofs::CastsLemmas::cast_by_target))]
+fn converted(input: &Scalar, target: &DType) -> VortexResult<Scalar>
+    requires { IsSome (cast_type (type_of target.now) input.now.of_type) }
+    ensures typed { IfOk result (λ s. cast_type (type_of target.now) input.now.of_type ≡ Some s.of_type) }
+    ensures ok { IfOk result (λ s. cast_to s.of_type input.now.value ≡ value s.value) }
+    ensures fault { IfErr result (λ e. (e ≡ VortexError.OutOfMemory) ⊎ ((e ≡ VortexError.Fault) × ((t : DataType)
+        → cast_type (type_of target.now) input.now.of_type ≡ Some t
+        → cast_to t input.now.value ≡ fault))) }
+{
+    input.cast(target)
 }

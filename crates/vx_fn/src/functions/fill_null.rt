@@ -5,6 +5,7 @@ ghost use Rattle.vx_value.specs.View.{type_of};
 ghost use Rattle.vx_value.specs.Cell.{value};
 ghost use Rattle.vx_fn.specs.FillNull.{fill_null};
 
+use crate::retyped::retyped;
 use crate::row_function::RowFunction;
 use std::alloc::AllocError;
 use vx_value::{DType, Id, Scalar, VortexError, VortexResult};
@@ -41,15 +42,15 @@ impl RowFunction for FillNull {
 }
 
 /// Returns `input`, or `fill_value` if it is null. The only error is `OutOfMemory`.
+#[tactic(auto, using(crate::proofs::FillNullLemmas::fill_taken, crate::proofs::FillNullLemmas::value_there, crate::proofs::FillNullLemmas::filled_there, vx_value::proofs::CastsLemmas::same_typed))]
 fn filled(input: &Scalar, fill_value: &Scalar) -> VortexResult<Scalar>
     requires { IsSome (fill_null.types (input.now.of_type ∷ fill_value.now.of_type ∷ [])) }
     ensures typed { IfOk result (λ s. fill_null.types (input.now.of_type ∷ fill_value.now.of_type ∷ []) ≡ Some s.of_type) }
     ensures value { IfOk result (λ s. fill_null.value s.of_type (input.now.value ∷ fill_value.now.value ∷ []) ≡ value s.value) }
     ensures err { IfErr result (λ e. e ≡ VortexError.OutOfMemory) }
 {
-    if input.is_null() {
-        Ok(fill_value.clone()?)
-    } else {
-        input.cast(fill_value.dtype())
+    match input.value() {
+        Some(_) => retyped(input, fill_value.dtype().clone()?),
+        None => Ok(fill_value.clone()?),
     }
 }

@@ -5,6 +5,7 @@ ghost use Rattle.vx_value.specs.View.{type_of};
 ghost use Rattle.vx_value.specs.Cell.{value};
 ghost use Rattle.vx_fn.specs.Zip.{zip};
 
+use crate::retyped::retyped;
 use crate::row_function::RowFunction;
 use std::alloc::AllocError;
 use vx_value::{DType, Id, Scalar, VortexError, VortexResult};
@@ -41,6 +42,7 @@ impl RowFunction for Zip {
 }
 
 /// Returns `if_true` if `choice` is true, else `if_false`. The only error is `OutOfMemory`.
+#[tactic(auto, using(crate::proofs::ZipLemmas::zip_taken, vx_value::proofs::NullabilitiesLemmas::first_typed, vx_value::proofs::NullabilitiesLemmas::second_typed))]
 fn zipped(if_true: &Scalar, if_false: &Scalar, choice: &Scalar) -> VortexResult<Scalar>
     requires { IsSome (zip.types (if_true.now.of_type ∷ if_false.now.of_type ∷ choice.now.of_type ∷ [])) }
     ensures typed { IfOk result (λ s. zip.types (if_true.now.of_type ∷ if_false.now.of_type ∷ choice.now.of_type ∷ []) ≡ Some s.of_type) }
@@ -54,5 +56,5 @@ fn zipped(if_true: &Scalar, if_false: &Scalar, choice: &Scalar) -> VortexResult<
         Some(true) => if_true,
         _ => if_false,
     };
-    chosen.cast(&dtype)
+    retyped(chosen, dtype)
 }

@@ -1,0 +1,28 @@
+-- Where `fill_null` takes its arguments.
+use Rattle.std.proofs.Common.{◌≡◌, Bool, true, false, refl, if◌then◌else◌, Some, None}
+use Rattle.std.specs.Prelude.{IsSome}
+use Rattle.vx_value.specs.Types.{DataType}
+use Rattle.vx_value.specs.Nullabilities.{same_but_nullability}
+use Rattle.vx_value.specs.Values.{Value}
+use Rattle.vx_value.specs.Cell.{value}
+use Rattle.vx_value.specs.View.{value_of}
+use Rattle.vx_value.specs.IsOf.{is_null}
+use Rattle.vx_value.specs.declared.scalar.ScalarValue.{ScalarValue}
+use Rattle.vx_value.specs.declared.scalar.ScalarValue.TheVariants as scalar
+use Rattle.vx_fn.specs.FillNull.{fill_type, filled}
+
+pub fill_taken : (s t : DataType) → IsSome (fill_type s t) → same_but_nullability s t ≡ true
+fill_taken s t h = by_test (same_but_nullability s t) h
+  where
+    by_test : (b : Bool) → IsSome (if b then Some t else None) → b ≡ true
+    by_test true h = refl
+    by_test false h = absurd (cc)
+
+-- what a scalar holds isn't null, and stays
+pub value_there : (x : ScalarValue) → is_null (value_of x) ≡ false
+value_there (scalar.Bool b) = refl
+value_there _ = refl
+
+pub filled_there : (x : ScalarValue) (w : Value) → filled (value_of x) w ≡ value (value_of x)
+filled_there (scalar.Bool b) w = refl
+filled_there _ w = refl
