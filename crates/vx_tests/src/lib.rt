@@ -6,6 +6,8 @@
 #[cfg(test)]
 mod buffers;
 #[cfg(test)]
+mod casts;
+#[cfg(test)]
 mod functions;
 #[cfg(test)]
 mod trees;

@@ -120,37 +120,6 @@ const ORDERS: [(
     (NULLABLE_BOOL, None, NULLABLE_I32, None, None),
 ];
 
-const NO_ROW: VortexError = VortexError::InvalidArgument(ArgKind::NoRow);
-
-/// A type and a value, the type that it is cast to, and what the cast gives.
-const CASTS: [(
-    DType,
-    Option<ScalarValue>,
-    DType,
-    VortexResult<Option<ScalarValue>>,
-); 10] = [
-    (
-        I32,
-        Some(ScalarValue::Integer(255)),
-        U8,
-        Ok(Some(ScalarValue::Integer(255))),
-    ),
-    (
-        I32,
-        Some(ScalarValue::Integer(256)),
-        U8,
-        Err(VortexError::Fault),
-    ),
-    (I32, MINUS_ONE, U8, Err(VortexError::Fault)),
-    (I32, MINUS_ONE, NULLABLE_I32, Ok(MINUS_ONE)),
-    (NULLABLE_I32, ONE, I32, Ok(ONE)),
-    (NULLABLE_I32, None, NULLABLE_I32, Ok(None)),
-    (NULLABLE_I32, None, U8, Err(VortexError::Fault)),
-    (NULLABLE_BOOL, None, BOOL, Err(VortexError::Fault)),
-    (NULLABLE_BOOL, None, NULLABLE_I32, Err(NO_ROW)),
-    (BOOL, TRUE, U8, Err(NO_ROW)),
-];
-
 /// A precision, a scale, and the narrowest integers that hold the decimals, or `None` if there is no such type.
 const DECIMALS: [(u8, u8, Option<DecimalType>); 13] = [
     (1, 0, Some(DecimalType::I8)),
@@ -289,27 +258,6 @@ fn has_order(
     }
 }
 
-/// Checks what a cast gives, and that a cast to the scalar's own type gives the same scalar.
-fn is_cast(
-    row: &(
-        DType,
-        Option<ScalarValue>,
-        DType,
-        VortexResult<Option<ScalarValue>>,
-    ),
-) -> bool {
-    let Ok(scalar) = scalar(&row.0, row.1) else {
-        return false;
-    };
-    match (scalar.cast(&row.0), scalar.cast(&row.2)) {
-        (Ok(same), Ok(cast)) => {
-            same == scalar && *cast.dtype() == row.2 && row.3 == Ok(cast.value())
-        }
-        (Ok(same), Err(e)) => same == scalar && row.3 == Err(e),
-        _ => false,
-    }
-}
-
 fn is_decimal(row: &(u8, u8, Option<DecimalType>)) -> bool {
     match DecimalDType::try_new(row.0, row.1) {
         Ok(decimal) => {
@@ -363,13 +311,6 @@ fn defaults_of_types(rt: HostRuntime) {
 fn scalars_in_order(rt: HostRuntime) {
     for row in &ORDERS {
         assert!(rt; has_order(row));
-    }
-}
-
-#[test]
-fn casts(rt: HostRuntime) {
-    for row in &CASTS {
-        assert!(rt; is_cast(row));
     }
 }
 

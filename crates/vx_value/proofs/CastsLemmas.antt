@@ -1,5 +1,6 @@
 -- What a cast gives: of the target type, the same for the type itself, and by the target alone; what 128 bits hold of the numbers in it.
-use Rattle.std.proofs.Common.{◌≡◌, ◌≤◌, ◌<◌, ◌^◌, ℕ, zero, suc, ◌-◌, nat_le, Bool, true, false, ◌&&◌, ◌==◌, refl, ap, sym, ◌∙◌, subst, if◌then◌else◌, Some, None, is_some}
+use Rattle.std.proofs.Common.{◌≡◌, ◌≤◌, ◌<◌, ◌^◌, ℕ, zero, suc, ◌-◌, nat_le, Bool, true, false, ◌&&◌, ◌==◌, refl, ap, sym, ◌∙◌, subst}
+use Rattle.std.proofs.Common.{if◌then◌else◌, Some, None, is_some}
 use Rattle.std.proofs.Common.{ℤ, pos, negsuc, ◌*ℤ◌, ◌<ℤ◌, nat_abs, of_z, to_z, FitsSigned, arith, ltb-true}
 use Rattle.std.specs.Prelude.{int_div, int_rem, neg_ℤ}
 use Rattle.std.specs.Int.{w128}
@@ -201,9 +202,10 @@ power_divides z d k f g e =
     let one : 10 ^ 0 ≤ 10 ^ k = ten_to least in
     let above : pos 0 <ℤ power k = grind arith in
     let fits : FitsSigned w128 (int_div z (power k)) = quot_fits w128 z (power k) f above in
-    let found : (0 < of_z w128 (power k)) × FitsSigned w128 (int_div (to_z w128 (of_z w128 z)) (to_z w128 (of_z w128 (power k)))) =
-    (omega arith, simp (to_z-of_z w128 z f, to_z-of_z w128 (power k) g) fits) in
-    subst (λ x. (0 < of_z w128 x) × FitsSigned w128 (int_div (to_z w128 (of_z w128 z)) (to_z w128 (of_z w128 x)))) (sym e) found
+    let some : 0 < of_z w128 (power k) = omega arith in
+    let same : FitsSigned w128 (int_div (to_z w128 (of_z w128 z)) (to_z w128 (of_z w128 (power k)))) =
+    simp (to_z-of_z w128 z f, to_z-of_z w128 (power k) g) fits in
+    subst (λ x. (0 < of_z w128 x) × FitsSigned w128 (int_div (to_z w128 (of_z w128 z)) (to_z w128 (of_z w128 x)))) (sym e) (some, same)
 
 -- a number that 128 bits hold is its own rest by a power that they don't
 rest_is : (z : ℤ) (k : ℕ) → FitsSigned w128 z → ¬ FitsSigned w128 (power k) → int_rem z (power k) ≡ z

@@ -28,8 +28,9 @@ impl Scalar {
     /// Null stays null. Nothing is rounded.
     ///
     /// Returns `InvalidArgument` with `NoRow` exactly if there is no such cast, and `Fault` exactly if there is one
-    /// and the value is null and `dtype` isn't nullable, or it isn't null and `dtype` doesn't have it: an integer out of range,
-    /// a number with more digits than the precision of `dtype` or a digit other than 0 past its scale, or bytes that aren't UTF-8.
+    /// and the value is null and `dtype` isn't nullable, or it isn't null and `dtype` doesn't have it: an integer out of its range;
+    /// a number with a digit other than 0 past its scale, or, written to its scale, with more digits than its precision;
+    /// bytes that aren't UTF-8.
     pub fn cast(&self, dtype: &DType) -> VortexResult<Scalar>
         ensures ok { IfOk result (λ s. (s.of_type ≡ type_of dtype.now)
             × (cast_value self.now.of_type (type_of dtype.now) self.now.value ≡ cell.value s.value)) }
