@@ -1,5 +1,5 @@
 -- The types of trees: there are columns of each.
-use Rattle.std.proofs.Common.{◌≡◌, ap, subst, refl, true, List, [], ◌∷◌, Option, Some}
+use Rattle.std.proofs.Common.{◌≡◌, ap, subst, refl, true}
 use Rattle.std.proofs.Math.Bool.{not}
 use Rattle.std.specs.Cmp.{first_so}
 use Rattle.vx_value.specs.Types.{DataType, primitive, bool, nullability_of, is_nullable}

@@ -23,6 +23,7 @@ pub enum Canonical {
 impl Canonical {
     /// Makes the column of type `dtype` without rows. `InvalidArgument` with `BadType` exactly if there are no columns of
     /// that type.
+    #[tactic(auto, using(crate::proofs::ColumnTypesLemmas::column_of_bits, crate::proofs::ColumnTypesLemmas::column_of_integers))]
     pub fn empty(alloc: Global, dtype: &DType) -> VortexResult<Canonical>
         ensures ok { IfOk result (λ c. canonical_tree c ≡ empty_of (type_of dtype.now)) }
         ensures valid { OnOk result (has_column (type_of dtype.now) ≡ true) }

@@ -18,18 +18,12 @@ pub fn has_column(dtype: &DType) -> bool
 fn is_column_stored(storage: Storage) -> bool
     ensures { result ≡ is_column_stored storage }
 {
-    match storage {
-        Storage::Bits => true,
-        Storage::Integers(_) => true,
-    }
+    matches!(storage, Storage::Bits | Storage::Integers(_))
 }
 
 /// Checks whether columns are computed by `function`. (own)
 pub fn is_computed(function: &ScalarFnRef) -> bool
     ensures { result ≡ is_computed function.now }
 {
-    match function {
-        ScalarFnRef::Binary(_) => true,
-        ScalarFnRef::Not => true,
-    }
+    matches!(function, ScalarFnRef::Binary(_) | ScalarFnRef::Not)
 }
