@@ -1,6 +1,6 @@
 -- A function of columns, from what it gives on their rows.
 use Rattle.std.proofs.Common.{◌≡◌, inl, inr, ℕ, zero, suc, ◌<◌, ◌+◌, List, [], ◌∷◌, length, map, get_or, replicate, Bool, true, false, ◌&&◌, Some, refl, sym, ◌∙◌, ap, subst, arith}
-use Rattle.std.specs.Prelude.{is_some, IsSome, nat_lt}
+use Rattle.std.specs.Prelude.{is_some, IsSome, IfSome, nat_lt}
 use Rattle.std.specs.List.{AllZip, range_with_len}
 use Rattle.std.proofs.lemmas.Bool.Decides.{nat_tests}
 use Rattle.vx_value.specs.Types.{DataType}
@@ -10,6 +10,7 @@ use Rattle.vx_value.specs.declared.error.VortexError.{VortexError}
 use Rattle.vx_fn.specs.Apply.{apply}
 use Rattle.vx_fn.specs.ReturnTypes.{return_type}
 use Rattle.vx_fn.specs.declared.function.ScalarFnRef.{ScalarFnRef}
+use Rattle.vx_tree.specs.ColumnTypes.{has_column, is_computed}
 use Rattle.vx_tree.specs.Tree.{Tree, dtype, datum, is_constant, constant_of, call_of}
 use Rattle.vx_tree.specs.Cells.{rows, HasNoFault}
 use Rattle.vx_tree.specs.Columns.{columnar_tree}
@@ -23,6 +24,15 @@ use Rattle.vx_column.proofs.KeepsLemmas.{same_exactly}
 pub taken : (f : ScalarFnRef) {ts : List Tree} {n : ℕ} {tys : List DataType} {row : ℕ → List Cell} → AreRows ts n tys row → IsCall f ts n
     → IsSome (return_type f tys)
 taken f {ts = ts} {n = n} same call = ap is_some (ap (return_type f) (sym same.types) ∙ call_typed f ts n call)
+
+-- there are columns of its result's type, and they are computed by the function
+pub column_given : (f : ScalarFnRef) {ts : List Tree} {n : ℕ} {tys : List DataType} {row : ℕ → List Cell} → AreRows ts n tys row → IsCall f ts n
+    → IfSome (return_type f tys) (λ ty. has_column ty ≡ true)
+column_given f {ts = ts} {n = n} same call =
+    subst (λ o. IfSome o (λ ty. has_column ty ≡ true)) (sym (ap (return_type f) (sym same.types) ∙ call_typed f ts n call)) call.1.3
+
+pub call_computed : (f : ScalarFnRef) (ts : List Tree) (n : ℕ) → IsCall f ts n → is_computed f ≡ true
+call_computed f ts n call = call.1.4
 
 rows_are : (f : ScalarFnRef) (ts : List Tree) (n : ℕ) (tys : List DataType) (row : ℕ → List Cell) → AreRows ts n tys row → (ty : DataType)
     → rows (call_of f ty n ts) ≡ cells_of f ty row n

@@ -11,6 +11,8 @@ use Rattle.vx_value.specs.Values.{null, boolean, integer}
 use Rattle.vx_value.specs.Cell.{Cell, value, fault}
 use Rattle.vx_value.specs.declared.dtype.Nullability.TheVariants.{NonNullable}
 use Rattle.vx_value.specs.declared.dtype.PType.{PType}
+use Rattle.vx_value.specs.Storage.{storage_of}
+use Rattle.vx_value.specs.declared.dtype.Storage.TheVariants.{Integers}
 use Rattle.vx_value.specs.declared.error.VortexError.{VortexError}
 use Rattle.vx_fn.specs.Apply.{apply}
 use Rattle.vx_fn.specs.ReturnTypes.{return_type}
@@ -18,10 +20,12 @@ use Rattle.vx_fn.specs.Binary.{calculated, operator_type, is_comparison}
 use Rattle.vx_fn.specs.declared.function.Operator.{Operator}
 use Rattle.vx_fn.specs.declared.function.ScalarFnRef.{ScalarFnRef}
 use Rattle.vx_fn.specs.declared.function.ScalarFnRef.TheVariants.{Binary}
+use Rattle.vx_tree.specs.ColumnTypes.{has_column}
 use Rattle.vx_tree.specs.Tree.{Tree, dtype, len, datum, slots, booleans, integers, is_canonical}
 use Rattle.vx_tree.specs.Cells.{rows, HasNoFault, AreClean}
 use Rattle.vx_tree.specs.Columns.{canonical_tree}
 use Rattle.vx_tree.specs.declared.canonical.Canonical.{Canonical}
+use Rattle.vx_fn.proofs.BinaryLemmas.{comparison_type, calculation_type}
 use Rattle.vx_column.specs.Arguments.{types_of, row_of, integer_in}
 use Rattle.vx_column.specs.Computed.{IsComputed, cells_of}
 use Rattle.vx_column.specs.declared.argument.Argument.{Argument}
@@ -85,6 +89,15 @@ bools_compared op h =
     let same : return_type (Binary op) (bool NonNullable ∷ bool NonNullable ∷ []) ≡ operator_type op (bool NonNullable) =
     ap (λ b. if b then operator_type op (bool NonNullable) else None) ((same_type_Decides (bool NonNullable) (bool NonNullable)).1 refl) in
     same ∙ ap (λ b. if b then Some (bool NonNullable) else None) (chosen (is_comparison op) (Some (bool NonNullable)) (subst IsSome same h))
+
+-- what an operator gives on columns of integers
+pub integers_compared : (op : Operator) (s t : DataType) → has_column s ≡ true → has_column t ≡ true → IsSome (return_type (Binary op) (s ∷ t ∷ []))
+    → is_comparison op ≡ true → return_type (Binary op) (s ∷ t ∷ []) ≡ Some (bool NonNullable)
+integers_compared op s t h k taken c = comparison_type op s t taken c
+
+pub integers_calculated : (op : Operator) (s t : DataType) → has_column s ≡ true → has_column t ≡ true → IsSome (return_type (Binary op) (s ∷ t ∷ []))
+    → (p : PType) → is_comparison op ≡ false → storage_of s ≡ Integers p → return_type (Binary op) (s ∷ t ∷ []) ≡ Some (primitive p NonNullable)
+integers_calculated op s t h k taken p c stored = calculation_type op s t taken p c stored
 
 -- a column whose cells are those of f
 module _ (f : ScalarFnRef) (args : List Argument) (n : ℕ) (r : Result Canonical VortexError) where

@@ -11,6 +11,7 @@ use Rattle.vx_value.specs.IsOf.{in_range}
 use Rattle.vx_value.specs.declared.dtype.Nullability.TheVariants.{NonNullable}
 use Rattle.vx_value.specs.declared.dtype.PType.{PType}
 use Rattle.vx_mask.specs.Operands.{bit_in, HasBits}
+use Rattle.vx_tree.specs.ColumnTypes.{has_column}
 use Rattle.vx_tree.specs.Natives.{values_of, ptype_of}
 use Rattle.vx_tree.specs.Tree.{dtype, len}
 use Rattle.vx_tree.specs.Cells.{rows}
@@ -47,9 +48,11 @@ integer_in zs = integer_at zs.rows
 abbrev pub ptype_in : IntegerOperand → PType
 ptype_in zs = ptype_at zs.rows
 
--- n integers of type p, as the values of their type are stored
+-- n integers of type p, as columns of their type store them
 abbrev pub AreIntegers : PType → IntegerOperand → ℕ → Type 0
-AreIntegers p zs n = (ptype_in zs ≡ p) × IsInRange zs.rows × HasIntegers zs.rows n × (storage_of (type_of zs.dtype.now) ≡ storage.Integers p)
+AreIntegers p zs n =
+    (ptype_in zs ≡ p) × IsInRange zs.rows × HasIntegers zs.rows n
+    × (storage_of (type_of zs.dtype.now) ≡ storage.Integers p) × (has_column (type_of zs.dtype.now) ≡ true)
 
 -- the value at row i: a line for each storage
 abbrev pub value_at : Argument → ℕ → Value

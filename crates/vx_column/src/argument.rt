@@ -46,7 +46,7 @@ impl IntegerOperand<'_> {
 }
 
 /// Returns the rows of `column`.
-#[tactic(auto, using(vx_value::proofs::StorageLemmas::stored_as_bits))]
+#[tactic(auto, using(vx_tree::proofs::ColumnTypesLemmas::column_of_bits))]
 fn argument_of(column: &Columnar) -> Argument<'_>
     ensures { IsArgument column.now result }
 {
@@ -59,7 +59,7 @@ fn argument_of(column: &Columnar) -> Argument<'_>
             ScalarKind::Integer(wide, ptype, _) => {
                 integer_argument(dtype, IntegerRows::Value(ptype, wide))
             }
-            ScalarKind::Null(_) => unreachable!(),
+            _ => unreachable!(),
         },
         _ => unreachable!(),
     }

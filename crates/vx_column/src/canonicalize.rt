@@ -10,7 +10,7 @@ use crate::boolean::bool_column;
 use std::alloc::Global;
 use vx_mask::BitBuffer;
 use vx_tree::{ArrayView, Canonical, Constant, PrimitiveValues};
-use vx_value::{DType, ScalarValue, VortexError, VortexResult};
+use vx_value::{ScalarKind, VortexError, VortexResult};
 
 /// Expands `array` to a canonical column. The rows take one allocation, which is made before any is written. The only
 /// error is `OutOfMemory`.
@@ -24,13 +24,13 @@ pub fn constant_canonicalize(
 {
     array.array.well();
     let scalar = array.payload.scalar();
-    match (scalar.dtype(), scalar.value()) {
-        (DType::Bool(_), Some(ScalarValue::Bool(bit))) => {
+    match scalar.kind() {
+        ScalarKind::Bool(bit, _) => {
             let bits = BitBuffer::repeat(alloc, bit, array.len())?;
             bool_column(alloc, bits)
         }
-        (DType::Primitive(ptype, _), Some(ScalarValue::Integer(wide))) => {
-            let values = PrimitiveValues::repeat(alloc, *ptype, wide, array.len())?;
+        ScalarKind::Integer(wide, ptype, _) => {
+            let values = PrimitiveValues::repeat(alloc, ptype, wide, array.len())?;
             primitive_column(alloc, values)
         }
         _ => unreachable!(),

@@ -3,6 +3,7 @@
 ghost use Rattle.std.specs.Prelude.{◌≡◌, ◌<◌, map, IfOk, IfErr, IfSome, IfNone, IsSome, MatchOption, true, false};
 ghost use Rattle.std.specs.List.{AllZip};
 ghost use Rattle.vx_fn.specs.ReturnTypes.{return_type};
+ghost use Rattle.vx_tree.specs.ColumnTypes.{has_column};
 ghost use Rattle.vx_tree.specs.Tree.{datum, is_constant};
 ghost use Rattle.vx_tree.specs.Columns.{columnar_tree};
 ghost use Rattle.vx_column.specs.Applied.{Repeats, gives_constant, types_of_scalars, cells_of_scalars};
@@ -46,8 +47,8 @@ fn constant_of(column: &Columnar) -> Result<Option<Scalar>, AllocError>
     }
 }
 
-/// Applies `function` to `scalars` once, and returns a constant of `len` rows. `Fault` if there is no value.
-#[tactic(auto, using(vx_fn::proofs::ReturnTypesLemmas::never_null))]
+/// Applies `function` to `scalars` once, and returns a constant of `len` rows. There must be columns of the result's type.
+/// `Fault` if there is no value.
 pub(crate) fn apply_constants(
     alloc: Global,
     function: &ScalarFnRef,
@@ -55,6 +56,7 @@ pub(crate) fn apply_constants(
     len: usize,
 ) -> VortexResult<Columnar>
     requires taken { IsSome (return_type function.now (types_of_scalars scalars.now)) }
+    requires column { IfSome (return_type function.now (types_of_scalars scalars.now)) (λ ty. has_column ty ≡ true) }
     requires some { 0 < len }
     ensures ok { IfOk result (λ c. IsResult function.now (types_of_scalars scalars.now) (λ _. cells_of_scalars scalars.now) len (columnar_tree c)) }
     ensures constant { IfOk result (λ c. is_constant (datum (columnar_tree c)) ≡ true) }

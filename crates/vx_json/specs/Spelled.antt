@@ -5,9 +5,11 @@ use Rattle.std.specs.Cmp.Lexicographic.{slice_cmp}
 use Rattle.serde_json.specs.Data.{Data, null, boolean, number, string, array, object, Items, no_items, item, Members, no_members, member}
 use Rattle.serde_json.specs.Find.{get, as_bool}
 use Rattle.serde_json.specs.Read.{read}
-use Rattle.vx_value.specs.Types as type
 use Rattle.vx_value.specs.Types.{DataType}
 use Rattle.vx_value.specs.Typed.{Typed}
+use Rattle.vx_value.specs.Storage.{storage_of}
+use Rattle.vx_value.specs.declared.dtype.Storage.{Storage}
+use Rattle.vx_value.specs.declared.dtype.Storage.TheVariants.{Bits, Integers}
 use Rattle.vx_fn.specs.declared.function.ScalarFnRef.{ScalarFnRef}
 use Rattle.vx_tree.specs.Calls.{inferred_refusal, inferred}
 use Rattle.vx_tree.specs.Tree.{Tree, booleans, integers, constant_of, slice_of, len}
@@ -21,9 +23,12 @@ abbrev pub type_at : Data → Option DataType
 type_at d = option_and_then type_spelled (text_at (codes "type") d)
 
 -- `{"enc":"col","type":T,"rows":[..]}` and `{"enc":"flat","type":T,"values":[..]}`: a column with a value for each row
+abbrev pub column_stored : Storage → Items → Option Tree
+column_stored Bits ds = option_map booleans (all_read as_bool ds)
+column_stored (Integers p) ds = option_map (integers p) (all_read (integer_spelled p) ds)
+
 abbrev pub column_of_items : DataType → Items → Option Tree
-column_of_items (type.bool n) ds = option_map booleans (all_read as_bool ds)
-column_of_items (type.primitive p n) ds = option_map (integers p) (all_read (integer_spelled p) ds)
+column_of_items ty = column_stored (storage_of ty)
 
 abbrev pub column_spelled : List ℕ → Data → Option Tree
 column_spelled key d = keyed 3 d (option_and_then (λ ty. option_and_then (column_of_items ty) (items_at key d)) (type_at d))

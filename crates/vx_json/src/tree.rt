@@ -5,12 +5,11 @@
 //! `{"enc":"constant","type":"bool","value":true,"len":3}`, `{"enc":"slice","start":0,"stop":1,"child":{..}}` and
 //! `{"enc":"fn","fn":"add","args":[{..},{..}]}`.
 
-ghost use Rattle.std.specs.Prelude.{◌≡◌, ◌⊎◌, Some, None, option_map, IfOk, IfErr, IfSome};
+ghost use Rattle.std.specs.Prelude.{◌≡◌, ◌⊎◌, true, Some, None, option_map, IfOk, IfErr, IfSome};
 ghost use Rattle.serde_json.specs.View.{view, items_view};
 ghost use Rattle.vx_value.specs.View.{type_of};
-ghost use Rattle.vx_value.specs.Types.{nullability_of};
-ghost use Rattle.vx_value.specs.declared.dtype.Nullability.TheVariants.{NonNullable};
 ghost use Rattle.serde_json.specs.Find.{as_bool};
+ghost use Rattle.vx_tree.specs.ColumnTypes.{has_column};
 ghost use Rattle.vx_tree.specs.Tree.{booleans as booleans_of, integers as integers_of};
 ghost use Rattle.vx_json.specs.SpelledValues.{integer_spelled, all_read};
 ghost use Rattle.vx_json.specs.Keys.{key_text};
@@ -28,24 +27,24 @@ use std::alloc::Global;
 use vx_tree::{
     ArrayRef, BoolArray, ConstantArray, IntoArray, PrimitiveArray, ScalarFnArray, SliceArray,
 };
-use vx_value::{ArgKind, DType, Nullability, PType, VortexError, VortexResult};
+use vx_value::{ArgKind, DType, Nullability, PType, Storage, VortexError, VortexResult};
 
-/// Returns the type named under `type`, which isn't nullable.
+/// Returns the type named under `type`, of which there are columns.
 fn dtype_of(value: &Value) -> Option<DType>
     ensures named { option_map type_of result ≡ type_at (view value.now) }
-    ensures never_null { IfSome result (λ t. nullability_of (type_of t) ≡ NonNullable) }
+    ensures column { IfSome result (λ t. has_column (type_of t) ≡ true) }
 {
     type_named(text(value, "type")?)
 }
 
 /// Reads a column of `dtype` with the values in `list`; null isn't accepted.
-fn column_of_items(alloc: Global, dtype: DType, list: &Vec<Value>) -> VortexResult<ArrayRef>
-    ensures ok { IfOk result (λ t. column_of_items (type_of dtype) (items_view list.now.items) ≡ Some t) }
-    ensures err { IfErr result (IsRefused (column_of_items (type_of dtype) (items_view list.now.items) ≡ None)) }
+fn column_of_items(alloc: Global, dtype: &DType, list: &Vec<Value>) -> VortexResult<ArrayRef>
+    ensures ok { IfOk result (λ t. column_of_items (type_of dtype.now) (items_view list.now.items) ≡ Some t) }
+    ensures err { IfErr result (IsRefused (column_of_items (type_of dtype.now) (items_view list.now.items) ≡ None)) }
 {
-    match dtype {
-        DType::Bool(_) => bool_column(alloc, list),
-        DType::Primitive(ptype, _) => primitive_column(alloc, ptype, list),
+    match dtype.storage() {
+        Storage::Bits => bool_column(alloc, list),
+        Storage::Integers(ptype) => primitive_column(alloc, ptype, list),
     }
 }
 
@@ -76,7 +75,7 @@ fn column(alloc: Global, value: &Value, key: &str) -> VortexResult<ArrayRef>
     check_keys(value, 3)?;
     let dtype = dtype_of(value).ok_or(BAD_VALUE)?;
     let list = items(value, key).ok_or(BAD_VALUE)?;
-    column_of_items(alloc, dtype, list)
+    column_of_items(alloc, &dtype, list)
 }
 
 /// Reads a constant: `len` rows of one value.

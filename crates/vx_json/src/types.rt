@@ -1,17 +1,16 @@
 //! The names of types.
 
-ghost use Rattle.std.specs.Prelude.{◌≡◌, option_map, IfSome};
+ghost use Rattle.std.specs.Prelude.{◌≡◌, true, option_map, IfSome};
 ghost use Rattle.vx_value.specs.View.{type_of};
-ghost use Rattle.vx_value.specs.Types.{nullability_of};
-ghost use Rattle.vx_value.specs.declared.dtype.Nullability.TheVariants.{NonNullable};
+ghost use Rattle.vx_tree.specs.ColumnTypes.{has_column};
 ghost use Rattle.vx_json.specs.SpelledTypes.{type_spelled};
 
 use vx_value::{DType, Nullability, PType};
 
-/// Returns the type named `text`. Only non-nullable types are accepted so far.
+/// Returns the type named `text`. Only types that there are columns of are accepted so far.
 pub(crate) fn type_named(text: &str) -> Option<DType>
     ensures named { option_map type_of result ≡ type_spelled text.now }
-    ensures never_null { IfSome result (λ t. nullability_of (type_of t) ≡ NonNullable) }
+    ensures column { IfSome result (λ t. has_column (type_of t) ≡ true) }
 {
     let ptype = match text {
         "bool" => return Some(DType::Bool(Nullability::NonNullable)),

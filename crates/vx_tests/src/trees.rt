@@ -8,7 +8,7 @@ use vx_tree::{
     AnyCanonical, AnyColumnar, Array, ArrayKind, ArrayParts, ArrayRef, ArrayView, BoolArray,
     Canonical, Columnar, Constant, ConstantArray, ConstantData, IntoArray, Primitive,
     PrimitiveArray, PrimitiveData, PrimitiveValues, ScalarFn, ScalarFnArray, ScalarFnData, Slice,
-    SliceArray, SliceData, slice_canonical,
+    SliceArray, SliceData, has_column, is_computed, slice_canonical,
 };
 use vx_value::{
     ArgKind, DType, Id, Nullability, PType, Scalar, ScalarValue, Storage, VortexError, VortexResult,
@@ -25,6 +25,10 @@ const I8: DType = DType::Primitive(PType::I8, Nullability::NonNullable);
 const BOOL: DType = DType::Bool(Nullability::NonNullable);
 
 const ADD: ScalarFnRef = ScalarFnRef::Binary(Operator::Add);
+
+const LESS: ScalarFnRef = ScalarFnRef::Binary(Operator::Lt);
+
+const NOT: ScalarFnRef = ScalarFnRef::Not;
 
 fn is_refused<T: Drop>(answer: VortexResult<T>, kind: ArgKind) -> bool {
     match answer {
@@ -333,16 +337,11 @@ fn shared_nodes_are_copied(rt: HostRuntime) -> Result<(), Fail> {
     Ok(())
 }
 
-fn is_lazy_call(
-    alloc: Global,
-    function: ScalarFnRef,
-    columns: &[(DType, usize)],
-    dtype: &DType,
-) -> bool {
-    match call_of(alloc, function, columns) {
+fn is_lazy_call(call: VortexResult<ScalarFnArray>, function: &ScalarFnRef, dtype: &DType) -> bool {
+    match call {
         Ok(array) => {
             let name = function.child_name(0);
-            *array.scalar_fn() == function && reads_as(array.as_array(), dtype, function.id(), name)
+            array.scalar_fn() == function && reads_as(array.as_array(), dtype, function.id(), name)
         }
         Err(_) => false,
     }
@@ -351,10 +350,16 @@ fn is_lazy_call(
 #[test]
 fn functions_are_lazy(rt: HostRuntime) {
     let alloc = rt.alloc();
-    let less = ScalarFnRef::Binary(Operator::Lt);
-    assert!(rt; is_lazy_call(alloc, ADD, &[(I32, 3), (I32, 3)], &I32));
-    assert!(rt; is_lazy_call(alloc, less, &[(I32, 3), (I32, 3)], &BOOL));
-    assert!(rt; is_lazy_call(alloc, ScalarFnRef::Not, &[(BOOL, 3)], &BOOL));
+    let numbers = [(I32, 3), (I32, 3)];
+    assert!(rt; is_lazy_call(call_of(alloc, ADD, &numbers), &ADD, &I32));
+    assert!(rt; is_lazy_call(call_of(alloc, LESS, &numbers), &LESS, &BOOL));
+    assert!(rt; is_lazy_call(call_of(alloc, NOT, &[(BOOL, 3)]), &NOT, &BOOL));
+}
+
+#[test]
+fn types_with_columns(rt: HostRuntime) {
+    assert!(rt; has_column(&BOOL) && has_column(&U8) && !has_column(&NULLABLE));
+    assert!(rt; is_computed(&ADD) && is_computed(&NOT));
 }
 
 #[test]

@@ -1,6 +1,7 @@
 -- A call of a function: its node, and why there is none.
 use Rattle.std.proofs.Common.{◌≡◌, ℕ, List, [], ◌∷◌, ◌++◌, length, map, true, ◌&&◌, Option, Some, None, refl, sym, ◌∙◌, ap}
 use Rattle.std.specs.Prelude.{◌==◌, option_map}
+use Rattle.std.specs.Cmp.{first_so, second_so}
 use Rattle.vx_value.specs.Types.{DataType}
 use Rattle.vx_value.specs.declared.error.VortexError.{VortexError}
 use Rattle.vx_value.specs.declared.error.VortexError.TheVariants.{InvalidArgument}
@@ -9,7 +10,8 @@ use Rattle.vx_fn.specs.ReturnTypes.{return_type}
 use Rattle.vx_fn.specs.declared.function.ScalarFnRef.{ScalarFnRef}
 use Rattle.vx_tree.specs.Tree.{Tree, Slots, node, function, no_slots, absent, slot, filled_slots, slots_of, dtype, len, call_of}
 use Rattle.vx_tree.specs.Well.{shape, shapes, IsNode}
-use Rattle.vx_tree.specs.Refusals.{lengths_refusal, arity_refusal, all_present, all_long, types_in}
+use Rattle.vx_tree.specs.ColumnTypes.{has_column, is_computed}
+use Rattle.vx_tree.specs.Refusals.{lengths_refusal, arity_refusal, column_type_refusal, all_present, all_long, types_in}
 use Rattle.vx_tree.specs.Conditions.{unless}
 use Rattle.vx_tree.specs.Calls.{all_of_len, row_refusal, call_refusal, called}
 use Rattle.vx_tree.proofs.ConditionsLemmas.{first_refused, later_refused, none_refused, unless_none}
@@ -76,22 +78,31 @@ module _ (f : ScalarFnRef) (ts : List Tree) (n : ℕ) (ss : Slots) (filled : ss 
         return_type f tys ≡ None → call_refusal f ts n ≡ Some (InvalidArgument NoRow)
     call_row_refused count long row =
         later_refused (arity_refusal f (length ts)) _ _ count
-        (later_refused (unless (all_of_len n ts) (InvalidArgument ChildLen)) _ _ (sym lengths_are ∙ long) (ap row_refusal (sym row_is ∙ row)))
+        (later_refused (unless (all_of_len n ts) (InvalidArgument ChildLen)) _ _ (sym lengths_are ∙ long) (ap (row_refusal f) (sym row_is ∙ row)))
+
+    pub call_type_refused : (ty : DataType) (e : VortexError) → arity_refusal f (length ts) ≡ None → lengths_refusal n (shapes ss) ≡ None →
+        return_type f tys ≡ Some ty → column_type_refusal f ty ≡ Some e → call_refusal f ts n ≡ Some e
+    call_type_refused ty e count long row column =
+        later_refused (arity_refusal f (length ts)) _ _ count
+        (later_refused (unless (all_of_len n ts) (InvalidArgument ChildLen)) _ _ (sym lengths_are ∙ long) (ap (row_refusal f) (sym row_is ∙ row) ∙ column))
 
     pub call_taken : (ty : DataType) → arity_refusal f (length ts) ≡ None → lengths_refusal n (shapes ss) ≡ None →
-        return_type f tys ≡ Some ty → call_refusal f ts n ≡ None
-    call_taken ty count long row =
+        return_type f tys ≡ Some ty → column_type_refusal f ty ≡ None → call_refusal f ts n ≡ None
+    call_taken ty count long row column =
         none_refused (arity_refusal f (length ts)) _ count
-        (none_refused (unless (all_of_len n ts) (InvalidArgument ChildLen)) _ (sym lengths_are ∙ long) (ap row_refusal (sym row_is ∙ row)))
+        (none_refused (unless (all_of_len n ts) (InvalidArgument ChildLen)) _ (sym lengths_are ∙ long) (ap (row_refusal f) (sym row_is ∙ row) ∙ column))
 
     pub call_made : (ty : DataType) → return_type f tys ≡ Some ty → called f ts n ≡ Some (node ty n (function f) ss)
     call_made ty row =
         ap (option_map (λ t. call_of f t n ts)) (sym row_is ∙ row) ∙ ap (λ x. Some (node ty n (function f) x)) (sym filled)
 
-    pub call_is_node : (ty : DataType) → lengths_refusal n (shapes ss) ≡ None → return_type f tys ≡ Some ty → IsNode ty n (function f) (shapes ss)
-    call_is_node ty long row =
+    pub call_is_node : (ty : DataType) → lengths_refusal n (shapes ss) ≡ None → return_type f tys ≡ Some ty → column_type_refusal f ty ≡ None
+        → IsNode ty n (function f) (shapes ss)
+    call_is_node ty long row column =
         let present : all_present (shapes ss) ≡ true = ap (λ x. all_present (shapes x)) filled ∙ filled_present ts in
-        (tys, shapes_of_types n (shapes ss) present (unless_none _ _ long) ∙ ap (map (λ s. Some (shape s n))) (sym typed), row)
+        let same = shapes_of_types n (shapes ss) present (unless_none _ _ long) ∙ ap (map (λ s. Some (shape s n))) (sym typed) in
+        let known : (is_computed f && has_column ty) ≡ true = unless_none _ _ column in
+        (tys, same, row, second_so (is_computed f) _ known, first_so _ _ known)
 
 -- what a call's constructor needs
-pub ruleset calls = (call_count_refused, call_lengths_refused, call_row_refused, call_taken, call_made, call_is_node)
+pub ruleset calls = (call_count_refused, call_lengths_refused, call_row_refused, call_type_refused, call_taken, call_made, call_is_node)

@@ -3,14 +3,10 @@ use Rattle.std.proofs.Common.{◌≡◌, ◌≤◌, ℕ, zero, suc, ◌-◌, Lis
 use Rattle.std.proofs.Common.{refl, sym, ap, subst, ◌∙◌, inl, inr, arith, length-drop}
 use Rattle.std.proofs.lemmas.Bool.{or_left}
 use Rattle.std.proofs.lemmas.List.{length-replicate, length-take-le}
-use Rattle.vx_value.specs.Types as type
-use Rattle.vx_value.specs.Types.{DataType, nullability_of}
+use Rattle.vx_value.specs.Types.{DataType}
 use Rattle.vx_value.specs.Values.{Value, boolean, integer}
 use Rattle.vx_value.specs.Typed.{Typed}
 use Rattle.vx_value.specs.Cell.{value}
-use Rattle.vx_value.specs.declared.dtype.Nullability.{Nullability}
-use Rattle.vx_value.specs.declared.dtype.Nullability.TheVariants.{NonNullable}
-use Rattle.vx_value.specs.declared.dtype.PType.{PType}
 use Rattle.vx_tree.specs.Tree as enc
 use Rattle.vx_tree.specs.Tree.{Tree, Data, Slots, node, no_slots, absent, slot, column, datum, id_of, constant_of, slice_of}
 use Rattle.vx_tree.specs.Tree.{is_bool, is_primitive, is_constant, is_canonical, is_columnar}
@@ -97,9 +93,3 @@ part_exactly ty read of_items cells a b xs ys t whole within range =
     let whole_part = subst HasNoFault (sym (cells (length ys) ys)) (items_whole read ys) in
     subst (λ x. KeepsExactly (slice_of a b x) (column ty (length ys) (of_items ys) None)) (sym whole)
     (column_exactly _ _ refl (sym (ap length range ∙ length_part a b xs within)) shown (whole_part, tt))
-
--- ---- a column without rows
-
--- a column of integers is refused only where its type is nullable
-pub only_nullable : (p q : PType) (n : Nullability) → q ≡ p → ¬ (type.primitive p n ≡ type.primitive q NonNullable) → ¬ (n ≡ NonNullable)
-only_nullable p q n r h = λ k. h (λ i. type.primitive (sym r i) (k i))

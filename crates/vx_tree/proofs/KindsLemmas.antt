@@ -1,12 +1,12 @@
 -- A node, opened.
 use Rattle.std.proofs.Common.{◌≡◌, ℕ, ℤ, Bool, true, ◌≤◌, List, [], ◌∷◌, get_or, Option, Some, None, sym, ◌∙◌, ap, subst}
-use Rattle.vx_value.specs.Types.{DataType, nullability_of}
+use Rattle.vx_value.specs.Types.{DataType}
 use Rattle.vx_value.specs.Typed.{Typed}
 use Rattle.vx_value.specs.View.{type_of}
 use Rattle.vx_value.specs.IsOf.{is_of}
-use Rattle.vx_value.specs.declared.dtype.Nullability.TheVariants.{NonNullable}
 use Rattle.vx_value.specs.declared.dtype.PType.{PType}
 use Rattle.vx_fn.specs.declared.function.ScalarFnRef.{ScalarFnRef}
+use Rattle.vx_tree.specs.ColumnTypes.{has_column}
 use Rattle.vx_tree.specs.Tree as enc
 use Rattle.vx_tree.specs.Tree.{Tree, Data, node, slots_of, dtype, len, column, constant_of, slice_of, booleans, integers}
 use Rattle.vx_tree.specs.Well.{Shape, shape, shapes, IsNode, IsNodeOf}
@@ -26,12 +26,12 @@ module _ (n : Node) (well : IsNodeOf (tree_of n)) where
   of_data d e = subst (λ x. IsNode (type_of n.dtype) n.len x (shapes (slots_of n.slots.items))) e well
 
   pub kind_constant : (v : Typed) → data_of n.encoding ≡ enc.constant v →
-      (tree_of n ≡ constant_of v n.len) × (nullability_of v.of_type ≡ NonNullable) × (is_of v.of_type v.value ≡ true)
+      (tree_of n ≡ constant_of v n.len) × (has_column v.of_type ≡ true) × (is_of v.of_type v.value ≡ true)
   kind_constant v e =
       let h = of_data (enc.constant v) e in
       let i = none_there n.slots.items h.3 in
-      let never = subst (λ x. nullability_of x ≡ NonNullable) h.0 h.1 in
-      ((λ j. node (h.0 j) n.len (e j) (slots_of (i j))), never, subst (λ x. is_of x v.value ≡ true) h.0 h.2)
+      let column = subst (λ x. has_column x ≡ true) h.0 h.1 in
+      ((λ j. node (h.0 j) n.len (e j) (slots_of (i j))), column, subst (λ x. is_of x v.value ≡ true) h.0 h.2)
 
   pub kind_slice : (a b : ℕ) (z : Option Tree) (c : Tree) → data_of n.encoding ≡ enc.slice a b → z ≡ get_or n.slots.items 0 z → z ≡ Some c →
       (tree_of n ≡ slice_of a b c) × (a ≤ b) × (b ≤ len c)

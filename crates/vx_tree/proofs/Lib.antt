@@ -1,4 +1,5 @@
 pub mod SlotsLemmas
+pub mod ColumnTypesLemmas
 pub mod KindsLemmas
 pub mod CellsLemmas
 pub mod KeepsLemmas

@@ -6,10 +6,8 @@ use Rattle.std.proofs.lemmas.List.{length-map}
 use Rattle.std.proofs.lemmas.List.Recursion.{and_push, and_fails_at}
 use Rattle.std.specs.Cmp.{unsigned_Decides, first_so, second_so}
 use Rattle.std.specs.Prelude.{◌==◌}
-use Rattle.vx_value.specs.Types.{DataType, same_type_Decides, nullability_of, is_nullable, same_nullability_Decides}
+use Rattle.vx_value.specs.Types.{DataType, same_type_Decides}
 use Rattle.vx_value.specs.Typed.{Typed}
-use Rattle.vx_value.specs.declared.dtype.Nullability.{Nullability}
-use Rattle.vx_value.specs.declared.dtype.Nullability.TheVariants.{NonNullable, Nullable}
 use Rattle.vx_value.specs.declared.error.VortexError.TheVariants.{InvalidArgument}
 use Rattle.vx_value.specs.declared.error.ArgKind.TheVariants.{SlotCount, FnSlotMissing, NodeType}
 use Rattle.vx_value.specs.declared.id.Id.{Id}
@@ -18,11 +16,12 @@ use Rattle.vx_fn.specs.Functions.{arity, function_id}
 use Rattle.vx_fn.specs.ReturnTypes.{return_type}
 use Rattle.vx_fn.specs.declared.function.ScalarFnRef.{ScalarFnRef}
 use Rattle.vx_fn.proofs.ReturnTypesLemmas.{arity_of_row}
+use Rattle.vx_tree.specs.ColumnTypes.{has_column, is_computed}
 use Rattle.vx_tree.specs.Tree as enc
 use Rattle.vx_tree.specs.Tree.{Tree, Data, id_of, slots_of, dtype, len}
 use Rattle.vx_tree.specs.Well.{Shape, shape, shape_of, shapes, IsNode}
 use Rattle.vx_tree.specs.Refusals.{refusal, column_refusal, constant_refusal, slice_refusal, function_refusal}
-use Rattle.vx_tree.specs.Refusals.{slots_refusal, types_refusal, lengths_refusal, result_refusal, arity_refusal}
+use Rattle.vx_tree.specs.Refusals.{slots_refusal, types_refusal, lengths_refusal, result_refusal, arity_refusal, column_type_refusal}
 use Rattle.vx_tree.specs.Conditions.{unless, first_of_both}
 use Rattle.vx_tree.specs.Refusals.{no_validity, all_present, all_long, types_in, type_in, is_present, is_long}
 use Rattle.vx_tree.proofs.ConditionsLemmas.{none_refused, first_none, second_none, unless_none, none_unless}
@@ -127,8 +126,7 @@ constant_kept : (ty : DataType) (n : ℕ) (v : Typed) (ss : List (Option Shape))
 constant_kept ty n v [] h =
     let later = second_none _ _ h in
     let typed : ty ≡ v.of_type = (same_type_Decides ty v.of_type).0 (unless_none _ _ (first_none _ _ h)) in
-    let never : nullability_of ty ≡ NonNullable = (same_nullability_Decides (nullability_of ty) NonNullable).0 (unless_none _ _ (first_none _ _ later)) in
-    (typed, never, unless_none _ _ (second_none _ _ later), refl)
+    (typed, unless_none _ _ (first_none _ _ later), unless_none _ _ (second_none _ _ later), refl)
 constant_kept ty n v (s ∷ ss) h = absurd (cc)
 
 slice_kept : (ty : DataType) (n a b : ℕ) (ss : List (Option Shape)) → slice_refusal ty n a b ss ≡ None → IsNode ty n (enc.slice a b) ss
@@ -151,9 +149,11 @@ function_kept i ty n f ss h =
     let types : types_refusal i ty f ss ≡ None = first_none (types_refusal i ty f ss) (lengths_refusal n ss) later in
     let lengths : lengths_refusal n ss ≡ None = second_none (types_refusal i ty f ss) (lengths_refusal n ss) later in
     let present : unless (all_present ss) (InvalidArgument FnSlotMissing) ≡ None = first_none _ (arity_refusal f (length ss)) slots in
-    let result : result_refusal ty (return_type f (types_in ss)) ≡ None =
+    let typed : first_of_both (result_refusal ty (return_type f (types_in ss))) (column_type_refusal f ty) ≡ None =
     second_none (unless (same_id i (function_id f)) (InvalidArgument NodeType)) _ types in
-    (types_in ss, shapes_of_types n ss (unless_none _ _ present) (unless_none _ _ lengths), result_none ty (return_type f (types_in ss)) result)
+    let result = result_none ty (return_type f (types_in ss)) (first_none _ (column_type_refusal f ty) typed) in
+    let column : (is_computed f && has_column ty) ≡ true = unless_none _ _ (second_none (result_refusal ty (return_type f (types_in ss))) _ typed) in
+    (types_in ss, shapes_of_types n ss (unless_none _ _ present) (unless_none _ _ lengths), result, second_so (is_computed f) _ column, first_so _ _ column)
 
 -- ---- and the parts that meet them aren't refused
 
@@ -169,8 +169,7 @@ constant_taken : (ty : DataType) (n : ℕ) (v : Typed) (ss : List (Option Shape)
     IsNode ty n (enc.constant v) ss → constant_refusal ty v ss ≡ None
 constant_taken ty n v ss h =
     let typed = none_unless _ _ ((same_type_Decides ty v.of_type).1 h.0) in
-    let never = none_unless _ _ ((same_nullability_Decides (nullability_of ty) NonNullable).1 h.1) in
-    let e : constant_refusal ty v [] ≡ None = none_refused _ _ typed (none_refused _ _ never (none_unless _ _ h.2)) in
+    let e : constant_refusal ty v [] ≡ None = none_refused _ _ typed (none_refused _ _ (none_unless _ _ h.1) (none_unless _ _ h.2)) in
     subst (λ l. constant_refusal ty v l ≡ None) (sym h.3) e
 
 slice_taken : (ty : DataType) (n a b : ℕ) (ss : List (Option Shape)) → IsNode ty n (enc.slice a b) ss → slice_refusal ty n a b ss ≡ None
@@ -194,7 +193,9 @@ function_taken ty n f ss h =
     let slots : slots_refusal f made ≡ None = none_refused _ _ (none_unless _ _ (present_types n tys)) (none_unless _ _ count) in
     let named : unless (same_id (function_id f) (function_id f)) (InvalidArgument NodeType) ≡ None =
     none_unless _ _ ((same_id_Decides (function_id f) (function_id f)).1 refl) in
-    let types : types_refusal (function_id f) ty f made ≡ None = none_refused _ _ named result in
+    let column : column_type_refusal f ty ≡ None = none_unless _ _ (and_from (is_computed f) (has_column ty) h.4 h.3) in
+    let types : types_refusal (function_id f) ty f made ≡ None =
+    none_refused _ _ named (none_refused (result_refusal ty (return_type f (types_in made))) (column_type_refusal f ty) result column) in
     let lengths : lengths_refusal n made ≡ None = none_unless _ _ (long_types n tys) in
     let e : function_refusal (function_id f) ty n f made ≡ None =
     none_refused (slots_refusal f made) _ slots (none_refused (types_refusal (function_id f) ty f made) _ types lengths) in
@@ -245,11 +246,3 @@ the_slot (r ∷ q ∷ xs) s h e = absurd (omega arith)
 
 pub slice_is_node : (t : Tree) (a b : ℕ) → a ≤ b → b ≤ len t → IsNode (dtype t) (b - a) (enc.slice a b) (Some (shape_of t) ∷ [])
 slice_is_node t a b h k = (len t, refl, h, k, refl)
-
-pub no_null : (n : Nullability) → is_nullable n ≡ false → n ≡ NonNullable
-no_null NonNullable h = refl
-no_null Nullable h = absurd (cc)
-
-pub some_null : (n : Nullability) → is_nullable n ≡ true → n ≡ NonNullable → ⊥
-some_null NonNullable h e = absurd (cc)
-some_null Nullable h e = absurd (cc)

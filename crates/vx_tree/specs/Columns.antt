@@ -1,13 +1,15 @@
 -- What a column is, and the tree that a column of the program stands for.
 use Rattle.std.specs.Prelude.{◌≡◌, ◌⊎◌, ◌≤◌, List, [], length, replicate, Option, Some, None, true}
-use Rattle.vx_value.specs.Types as type
 use Rattle.vx_value.specs.Types.{DataType}
 use Rattle.vx_value.specs.Values.{Value}
 use Rattle.vx_value.specs.Cell.{Cell, value}
+use Rattle.vx_value.specs.Storage.{storage_of}
+use Rattle.vx_value.specs.declared.dtype.Storage.{Storage}
+use Rattle.vx_value.specs.declared.dtype.Storage.TheVariants.{Integers}
 use Rattle.vx_value.specs.declared.id.Id.{Id}
 use Rattle.vx_value.specs.declared.id.Id.TheVariants as id
 use Rattle.vx_tree.specs.Tree as enc
-use Rattle.vx_tree.specs.Tree.{Tree, column, dtype, datum, id_of, is_canonical}
+use Rattle.vx_tree.specs.Tree.{Tree, Data, column, dtype, datum, id_of, is_canonical}
 use Rattle.vx_tree.specs.Cells.{rows, HasNoFault, IsClean}
 use Rattle.vx_tree.specs.Cost.{cost}
 use Rattle.vx_tree.specs.declared.canonical.Canonical.{Canonical}
@@ -15,10 +17,13 @@ use Rattle.vx_tree.specs.declared.canonical.Canonical.TheVariants.{Bool, Primiti
 use Rattle.vx_tree.specs.declared.columnar.Columnar.{Columnar}
 use Rattle.vx_tree.specs.declared.columnar.Columnar.TheVariants as columnar
 
--- the canonical encoding of a type
+-- the canonical encoding of a type that has columns, by how they store its values
+abbrev pub stored_id : Storage → Id
+stored_id (Integers p) = id.Primitive
+stored_id _ = id.Bool
+
 abbrev pub canonical_id : DataType → Id
-canonical_id (type.bool n) = id.Bool
-canonical_id (type.primitive p n) = id.Primitive
+canonical_id ty = stored_id (storage_of ty)
 
 -- a column of these cells may have the encoding i: the type's canonical one, or constant if all rows are one value
 abbrev pub IsLawful : Id → DataType → List Cell → Type 0
@@ -50,7 +55,10 @@ abbrev pub columnar_tree : Columnar → Tree
 columnar_tree (columnar.Canonical c) = canonical_tree c
 columnar_tree (columnar.Constant t) = t
 
--- the column of a type without rows
+-- the column without rows of a type that has columns, by how they store its values
+abbrev pub no_rows : Storage → Data
+no_rows (Integers p) = enc.primitive p []
+no_rows _ = enc.bool []
+
 abbrev pub empty_of : DataType → Tree
-empty_of (type.bool n) = column (type.bool n) 0 (enc.bool []) None
-empty_of (type.primitive p n) = column (type.primitive p n) 0 (enc.primitive p []) None
+empty_of ty = column ty 0 (no_rows (storage_of ty)) None

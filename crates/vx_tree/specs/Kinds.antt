@@ -1,8 +1,7 @@
 -- A node, opened: its children by their roles.
 use Rattle.std.specs.Prelude.{◌≡◌, ◌≤◌, true}
-use Rattle.vx_value.specs.Types.{nullability_of}
 use Rattle.vx_value.specs.IsOf.{is_of}
-use Rattle.vx_value.specs.declared.dtype.Nullability.TheVariants.{NonNullable}
+use Rattle.vx_tree.specs.ColumnTypes.{has_column}
 use Rattle.vx_tree.specs.Natives.{values_of, ptype_of}
 use Rattle.vx_tree.specs.Tree.{Tree, node, function, slots_of, dtype, len, constant_of, slice_of, booleans, integers}
 use Rattle.vx_tree.specs.Well.{IsNode, shapes}
@@ -12,7 +11,7 @@ use Rattle.vx_tree.specs.declared.array.kind.ArrayKind.TheVariants as kind
 -- the whole shape of the tree: a line for each encoding
 abbrev pub IsKindOf : ArrayKind → Tree → Type 0
 IsKindOf (kind.Constant v) t =
-    (t ≡ constant_of v.now (len t)) × (nullability_of v.now.of_type ≡ NonNullable) × (is_of v.now.of_type v.now.value ≡ true)
+    (t ≡ constant_of v.now (len t)) × (has_column v.now.of_type ≡ true) × (is_of v.now.of_type v.now.value ≡ true)
 IsKindOf (kind.Slice c a b) t = (t ≡ slice_of a b c.now) × (a ≤ b) × (b ≤ len c.now)
 IsKindOf (kind.ScalarFn f ss) t =
     (t ≡ node (dtype t) (len t) (function f.now) (slots_of ss.now)) × IsNode (dtype t) (len t) (function f.now) (shapes (slots_of ss.now))

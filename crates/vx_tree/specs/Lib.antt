@@ -6,6 +6,7 @@ pub use Rattle.vx_value.specs.IsOf
 pub use Rattle.vx_value.specs.Typed
 pub use Rattle.vx_value.specs.Ids
 pub mod Tree
+pub mod ColumnTypes
 pub mod Ranges
 pub mod Natives
 pub mod Names

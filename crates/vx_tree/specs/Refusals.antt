@@ -1,7 +1,7 @@
 -- The first condition of a node that fails: slots, types, lengths, ranges, in this order.
 use Rattle.std.specs.Prelude.{ℕ, ◌-◌, List, [], ◌∷◌, length, Bool, true, false, ◌==◌, ◌&&◌, nat_le, Option, Some, None}
 use Rattle.vx_value.specs.Types as type
-use Rattle.vx_value.specs.Types.{DataType, same_type, same_nullability, nullability_of}
+use Rattle.vx_value.specs.Types.{DataType, same_type}
 use Rattle.vx_value.specs.IsOf.{is_of}
 use Rattle.vx_value.specs.Typed.{Typed}
 use Rattle.vx_value.specs.declared.dtype.Nullability.TheVariants.{NonNullable}
@@ -14,6 +14,7 @@ use Rattle.vx_value.specs.declared.id.Id.{Id}
 use Rattle.vx_fn.specs.Functions.{arity, function_id}
 use Rattle.vx_fn.specs.ReturnTypes.{return_type}
 use Rattle.vx_fn.specs.declared.function.ScalarFnRef.{ScalarFnRef}
+use Rattle.vx_tree.specs.ColumnTypes.{has_column, is_computed}
 use Rattle.vx_tree.specs.Tree as enc
 use Rattle.vx_tree.specs.Tree.{Tree, Data, dtype, len}
 use Rattle.vx_tree.specs.Well.{Shape, shape}
@@ -34,7 +35,7 @@ column_refusal ty n of_type k (s ∷ r ∷ ss) = Some (InvalidArgument SlotCount
 abbrev pub constant_refusal : DataType → Typed → List (Option Shape) → Option VortexError
 constant_refusal ty v [] =
     first_of_both (unless (same_type ty v.of_type) (InvalidArgument NodeType))
-    (first_of_both (unless (same_nullability (nullability_of ty) NonNullable) (InvalidArgument BadType))
+    (first_of_both (unless (has_column ty) (InvalidArgument BadType))
     (unless (is_of ty v.value) (InvalidArgument BadValue)))
 constant_refusal ty v (s ∷ ss) = Some (InvalidArgument SlotCount)
 
@@ -84,13 +85,18 @@ abbrev pub result_refusal : DataType → Option DataType → Option VortexError
 result_refusal ty None = Some (InvalidArgument NoRow)
 result_refusal ty (Some s) = unless (same_type ty s) (InvalidArgument NodeType)
 
+-- where no column of the type is computed by the function
+abbrev pub column_type_refusal : ScalarFnRef → DataType → Option VortexError
+column_type_refusal f ty = unless (is_computed f && has_column ty) (InvalidArgument BadType)
+
 -- of a function: its slots, its types where the node is to go by the id, and its lengths
 abbrev pub slots_refusal : ScalarFnRef → List (Option Shape) → Option VortexError
 slots_refusal f ss = first_of_both (unless (all_present ss) (InvalidArgument FnSlotMissing)) (arity_refusal f (length ss))
 
 abbrev pub types_refusal : Id → DataType → ScalarFnRef → List (Option Shape) → Option VortexError
 types_refusal i ty f ss =
-    first_of_both (unless (same_id i (function_id f)) (InvalidArgument NodeType)) (result_refusal ty (return_type f (types_in ss)))
+    first_of_both (unless (same_id i (function_id f)) (InvalidArgument NodeType))
+    (first_of_both (result_refusal ty (return_type f (types_in ss))) (column_type_refusal f ty))
 
 abbrev pub lengths_refusal : ℕ → List (Option Shape) → Option VortexError
 lengths_refusal n ss = unless (all_long n ss) (InvalidArgument ChildLen)

@@ -1,10 +1,11 @@
 -- Which trees are well formed: the invariant of an `ArrayRef`.
 use Rattle.std.specs.Prelude.{◌≡◌, ℕ, ◌-◌, ◌≤◌, List, [], ◌∷◌, length, map, Option, Some, None, true}
 use Rattle.vx_value.specs.Types as type
-use Rattle.vx_value.specs.Types.{DataType, nullability_of}
+use Rattle.vx_value.specs.Types.{DataType}
 use Rattle.vx_value.specs.IsOf.{is_of}
 use Rattle.vx_value.specs.declared.dtype.Nullability.TheVariants.{NonNullable}
 use Rattle.vx_fn.specs.ReturnTypes.{return_type}
+use Rattle.vx_tree.specs.ColumnTypes.{has_column, is_computed}
 use Rattle.vx_tree.specs.Tree as enc
 use Rattle.vx_tree.specs.Tree.{Tree, Data, Slots, node, no_slots, absent, slot, dtype, len}
 
@@ -23,9 +24,10 @@ shapes (slot t ss) = Some (shape_of t) ∷ shapes ss
 -- the conditions on a node, its slots' own apart: a line for each encoding. A column has a slot for a validity, which is
 -- absent where no row is null.
 abbrev pub IsNode : DataType → ℕ → Data → List (Option Shape) → Type 0
-IsNode ty n (enc.constant v) ss = (ty ≡ v.of_type) × (nullability_of ty ≡ NonNullable) × (is_of ty v.value ≡ true) × (ss ≡ [])
+IsNode ty n (enc.constant v) ss = (ty ≡ v.of_type) × (has_column ty ≡ true) × (is_of ty v.value ≡ true) × (ss ≡ [])
 IsNode ty n (enc.slice a b) ss = (m : ℕ) × (ss ≡ Some (shape ty m) ∷ []) × (a ≤ b) × (b ≤ m) × (n ≡ b - a)
-IsNode ty n (enc.function f) ss = (tys : List DataType) × (ss ≡ map (λ s. Some (shape s n)) tys) × (return_type f tys ≡ Some ty)
+IsNode ty n (enc.function f) ss =
+    (tys : List DataType) × (ss ≡ map (λ s. Some (shape s n)) tys) × (return_type f tys ≡ Some ty) × (has_column ty ≡ true) × (is_computed f ≡ true)
 IsNode ty n (enc.bool bs) ss = (ty ≡ type.bool NonNullable) × (n ≡ length bs) × (ss ≡ None ∷ [])
 IsNode ty n (enc.primitive p zs) ss = (ty ≡ type.primitive p NonNullable) × (n ≡ length zs) × (ss ≡ None ∷ [])
 

@@ -1,17 +1,17 @@
 //! Columns in the canonical encoding of their type.
 
-ghost use Rattle.std.specs.Prelude.{◌≡◌, ◌⊎◌, ◌==◌, true, is_ok, IfOk, IfErr, OnOk};
-ghost use Rattle.vx_value.specs.Types.{nullability_of};
-ghost use Rattle.vx_value.specs.declared.dtype.Nullability.TheVariants.{NonNullable};
+ghost use Rattle.std.specs.Prelude.{◌≡◌, ◌⊎◌, ◌==◌, true, false, is_ok, IfOk, IfErr, OnOk};
 ghost use Rattle.vx_value.specs.View.{type_of};
+ghost use Rattle.vx_tree.specs.ColumnTypes.{has_column};
 ghost use Rattle.vx_tree.specs.Tree.{Tree, dtype, len, datum, is_canonical};
 ghost use Rattle.vx_tree.specs.Columns.{canonical_tree, empty_of};
 
 use crate::array::{ArrayRef, Encoding, IntoArray};
 use crate::arrays::boolean::BoolArray;
 use crate::arrays::primitive::PrimitiveArray;
+use crate::column_types::has_column;
 use std::alloc::Global;
-use vx_value::{ArgKind, DType, VortexError, VortexResult};
+use vx_value::{ArgKind, DType, Storage, VortexError, VortexResult};
 
 /// A column in the canonical encoding of its type.
 #[derive(Clone, Debug, Drop)]
@@ -21,18 +21,19 @@ pub enum Canonical {
 }
 
 impl Canonical {
-    /// Makes the column of type `dtype` without rows. `InvalidArgument` with `BadType` exactly if `dtype` is nullable.
+    /// Makes the column of type `dtype` without rows. `InvalidArgument` with `BadType` exactly if there are no columns of
+    /// that type.
+    #[tactic(auto, using(crate::proofs::ColumnTypesLemmas::column_of_bits, crate::proofs::ColumnTypesLemmas::column_of_integers))]
     pub fn empty(alloc: Global, dtype: &DType) -> VortexResult<Canonical>
         ensures ok { IfOk result (λ c. canonical_tree c ≡ empty_of (type_of dtype.now)) }
-        ensures valid { OnOk result (nullability_of (type_of dtype.now) ≡ NonNullable) }
+        ensures valid { OnOk result (has_column (type_of dtype.now) ≡ true) }
         ensures refused { IfErr result (λ e. (e ≡ VortexError.OutOfMemory)
-            ⊎ ((e ≡ VortexError.InvalidArgument ArgKind.BadType) × (¬ (nullability_of (type_of dtype.now) ≡ NonNullable)))) }
+            ⊎ ((e ≡ VortexError.InvalidArgument ArgKind.BadType) × (has_column (type_of dtype.now) ≡ false))) }
     {
-        match dtype {
-            DType::Bool(nullability) => Canonical::empty_bool(alloc, *nullability),
-            DType::Primitive(ptype, nullability) => {
-                Canonical::empty_primitive(alloc, *ptype, *nullability)
-            }
+        match (has_column(dtype), dtype.storage()) {
+            (true, Storage::Bits) => Canonical::empty_bool(alloc),
+            (true, Storage::Integers(ptype)) => Canonical::empty_primitive(alloc, ptype),
+            _ => Err(VortexError::InvalidArgument(ArgKind::BadType)),
         }
     }
 

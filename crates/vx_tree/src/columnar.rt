@@ -1,9 +1,8 @@
 //! Columns whose rows can be read without executing anything.
 
-ghost use Rattle.std.specs.Prelude.{◌≡◌, ◌⊎◌, ◌==◌, true, is_ok, IfOk, IfErr, OnOk};
-ghost use Rattle.vx_value.specs.Types.{nullability_of};
-ghost use Rattle.vx_value.specs.declared.dtype.Nullability.TheVariants.{NonNullable};
+ghost use Rattle.std.specs.Prelude.{◌≡◌, ◌⊎◌, ◌==◌, true, false, is_ok, IfOk, IfErr, OnOk};
 ghost use Rattle.vx_value.specs.View.{type_of};
+ghost use Rattle.vx_tree.specs.ColumnTypes.{has_column};
 ghost use Rattle.vx_tree.specs.Tree.{Tree, dtype, len, datum, is_columnar, constant_of};
 ghost use Rattle.vx_tree.specs.Columns.{columnar_tree};
 
@@ -21,12 +20,13 @@ pub enum Columnar {
 }
 
 impl Columnar {
-    /// Makes the constant of `len` rows, each `scalar`. `InvalidArgument` with `BadType` exactly if its type is nullable.
+    /// Makes the constant of `len` rows, each `scalar`. `InvalidArgument` with `BadType` exactly if there are no
+    /// columns of its type.
     pub fn constant(alloc: Global, scalar: Scalar, len: usize) -> VortexResult<Columnar>
         ensures ok { IfOk result (λ c. columnar_tree c ≡ constant_of scalar len) }
-        ensures valid { OnOk result (nullability_of scalar.of_type ≡ NonNullable) }
+        ensures valid { OnOk result (has_column scalar.of_type ≡ true) }
         ensures refused { IfErr result (λ e. (e ≡ VortexError.OutOfMemory)
-            ⊎ ((e ≡ VortexError.InvalidArgument ArgKind.BadType) × (¬ (nullability_of scalar.of_type ≡ NonNullable)))) }
+            ⊎ ((e ≡ VortexError.InvalidArgument ArgKind.BadType) × (has_column scalar.of_type ≡ false))) }
     {
         Ok(Columnar::Constant(ConstantArray::new(alloc, scalar, len)?))
     }

@@ -4,6 +4,7 @@
 pub mod array;
 pub mod arrays;
 mod canonical;
+mod column_types;
 mod columnar;
 mod laws;
 mod matcher;
@@ -20,6 +21,7 @@ pub use arrays::primitive::{Primitive, PrimitiveArray, PrimitiveData};
 pub use arrays::scalar_fn::{ScalarFn, ScalarFnArray, ScalarFnData};
 pub use arrays::slice::{Slice, SliceArray, SliceData, SliceDataParts};
 pub use canonical::Canonical;
+pub use column_types::{has_column, is_computed};
 pub use columnar::Columnar;
 pub use laws::{column_laws, execution_bounds, keeping_laws, refused_exactly};
 pub use matcher::{AnyArray, AnyCanonical, AnyColumnar, AnyScalarFn, Matcher};

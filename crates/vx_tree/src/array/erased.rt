@@ -1,12 +1,13 @@
 //! The readers of an untyped reference.
 
-ghost use Rattle.std.specs.Prelude.{◌≡◌, ◌==◌, is_some, IfSome, length, option_map, slice_get};
+ghost use Rattle.std.specs.Prelude.{◌≡◌, ◌==◌, true, is_some, IfSome, length, option_map, slice_get};
 ghost use Rattle.vx_value.specs.View.{type_of};
 ghost use Rattle.vx_tree.specs.Tree.{dtype, len, datum, slots, slots_of, id_of};
 ghost use Rattle.vx_tree.specs.Names.{slot_names};
 ghost use Rattle.vx_tree.specs.TreeView.{data_of};
 ghost use Rattle.vx_tree.specs.Cells.{rows};
 ghost use Rattle.vx_tree.specs.Well.{IsWell};
+ghost use Rattle.vx_tree.specs.ColumnTypes.{has_column};
 
 use crate::array::{ArrayRef, ArrayView, Encoding, VTable};
 use crate::matcher::Matcher;
@@ -75,11 +76,13 @@ impl ArrayRef {
         }
     }
 
-    /// States what holds of every tree: it is well formed, and its meaning has one cell per row. (own)
-    #[tactic(auto, using(crate::proofs::CellsLemmas::rows_counted))]
+    /// States what holds of every tree: it is well formed, its meaning has one cell per row, and there are columns of its type.
+    /// (own)
+    #[tactic(auto, using(crate::proofs::CellsLemmas::rows_counted, crate::proofs::ColumnTypesLemmas::well_typed))]
     pub fn well(&self)
         ensures formed { IsWell self.now }
         ensures counted { length (rows self.now) ≡ len self.now }
+        ensures typed { has_column (dtype self.now) ≡ true }
     {
         let _well = &self.node;
     }

@@ -129,15 +129,13 @@ impl BoolArray {
 }
 
 impl Canonical {
-    /// Makes the boolean column without rows. `InvalidArgument` with `BadType` exactly if it is to be nullable. (own)
-    pub(crate) fn empty_bool(alloc: Global, nullability: Nullability) -> VortexResult<Canonical>
-        ensures ok { IfOk result (λ c. canonical_tree c ≡ empty_of (type.bool nullability)) }
-        ensures valid { OnOk result (nullability ≡ NonNullable) }
-        ensures refused { IfErr result (λ e. (e ≡ VortexError.OutOfMemory)
-            ⊎ ((e ≡ VortexError.InvalidArgument ArgKind.BadType) × (¬ (nullability ≡ NonNullable)))) }
+    /// Makes the boolean column without rows. The only error is `OutOfMemory`. (own)
+    pub(crate) fn empty_bool(alloc: Global) -> VortexResult<Canonical>
+        ensures ok { IfOk result (λ c. canonical_tree c ≡ empty_of (type.bool NonNullable)) }
+        ensures err { IfErr result (λ e. e ≡ VortexError.OutOfMemory) }
     {
         let bits = BitBuffer::repeat(alloc, false, 0)?;
-        let column = BoolArray::try_new(alloc, DType::Bool(nullability), bits)?;
+        let column = BoolArray::try_new(alloc, DType::Bool(Nullability::NonNullable), bits)?;
         Ok(Canonical::Bool(column))
     }
 

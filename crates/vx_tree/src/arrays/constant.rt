@@ -1,9 +1,8 @@
 //! Arrays that repeat one value.
 
-ghost use Rattle.std.specs.Prelude.{◌≡◌, ◌⊎◌, IfOk, IfErr, OnOk, true, refl};
-ghost use Rattle.vx_value.specs.Types.{nullability_of};
-ghost use Rattle.vx_value.specs.declared.dtype.Nullability.TheVariants.{NonNullable};
+ghost use Rattle.std.specs.Prelude.{◌≡◌, ◌⊎◌, IfOk, IfErr, OnOk, true, false, refl};
 ghost use Rattle.vx_value.specs.declared.id.Id.TheVariants as id;
+ghost use Rattle.vx_tree.specs.ColumnTypes.{has_column};
 ghost use Rattle.vx_tree.specs.Tree.{constant, is_constant, constant_of};
 ghost use Rattle.vx_tree.specs.TreeView.{tree_of};
 ghost use Rattle.vx_tree.specs.Well.{IsNodeOf};
@@ -11,6 +10,7 @@ ghost use Rattle.vx_tree.specs.Kinds.{IsKindOf};
 
 use crate::array::{Array, ArrayId, ArrayKind, ArrayParts, Encoded, Encoding, Node, VTable};
 use crate::arrays::types::is_same_type;
+use crate::column_types::has_column;
 use std::alloc::Global;
 use vx_value::{ArgKind, DType, Id, Scalar, VortexError, VortexResult};
 
@@ -98,7 +98,7 @@ impl VTable for Constant {
         if !is_same_type(&parts.dtype, parts.payload.scalar.dtype()) {
             return Err(VortexError::InvalidArgument(ArgKind::NodeType));
         }
-        if parts.dtype.is_nullable() {
+        if !has_column(&parts.dtype) {
             return Err(VortexError::InvalidArgument(ArgKind::BadType));
         }
         Ok(())
@@ -108,16 +108,16 @@ impl VTable for Constant {
 }
 
 impl ConstantArray {
-    /// Makes the constant of `len` rows, each `scalar`. `InvalidArgument` with `BadType` exactly if its type is nullable.
-    #[tactic(auto, using(crate::proofs::RefusalsLemmas::no_null, crate::proofs::RefusalsLemmas::some_null))]
+    /// Makes the constant of `len` rows, each `scalar`. `InvalidArgument` with `BadType` exactly if there are no
+    /// columns of its type.
     pub fn new(alloc: Global, scalar: Scalar, len: usize) -> VortexResult<ConstantArray>
         ensures ok { IfOk result (λ a. a ≡ constant_of scalar len) }
-        ensures valid { OnOk result (nullability_of scalar.of_type ≡ NonNullable) }
+        ensures valid { OnOk result (has_column scalar.of_type ≡ true) }
         ensures refused { IfErr result (λ e. (e ≡ VortexError.OutOfMemory)
-            ⊎ ((e ≡ VortexError.InvalidArgument ArgKind.BadType) × (¬ (nullability_of scalar.of_type ≡ NonNullable)))) }
+            ⊎ ((e ≡ VortexError.InvalidArgument ArgKind.BadType) × (has_column scalar.of_type ≡ false))) }
     {
         let dtype = scalar.dtype().clone()?;
-        if dtype.is_nullable() {
+        if !has_column(&dtype) {
             return Err(VortexError::InvalidArgument(ArgKind::BadType));
         }
         let parts = ArrayParts::new(

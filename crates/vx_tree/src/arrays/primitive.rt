@@ -133,21 +133,15 @@ impl PrimitiveArray {
 }
 
 impl Canonical {
-    /// Makes the integer column without rows. `InvalidArgument` with `BadType` exactly if it is to be nullable. (own)
-    #[tactic(auto, using(vx_value::proofs::DefaultsLemmas::zero_in_range, crate::proofs::ColumnsLemmas::only_nullable))]
-    pub(crate) fn empty_primitive(
-        alloc: Global,
-        ptype: PType,
-        nullability: Nullability,
-    ) -> VortexResult<Canonical>
-        ensures ok { IfOk result (λ c. canonical_tree c ≡ empty_of (type.primitive ptype nullability)) }
-        ensures valid { OnOk result (nullability ≡ NonNullable) }
-        ensures refused { IfErr result (λ e. (e ≡ VortexError.OutOfMemory)
-            ⊎ ((e ≡ VortexError.InvalidArgument ArgKind.BadType) × (¬ (nullability ≡ NonNullable)))) }
+    /// Makes the integer column of type `ptype` without rows. The only error is `OutOfMemory`. (own)
+    #[tactic(auto, using(vx_value::proofs::DefaultsLemmas::zero_in_range))]
+    pub(crate) fn empty_primitive(alloc: Global, ptype: PType) -> VortexResult<Canonical>
+        ensures ok { IfOk result (λ c. canonical_tree c ≡ empty_of (type.primitive ptype NonNullable)) }
+        ensures err { IfErr result (λ e. e ≡ VortexError.OutOfMemory) }
     {
         let values = PrimitiveValues::repeat(alloc, ptype, 0, 0)?;
-        let column = PrimitiveArray::try_new(alloc, DType::Primitive(ptype, nullability), values)?;
-        Ok(Canonical::Primitive(column))
+        let dtype = DType::Primitive(ptype, Nullability::NonNullable);
+        Ok(Canonical::Primitive(PrimitiveArray::try_new(alloc, dtype, values)?))
     }
 
     /// Returns `array` as a column. Hands it back if it isn't an integer column. (own)

@@ -6,7 +6,7 @@ ghost use Rattle.vx_tree.specs.Tree.{function, is_function, slots_of, filled_slo
 ghost use Rattle.vx_tree.specs.TreeView.{tree_of};
 ghost use Rattle.vx_tree.specs.Well.{shapes, IsNodeOf};
 ghost use Rattle.vx_tree.specs.Kinds.{IsKindOf};
-ghost use Rattle.vx_tree.specs.Refusals.{arity_refusal, slots_refusal, types_refusal, lengths_refusal, result_refusal};
+ghost use Rattle.vx_tree.specs.Refusals.{arity_refusal, slots_refusal, types_refusal, lengths_refusal, result_refusal, column_type_refusal};
 ghost use Rattle.vx_tree.specs.Refusals.{all_present, all_long, types_in, is_present, is_long, type_in};
 ghost use Rattle.vx_tree.specs.Calls.{call_refusal, inferred_refusal, called, inferred};
 ghost use Rattle.vx_fn.specs.ReturnTypes.{return_type};
@@ -15,6 +15,7 @@ use crate::array::{
     Array, ArrayId, ArrayKind, ArrayParts, ArrayRef, Encoded, Encoding, Node, VTable,
 };
 use crate::arrays::types::is_same_type;
+use crate::column_types::{has_column, is_computed};
 use std::alloc::{AllocError, Global};
 use vx_fn::{Arity, ScalarFnRef};
 use vx_value::{ArgKind, DType, VortexError, VortexResult};
@@ -213,7 +214,8 @@ fn push_type(types: &mut Vec<DType>, slot: &Option<ArrayRef>) -> Result<(), Allo
     }
 }
 
-/// Checks that `tag` is the function's id, and that `function` gives `dtype` on arguments of the slots' types.
+/// Checks that `tag` is the function's id, that `function` gives `dtype` on arguments of the slots' types, and that it
+/// computes columns of that type.
 #[tactic(auto, using(crate::proofs::ConditionsLemmas::in_turn))]
 fn check_types(
     alloc: Global,
@@ -230,7 +232,8 @@ fn check_types(
         return Err(VortexError::InvalidArgument(ArgKind::NodeType));
     }
     let types = types_of(alloc, slots)?;
-    check_result(function, dtype, types.as_slice())
+    check_result(function, dtype, types.as_slice())?;
+    check_column_type(function, dtype)
 }
 
 /// Checks that `function` gives `dtype` on arguments of these types.
@@ -242,6 +245,18 @@ fn check_result(function: &ScalarFnRef, dtype: &DType, types: &[DType]) -> Vorte
         Ok(())
     } else {
         Err(VortexError::InvalidArgument(ArgKind::NodeType))
+    }
+}
+
+/// Checks that columns of type `dtype` are computed by `function`.
+fn check_column_type(function: &ScalarFnRef, dtype: &DType) -> VortexResult<()>
+    ensures valid { OnOk result (column_type_refusal function.now (type_of dtype.now) ≡ None) }
+    ensures refused { IfErr result (λ e. column_type_refusal function.now (type_of dtype.now) ≡ Some e) }
+{
+    if is_computed(function) && has_column(dtype) {
+        Ok(())
+    } else {
+        Err(VortexError::InvalidArgument(ArgKind::BadType))
     }
 }
 
@@ -281,7 +296,8 @@ impl ScalarFnArray {
     /// Makes a node that applies `scalar_fn` to `children`, with `len` rows.
     ///
     /// The first condition that fails gives the error: `InvalidArgument` with `Arity` if the function takes another number
-    /// of arguments, `ChildLen` if a child doesn't have `len` rows, and `NoRow` if the function takes no such types.
+    /// of arguments, `ChildLen` if a child doesn't have `len` rows, `NoRow` if the function takes no such types, and `BadType`
+    /// if there are no columns of the result's type or none are computed by the function.
     #[tactic(auto, using(crate::proofs::CallsLemmas::calls))]
     pub fn try_new_with_len(
         alloc: Global,
@@ -299,6 +315,7 @@ impl ScalarFnArray {
         check_lengths(len, slots.as_slice())?;
         let types = types_of(alloc, slots.as_slice())?;
         let dtype = scalar_fn.return_dtype(types.as_slice())?;
+        check_column_type(&scalar_fn, &dtype)?;
         let parts = ArrayParts {
             vtable: ScalarFn { id: scalar_fn.id() },
             dtype,

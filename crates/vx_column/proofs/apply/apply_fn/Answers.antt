@@ -1,8 +1,8 @@
-use Rattle.std.proofs.Common.{◌∙◌, sym}
+use Rattle.std.proofs.Common.{◌∙◌, map, sym}
 use Rattle.vx_tree.specs.Tree.{datum}
-use Rattle.vx_tree.specs.Columns.{canonical_tree}
+use Rattle.vx_tree.specs.Columns.{canonical_tree, columnar_tree}
 use Rattle.vx_tree.proofs.ColumnsLemmas.{canonical_open}
-use Rattle.vx_column.proofs.AppliedLemmas.{taken, applied, unapplied, all_repeat}
+use Rattle.vx_column.proofs.AppliedLemmas.{taken, column_given, call_computed, applied, unapplied, all_repeat}
 use Rattle.vx_column.proofs.ArgumentsLemmas.{argument_rows, scalar_rows, arguments_sized}
 use Rattle.vx_column.proofs.apply.apply_fn.Goals as goal
 
@@ -11,6 +11,12 @@ apply_constants-requires-clause-taken c =
     let all = rw c.in-Some.is at c.in_ok-scalars.ensures.all in
     let rows = scalar_rows c.args.function.now c.args.len c.args.arguments.now c.in-Some.scalars.items c.requires all in
     rw c.as_slice.ensures.value (taken c.args.function.now rows c.requires)
+
+pub apply_constants-requires-clause-column : goal.apply_constants-requires-clause-column
+apply_constants-requires-clause-column c =
+    let all = rw c.in-Some.is at c.in_ok-scalars.ensures.all in
+    let rows = scalar_rows c.args.function.now c.args.len c.args.arguments.now c.in-Some.scalars.items c.requires all in
+    rw c.as_slice.ensures.value (column_given c.args.function.now rows c.requires)
 
 pub returns-in-Ok-clause-ok : goal.returns-in-Ok-clause-ok
 returns-in-Ok-clause-ok c =
@@ -27,6 +33,10 @@ returns-in-Some-clause-err c =
     let all = rw c.in-Some.is at c.in_ok-scalars.ensures.all in
     let rows = scalar_rows c.args.function.now c.args.len c.args.arguments.now c.in-Some.scalars.items c.requires all in
     unapplied c.args.function.now rows c.in-Err.e (rw c.as_slice.ensures.value at c.in-Err.ensures.err)
+
+pub apply_to_columns-requires-clause-computed : goal.apply_to_columns-requires-clause-computed
+apply_to_columns-requires-clause-computed c =
+    call_computed c.args.function.now (map columnar_tree c.args.arguments.now) c.args.len c.requires
 
 pub apply_to_columns-requires-clause-sized : goal.apply_to_columns-requires-clause-sized
 apply_to_columns-requires-clause-sized c =

@@ -9,8 +9,7 @@ use Rattle.vx_fn.specs.Binary.{calculated}
 use Rattle.vx_fn.specs.declared.function.ScalarFnRef.TheVariants.{Binary}
 use Rattle.vx_tree.specs.Natives.{values_of, ptype_of}
 use Rattle.vx_column.specs.declared.argument.Argument.TheVariants.{Integers}
-use Rattle.vx_fn.proofs.BinaryLemmas.{calculation_type}
-use Rattle.vx_column.proofs.ComputedLemmas.{calculation_fault, cells_read, integers_computed}
+use Rattle.vx_column.proofs.ComputedLemmas.{calculation_fault, cells_read, integers_calculated, integers_computed}
 use Rattle.vx_column.proofs.arithmetic.calculate.Goals as goal
 
 pub returns-in_default-clause-err : goal.returns-in_default-clause-err
@@ -22,7 +21,7 @@ returns-in_default-clause-err g c =
     let i = c.loop-index.index in
     let x = c.row.ensures ∙ ap (λ f. f i) c.operand_of-left.ensures.numbers in
     let y = c.row-in-loop-index.ensures ∙ ap (λ f. f i) c.operand_of-right.ensures.numbers in
-    let typed = calculation_type op (type_of l.dtype.now) (type_of r.dtype.now) c.requires.taken p c.requires.operator c.requires.lhs.3 in
+    let typed = integers_calculated op (type_of l.dtype.now) (type_of r.dtype.now) c.requires.lhs.4 c.requires.rhs.4 c.requires.taken p c.requires.operator c.requires.lhs.3 in
     inr (refl {a = Fault}, calculation_fault op p l r c.args.len i _ _ x y (omega arith) typed c.in_default.ensures)
 
 pub returns-clause-ok : goal.returns-clause-ok
@@ -37,7 +36,7 @@ returns-clause-ok g c =
     let right = c.operand_of-right.ensures.numbers in
     let all : c.loop-index.index ≡ c.args.len = omega arith in
     integers_computed (Binary op) (Integers l ∷ Integers r ∷ []) c.args.len c.primitive_column.result (ptype_of v) (values_of v)
-    (calculation_type op (type_of l.dtype.now) (type_of r.dtype.now) c.requires.taken (ptype_of v) c.requires.operator
+    (integers_calculated op (type_of l.dtype.now) (type_of r.dtype.now) c.requires.lhs.4 c.requires.rhs.4 c.requires.taken (ptype_of v) c.requires.operator
     (c.requires.lhs.3 ∙ ap storage.Integers kind))
     (ap (map (λ z. value (integer z))) c.wrap.ensures.values ∙ cells_read read c.in_ok-from_vec.field-0
     ∙ ap (map (λ x. value (integer (read x)))) c.in_ok-from_vec.ensures ∙ c.loop-index.invariant.2

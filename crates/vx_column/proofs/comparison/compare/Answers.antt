@@ -6,8 +6,7 @@ use Rattle.vx_fn.specs.Binary.{holds}
 use Rattle.vx_fn.specs.declared.function.ScalarFnRef.TheVariants.{Binary}
 use Rattle.vx_column.specs.Arguments.{integer_in}
 use Rattle.vx_column.specs.declared.argument.Argument.TheVariants.{Integers}
-use Rattle.vx_fn.proofs.BinaryLemmas.{comparison_type}
-use Rattle.vx_column.proofs.ComputedLemmas.{bools_computed}
+use Rattle.vx_column.proofs.ComputedLemmas.{integers_compared, bools_computed}
 use Rattle.vx_column.proofs.comparison.compare.Goals as goal
 
 pub returns-clause-ok : goal.returns-clause-ok
@@ -21,4 +20,4 @@ returns-clause-ok g c =
     let bits = c.in_ok-finish.ensures ∙ c.loop-index.invariant ∙ (λ j. map (λ i. holds op (int_cmp (left j i) (right j i))) (range_with_len 0 (all j))) in
     bools_computed (Binary op) (Integers l ∷ Integers r ∷ []) c.args.len c.bool_column.result
     (λ i. holds op (int_cmp (integer_in l i) (integer_in r i))) c.in_ok-finish.field-0
-    (comparison_type op (type_of l.dtype.now) (type_of r.dtype.now) c.requires.taken c.requires.operator) (λ i. refl) bits c.bool_column.ensures.ok
+    (integers_compared op (type_of l.dtype.now) (type_of r.dtype.now) c.requires.lhs.4 c.requires.rhs.4 c.requires.taken c.requires.operator) (λ i. refl) bits c.bool_column.ensures.ok

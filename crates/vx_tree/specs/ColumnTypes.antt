@@ -1,0 +1,23 @@
+-- Which types there are columns of, and which functions they are computed by.
+use Rattle.std.specs.Prelude.{Bool, true, ◌&&◌}
+use Rattle.std.proofs.Math.Bool.{not}
+use Rattle.vx_value.specs.Types.{DataType, nullability_of, is_nullable}
+use Rattle.vx_value.specs.Storage.{storage_of}
+use Rattle.vx_value.specs.declared.dtype.Storage.{Storage}
+use Rattle.vx_value.specs.declared.dtype.Storage.TheVariants.{Bits, Integers}
+use Rattle.vx_fn.specs.declared.function.ScalarFnRef.{ScalarFnRef}
+use Rattle.vx_fn.specs.declared.function.ScalarFnRef.TheVariants.{Binary, Not}
+
+-- a column stores such values: a line for each storage that columns have
+abbrev pub is_column_stored : Storage → Bool
+is_column_stored Bits = true
+is_column_stored (Integers p) = true
+
+-- the type is non-nullable, and a column stores its values
+abbrev pub has_column : DataType → Bool
+has_column ty = not (is_nullable (nullability_of ty)) && is_column_stored (storage_of ty)
+
+-- a column is computed by the function: a line for each one that does
+abbrev pub is_computed : ScalarFnRef → Bool
+is_computed (Binary op) = true
+is_computed Not = true
