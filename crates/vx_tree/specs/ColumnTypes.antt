@@ -1,10 +1,11 @@
 -- Which types there are columns of, and which functions they are computed by.
-use Rattle.std.specs.Prelude.{Bool, true, ◌&&◌}
+use Rattle.std.specs.Prelude.{Bool, true, false, ◌&&◌}
 use Rattle.std.proofs.Math.Bool.{not}
 use Rattle.vx_value.specs.Types.{DataType, nullability_of, is_nullable}
 use Rattle.vx_value.specs.Storage.{storage_of}
 use Rattle.vx_value.specs.declared.dtype.Storage.{Storage}
 use Rattle.vx_value.specs.declared.dtype.Storage.TheVariants.{Bits, Integers}
+use Rattle.vx_fn.specs.Binary.{is_logical}
 use Rattle.vx_fn.specs.declared.function.ScalarFnRef.{ScalarFnRef}
 use Rattle.vx_fn.specs.declared.function.ScalarFnRef.TheVariants.{Binary, Not}
 
@@ -12,12 +13,14 @@ use Rattle.vx_fn.specs.declared.function.ScalarFnRef.TheVariants.{Binary, Not}
 abbrev pub is_column_stored : Storage → Bool
 is_column_stored Bits = true
 is_column_stored (Integers p) = true
+is_column_stored _ = false
 
 -- the type is non-nullable, and a column stores its values
 abbrev pub has_column : DataType → Bool
 has_column ty = not (is_nullable (nullability_of ty)) && is_column_stored (storage_of ty)
 
--- a column is computed by the function: a line for each one that does
+-- a column is computed by the function: a line for each one that does. Logic isn't, so far.
 abbrev pub is_computed : ScalarFnRef → Bool
-is_computed (Binary op) = true
+is_computed (Binary op) = not (is_logical op)
 is_computed Not = true
+is_computed _ = false

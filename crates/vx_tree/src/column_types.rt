@@ -25,5 +25,9 @@ fn is_column_stored(storage: Storage) -> bool
 pub fn is_computed(function: &ScalarFnRef) -> bool
     ensures { result ≡ is_computed function.now }
 {
-    matches!(function, ScalarFnRef::Binary(_) | ScalarFnRef::Not)
+    match function {
+        ScalarFnRef::Binary(operator) => !operator.is_logical(),
+        ScalarFnRef::Not => true,
+        _ => false,
+    }
 }
