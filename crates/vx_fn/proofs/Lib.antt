@@ -1,3 +1,5 @@
 pub mod MeaningsLemmas
 pub mod ReturnTypesLemmas
+pub mod ArithmeticLemmas
+pub mod LogicLemmas
 pub mod BinaryLemmas

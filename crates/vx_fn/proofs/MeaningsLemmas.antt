@@ -1,22 +1,57 @@
--- Arguments of functions that take no null.
-use Rattle.std.proofs.Common.{◌≡◌, Bool, true, false, if◌then◌else◌, refl}
-use Rattle.std.specs.Prelude.{Option, None, IsSome}
+-- The nullability of a result by that of its arguments.
+use Rattle.std.proofs.Common.{◌≡◌, true, refl, ap, sym, ◌∙◌}
+use Rattle.std.specs.Prelude.{Option, Some, None}
+use Rattle.vx_value.specs.Types as type
 use Rattle.vx_value.specs.Types.{DataType, nullability_of, is_nullable}
-use Rattle.vx_value.specs.Values.{Value, null}
-use Rattle.vx_value.specs.Cell.{Cell}
-use Rattle.vx_value.specs.IsOf.{is_of}
-use Rattle.vx_fn.specs.Meanings.{no_null_type, no_null}
+use Rattle.vx_value.specs.Nullabilities.{with_nullability, union}
+use Rattle.vx_value.specs.declared.dtype.Nullability.{Nullability}
+use Rattle.vx_value.specs.declared.dtype.Nullability.TheVariants.{NonNullable, Nullable}
+use Rattle.vx_fn.specs.Meanings.{widen, widened}
 
--- a value of a type that is taken isn't null
-pub whole_value : (s : DataType) (v : Value) (o : Option DataType) (c : Cell) → is_of s v ≡ true → IsSome (no_null_type s o) →
-    (no_null v c ≡ c) × IsSome o
-whole_value s null o c h taken = absurd (by_test (is_nullable (nullability_of s)) h taken)
+pub union_with_plain : (m n : Nullability) → n ≡ NonNullable → union m n ≡ m
+union_with_plain NonNullable n h = h
+union_with_plain Nullable n h = refl
+
+pub union_first : (m n : Nullability) → is_nullable m ≡ true → is_nullable (union m n) ≡ true
+union_first NonNullable n h = absurd (cc)
+union_first Nullable n h = refl
+
+pub union_second : (m n : Nullability) → is_nullable n ≡ true → is_nullable (union m n) ≡ true
+union_second NonNullable n h = h
+union_second Nullable n h = refl
+
+-- a widened type's nullability; null is nullable already
+pub widened_nullability : (s t : DataType) → nullability_of (widen s t) ≡ union (nullability_of s) (nullability_of t)
+widened_nullability s type.null = null_stays (nullability_of s)
   where
-    by_test : (b : Bool) → b ≡ true → IsSome (if b then None else o) → ⊥
-    by_test true h taken = cc
-    by_test false h taken = cc
-whole_value s _ o c h taken = (refl, by_test (is_nullable (nullability_of s)) taken)
-  where
-    by_test : (b : Bool) → IsSome (if b then None else o) → IsSome o
-    by_test true taken = absurd (cc)
-    by_test false taken = taken
+    null_stays : (m : Nullability) → Nullable ≡ union m Nullable
+    null_stays NonNullable = refl
+    null_stays Nullable = refl
+widened_nullability s _ = refl
+
+-- a non-nullable type, widened by two, is nullable if one of them is: a line for each type
+pub widened_twice : (s t r : DataType) → nullability_of r ≡ NonNullable
+    → widen s (widen t r) ≡ with_nullability (union (nullability_of s) (nullability_of t)) r
+widened_twice s t type.null h = absurd (cc)
+widened_twice s t (type.bool n) h = ap (λ m. type.bool (union (nullability_of s) m)) (union_with_plain (nullability_of t) n h)
+widened_twice s t (type.primitive p n) h = ap (λ m. type.primitive p (union (nullability_of s) m)) (union_with_plain (nullability_of t) n h)
+widened_twice s t (type.decimal p k n) h = ap (λ m. type.decimal p k (union (nullability_of s) m)) (union_with_plain (nullability_of t) n h)
+widened_twice s t (type.utf8 n) h = ap (λ m. type.utf8 (union (nullability_of s) m)) (union_with_plain (nullability_of t) n h)
+widened_twice s t (type.binary n) h = ap (λ m. type.binary (union (nullability_of s) m)) (union_with_plain (nullability_of t) n h)
+
+-- a result is nullable if the argument that widens it is, or if it was before
+pub nullable_by_argument : (s : DataType) (o : Option DataType) (ty : DataType) → is_nullable (nullability_of s) ≡ true → widened s o ≡ Some ty
+    → is_nullable (nullability_of ty) ≡ true
+nullable_by_argument s None ty h e = absurd (cc)
+nullable_by_argument s (Some r) ty h e =
+    let same : widen s r ≡ ty = cc in
+    ap (λ u. is_nullable (nullability_of u)) (sym same)
+    ∙ ap is_nullable (widened_nullability s r)
+    ∙ union_first (nullability_of s) (nullability_of r) h
+
+pub nullable_before : (s r ty : DataType) → is_nullable (nullability_of r) ≡ true → widened s (Some r) ≡ Some ty → is_nullable (nullability_of ty) ≡ true
+nullable_before s r ty h e =
+    let same : widen s r ≡ ty = cc in
+    ap (λ u. is_nullable (nullability_of u)) (sym same)
+    ∙ ap is_nullable (widened_nullability s r)
+    ∙ union_second (nullability_of s) (nullability_of r) h
