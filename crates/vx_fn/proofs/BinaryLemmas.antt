@@ -1,118 +1,129 @@
--- Two arguments of one type, arguments that aren't null, and numbers that no type has.
-use Rattle.std.proofs.Common.{◌≡◌, zero, suc, of_z, to_z, Bool, true, false, if◌then◌else◌, arith, refl, ap, ◌∙◌, sym, subst}
-use Rattle.std.specs.Prelude.{ℤ, pos, negsuc, FitsSigned, int_div, Option, Some, None, MatchOption}
-use Rattle.std.specs.Option.{SomeIff}
-use Rattle.std.specs.Int.{w128, CanDivide}
-use Rattle.std.specs.Ordering.{int_cmp, is_eq}
-use Rattle.std.proofs.lemmas.Bool.Decides.{nat_tests}
-use Rattle.std.proofs.lemmas.Int.{to_z-of_z}
-use Rattle.std.specs.Prelude.{[], ◌∷◌, IsSome}
-use Rattle.vx_value.specs.Types.{DataType, bool, primitive, same_type, same_type_Decides, nullability_of, is_nullable}
-use Rattle.vx_value.specs.Values.{Value}
-use Rattle.vx_value.specs.Cell.{Cell, fault}
-use Rattle.vx_value.specs.IsOf.{is_of, in_range}
-use Rattle.vx_value.specs.Storage.{storage_of}
-use Rattle.vx_value.specs.declared.dtype.Storage.TheVariants.{Integers}
+-- The types of operators' results.
+use Rattle.std.proofs.Common.{◌≡◌, Bool, true, false, if◌then◌else◌, refl, ap, sym, ◌∙◌}
+use Rattle.std.specs.Prelude.{[], ◌∷◌, Option, Some, None, IsSome, option_map}
+use Rattle.vx_value.specs.Types as type
+use Rattle.vx_value.specs.Types.{DataType, nullability_of, is_nullable}
+use Rattle.vx_value.specs.Nullabilities.{with_nullability, union, same_but_nullability}
+use Rattle.vx_value.specs.Values.{Value, null}
+use Rattle.vx_value.specs.IsOf.{is_of}
+use Rattle.vx_value.specs.Parts.{boolean_in}
+use Rattle.vx_value.specs.declared.dtype.Nullability.{Nullability}
 use Rattle.vx_value.specs.declared.dtype.Nullability.TheVariants.{NonNullable}
-use Rattle.vx_value.specs.declared.dtype.PType.{PType}
-use Rattle.vx_value.specs.declared.dtype.PType.TheVariants.{U8, U16, U32, U64, I8, I16, I32, I64}
-use Rattle.vx_fn.specs.Meanings.{no_null_type, no_null}
-use Rattle.vx_fn.specs.Binary.{is_comparison, calculated_type, operator_type, binary_type, operated, number, quotient}
-use Rattle.vx_fn.specs.ReturnTypes.{return_type}
-use Rattle.vx_fn.specs.Apply.{value_of}
+use Rattle.vx_fn.specs.Meanings.{widened}
+use Rattle.vx_fn.specs.Binary.{is_logical, logical_type, operator_type, binary_type, binary}
+use Rattle.vx_fn.specs.Comparisons.{is_ordered, ordered_type}
+use Rattle.vx_fn.specs.Arithmetic.{summed_type, multiplied_type}
+use Rattle.vx_fn.specs.Logic.{kleene_and, kleene_or, truth}
 use Rattle.vx_fn.specs.declared.function.Operator.{Operator}
-use Rattle.vx_fn.specs.declared.function.ScalarFnRef.TheVariants as function
-use Rattle.vx_fn.proofs.MeaningsLemmas.{whole_value}
+use Rattle.vx_fn.specs.declared.function.Operator.TheVariants as operator
+use Rattle.vx_fn.proofs.MeaningsLemmas.{widened_twice, nullable_by_argument, nullable_before, union_with_plain}
+use Rattle.vx_fn.proofs.LogicLemmas.{Knows, joined_typed, and_knows, or_knows}
 
 -- two arguments of one type
-pub of_one_type : (op : Operator) (s t : DataType) → same_type s t ≡ true → binary_type op s t ≡ operator_type op s
+pub of_one_type : (op : Operator) (s t : DataType) → same_but_nullability s t ≡ true → binary_type op s t ≡ operator_type op s
 of_one_type op s t e = ap (λ b. if b then operator_type op s else None) e
 
--- values of types that are taken aren't null
-pub whole_values : (op : Operator) (s t ty : DataType) (v w : Value) → is_of s v ≡ true → is_of t w ≡ true →
-    IsSome (return_type (function.Binary op) (s ∷ t ∷ [])) → value_of (function.Binary op) ty (v ∷ w ∷ []) ≡ operated op ty v w
-whole_values op s t ty v w h k taken =
-    let first = whole_value s v (no_null_type t (binary_type op s t)) (no_null w (operated op ty v w)) h taken in
-    let second = whole_value t w (binary_type op s t) (operated op ty v w) k first.1 in
-    first.0 ∙ second.0
+-- no operator makes its result nullable: a line for each
+abbrev IsPlain : Option DataType → Type 0
+IsPlain o = (r : DataType) → o ≡ Some r → nullability_of r ≡ NonNullable
 
--- the type of an operator's result, where it takes the types
-module _ (op : Operator) (s t : DataType) (taken : IsSome (return_type (function.Binary op) (s ∷ t ∷ []))) where
-  by_tests : (a b c : Bool) (o : Option DataType) → IsSome (if a then None else (if b then None else (if c then o else None))) →
-      (c ≡ true) × ((if a then None else (if b then None else (if c then o else None))) ≡ o)
-  by_tests false false true o h = (refl, refl)
-  by_tests false false false o h = absurd (cc)
-  by_tests false true c o h = absurd (cc)
-  by_tests true b c o h = absurd (cc)
+plain_bool : IsPlain (Some (type.bool NonNullable))
+plain_bool r e = let same : type.bool NonNullable ≡ r = cc in ap nullability_of (sym same)
 
-  tests : (same_type s t ≡ true) × (return_type (function.Binary op) (s ∷ t ∷ []) ≡ operator_type op s)
-  tests = by_tests (is_nullable (nullability_of s)) (is_nullable (nullability_of t)) (same_type s t) (operator_type op s) taken
+plain_ordered : (s : DataType) → IsPlain (ordered_type s)
+plain_ordered s = by_test (is_ordered s)
+  where
+    by_test : (b : Bool) → IsPlain (if b then Some (type.bool NonNullable) else None)
+    by_test true r e = plain_bool r e
+    by_test false r e = absurd (cc)
 
-  pub one_type : s ≡ t
-  one_type = (same_type_Decides s t).0 tests.0
+plain_summed : (s : DataType) → IsPlain (summed_type s)
+plain_summed (type.primitive p n) r e = let same : type.primitive p NonNullable ≡ r = cc in ap nullability_of (sym same)
+plain_summed (type.decimal p k n) r e = let same : type.decimal p k NonNullable ≡ r = cc in ap nullability_of (sym same)
+plain_summed _ r e = absurd (cc)
 
-  pub comparison_type : is_comparison op ≡ true → return_type (function.Binary op) (s ∷ t ∷ []) ≡ Some (bool NonNullable)
-  comparison_type c = tests.1 ∙ (λ i. if c i then Some (bool NonNullable) else calculated_type s)
+plain_multiplied : (s : DataType) → IsPlain (multiplied_type s)
+plain_multiplied (type.primitive p n) r e = let same : type.primitive p NonNullable ≡ r = cc in ap nullability_of (sym same)
+plain_multiplied _ r e = absurd (cc)
 
-  pub calculation_type : (p : PType) → is_comparison op ≡ false → storage_of s ≡ Integers p →
-      return_type (function.Binary op) (s ∷ t ∷ []) ≡ Some (primitive p NonNullable)
-  calculation_type p c stored =
-      let calculated : return_type (function.Binary op) (s ∷ t ∷ []) ≡ calculated_type s =
-      tests.1 ∙ (λ i. if c i then Some (bool NonNullable) else calculated_type s) in
-      calculated ∙ of_integers s (subst IsSome calculated taken) stored
-    where
-      of_integers : (s : DataType) → IsSome (calculated_type s) → storage_of s ≡ Integers p → calculated_type s ≡ Some (primitive p NonNullable)
-      of_integers (primitive q n) h e = let same : q ≡ p = cc in ap (λ k. Some (primitive k NonNullable)) same
-      of_integers _ h e = absurd (cc)
+plain_logical : (s : DataType) → IsPlain (logical_type s)
+plain_logical (type.bool n) r e = plain_bool r e
+plain_logical _ r e = absurd (cc)
 
--- what a type has, an i128 is
-pub range_fits : (p : PType) (z : ℤ) → in_range p z ≡ true → FitsSigned w128 z
-range_fits U8 (pos n) e = record { sfits = grind (arith, nat_tests) }
-range_fits U8 (negsuc n) e = absurd (cc)
-range_fits U16 (pos n) e = record { sfits = grind (arith, nat_tests) }
-range_fits U16 (negsuc n) e = absurd (cc)
-range_fits U32 (pos n) e = record { sfits = grind (arith, nat_tests) }
-range_fits U32 (negsuc n) e = absurd (cc)
-range_fits U64 (pos n) e = record { sfits = grind (arith, nat_tests) }
-range_fits U64 (negsuc n) e = absurd (cc)
-range_fits I8 (pos n) e = record { sfits = grind (arith, nat_tests) }
-range_fits I8 (negsuc n) e = record { sfits = grind (arith, nat_tests) }
-range_fits I16 (pos n) e = record { sfits = grind (arith, nat_tests) }
-range_fits I16 (negsuc n) e = record { sfits = grind (arith, nat_tests) }
-range_fits I32 (pos n) e = record { sfits = grind (arith, nat_tests) }
-range_fits I32 (negsuc n) e = record { sfits = grind (arith, nat_tests) }
-range_fits I64 (pos n) e = record { sfits = grind (arith, nat_tests) }
-range_fits I64 (negsuc n) e = record { sfits = grind (arith, nat_tests) }
+plain_result : (op : Operator) (s : DataType) → IsPlain (operator_type op s)
+plain_result operator.Eq s = plain_bool
+plain_result operator.NotEq s = plain_bool
+plain_result operator.Gt s = plain_ordered s
+plain_result operator.Gte s = plain_ordered s
+plain_result operator.Lt s = plain_ordered s
+plain_result operator.Lte s = plain_ordered s
+plain_result operator.Add s = plain_summed s
+plain_result operator.Sub s = plain_summed s
+plain_result operator.Mul s = plain_multiplied s
+plain_result operator.Div s = plain_multiplied s
+plain_result operator.And s = plain_logical s
+plain_result operator.Or s = plain_logical s
 
-none_where : (b : Bool) (c : Cell) → (b ≡ true → ⊥) → (if b then c else fault) ≡ fault
-none_where true c h = absurd (h refl)
-none_where false c h = refl
+-- so it is nullable exactly if an argument is
+plain_widened : (s t : DataType) (o : Option DataType) → IsPlain o
+    → widened s (widened t o) ≡ option_map (with_nullability (union (nullability_of s) (nullability_of t))) o
+plain_widened s t None plain = refl
+plain_widened s t (Some r) plain = ap Some (widened_twice s t r (plain r refl))
 
--- so a number that no i128 is, no type has
-pub number_unfit : (p : PType) (z : ℤ) → ¬ FitsSigned w128 z → number p z ≡ fault
-number_unfit p z h = none_where (in_range p z) _ (λ e. h (range_fits p z e))
+pub result_type : (op : Operator) (s t : DataType) → same_but_nullability s t ≡ true
+    → (binary op).types (s ∷ t ∷ []) ≡ option_map (with_nullability (union (nullability_of s) (nullability_of t))) (operator_type op s)
+result_type op s t e = ap (λ o. widened s (widened t o)) (of_one_type op s t e) ∙ plain_widened s t (operator_type op s) (plain_result op s)
 
--- where an i128 is taken only if there is one
-pub by_fit : (p : PType) (z : ℤ) (r : Option ℤ) → SomeIff r (FitsSigned w128 z) z → MatchOption r (number p z ≡ fault) (λ y. number p z ≡ number p y)
-by_fit p z None h = number_unfit p z h
-by_fit p z (Some y) h = ap (number p) (sym h.1)
+-- and has null if one of them is null
+pub null_first : (op : Operator) (s t ty : DataType) → is_of s null ≡ true → (binary op).types (s ∷ t ∷ []) ≡ Some ty → is_of ty null ≡ true
+null_first op s t ty h e = nullable_by_argument s (widened t (binary_type op s t)) ty h e
 
-not_zero : (y : ℤ) → (of_z w128 y ≡ 0 → ⊥) → is_eq (int_cmp y (pos 0)) ≡ false
-not_zero (pos zero) h = absurd (h refl)
-not_zero (pos (suc n)) h = grind (arith, nat_tests)
-not_zero (negsuc n) h = refl
+pub null_second : (op : Operator) (s t ty : DataType) → is_of t null ≡ true → (binary op).types (s ∷ t ∷ []) ≡ Some ty → is_of ty null ≡ true
+null_second op s t ty h e = by_type (widened t (binary_type op s t)) refl e
+  where
+    by_type : (o : Option DataType) → widened t (binary_type op s t) ≡ o → widened s o ≡ Some ty → is_nullable (nullability_of ty) ≡ true
+    by_type None same e = absurd (cc)
+    by_type (Some r) same e = nullable_before s r ty (nullable_by_argument t (binary_type op s t) r h same) e
 
-by_other : (p : PType) (x y : ℤ) → (of_z w128 y ≡ 0 → ⊥) → quotient p x y ≡ number p (int_div x y)
-by_other p x y h = ap (λ b. if b then fault else number p (int_div x y)) (not_zero y h)
+-- ---- logic
 
--- where the divisor isn't 0, an i128 is taken only if there is one
-of_quotient : (p : PType) (x y : ℤ) (r : Option ℤ) → (of_z w128 y ≡ 0 → ⊥) → SomeIff r (CanDivide w128 x y) (int_div x y) →
-    MatchOption r (quotient p x y ≡ fault) (λ z. quotient p x y ≡ number p z)
-of_quotient p x y None h k = by_other p x y h ∙ number_unfit p (int_div x y) (λ f. k (omega (arith, h), f))
-of_quotient p x y (Some z) h k = by_other p x y h ∙ ap (number p) (sym k.1)
+-- its arguments and its result are booleans
+record AreTruths (s t ty : DataType) : Type 0 where
+  first : Nullability
+  second : Nullability
+  first_is : s ≡ type.bool first
+  second_is : t ≡ type.bool second
+  result_is : type.bool (union first second) ≡ ty
 
--- the same, of numbers that were passed
-pub by_quotient : (p : PType) (x y : ℤ) (r : Option ℤ) → FitsSigned w128 x → FitsSigned w128 y → (of_z w128 y ≡ 0 → ⊥) →
-    SomeIff r (CanDivide w128 (to_z w128 (of_z w128 x)) (to_z w128 (of_z w128 y))) (int_div (to_z w128 (of_z w128 x)) (to_z w128 (of_z w128 y))) →
-    MatchOption r (quotient p x y ≡ fault) (λ z. quotient p x y ≡ number p z)
-by_quotient p x y r f g h k = of_quotient p x y r h (simp (to_z-of_z, f, g) at k)
+logical_truths : (b : Bool) (s t ty : DataType) → b ≡ same_but_nullability s t → widened s (widened t (if b then logical_type s else None)) ≡ Some ty
+    → AreTruths s t ty
+logical_truths false s t ty same e = absurd (cc)
+logical_truths true (type.bool m) (type.bool n) ty same e =
+    let found : type.bool (union m (union n NonNullable)) ≡ ty = cc in
+    record { first = m; second = n; first_is = refl; second_is = refl; result_is = ap (λ k. type.bool (union m k)) (sym (union_with_plain n NonNullable refl)) ∙ found }
+logical_truths true (type.bool m) _ ty same e = absurd (cc)
+logical_truths true _ t ty same e = absurd (cc)
+
+truths : (op : Operator) (s t ty : DataType) → is_logical op ≡ true → (binary op).types (s ∷ t ∷ []) ≡ Some ty → AreTruths s t ty
+truths operator.And s t ty h e = logical_truths (same_but_nullability s t) s t ty refl e
+truths operator.Or s t ty h e = logical_truths (same_but_nullability s t) s t ty refl e
+truths _ s t ty h e = absurd (cc)
+
+-- so the result's type has the joined value
+typed_join : (join : Option Bool → Option Bool → Option Bool) → Knows join → (s t ty : DataType) (v w : Value) → is_of s v ≡ true → is_of t w ≡ true
+    → AreTruths s t ty
+    → is_of ty (truth (join (boolean_in v) (boolean_in w))) ≡ true
+typed_join join knows s t ty v w h k found =
+    ap (λ u. is_of u (truth (join (boolean_in v) (boolean_in w)))) (sym found.result_is)
+    ∙ joined_typed join found.first found.second v w knows (ap (λ u. is_of u v) (sym found.first_is) ∙ h) (ap (λ u. is_of u w) (sym found.second_is) ∙ k)
+
+pub logical_result : (op : Operator) (s t ty : DataType) (v w : Value) (o : Option Bool) → is_logical op ≡ true → is_of s v ≡ true → is_of t w ≡ true
+    → (op ≡ operator.And → o ≡ kleene_and (boolean_in v) (boolean_in w))
+    → (op ≡ operator.Or → o ≡ kleene_or (boolean_in v) (boolean_in w))
+    → (binary op).types (s ∷ t ∷ []) ≡ Some ty
+    → is_of ty (truth o) ≡ true
+logical_result operator.And s t ty v w o l h k and or e =
+    ap (λ a. is_of ty (truth a)) (and refl) ∙ typed_join kleene_and and_knows s t ty v w h k (truths operator.And s t ty refl e)
+logical_result operator.Or s t ty v w o l h k and or e =
+    ap (λ a. is_of ty (truth a)) (or refl) ∙ typed_join kleene_or or_knows s t ty v w h k (truths operator.Or s t ty refl e)
+logical_result _ s t ty v w o l h k and or e = absurd (cc)

@@ -1,0 +1,39 @@
+-- Truth values: of which type they are, and the laws of logic.
+use Rattle.std.proofs.Common.{◌≡◌, Bool, true, false, refl, ap}
+use Rattle.std.specs.Prelude.{Option, Some, None}
+use Rattle.vx_value.specs.Types.{DataType, bool}
+use Rattle.vx_value.specs.Nullabilities.{union}
+use Rattle.vx_value.specs.Values.{Value, null, boolean}
+use Rattle.vx_value.specs.IsOf.{is_of}
+use Rattle.vx_value.specs.Parts.{boolean_in}
+use Rattle.vx_value.specs.declared.dtype.Nullability.{Nullability}
+use Rattle.vx_value.specs.declared.dtype.Nullability.TheVariants.{NonNullable, Nullable}
+use Rattle.vx_fn.specs.Logic.{kleene_and, kleene_or, truth}
+
+-- every truth value is a nullable boolean
+nullable_truth : (o : Option Bool) → is_of (bool Nullable) (truth o) ≡ true
+nullable_truth (Some b) = refl
+nullable_truth None = refl
+
+-- what joins two known truth values knows the answer
+abbrev pub Knows : (Option Bool → Option Bool → Option Bool) → Type 0
+Knows join = (p q : Bool) → (b : Bool) × (join (Some p) (Some q) ≡ Some b)
+
+pub and_knows : Knows kleene_and
+and_knows true q = (q, refl)
+and_knows false q = (false, refl)
+
+pub or_knows : Knows kleene_or
+or_knows true q = (true, refl)
+or_knows false q = (q, refl)
+
+-- so the joined value is null only if a type is nullable
+pub joined_typed : (join : Option Bool → Option Bool → Option Bool) (m n : Nullability) (v w : Value) → Knows join
+    → is_of (bool m) v ≡ true
+    → is_of (bool n) w ≡ true
+    → is_of (bool (union m n)) (truth (join (boolean_in v) (boolean_in w))) ≡ true
+joined_typed join Nullable n v w k h h' = nullable_truth (join (boolean_in v) (boolean_in w))
+joined_typed join NonNullable Nullable v w k h h' = nullable_truth (join (boolean_in v) (boolean_in w))
+joined_typed join NonNullable NonNullable (boolean p) (boolean q) k h h' = ap (λ o. is_of (bool NonNullable) (truth o)) (k p q).1
+joined_typed join NonNullable NonNullable (boolean p) _ k h h' = absurd (cc)
+joined_typed join NonNullable NonNullable _ w k h h' = absurd (cc)

@@ -1,0 +1,57 @@
+-- The nullability of a result by that of its arguments.
+use Rattle.std.proofs.Common.{◌≡◌, true, refl, ap, sym, ◌∙◌}
+use Rattle.std.specs.Prelude.{Option, Some, None}
+use Rattle.vx_value.specs.Types as type
+use Rattle.vx_value.specs.Types.{DataType, nullability_of, is_nullable}
+use Rattle.vx_value.specs.Nullabilities.{with_nullability, union}
+use Rattle.vx_value.specs.declared.dtype.Nullability.{Nullability}
+use Rattle.vx_value.specs.declared.dtype.Nullability.TheVariants.{NonNullable, Nullable}
+use Rattle.vx_fn.specs.Meanings.{widen, widened}
+
+pub union_with_plain : (m n : Nullability) → n ≡ NonNullable → union m n ≡ m
+union_with_plain NonNullable n h = h
+union_with_plain Nullable n h = refl
+
+pub union_first : (m n : Nullability) → is_nullable m ≡ true → is_nullable (union m n) ≡ true
+union_first NonNullable n h = absurd (cc)
+union_first Nullable n h = refl
+
+pub union_second : (m n : Nullability) → is_nullable n ≡ true → is_nullable (union m n) ≡ true
+union_second NonNullable n h = h
+union_second Nullable n h = refl
+
+-- a widened type's nullability; null is nullable already
+pub widened_nullability : (s t : DataType) → nullability_of (widen s t) ≡ union (nullability_of s) (nullability_of t)
+widened_nullability s type.null = null_stays (nullability_of s)
+  where
+    null_stays : (m : Nullability) → Nullable ≡ union m Nullable
+    null_stays NonNullable = refl
+    null_stays Nullable = refl
+widened_nullability s _ = refl
+
+-- a non-nullable type, widened by two, is nullable if one of them is: a line for each type
+pub widened_twice : (s t r : DataType) → nullability_of r ≡ NonNullable
+    → widen s (widen t r) ≡ with_nullability (union (nullability_of s) (nullability_of t)) r
+widened_twice s t type.null h = absurd (cc)
+widened_twice s t (type.bool n) h = ap (λ m. type.bool (union (nullability_of s) m)) (union_with_plain (nullability_of t) n h)
+widened_twice s t (type.primitive p n) h = ap (λ m. type.primitive p (union (nullability_of s) m)) (union_with_plain (nullability_of t) n h)
+widened_twice s t (type.decimal p k n) h = ap (λ m. type.decimal p k (union (nullability_of s) m)) (union_with_plain (nullability_of t) n h)
+widened_twice s t (type.utf8 n) h = ap (λ m. type.utf8 (union (nullability_of s) m)) (union_with_plain (nullability_of t) n h)
+widened_twice s t (type.binary n) h = ap (λ m. type.binary (union (nullability_of s) m)) (union_with_plain (nullability_of t) n h)
+
+-- a result is nullable if the argument that widens it is, or if it was before
+pub nullable_by_argument : (s : DataType) (o : Option DataType) (ty : DataType) → is_nullable (nullability_of s) ≡ true → widened s o ≡ Some ty
+    → is_nullable (nullability_of ty) ≡ true
+nullable_by_argument s None ty h e = absurd (cc)
+nullable_by_argument s (Some r) ty h e =
+    let same : widen s r ≡ ty = cc in
+    ap (λ u. is_nullable (nullability_of u)) (sym same)
+    ∙ ap is_nullable (widened_nullability s r)
+    ∙ union_first (nullability_of s) (nullability_of r) h
+
+pub nullable_before : (s r ty : DataType) → is_nullable (nullability_of r) ≡ true → widened s (Some r) ≡ Some ty → is_nullable (nullability_of ty) ≡ true
+nullable_before s r ty h e =
+    let same : widen s r ≡ ty = cc in
+    ap (λ u. is_nullable (nullability_of u)) (sym same)
+    ∙ ap is_nullable (widened_nullability s r)
+    ∙ union_second (nullability_of s) (nullability_of r) h

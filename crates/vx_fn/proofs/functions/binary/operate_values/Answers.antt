@@ -1,0 +1,11 @@
+use Rattle.std.proofs.Common.{rules}
+use Rattle.vx_value.specs.View.{type_of}
+use Rattle.vx_fn.proofs.ArithmeticLemmas.{sized_bounded}
+use Rattle.vx_fn.proofs.functions.binary.operate_values.Goals as goal
+
+pub returns-in_err-exactly-in-Decimal-Decimal-Decimal-clause-fault : goal.returns-in_err-exactly-in-Decimal-Decimal-Decimal-clause-fault
+returns-in_err-exactly-in-Decimal-Decimal-Decimal-clause-fault c =
+    let d = c.in-Decimal-Decimal-Decimal.decimal in
+    let found = c.in_err-exactly-in-Decimal-Decimal-Decimal.ensures.fault in
+    let fault = found.1 _ (sized_bounded d.precision d.scale d.is_decimal.1) in
+    search rules
