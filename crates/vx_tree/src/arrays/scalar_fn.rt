@@ -239,7 +239,8 @@ fn check_types(
 /// Checks that `function` gives `dtype` on arguments of these types.
 fn check_result(function: &ScalarFnRef, dtype: &DType, types: &[DType]) -> VortexResult<()>
     ensures valid { OnOk result (result_refusal (type_of dtype.now) (return_type function.now (map type_of types.now)) ≡ None) }
-    ensures refused { IfErr result (λ e. result_refusal (type_of dtype.now) (return_type function.now (map type_of types.now)) ≡ Some e) }
+    ensures refused { IfErr result (λ e. (e ≡ VortexError.OutOfMemory)
+        ⊎ (result_refusal (type_of dtype.now) (return_type function.now (map type_of types.now)) ≡ Some e)) }
 {
     if is_same_type(dtype, &function.return_dtype(types)?) {
         Ok(())
