@@ -1,31 +1,28 @@
 -- The column of a function, row by row.
 use Rattle.std.proofs.Common.{◌≡◌, ◌<◌, ◌+◌, ℕ, zero, suc, ℤ, Bool, if◌then◌else◌, true, false, List, [], ◌∷◌, ◌++◌, length, map, get_or, Option, Some}
 use Rattle.std.proofs.Common.{None, Result, IfOk, refl, sym, ap, ◌∙◌, subst, arith}
-use Rattle.std.specs.Prelude.{IsSome}
 use Rattle.std.proofs.lemmas.Result.{IfOk-weaker}
 use Rattle.std.specs.List.{range_with_len}
 use Rattle.std.proofs.lemmas.List.{length-map, map-append}
 use Rattle.std.proofs.lemmas.List.FromFn.{length-map-range_with_len, map-range_with_len_more, get_or-map-range_with_len}
-use Rattle.vx_value.specs.Types.{DataType, bool, primitive, same_type_Decides}
+use Rattle.vx_value.specs.Types.{DataType, bool, primitive}
 use Rattle.vx_value.specs.Values.{null, boolean, integer}
 use Rattle.vx_value.specs.Cell.{Cell, value, fault}
 use Rattle.vx_value.specs.declared.dtype.Nullability.TheVariants.{NonNullable}
 use Rattle.vx_value.specs.declared.dtype.PType.{PType}
-use Rattle.vx_value.specs.Storage.{storage_of}
-use Rattle.vx_value.specs.declared.dtype.Storage.TheVariants.{Integers}
 use Rattle.vx_value.specs.declared.error.VortexError.{VortexError}
 use Rattle.vx_fn.specs.Apply.{apply}
 use Rattle.vx_fn.specs.ReturnTypes.{return_type}
-use Rattle.vx_fn.specs.Binary.{calculated, operator_type, is_comparison}
+use Rattle.vx_fn.specs.Binary.{is_logical}
+use Rattle.vx_fn.specs.Arithmetic.{calculated}
 use Rattle.vx_fn.specs.declared.function.Operator.{Operator}
 use Rattle.vx_fn.specs.declared.function.ScalarFnRef.{ScalarFnRef}
 use Rattle.vx_fn.specs.declared.function.ScalarFnRef.TheVariants.{Binary}
-use Rattle.vx_tree.specs.ColumnTypes.{has_column}
 use Rattle.vx_tree.specs.Tree.{Tree, dtype, len, datum, slots, booleans, integers, is_canonical}
 use Rattle.vx_tree.specs.Cells.{rows, HasNoFault, AreClean}
 use Rattle.vx_tree.specs.Columns.{canonical_tree}
 use Rattle.vx_tree.specs.declared.canonical.Canonical.{Canonical}
-use Rattle.vx_fn.proofs.BinaryLemmas.{comparison_type, calculation_type}
+use Rattle.vx_column.proofs.OperatorLemmas.{calculated_value}
 use Rattle.vx_column.specs.Arguments.{types_of, row_of, integer_in}
 use Rattle.vx_column.specs.Computed.{IsComputed, cells_of}
 use Rattle.vx_column.specs.declared.argument.Argument.{Argument}
@@ -66,38 +63,21 @@ pub fault_at_row : (f : ScalarFnRef) (tys : List DataType) (row : ℕ → List C
 fault_at_row f tys row n i lt h ty typed = fault_among (λ j. apply f ty (row j)) n i lt (h ty typed)
 
 -- a fault in row i of a calculation
-pub calculation_fault : (op : Operator) (p : PType) (l r : IntegerOperand) (n i : ℕ) (x y : ℤ) → x ≡ integer_in l i → y ≡ integer_in r i → i < n →
+pub calculation_fault : (op : Operator) (p : PType) (l r : IntegerOperand) (n i : ℕ) (x y : ℤ) → is_logical op ≡ false → x ≡ integer_in l i → y ≡ integer_in r i → i < n →
     return_type (Binary op) (types_of (argument.Integers l ∷ argument.Integers r ∷ [])) ≡ Some (primitive p NonNullable) → calculated op p x y ≡ fault →
     (ty : DataType) → return_type (Binary op) (types_of (argument.Integers l ∷ argument.Integers r ∷ [])) ≡ Some ty
     → ¬ (HasNoFault (cells_of (Binary op) ty (row_of (argument.Integers l ∷ argument.Integers r ∷ [])) n))
-calculation_fault op p l r n i x y a b lt known none =
+calculation_fault op p l r n i x y plain a b lt known none =
     fault_at_row (Binary op) (types_of (argument.Integers l ∷ argument.Integers r ∷ [])) (row_of (argument.Integers l ∷ argument.Integers r ∷ [])) n i lt here
   where
     here : (ty : DataType) → return_type (Binary op) (types_of (argument.Integers l ∷ argument.Integers r ∷ [])) ≡ Some ty
         → apply (Binary op) ty (row_of (argument.Integers l ∷ argument.Integers r ∷ []) i) ≡ fault
     here ty typed =
         let same : ty ≡ primitive p NonNullable = cc (typed, known) in
-        ap (λ t. apply (Binary op) t (row_of (argument.Integers l ∷ argument.Integers r ∷ []) i)) same ∙ (λ j. calculated op p (sym a j) (sym b j)) ∙ none
-
-chosen : (b : Bool) (o : Option DataType) → IsSome (if b then o else None) → b ≡ true
-chosen true o h = refl
-chosen false o h = absurd (cc)
-
-pub bools_compared : (op : Operator) → IsSome (return_type (Binary op) (bool NonNullable ∷ bool NonNullable ∷ []))
-    → return_type (Binary op) (bool NonNullable ∷ bool NonNullable ∷ []) ≡ Some (bool NonNullable)
-bools_compared op h =
-    let same : return_type (Binary op) (bool NonNullable ∷ bool NonNullable ∷ []) ≡ operator_type op (bool NonNullable) =
-    ap (λ b. if b then operator_type op (bool NonNullable) else None) ((same_type_Decides (bool NonNullable) (bool NonNullable)).1 refl) in
-    same ∙ ap (λ b. if b then Some (bool NonNullable) else None) (chosen (is_comparison op) (Some (bool NonNullable)) (subst IsSome same h))
-
--- what an operator gives on columns of integers
-pub integers_compared : (op : Operator) (s t : DataType) → has_column s ≡ true → has_column t ≡ true → IsSome (return_type (Binary op) (s ∷ t ∷ []))
-    → is_comparison op ≡ true → return_type (Binary op) (s ∷ t ∷ []) ≡ Some (bool NonNullable)
-integers_compared op s t h k taken c = comparison_type op s t taken c
-
-pub integers_calculated : (op : Operator) (s t : DataType) → has_column s ≡ true → has_column t ≡ true → IsSome (return_type (Binary op) (s ∷ t ∷ []))
-    → (p : PType) → is_comparison op ≡ false → storage_of s ≡ Integers p → return_type (Binary op) (s ∷ t ∷ []) ≡ Some (primitive p NonNullable)
-integers_calculated op s t h k taken p c stored = calculation_type op s t taken p c stored
+        ap (λ t. apply (Binary op) t (row_of (argument.Integers l ∷ argument.Integers r ∷ []) i)) same
+        ∙ calculated_value op p (integer_in l i) (integer_in r i) plain
+        ∙ (λ j. calculated op p (sym a j) (sym b j))
+        ∙ none
 
 -- a column whose cells are those of f
 module _ (f : ScalarFnRef) (args : List Argument) (n : ℕ) (r : Result Canonical VortexError) where

@@ -8,3 +8,4 @@ pub mod Applied
 pub mod Arguments
 pub mod Computed
 pub mod Operands
+pub mod Bits

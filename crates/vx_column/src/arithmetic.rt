@@ -3,7 +3,8 @@
 ghost use Rattle.std.specs.Prelude.{◌≡◌, ◌∷◌, [], false, IfOk, IfErr, IsSome, MatchOption};
 ghost use Rattle.vx_value.specs.Values.{integer};
 ghost use Rattle.vx_value.specs.Cell.{value, fault};
-ghost use Rattle.vx_fn.specs.Binary.{calculated, is_comparison};
+ghost use Rattle.vx_fn.specs.Binary.{is_comparison};
+ghost use Rattle.vx_fn.specs.Arithmetic.{calculated};
 ghost use Rattle.vx_fn.specs.ReturnTypes.{return_type};
 ghost use Rattle.vx_fn.specs.declared.function.Operator.{Operator as OperatorOf};
 ghost use Rattle.vx_fn.specs.declared.function.Operator.TheVariants.{Add, Sub, Mul, Div};

@@ -1,10 +1,11 @@
 //! Functions of booleans.
 
-ghost use Rattle.std.specs.Prelude.{◌≡◌, ◌∷◌, [], map, IfOk, IfErr, IsSome, true};
+ghost use Rattle.std.specs.Prelude.{◌≡◌, ◌∷◌, [], map, IfOk, IfErr, IsSome};
 ghost use Rattle.std.specs.List.{range_with_len};
-ghost use Rattle.std.specs.Ordering.{bool_cmp};
 ghost use Rattle.vx_mask.specs.Operands.{bit_in, HasBits};
-ghost use Rattle.vx_fn.specs.Binary.{holds, is_comparison};
+ghost use Rattle.vx_value.specs.Types.{bool};
+ghost use Rattle.vx_fn.specs.Binary.{operator_type};
+ghost use Rattle.vx_column.specs.Bits.{bit_by};
 ghost use Rattle.vx_fn.specs.ReturnTypes.{return_type};
 ghost use Rattle.vx_fn.specs.declared.function.ScalarFnRef.TheVariants.{Binary, Not};
 ghost use Rattle.vx_tree.specs.Tree.{booleans};
@@ -16,7 +17,9 @@ ghost use Rattle.vx_column.specs.declared.argument.Argument.TheVariants.{Bits};
 use crate::argument::Argument;
 use std::alloc::{AllocError, Global};
 use vx_fn::Operator;
-use vx_mask::{BitBuffer, BitEq, BitGt, BitGte, BitLt, BitLte, BitNotEq, BitOperand};
+use vx_mask::{
+    BitAnd, BitBuffer, BitEq, BitGt, BitGte, BitLt, BitLte, BitNotEq, BitOperand, BitOr,
+};
 use vx_tree::{BoolArray, Canonical};
 use vx_value::{DType, Nullability, VortexError, VortexResult};
 
@@ -29,8 +32,8 @@ pub(crate) fn bool_column(alloc: Global, bits: BitBuffer) -> VortexResult<Canoni
     Ok(Canonical::Bool(column))
 }
 
-/// Applies the comparison `operator`, row by row.
-fn compare_bits(
+/// Applies `operator`, which must take booleans, row by row.
+fn operate_bits(
     alloc: Global,
     operator: Operator,
     lhs: BitOperand<'_>,
@@ -39,8 +42,8 @@ fn compare_bits(
 ) -> Result<BitBuffer, AllocError>
     requires lhs { HasBits lhs len }
     requires rhs { HasBits rhs len }
-    requires comparison { is_comparison operator ≡ true }
-    ensures { IfOk result (λ b. b ≡ map (λ i. holds operator (bool_cmp (bit_in lhs.entry i) (bit_in rhs.entry i))) (range_with_len 0 len)) }
+    requires taken { IsSome (operator_type operator (bool Nullability.NonNullable)) }
+    ensures { IfOk result (λ b. b ≡ map (λ i. bit_by operator (bit_in lhs.entry i) (bit_in rhs.entry i)) (range_with_len 0 len)) }
 {
     match operator {
         Operator::Eq => BitBuffer::zip::<BitEq>(alloc, lhs, rhs, len),
@@ -49,12 +52,15 @@ fn compare_bits(
         Operator::Gte => BitBuffer::zip::<BitGte>(alloc, lhs, rhs, len),
         Operator::Lt => BitBuffer::zip::<BitLt>(alloc, lhs, rhs, len),
         Operator::Lte => BitBuffer::zip::<BitLte>(alloc, lhs, rhs, len),
+        Operator::And => BitBuffer::zip::<BitAnd>(alloc, lhs, rhs, len),
+        Operator::Or => BitBuffer::zip::<BitOr>(alloc, lhs, rhs, len),
         _ => unreachable!(),
     }
 }
 
-/// Applies the comparison `operator`, and returns a column. The only error is `OutOfMemory`.
-pub(crate) fn compare_bools(
+/// Applies `operator`, which must take booleans, and returns a column. The only error is `OutOfMemory`.
+#[tactic(auto, using(crate::proofs::OperatorLemmas::bools_taken))]
+pub(crate) fn operate_bools(
     alloc: Global,
     operator: Operator,
     lhs: BitOperand<'_>,
@@ -67,7 +73,7 @@ pub(crate) fn compare_bools(
     ensures ok { IfOk result (λ c. IsComputed (Binary operator) (Bits lhs.entry ∷ Bits rhs.entry ∷ []) len (canonical_tree c)) }
     ensures err { IfErr result (λ e. e ≡ VortexError.OutOfMemory) }
 {
-    let bits = compare_bits(alloc, operator, lhs, rhs, len)?;
+    let bits = operate_bits(alloc, operator, lhs, rhs, len)?;
     bool_column(alloc, bits)
 }
 

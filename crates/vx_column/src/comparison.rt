@@ -2,7 +2,8 @@
 
 ghost use Rattle.std.specs.Prelude.{◌≡◌, ◌∷◌, [], true, IfOk, IfErr, IsSome};
 ghost use Rattle.std.specs.Ordering.{int_cmp};
-ghost use Rattle.vx_fn.specs.Binary.{holds, is_comparison};
+ghost use Rattle.vx_fn.specs.Binary.{is_comparison};
+ghost use Rattle.vx_fn.specs.Comparisons.{holds};
 ghost use Rattle.vx_fn.specs.ReturnTypes.{return_type};
 ghost use Rattle.vx_fn.specs.declared.function.Operator.{Operator as OperatorOf};
 ghost use Rattle.vx_fn.specs.declared.function.Operator.TheVariants.{Eq, NotEq, Gt, Gte, Lt, Lte};

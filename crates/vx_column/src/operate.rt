@@ -10,7 +10,7 @@ ghost use Rattle.vx_column.specs.declared.argument.Argument.TheVariants.{Integer
 
 use crate::argument::{Argument, IntegerOperand};
 use crate::arithmetic::{Difference, Product, Quotient, Sum, calculate};
-use crate::boolean::compare_bools;
+use crate::boolean::operate_bools;
 use crate::comparison::{Above, Below, Different, Equal, NotAbove, NotBelow, compare};
 use std::alloc::Global;
 use vx_fn::Operator;
@@ -32,7 +32,7 @@ pub(crate) fn operate(
     ensures err { IfErr result (IsNotComputed (Binary operator) (lhs.entry ∷ rhs.entry ∷ []) len) }
 {
     match (lhs, rhs) {
-        (Argument::Bits(lhs), Argument::Bits(rhs)) => compare_bools(alloc, operator, lhs, rhs, len),
+        (Argument::Bits(lhs), Argument::Bits(rhs)) => operate_bools(alloc, operator, lhs, rhs, len),
         (Argument::Integers(lhs), Argument::Integers(rhs)) => {
             by_type!(lhs.ptype(), operate_natives(alloc, operator, lhs, rhs, len))
         }
@@ -41,6 +41,7 @@ pub(crate) fn operate(
 }
 
 /// Applies `operator` to `lhs` and `rhs`, `len` rows each, which must be of the type `T`. `Fault` if a row has no value.
+#[tactic(auto, using(crate::proofs::OperatorLemmas::integers_plain))]
 fn operate_natives<T: NativeInteger>(
     alloc: Global,
     operator: Operator,
@@ -65,5 +66,6 @@ fn operate_natives<T: NativeInteger>(
         Operator::Sub => calculate::<T, Difference>(alloc, lhs, rhs, len),
         Operator::Mul => calculate::<T, Product>(alloc, lhs, rhs, len),
         Operator::Div => calculate::<T, Quotient>(alloc, lhs, rhs, len),
+        Operator::And | Operator::Or => unreachable!(),
     }
 }

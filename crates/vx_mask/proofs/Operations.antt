@@ -1,5 +1,5 @@
 -- What the operations on words do to one bit of each.
-use Rattle.std.specs.Prelude.{◌==◌, bit_and, bit_or, bit_xor, not}
+use Rattle.std.specs.Prelude.{◌==◌, ◌&&◌, ◌||◌, bit_and, bit_or, bit_xor, not}
 use Rattle.std.proofs.Common.{◌≡◌, ◌<◌, ◌+◌, ◌-◌, ◌%◌, ◌^◌, ℕ, Bool, true, false, zero, suc, min, max, arith, ◌∙◌, ap, refl}
 use Rattle.std.specs.Int.{bit_at, w64}
 use Rattle.std.specs.Ordering.{bool_cmp, is_eq, is_ne, is_lt, is_le, is_gt, is_ge}
@@ -55,6 +55,12 @@ pub gt_of_words : (l r i : ℕ) → r < 2 ^ 64 → i < 64
 gt_of_words l r i r_in h =
     made (λ a b. min a (1 - b)) (λ a b. is_gt (bool_cmp a b)) (refl, refl, refl, refl) l r i _
     (bit_at_and l (2 ^ 64 - 1 - r) i ∙ ap (min (bit_at l i)) (bit_at_not w64 r i r_in h))
+
+pub and_of_words : (l r i : ℕ) → (bit_at (bit_and l r) i == 1) ≡ (bit_at l i == 1) && (bit_at r i == 1)
+and_of_words l r i = made min (λ a b. a && b) (refl, refl, refl, refl) l r i _ (bit_at_and l r i)
+
+pub or_of_words : (l r i : ℕ) → (bit_at (bit_or l r) i == 1) ≡ (bit_at l i == 1) || (bit_at r i == 1)
+or_of_words l r i = made max (λ a b. a || b) (refl, refl, refl, refl) l r i _ (bit_at_or l r i)
 
 pub ge_of_words : (l r i : ℕ) → r < 2 ^ 64 → i < 64
     → (bit_at (bit_or l (2 ^ 64 - 1 - r)) i == 1) ≡ is_ge (bool_cmp (bit_at l i == 1) (bit_at r i == 1))

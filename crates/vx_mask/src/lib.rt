@@ -23,4 +23,4 @@ pub use laws::{choice_laws, mask_laws, place_laws};
 pub use mask::Mask;
 pub use mask_values::MaskValues;
 pub use operand::BitOperand;
-pub use operation::{BitEq, BitGt, BitGte, BitLt, BitLte, BitNotEq, BitOperation};
+pub use operation::{BitAnd, BitEq, BitGt, BitGte, BitLt, BitLte, BitNotEq, BitOperation, BitOr};

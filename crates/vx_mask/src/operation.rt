@@ -1,6 +1,6 @@
 //! Operations on bits, 64 at a time.
 
-ghost use Rattle.std.specs.Prelude.{◌≡◌, ◌<◌, ◌==◌, ℕ, Bool};
+ghost use Rattle.std.specs.Prelude.{◌≡◌, ◌<◌, ◌==◌, ◌&&◌, ◌||◌, ℕ, Bool};
 ghost use Rattle.std.specs.Int.{bit_at};
 ghost use Rattle.std.specs.Ordering.{bool_cmp, is_eq, is_ne, is_lt, is_le, is_gt, is_ge};
 
@@ -94,5 +94,33 @@ impl BitOperation for BitGte {
     #[tactic(auto, using(crate::proofs::Operations::ge_of_words))]
     fn word(lhs: u64, rhs: u64) -> u64 {
         lhs | !rhs
+    }
+}
+
+/// The operation `a && b` on bits. (own)
+#[derive(Clone, Copy, Debug)]
+pub struct BitAnd;
+
+impl BitOperation for BitAnd {
+    ghost bit = { λ a b. a && b };
+
+    #[inline]
+    #[tactic(auto, using(crate::proofs::Operations::and_of_words))]
+    fn word(lhs: u64, rhs: u64) -> u64 {
+        lhs & rhs
+    }
+}
+
+/// The operation `a || b` on bits. (own)
+#[derive(Clone, Copy, Debug)]
+pub struct BitOr;
+
+impl BitOperation for BitOr {
+    ghost bit = { λ a b. a || b };
+
+    #[inline]
+    #[tactic(auto, using(crate::proofs::Operations::or_of_words))]
+    fn word(lhs: u64, rhs: u64) -> u64 {
+        lhs | rhs
     }
 }

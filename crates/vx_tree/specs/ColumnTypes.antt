@@ -5,7 +5,6 @@ use Rattle.vx_value.specs.Types.{DataType, nullability_of, is_nullable}
 use Rattle.vx_value.specs.Storage.{storage_of}
 use Rattle.vx_value.specs.declared.dtype.Storage.{Storage}
 use Rattle.vx_value.specs.declared.dtype.Storage.TheVariants.{Bits, Integers}
-use Rattle.vx_fn.specs.Binary.{is_logical}
 use Rattle.vx_fn.specs.declared.function.ScalarFnRef.{ScalarFnRef}
 use Rattle.vx_fn.specs.declared.function.ScalarFnRef.TheVariants.{Binary, Not}
 
@@ -19,8 +18,8 @@ is_column_stored _ = false
 abbrev pub has_column : DataType → Bool
 has_column ty = not (is_nullable (nullability_of ty)) && is_column_stored (storage_of ty)
 
--- a column is computed by the function: a line for each one that does. Logic isn't, so far.
+-- a column is computed by the function: a line for each one that does
 abbrev pub is_computed : ScalarFnRef → Bool
-is_computed (Binary op) = not (is_logical op)
+is_computed (Binary op) = true
 is_computed Not = true
 is_computed _ = false

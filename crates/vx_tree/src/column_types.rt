@@ -25,9 +25,5 @@ fn is_column_stored(storage: Storage) -> bool
 pub fn is_computed(function: &ScalarFnRef) -> bool
     ensures { result ≡ is_computed function.now }
 {
-    match function {
-        ScalarFnRef::Binary(operator) => !operator.is_logical(),
-        ScalarFnRef::Not => true,
-        _ => false,
-    }
+    matches!(function, ScalarFnRef::Binary(_) | ScalarFnRef::Not)
 }
