@@ -1,5 +1,6 @@
 -- Logic with null as the unknown truth value.
 use Rattle.std.specs.Prelude.{Bool, true, false, Option, Some, None}
+use Rattle.std.proofs.Math.Bool.{not}
 use Rattle.vx_value.specs.Values.{Value, null, boolean}
 use Rattle.vx_value.specs.Cell.{Cell, value}
 use Rattle.vx_value.specs.Parts.{boolean_in}
@@ -17,6 +18,11 @@ kleene_or (Some true) q = Some true
 kleene_or (Some false) q = q
 kleene_or None (Some true) = Some true
 kleene_or None q = None
+
+-- the other truth; an unknown one stays unknown
+abbrev pub not_truth : Option Bool → Option Bool
+not_truth (Some b) = Some (not b)
+not_truth None = None
 
 -- the truth as a value
 abbrev pub truth : Option Bool → Value
