@@ -3,7 +3,7 @@ use Rattle.std.proofs.Common.{◌≡◌, Bool, true, false, refl, ap}
 use Rattle.std.specs.Prelude.{[], ◌∷◌, Option, Some, None}
 use Rattle.vx_value.specs.Types.{DataType, bool}
 use Rattle.vx_value.specs.Nullabilities.{union}
-use Rattle.vx_value.specs.Values.{Value, null, boolean}
+use Rattle.vx_value.specs.Values.{Value, boolean}
 use Rattle.vx_value.specs.Cell.{value}
 use Rattle.vx_value.specs.IsOf.{is_of}
 use Rattle.vx_value.specs.Parts.{boolean_in}
