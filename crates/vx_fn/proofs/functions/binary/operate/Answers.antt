@@ -1,7 +1,7 @@
 use Rattle.std.proofs.Common.{◌≡◌, Some, rules, ap, sym, ◌∙◌, ◌∷◌, [], true}
 use Rattle.std.proofs.lemmas.Bool.{false≢true}
 use Rattle.std.proofs.lemmas.Result.{IfErr-weaker}
-use Rattle.vx_value.specs.View.{type_of, cell_of, cell_seen}
+use Rattle.vx_value.specs.View.{type_of, cell_of}
 use Rattle.vx_value.specs.Types.{DataType}
 use Rattle.vx_value.specs.Values.{null}
 use Rattle.vx_value.specs.IsOf.{is_of}
