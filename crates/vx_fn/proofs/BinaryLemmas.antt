@@ -157,7 +157,8 @@ logical_truths : (b : Bool) (s t ty : DataType) → b ≡ same_but_nullability s
 logical_truths false s t ty same e = absurd (cc)
 logical_truths true (type.bool m) (type.bool n) ty same e =
     let found : type.bool (union m (union n NonNullable)) ≡ ty = cc in
-    let plain : type.bool (union m n) ≡ type.bool (union m (union n NonNullable)) = ap (λ k. type.bool (union m k)) (sym (union_with_plain n NonNullable refl)) in
+    let plain : type.bool (union m n) ≡ type.bool (union m (union n NonNullable)) =
+    ap (λ k. type.bool (union m k)) (sym (union_with_plain n NonNullable refl)) in
     record { first = m; second = n; first_is = refl; second_is = refl; result_is = plain ∙ found }
 logical_truths true (type.bool m) _ ty same e = absurd (cc)
 logical_truths true _ t ty same e = absurd (cc)
