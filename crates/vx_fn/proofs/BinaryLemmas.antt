@@ -1,23 +1,33 @@
 -- The types of operators' results.
-use Rattle.std.proofs.Common.{◌≡◌, Bool, true, false, if◌then◌else◌, refl, ap, sym, ◌∙◌}
-use Rattle.std.specs.Prelude.{[], ◌∷◌, Option, Some, None, IsSome, option_map}
+use Rattle.std.proofs.Common.{◌≡◌, Bool, true, false, if◌then◌else◌, refl, ap, sym, ◌∙◌, subst}
+use Rattle.std.specs.Prelude.{[], ◌∷◌, ℤ, Option, Some, None, IsSome, option_map}
 use Rattle.vx_value.specs.Types as type
 use Rattle.vx_value.specs.Types.{DataType, nullability_of, is_nullable}
 use Rattle.vx_value.specs.Nullabilities.{with_nullability, union, same_but_nullability}
+use Rattle.vx_value.specs.Values as value
 use Rattle.vx_value.specs.Values.{Value, null}
+use Rattle.vx_value.specs.Cell as cell
+use Rattle.vx_value.specs.Cell.{Cell}
+use Rattle.vx_value.specs.Casts.{sized}
 use Rattle.vx_value.specs.IsOf.{is_of}
 use Rattle.vx_value.specs.Parts.{boolean_in}
+use Rattle.vx_value.specs.Storage.{storage_of}
+use Rattle.vx_value.specs.declared.dtype.Storage.TheVariants.{Integers}
+use Rattle.vx_value.specs.declared.dtype.PType.{PType}
 use Rattle.vx_value.specs.declared.dtype.Nullability.{Nullability}
 use Rattle.vx_value.specs.declared.dtype.Nullability.TheVariants.{NonNullable}
 use Rattle.vx_fn.specs.Meanings.{widened}
-use Rattle.vx_fn.specs.Binary.{is_logical, logical_type, operator_type, binary_type, binary}
+use Rattle.vx_fn.specs.Apply.{apply}
+use Rattle.vx_fn.specs.ReturnTypes.{return_type}
+use Rattle.vx_fn.specs.Binary.{is_comparison, is_logical, logical_type, operator_type, binary_type, decided, operated, binary}
 use Rattle.vx_fn.specs.Comparisons.{is_ordered, ordered_type}
-use Rattle.vx_fn.specs.Arithmetic.{summed_type, multiplied_type}
+use Rattle.vx_fn.specs.Arithmetic.{summed_type, multiplied_type, number, calculated_by}
 use Rattle.vx_fn.specs.Logic.{kleene_and, kleene_or, truth}
 use Rattle.vx_fn.specs.declared.function.Operator.{Operator}
 use Rattle.vx_fn.specs.declared.function.Operator.TheVariants as operator
+use Rattle.vx_fn.specs.declared.function.ScalarFnRef.TheVariants as function
 use Rattle.vx_fn.proofs.MeaningsLemmas.{widened_twice, nullable_by_argument, nullable_before, union_with_plain}
-use Rattle.vx_fn.proofs.LogicLemmas.{Knows, joined_typed, and_knows, or_knows}
+use Rattle.vx_fn.proofs.LogicLemmas.{Knows, joined_typed, and_knows, or_knows, and_commutes, or_commutes, truth_back}
 
 -- two arguments of one type
 pub of_one_type : (op : Operator) (s t : DataType) → same_but_nullability s t ≡ true → binary_type op s t ≡ operator_type op s
@@ -74,6 +84,53 @@ pub result_type : (op : Operator) (s t : DataType) → same_but_nullability s t 
     → (binary op).types (s ∷ t ∷ []) ≡ option_map (with_nullability (union (nullability_of s) (nullability_of t))) (operator_type op s)
 result_type op s t e = ap (λ o. widened s (widened t o)) (of_one_type op s t e) ∙ plain_widened s t (operator_type op s) (plain_result op s)
 
+-- the same for arguments that are taken
+module _ (op : Operator) (s t : DataType) (taken : IsSome (return_type (function.Binary op) (s ∷ t ∷ []))) where
+  abbrev joined : DataType → DataType
+  joined = with_nullability (union (nullability_of s) (nullability_of t))
+
+  same_taken : same_but_nullability s t ≡ true
+  same_taken = by_test (same_but_nullability s t) taken
+    where
+      by_test : (b : Bool) → IsSome (widened s (widened t (if b then operator_type op s else None))) → b ≡ true
+      by_test true h = refl
+      by_test false h = absurd (cc)
+
+  taken_type : return_type (function.Binary op) (s ∷ t ∷ []) ≡ option_map joined (operator_type op s)
+  taken_type = result_type op s t same_taken
+
+  pub comparison_type : is_comparison op ≡ true
+      → return_type (function.Binary op) (s ∷ t ∷ []) ≡ Some (type.bool (union (nullability_of s) (nullability_of t)))
+  comparison_type c = taken_type ∙ compared op c (subst IsSome taken_type taken)
+    where
+      ordered : (b : Bool) → IsSome (option_map joined (if b then Some (type.bool NonNullable) else None))
+          → option_map joined (if b then Some (type.bool NonNullable) else None) ≡ Some (joined (type.bool NonNullable))
+      ordered true h = refl
+      ordered false h = absurd (cc)
+
+      compared : (op : Operator) → is_comparison op ≡ true → IsSome (option_map joined (operator_type op s))
+          → option_map joined (operator_type op s) ≡ Some (joined (type.bool NonNullable))
+      compared operator.Eq c h = refl
+      compared operator.NotEq c h = refl
+      compared operator.Gt c h = ordered (is_ordered s) h
+      compared operator.Gte c h = ordered (is_ordered s) h
+      compared operator.Lt c h = ordered (is_ordered s) h
+      compared operator.Lte c h = ordered (is_ordered s) h
+      compared _ c h = absurd (cc)
+
+  pub calculation_type : (p : PType) → is_comparison op ≡ false → storage_of s ≡ Integers p
+      → return_type (function.Binary op) (s ∷ t ∷ []) ≡ Some (type.primitive p (union (nullability_of s) (nullability_of t)))
+  calculation_type p c stored = taken_type ∙ ap (option_map joined) (calculated op s c stored (subst IsSome taken_type taken))
+    where
+      calculated : (op : Operator) (s : DataType) → is_comparison op ≡ false → storage_of s ≡ Integers p → IsSome (option_map joined (operator_type op s))
+          → operator_type op s ≡ Some (type.primitive p NonNullable)
+      calculated operator.Add (type.primitive q n) c e h = let same : q ≡ p = cc in ap (λ k. Some (type.primitive k NonNullable)) same
+      calculated operator.Sub (type.primitive q n) c e h = let same : q ≡ p = cc in ap (λ k. Some (type.primitive k NonNullable)) same
+      calculated operator.Mul (type.primitive q n) c e h = let same : q ≡ p = cc in ap (λ k. Some (type.primitive k NonNullable)) same
+      calculated operator.Div (type.primitive q n) c e h = let same : q ≡ p = cc in ap (λ k. Some (type.primitive k NonNullable)) same
+      calculated _ (type.primitive q n) c e h = absurd (cc)
+      calculated _ _ c e h = absurd (cc)
+
 -- and has null if one of them is null
 pub null_first : (op : Operator) (s t ty : DataType) → is_of s null ≡ true → (binary op).types (s ∷ t ∷ []) ≡ Some ty → is_of ty null ≡ true
 null_first op s t ty h e = nullable_by_argument s (widened t (binary_type op s t)) ty h e
@@ -100,7 +157,9 @@ logical_truths : (b : Bool) (s t ty : DataType) → b ≡ same_but_nullability s
 logical_truths false s t ty same e = absurd (cc)
 logical_truths true (type.bool m) (type.bool n) ty same e =
     let found : type.bool (union m (union n NonNullable)) ≡ ty = cc in
-    record { first = m; second = n; first_is = refl; second_is = refl; result_is = ap (λ k. type.bool (union m k)) (sym (union_with_plain n NonNullable refl)) ∙ found }
+    let plain : type.bool (union m n) ≡ type.bool (union m (union n NonNullable)) =
+    ap (λ k. type.bool (union m k)) (sym (union_with_plain n NonNullable refl)) in
+    record { first = m; second = n; first_is = refl; second_is = refl; result_is = plain ∙ found }
 logical_truths true (type.bool m) _ ty same e = absurd (cc)
 logical_truths true _ t ty same e = absurd (cc)
 
@@ -127,3 +186,50 @@ logical_result operator.And s t ty v w o l h k and or e =
 logical_result operator.Or s t ty v w o l h k and or e =
     ap (λ a. is_of ty (truth a)) (or refl) ∙ typed_join kleene_or or_knows s t ty v w h k (truths operator.Or s t ty refl e)
 logical_result _ s t ty v w o l h k and or e = absurd (cc)
+
+-- ---- the logical operators commute, whatever the values and the type
+
+decided_commutes : (op : Operator) (v w : Value) → is_logical op ≡ true → decided op v w ≡ decided op w v
+decided_commutes operator.And v w l = ap (λ o. cell.value (truth o)) (and_commutes (boolean_in v) (boolean_in w))
+decided_commutes operator.Or v w l = ap (λ o. cell.value (truth o)) (or_commutes (boolean_in v) (boolean_in w))
+decided_commutes _ v w l = absurd (cc)
+
+no_number : (op : Operator) (fit : ℤ → Cell) (x y : ℤ) → is_logical op ≡ true → calculated_by op fit x y ≡ cell.fault
+no_number operator.And fit x y l = refl
+no_number operator.Or fit x y l = refl
+no_number _ fit x y l = absurd (cc)
+
+operated_commutes : (op : Operator) (ty : DataType) (v w : Value) → is_logical op ≡ true → operated op ty v w ≡ operated op ty w v
+operated_commutes op (type.bool n) v w l = decided_commutes op v w l
+operated_commutes op (type.primitive p n) (value.integer x) (value.integer y) l = no_number op (number p) x y l ∙ sym (no_number op (number p) y x l)
+operated_commutes op (type.primitive p n) (value.integer x) _ l = refl
+operated_commutes op (type.primitive p n) _ (value.integer y) l = refl
+operated_commutes op (type.primitive p n) _ _ l = refl
+operated_commutes op (type.decimal p s n) (value.decimal x q) (value.decimal y r) l =
+    no_number op (sized p s) x y l ∙ sym (no_number op (sized p s) y x l)
+operated_commutes op (type.decimal p s n) (value.decimal x q) _ l = refl
+operated_commutes op (type.decimal p s n) _ (value.decimal y r) l = refl
+operated_commutes op (type.decimal p s n) _ _ l = refl
+operated_commutes op _ v w l = refl
+
+pub and_applied : (ty : DataType) (c d : Cell) → apply (function.Binary operator.And) ty (c ∷ d ∷ []) ≡ apply (function.Binary operator.And) ty (d ∷ c ∷ [])
+and_applied ty (cell.value v) (cell.value w) = operated_commutes operator.And ty v w refl
+and_applied ty (cell.value v) cell.fault = refl
+and_applied ty cell.fault (cell.value w) = refl
+and_applied ty cell.fault cell.fault = refl
+
+pub or_applied : (ty : DataType) (c d : Cell) → apply (function.Binary operator.Or) ty (c ∷ d ∷ []) ≡ apply (function.Binary operator.Or) ty (d ∷ c ∷ [])
+or_applied ty (cell.value v) (cell.value w) = operated_commutes operator.Or ty v w refl
+or_applied ty (cell.value v) cell.fault = refl
+or_applied ty cell.fault (cell.value w) = refl
+or_applied ty cell.fault cell.fault = refl
+
+-- and join truth values
+
+pub and_is : (n : Nullability) (p q : Option Bool)
+    → apply (function.Binary operator.And) (type.bool n) (cell.value (truth p) ∷ cell.value (truth q) ∷ []) ≡ cell.value (truth (kleene_and p q))
+and_is n p q i = cell.value (truth (kleene_and (truth_back p i) (truth_back q i)))
+
+pub or_is : (n : Nullability) (p q : Option Bool)
+    → apply (function.Binary operator.Or) (type.bool n) (cell.value (truth p) ∷ cell.value (truth q) ∷ []) ≡ cell.value (truth (kleene_or p q))
+or_is n p q i = cell.value (truth (kleene_or (truth_back p i) (truth_back q i)))

@@ -1,14 +1,17 @@
 -- Truth values: of which type they are, and the laws of logic.
 use Rattle.std.proofs.Common.{◌≡◌, Bool, true, false, refl, ap}
-use Rattle.std.specs.Prelude.{Option, Some, None}
+use Rattle.std.specs.Prelude.{[], ◌∷◌, Option, Some, None}
 use Rattle.vx_value.specs.Types.{DataType, bool}
 use Rattle.vx_value.specs.Nullabilities.{union}
-use Rattle.vx_value.specs.Values.{Value, null, boolean}
+use Rattle.vx_value.specs.Values.{Value, boolean}
+use Rattle.vx_value.specs.Cell.{value}
 use Rattle.vx_value.specs.IsOf.{is_of}
 use Rattle.vx_value.specs.Parts.{boolean_in}
 use Rattle.vx_value.specs.declared.dtype.Nullability.{Nullability}
 use Rattle.vx_value.specs.declared.dtype.Nullability.TheVariants.{NonNullable, Nullable}
-use Rattle.vx_fn.specs.Logic.{kleene_and, kleene_or, truth}
+use Rattle.vx_fn.specs.Logic.{kleene_and, kleene_or, not_truth, truth}
+use Rattle.vx_fn.specs.Apply.{apply}
+use Rattle.vx_fn.specs.declared.function.ScalarFnRef.TheVariants.{Not}
 
 -- every truth value is a nullable boolean
 nullable_truth : (o : Option Bool) → is_of (bool Nullable) (truth o) ≡ true
@@ -37,3 +40,42 @@ joined_typed join NonNullable Nullable v w k h h' = nullable_truth (join (boolea
 joined_typed join NonNullable NonNullable (boolean p) (boolean q) k h h' = ap (λ o. is_of (bool NonNullable) (truth o)) (k p q).1
 joined_typed join NonNullable NonNullable (boolean p) _ k h h' = absurd (cc)
 joined_typed join NonNullable NonNullable _ w k h h' = absurd (cc)
+
+-- ---- the laws
+
+pub and_commutes : (p q : Option Bool) → kleene_and p q ≡ kleene_and q p
+and_commutes None (Some true) = refl
+and_commutes None (Some false) = refl
+and_commutes (Some true) (Some true) = refl
+and_commutes (Some false) (Some false) = refl
+and_commutes _ _ = refl
+
+pub or_commutes : (p q : Option Bool) → kleene_or p q ≡ kleene_or q p
+or_commutes None (Some true) = refl
+or_commutes None (Some false) = refl
+or_commutes (Some true) (Some true) = refl
+or_commutes (Some false) (Some false) = refl
+or_commutes _ _ = refl
+
+pub and_by_or : (p q : Option Bool) → not_truth (kleene_and p q) ≡ kleene_or (not_truth p) (not_truth q)
+and_by_or None None = refl
+and_by_or None (Some true) = refl
+and_by_or None (Some false) = refl
+and_by_or (Some true) q = refl
+and_by_or (Some false) q = refl
+
+pub or_by_and : (p q : Option Bool) → not_truth (kleene_or p q) ≡ kleene_and (not_truth p) (not_truth q)
+or_by_and None None = refl
+or_by_and None (Some true) = refl
+or_by_and None (Some false) = refl
+or_by_and (Some true) q = refl
+or_by_and (Some false) q = refl
+
+-- a truth value is the truth that it stands for
+pub truth_back : (p : Option Bool) → boolean_in (truth p) ≡ p
+truth_back None = refl
+truth_back (Some b) = refl
+
+pub negation_is : (ty : DataType) (p : Option Bool) → apply Not ty (value (truth p) ∷ []) ≡ value (truth (not_truth p))
+negation_is ty None = refl
+negation_is ty (Some b) = refl

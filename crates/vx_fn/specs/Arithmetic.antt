@@ -1,4 +1,4 @@
--- Arithmetic on two numbers, in whole numbers without bounds: the types that it takes, and what it gives.
+-- Arithmetic on two numbers, in whole numbers without bounds: the types that it takes, and the results.
 use Rattle.std.specs.Prelude.{◌≡◌, FitsSigned, ℤ, pos, ◌+ℤ◌, ◌-ℤ◌, ◌*ℤ◌, int_div, if◌then◌else◌, Option, Some, None}
 use Rattle.std.specs.Ordering.{int_cmp, is_eq}
 use Rattle.std.specs.Int.{w128}
@@ -11,25 +11,26 @@ use Rattle.vx_value.specs.declared.dtype.Nullability.TheVariants.{NonNullable}
 use Rattle.vx_fn.specs.declared.function.Operator.{Operator}
 use Rattle.vx_fn.specs.declared.function.Operator.TheVariants as operator
 
--- numbers of one type are added up to that type; of integers, all else too
+-- integers and decimals are added and subtracted in their own type
 abbrev pub summed_type : DataType → Option DataType
 summed_type (primitive p n) = Some (primitive p NonNullable)
 summed_type (decimal p s n) = Some (decimal p s NonNullable)
 summed_type _ = None
 
+-- integers alone are multiplied and divided
 abbrev pub multiplied_type : DataType → Option DataType
 multiplied_type (primitive p n) = Some (primitive p NonNullable)
 multiplied_type _ = None
 
--- the number, where the type has it
+-- the number, a fault if the type doesn't have it
 abbrev pub number : PType → ℤ → Cell
 number p z = if in_range p z then value (integer z) else fault
 
--- toward zero; there is none by 0
+-- truncated toward zero; a fault if the divisor is 0
 abbrev pub divided : (ℤ → Cell) → ℤ → ℤ → Cell
 divided fit x y = if is_eq (int_cmp y (pos 0)) then fault else fit (int_div x y)
 
--- where a type fits the result in: a line for each operator; those that compare give no number
+-- the result, which `fit` makes a value if the type has it: a line for each operator; the others give no number
 abbrev pub calculated_by : Operator → (ℤ → Cell) → ℤ → ℤ → Cell
 calculated_by operator.Add fit x y = fit (x +ℤ y)
 calculated_by operator.Sub fit x y = fit (x -ℤ y)
@@ -43,6 +44,6 @@ quotient p = divided (number p)
 abbrev pub calculated : Operator → PType → ℤ → ℤ → Cell
 calculated op p = calculated_by op (number p)
 
--- fits no number that an i128 isn't
+-- each number that 128 bits don't hold is a fault
 abbrev pub IsBounded : (ℤ → Cell) → Type 0
 IsBounded fit = (z : ℤ) → ¬ FitsSigned w128 z → fit z ≡ fault

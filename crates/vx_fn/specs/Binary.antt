@@ -1,4 +1,4 @@
--- The binary operators: the types that they take, and what they give.
+-- The binary operators: the types that they take, and the results.
 use Rattle.std.specs.Prelude.{Bool, true, false, if◌then◌else◌, Option, Some, None, codes}
 use Rattle.vx_value.specs.Types.{DataType, bool, primitive, decimal}
 use Rattle.vx_value.specs.Nullabilities.{same_but_nullability}
@@ -53,20 +53,20 @@ operator_type operator.Or t = logical_type t
 abbrev pub binary_type : Operator → DataType → DataType → Option DataType
 binary_type op s t = if same_but_nullability s t then operator_type op s else None
 
--- where the result is a boolean
+-- if the result is a boolean: logic joins the values, the others compare them
 abbrev pub decided : Operator → Value → Value → Cell
 decided operator.And v w = both v w
 decided operator.Or v w = either v w
 decided op v w = compared op v w
 
--- where the result is a boolean, the values are compared or joined; where it is a number, they are numbers
+-- by the type of the result: a boolean comes of any values, a number of numbers
 abbrev pub operated : Operator → DataType → Value → Value → Cell
 operated op (bool n) v w = decided op v w
 operated op (primitive p n) (integer x) (integer y) = calculated op p x y
 operated op (decimal p s n) (value.decimal x q) (value.decimal y r) = calculated_by op (sized p s) x y
 operated op _ _ _ = fault
 
--- logic alone takes null for a value
+-- to logic null is a truth value; any other result of null is null
 abbrev pub null_rule : Bool → Value → Cell → Cell
 null_rule true = kept
 null_rule false = null_through

@@ -23,7 +23,7 @@ is_ordered (type.binary n) = true
 abbrev pub ordered_type : DataType → Option DataType
 ordered_type t = if is_ordered t then Some (type.bool NonNullable) else None
 
--- whether it holds of two values, by which comes first: a line for each operator that compares; the others hold of none
+-- whether it holds of two values that compare so: a line for each operator that compares; the others hold of none
 abbrev pub holds : Operator → Ordering → Bool
 holds operator.Eq o = is_eq o
 holds operator.NotEq o = is_ne o
@@ -33,6 +33,6 @@ holds operator.Lt o = is_lt o
 holds operator.Lte o = is_le o
 holds _ o = false
 
--- false comes before true, numbers go by size, and bytes by the first that differs
+-- false comes before true, numbers by size, and bytes by the first that differs
 abbrev pub compared : Operator → Value → Value → Cell
 compared op v w = value (boolean (holds op (value_cmp v w)))

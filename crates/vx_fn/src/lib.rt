@@ -4,6 +4,7 @@
 mod apply;
 mod function;
 mod functions;
+mod laws;
 mod order;
 mod return_type;
 mod retyped;
@@ -12,3 +13,4 @@ mod row_function;
 pub use apply::apply_row;
 pub use function::{Arity, Operator, ScalarFnRef};
 pub use functions::between::{BetweenOptions, StrictComparison};
+pub use laws::logic_laws;

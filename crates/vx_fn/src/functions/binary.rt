@@ -79,7 +79,7 @@ fn operator_type(operator: Operator, dtype: &DType, nullability: Nullability) ->
     }
 }
 
-/// Applies `operator` to two arguments, whose types it must accept.
+/// Applies `operator` to two arguments, whose types it must accept. `Fault` if the row has no value.
 fn operate(operator: Operator, lhs: &Scalar, rhs: &Scalar) -> VortexResult<Scalar>
     requires { IsSome ((binary operator).types (lhs.now.of_type ∷ rhs.now.of_type ∷ [])) }
     ensures typed { IfOk result (λ s. (binary operator).types (lhs.now.of_type ∷ rhs.now.of_type ∷ []) ≡ Some s.of_type) }
@@ -101,7 +101,7 @@ fn operate(operator: Operator, lhs: &Scalar, rhs: &Scalar) -> VortexResult<Scala
     }
 }
 
-/// Joins two truth values, where `None` is null, by `And`, or by `Or` if `operator` isn't `And`.
+/// Joins two truth values by `And`, or by `Or` if `operator` is `Or`. `None` is null.
 fn join(operator: Operator, lhs: Option<bool>, rhs: Option<bool>) -> Option<bool>
     ensures and { operator ≡ Operator.And → result ≡ kleene_and lhs rhs }
     ensures or { operator ≡ Operator.Or → result ≡ kleene_or lhs rhs }

@@ -1,7 +1,7 @@
 use Rattle.std.proofs.Common.{◌≡◌, Some, rules, ap, sym, ◌∙◌, ◌∷◌, [], true}
 use Rattle.std.proofs.lemmas.Bool.{false≢true}
 use Rattle.std.proofs.lemmas.Result.{IfErr-weaker}
-use Rattle.vx_value.specs.View.{type_of, cell_of, cell_seen}
+use Rattle.vx_value.specs.View.{type_of, cell_of}
 use Rattle.vx_value.specs.Types.{DataType}
 use Rattle.vx_value.specs.Values.{null}
 use Rattle.vx_value.specs.IsOf.{is_of}
@@ -32,10 +32,10 @@ null-requires c =
     let ty : DataType = type_of c.in-Some.dtype in
     let typed : (binary op).types (l.of_type ∷ r.of_type ∷ []) ≡ Some ty = search rules in
     elim c.in_default-2.branch [
-      in_default-2-via-in-Some+in_default w ↦
+      | in_default-2-via-in-Some+in_default w ↦
           let there : r.value ≡ null = search rules in
           null_second op l.of_type r.of_type ty (ap (is_of r.of_type) (sym there) ∙ c.value-2.ensures.typed) typed
-    | in_default-2-via-in_default w ↦
+      | in_default-2-via-in_default w ↦
           let there : l.value ≡ null = search rules in
           null_first op l.of_type r.of_type ty (ap (is_of l.of_type) (sym there) ∙ c.value.ensures.typed) typed
     ]

@@ -1,5 +1,4 @@
 use Rattle.std.proofs.Common.{rules}
-use Rattle.vx_value.specs.View.{type_of}
 use Rattle.vx_fn.proofs.ArithmeticLemmas.{sized_bounded}
 use Rattle.vx_fn.proofs.functions.binary.operate_values.Goals as goal
 

@@ -1,0 +1,24 @@
+//! Laws of functions. Each is a function with an empty body, whose contract is the law.
+
+ghost use Rattle.std.specs.Prelude.{◌≡◌, ◌∷◌, [], Bool, Option};
+ghost use Rattle.vx_value.specs.Types.{DataType, bool};
+ghost use Rattle.vx_value.specs.Cell.{Cell, value};
+ghost use Rattle.vx_value.specs.declared.dtype.Nullability.{Nullability};
+ghost use Rattle.vx_fn.specs.Logic.{kleene_and, kleene_or, not_truth, truth};
+ghost use Rattle.vx_fn.specs.Apply.{apply};
+ghost use Rattle.vx_fn.specs.declared.function.Operator.TheVariants.{And, Or};
+ghost use Rattle.vx_fn.specs.declared.function.ScalarFnRef.TheVariants.{Binary, Not};
+
+/// States that `And` and `Or` commute, whatever their arguments; that `Not` turns each into the other; and that this is what the
+/// functions make of truth values, null included. (own)
+pub fn logic_laws()
+    ensures and_commutes { (ty : DataType) (c d : Cell) → apply (Binary And) ty (c ∷ d ∷ []) ≡ apply (Binary And) ty (d ∷ c ∷ []) }
+    ensures or_commutes { (ty : DataType) (c d : Cell) → apply (Binary Or) ty (c ∷ d ∷ []) ≡ apply (Binary Or) ty (d ∷ c ∷ []) }
+    ensures and_by_or { (p q : Option Bool) → not_truth (kleene_and p q) ≡ kleene_or (not_truth p) (not_truth q) }
+    ensures or_by_and { (p q : Option Bool) → not_truth (kleene_or p q) ≡ kleene_and (not_truth p) (not_truth q) }
+    ensures and_is { (n : Nullability) (p q : Option Bool)
+        → apply (Binary And) (bool n) (value (truth p) ∷ value (truth q) ∷ []) ≡ value (truth (kleene_and p q)) }
+    ensures or_is { (n : Nullability) (p q : Option Bool)
+        → apply (Binary Or) (bool n) (value (truth p) ∷ value (truth q) ∷ []) ≡ value (truth (kleene_or p q)) }
+    ensures not_is { (ty : DataType) (p : Option Bool) → apply Not ty (value (truth p) ∷ []) ≡ value (truth (not_truth p)) }
+{}
