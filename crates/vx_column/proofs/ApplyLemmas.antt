@@ -9,7 +9,7 @@ use Rattle.vx_value.specs.Values.{integer}
 use Rattle.vx_value.specs.Cell.{value, fault}
 use Rattle.vx_value.specs.IsOf.{in_range}
 use Rattle.vx_value.specs.declared.dtype.PType.{PType}
-use Rattle.vx_fn.specs.Binary.{number, quotient}
+use Rattle.vx_fn.specs.Arithmetic.{number, quotient}
 
 number_yes : (p : PType) (z : ℤ) → in_range p z ≡ true → number p z ≡ value (integer z)
 number_yes p z h = ap (λ b. if b then value (integer z) else fault) h

@@ -2,7 +2,7 @@ use Rattle.std.proofs.Common.{◌≡◌, ◌≤◌, map, vec_len, vec_capacity}
 use Rattle.std.specs.List.{range_with_len}
 use Rattle.vx_value.specs.Values.{integer}
 use Rattle.vx_value.specs.Cell.{value}
-use Rattle.vx_fn.specs.Binary.{calculated}
+use Rattle.vx_fn.specs.Arithmetic.{calculated}
 use Rattle.vx_column.specs.Operands.{number_in}
 use Rattle.vx_column.proofs.arithmetic.calculate.Given as goal
 

@@ -1,7 +1,7 @@
 use Rattle.std.proofs.Common.{◌≡◌, map}
 use Rattle.std.specs.List.{range_with_len}
 use Rattle.std.specs.Ordering.{int_cmp}
-use Rattle.vx_fn.specs.Binary.{holds}
+use Rattle.vx_fn.specs.Comparisons.{holds}
 use Rattle.vx_column.specs.Operands.{number_in}
 use Rattle.vx_column.proofs.comparison.compare.Given as goal
 

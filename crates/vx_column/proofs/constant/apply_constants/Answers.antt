@@ -1,4 +1,4 @@
-use Rattle.std.proofs.Common.{inr}
+use Rattle.std.proofs.Common.{inl, inr}
 use Rattle.vx_tree.specs.Columns.{columnar_tree}
 use Rattle.vx_column.specs.Applied.{types_of_scalars, cells_of_scalars}
 use Rattle.vx_column.proofs.AppliedLemmas.{constant_result}
@@ -14,5 +14,7 @@ returns-in-Ok-constant-clause-ok c =
 pub returns-in-Err-clause-err : goal.returns-in-Err-clause-err
 returns-in-Err-clause-err c =
     let ss = c.args.scalars.now in
-    let fault = c.in-Err.ensures.fault in
-    inr (fault.0, fault_at_row c.args.function.now (types_of_scalars ss) (λ _. cells_of_scalars ss) c.args.len 0 c.requires.some fault.1)
+    elim c.in-Err.ensures.fault [
+      | inl memory ↦ inl memory
+      | inr fault ↦ inr (fault.0, fault_at_row c.args.function.now (types_of_scalars ss) (λ _. cells_of_scalars ss) c.args.len 0 c.requires.some fault.1)
+    ]

@@ -72,5 +72,8 @@ function_at-returns-clause-err t c =
     let ss = c.as_slice.result.now in
     let read = all_read c.args.index c.loop-slot.slot-index xs c.loop-slot.scalars.items ss c.loop-slot-test.false c.as_slice.ensures.value
     c.loop-slot.invariant in
-    let fault = c.in-Err-apply_row.ensures.fault in
-    inr (fault.0, function_faulted c.args.array.now c.args.scalar_fn.now xs c.args.index c.requires.shape c.requires.well ss read c.requires.index fault.1)
+    elim c.in-Err-apply_row.ensures.fault [
+      | inl memory ↦ inl memory
+      | inr fault ↦
+        inr (fault.0, function_faulted c.args.array.now c.args.scalar_fn.now xs c.args.index c.requires.shape c.requires.well ss read c.requires.index fault.1)
+    ]
