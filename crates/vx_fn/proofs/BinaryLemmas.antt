@@ -45,7 +45,7 @@ module _ (op : Operator) (s t : DataType) (taken : IsSome (return_type (function
   by_tests false true c o h = absurd (cc)
   by_tests true b c o h = absurd (cc)
 
-  tests : (same_type s t ≡ true) × (return_type (function.Binary op) (s ∷ t ∷ []) ≡ operator_type op s)
+  pub tests : (same_type s t ≡ true) × (return_type (function.Binary op) (s ∷ t ∷ []) ≡ operator_type op s)
   tests = by_tests (is_nullable (nullability_of s)) (is_nullable (nullability_of t)) (same_type s t) (operator_type op s) taken
 
   pub one_type : s ≡ t
