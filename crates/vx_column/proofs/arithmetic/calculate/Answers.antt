@@ -21,7 +21,8 @@ returns-in_default-clause-err g c =
     let i = c.loop-index.index in
     let x = c.row.ensures ∙ ap (λ f. f i) c.operand_of-left.ensures.numbers in
     let y = c.row-in-loop-index.ensures ∙ ap (λ f. f i) c.operand_of-right.ensures.numbers in
-    let typed = integers_calculated op (type_of l.dtype.now) (type_of r.dtype.now) c.requires.lhs.4 c.requires.rhs.4 c.requires.taken p c.requires.operator c.requires.lhs.3 in
+    let typed = integers_calculated op (type_of l.dtype.now) (type_of r.dtype.now) c.requires.lhs.4 c.requires.rhs.4 c.requires.taken p
+    c.requires.operator c.requires.lhs.3 in
     inr (refl {a = Fault}, calculation_fault op p l r c.args.len i _ _ x y (omega arith) typed c.in_default.ensures)
 
 pub returns-clause-ok : goal.returns-clause-ok
@@ -36,8 +37,8 @@ returns-clause-ok g c =
     let right = c.operand_of-right.ensures.numbers in
     let all : c.loop-index.index ≡ c.args.len = omega arith in
     integers_computed (Binary op) (Integers l ∷ Integers r ∷ []) c.args.len c.primitive_column.result (ptype_of v) (values_of v)
-    (integers_calculated op (type_of l.dtype.now) (type_of r.dtype.now) c.requires.lhs.4 c.requires.rhs.4 c.requires.taken (ptype_of v) c.requires.operator
-    (c.requires.lhs.3 ∙ ap storage.Integers kind))
+    (integers_calculated op (type_of l.dtype.now) (type_of r.dtype.now) c.requires.lhs.4 c.requires.rhs.4 c.requires.taken (ptype_of v)
+    c.requires.operator (c.requires.lhs.3 ∙ ap storage.Integers kind))
     (ap (map (λ z. value (integer z))) c.wrap.ensures.values ∙ cells_read read c.in_ok-from_vec.field-0
     ∙ ap (map (λ x. value (integer (read x)))) c.in_ok-from_vec.ensures ∙ c.loop-index.invariant.2
     ∙ (λ j. map (λ i. calculated op (kind j) (left j i) (right j i)) (range_with_len 0 (all j))))

@@ -20,4 +20,5 @@ returns-clause-ok g c =
     let bits = c.in_ok-finish.ensures ∙ c.loop-index.invariant ∙ (λ j. map (λ i. holds op (int_cmp (left j i) (right j i))) (range_with_len 0 (all j))) in
     bools_computed (Binary op) (Integers l ∷ Integers r ∷ []) c.args.len c.bool_column.result
     (λ i. holds op (int_cmp (integer_in l i) (integer_in r i))) c.in_ok-finish.field-0
-    (integers_compared op (type_of l.dtype.now) (type_of r.dtype.now) c.requires.lhs.4 c.requires.rhs.4 c.requires.taken c.requires.operator) (λ i. refl) bits c.bool_column.ensures.ok
+    (integers_compared op (type_of l.dtype.now) (type_of r.dtype.now) c.requires.lhs.4 c.requires.rhs.4 c.requires.taken c.requires.operator)
+    (λ i. refl) bits c.bool_column.ensures.ok
