@@ -14,7 +14,7 @@ use Rattle.vx_tree.specs.Columns.{columnar_tree}
 use Rattle.vx_tree.specs.Keeps.{KeepsExactly}
 use Rattle.vx_tree.specs.declared.columnar.Columnar.{Columnar}
 
--- f accepts the trees ts, each n rows long
+-- f accepts the trees ts, each n rows long, and computes a column of them
 abbrev pub IsCall : ScalarFnRef → List Tree → ℕ → Type 0
 IsCall f ts n = (ty : DataType) × IsNode ty n (function f) (shapes (filled_slots ts))
 

@@ -19,19 +19,19 @@ not_nullable NonNullable h = refl
 not_nullable Nullable h = absurd (cc)
 
 -- null isn't a value of a type that has columns
-pub never_null : (ty : DataType) → has_column ty ≡ true → nullability_of ty ≡ NonNullable
-never_null ty h = not_nullable (nullability_of ty) (first_so (not (is_nullable (nullability_of ty))) (is_column_stored (storage_of ty)) h)
+pub non_nullable : (ty : DataType) → has_column ty ≡ true → nullability_of ty ≡ NonNullable
+non_nullable ty h = not_nullable (nullability_of ty) (first_so (not (is_nullable (nullability_of ty))) (is_column_stored (storage_of ty)) h)
 
 -- the type of a column, by how it stores its values
 pub column_of_bits : (ty : DataType) → has_column ty ≡ true → storage_of ty ≡ Bits → ty ≡ bool NonNullable
-column_of_bits ty h e = stored_as_bits ty e (never_null ty h)
+column_of_bits ty h e = stored_as_bits ty e (non_nullable ty h)
 
 stored_as_integers : (p : PType) (ty : DataType) → storage_of ty ≡ Integers p → nullability_of ty ≡ NonNullable → ty ≡ primitive p NonNullable
 stored_as_integers p (primitive q n) h k = let same : q ≡ p = cc in λ i. primitive (same i) (k i)
 stored_as_integers p _ h k = absurd (cc)
 
 pub column_of_integers : (p : PType) (ty : DataType) → has_column ty ≡ true → storage_of ty ≡ Integers p → ty ≡ primitive p NonNullable
-column_of_integers p ty h e = stored_as_integers p ty e (never_null ty h)
+column_of_integers p ty h e = stored_as_integers p ty e (non_nullable ty h)
 
 -- there are columns of the type of every tree: a line for each encoding, of a slice by its child
 pub well_typed : (t : Tree) → IsWell t → has_column (dtype t) ≡ true

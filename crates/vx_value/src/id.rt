@@ -21,47 +21,57 @@ pub enum Id {
     Primitive,
 }
 
+/// Evaluates `$by` on `$value` and the text of each id: one line an id.
+macro_rules! by_texts {
+    ($by:ident, $value:expr) => {
+        $by!(
+            $value,
+            Constant = "vortex.constant",
+            Slice = "vortex.slice",
+            Binary = "vortex.binary",
+            Between = "vortex.between",
+            Not = "vortex.not",
+            Mask = "vortex.mask",
+            Zip = "vortex.zip",
+            FillNull = "vortex.fill_null",
+            IsNull = "vortex.is_null",
+            IsNotNull = "vortex.is_not_null",
+            Cast = "vortex.cast",
+            Bool = "vortex.bool",
+            Primitive = "vortex.primitive",
+        )
+    };
+}
+
+macro_rules! text_of {
+    ($id:expr, $($variant:ident = $text:literal,)*) => {
+        match $id {
+            $(Id::$variant => $text,)*
+        }
+    };
+}
+
+macro_rules! id_of {
+    ($text:expr, $($variant:ident = $name:literal,)*) => {
+        match $text {
+            $($name => Some(Id::$variant),)*
+            _ => None,
+        }
+    };
+}
+
 impl Id {
     /// Returns the id as text, for example `vortex.primitive`.
     pub fn as_str(self) -> &'static str
         ensures { result.now ≡ id_text self }
     {
-        match self {
-            Id::Constant => "vortex.constant",
-            Id::Slice => "vortex.slice",
-            Id::Binary => "vortex.binary",
-            Id::Between => "vortex.between",
-            Id::Not => "vortex.not",
-            Id::Mask => "vortex.mask",
-            Id::Zip => "vortex.zip",
-            Id::FillNull => "vortex.fill_null",
-            Id::IsNull => "vortex.is_null",
-            Id::IsNotNull => "vortex.is_not_null",
-            Id::Cast => "vortex.cast",
-            Id::Bool => "vortex.bool",
-            Id::Primitive => "vortex.primitive",
-        }
+        by_texts!(text_of, self)
     }
 
     /// Returns the id that `text` spells, or `None` if it spells none.
     pub fn parse(text: &str) -> Option<Id>
         ensures { MatchOption result (IsNoId text.now) (λ id. id_text id ≡ text.now) }
     {
-        match text {
-            "vortex.constant" => Some(Id::Constant),
-            "vortex.slice" => Some(Id::Slice),
-            "vortex.binary" => Some(Id::Binary),
-            "vortex.between" => Some(Id::Between),
-            "vortex.not" => Some(Id::Not),
-            "vortex.mask" => Some(Id::Mask),
-            "vortex.zip" => Some(Id::Zip),
-            "vortex.fill_null" => Some(Id::FillNull),
-            "vortex.is_null" => Some(Id::IsNull),
-            "vortex.is_not_null" => Some(Id::IsNotNull),
-            "vortex.cast" => Some(Id::Cast),
-            "vortex.bool" => Some(Id::Bool),
-            "vortex.primitive" => Some(Id::Primitive),
-            _ => None,
-        }
+        by_texts!(id_of, text)
     }
 }
