@@ -21,9 +21,18 @@ fn is_column_stored(storage: Storage) -> bool
     matches!(storage, Storage::Bits | Storage::Integers(_))
 }
 
-/// Checks whether columns are computed by `function`. (own)
+/// Checks whether columns are computed by `function`: by all but those that wait for columns with nulls. (own)
 pub fn is_computed(function: &ScalarFnRef) -> bool
     ensures { result ≡ is_computed function.now }
 {
-    matches!(function, ScalarFnRef::Binary(_) | ScalarFnRef::Not)
+    !matches!(
+        function,
+        ScalarFnRef::Between(_)
+            | ScalarFnRef::Mask
+            | ScalarFnRef::Zip
+            | ScalarFnRef::FillNull
+            | ScalarFnRef::IsNull
+            | ScalarFnRef::IsNotNull
+            | ScalarFnRef::Cast(_)
+    )
 }
