@@ -75,10 +75,10 @@ fn same_type(left: &DType, right: &DType) -> bool
 
 /// Checks whether two values are the same. `None` is null.
 #[tactic(auto, using(crate::proofs::OrderLemmas::then_ties, crate::proofs::BytesLemmas::bytes_eq_by_cmp))]
-fn same_value(left: Option<&ScalarValue>, right: Option<&ScalarValue>) -> bool
-    ensures { result ≡ same_value (cell_seen left.entry) (cell_seen right.entry) }
+fn same_value(value: Option<&ScalarValue>, other: Option<&ScalarValue>) -> bool
+    ensures { result ≡ same_value (cell_seen value.entry) (cell_seen other.entry) }
 {
-    left == right
+    value == other
 }
 
 /// Compares two values. `None` is null.
