@@ -1,28 +1,67 @@
 //! The text of a row.
 
 ghost use Rattle.std.specs.Prelude.{◌≡◌, ◌++◌, OnOk, IfOk, string_bytes};
-ghost use Rattle.vx_json.specs.RowText.{row_text};
+ghost use Rattle.hex.specs.Hex.{encode_lower};
+ghost use Rattle.serde_json.specs.Data.{string};
+ghost use Rattle.serde_json.specs.Written.{compact_text};
+ghost use Rattle.vx_json.specs.RowText.{in_quotes, row_text};
 
 use itoa::Buffer;
+use serde_json::Value;
 use std::alloc::{AllocError, Global};
 use vx_value::{Scalar, ScalarValue, VortexResult};
 
-/// Appends the text of a row: `null`, `true`, `false`, or an integer in decimal. If memory runs out, part of it may
-/// have been appended. (own)
+/// Appends the text of a row: `null`, `true`, `false`, an integer in decimal, or a string. The string of a decimal is its unscaled
+/// integer, as `"4200"` for 42.00; that of a binary value has two lower-case hexadecimal digits for each byte. If memory runs out,
+/// part of it may have been appended. (own)
 pub fn push_row(text: &mut String, scalar: &Scalar) -> Result<(), AllocError>
-    ensures { OnOk result (string_bytes text.new ≡ string_bytes text.old ++ row_text scalar.now.value) }
+    ensures { OnOk result (string_bytes text.new ≡ string_bytes text.old ++ row_text scalar.now.of_type scalar.now.value) }
 {
     match scalar.value() {
         None => text.push_str("null"),
         Some(ScalarValue::Bool(true)) => text.push_str("true"),
         Some(ScalarValue::Bool(false)) => text.push_str("false"),
-        Some(ScalarValue::Integer(number)) => text.push_str(Buffer::new().format(number)),
+        Some(ScalarValue::Integer(number)) => text.push_str(Buffer::new().format(*number)),
+        Some(ScalarValue::Decimal(decimal)) => push_quoted(
+            text,
+            Buffer::new().format(decimal.unscaled),
+        ),
+        Some(ScalarValue::Bytes(bytes)) => match scalar.as_utf8() {
+            Some(utf8) => push_utf8(text, utf8),
+            None => push_hex(text, bytes.as_slice()),
+        },
     }
 }
 
-/// Returns the text of a row: `null`, `true`, `false`, or an integer in decimal. The only error is `OutOfMemory`. (own)
+/// Appends `inner` between quotation marks.
+fn push_quoted(text: &mut String, inner: &str) -> Result<(), AllocError>
+    ensures { OnOk result (string_bytes text.new ≡ string_bytes text.old ++ in_quotes inner.now) }
+{
+    text.push_str("\"")?;
+    text.push_str(inner)?;
+    text.push_str("\"")
+}
+
+/// Appends `utf8` as a JSON string.
+fn push_utf8(text: &mut String, utf8: &str) -> Result<(), AllocError>
+    ensures { OnOk result (string_bytes text.new ≡ string_bytes text.old ++ compact_text (string utf8.now)) }
+{
+    let alloc = *text.allocator();
+    let value = Value::String(String::from_str(alloc, utf8)?);
+    text.push_str(value.to_string(alloc)?.as_str())
+}
+
+/// Appends two hexadecimal digits for each of `bytes`, between quotation marks.
+fn push_hex(text: &mut String, bytes: &[u8]) -> Result<(), AllocError>
+    ensures { OnOk result (string_bytes text.new ≡ string_bytes text.old ++ in_quotes (encode_lower bytes.now)) }
+{
+    let digits = hex::encode(*text.allocator(), bytes)?;
+    push_quoted(text, digits.as_str())
+}
+
+/// Returns the text of a row, as `push_row` appends it. The only error is `OutOfMemory`. (own)
 pub fn row_text(alloc: Global, scalar: &Scalar) -> VortexResult<String>
-    ensures { IfOk result (λ s. string_bytes s ≡ row_text scalar.now.value) }
+    ensures { IfOk result (λ s. string_bytes s ≡ row_text scalar.now.of_type scalar.now.value) }
 {
     let mut text = String::new(alloc);
     push_row(&mut text, scalar)?;
