@@ -21,7 +21,7 @@ abbrev pub bytes_text : DataType → List ℕ → List ℕ
 bytes_text (type.utf8 n) bs = compact_text (string bs)
 bytes_text _ bs = in_quotes (encode_lower bs)
 
--- the row of a column of the type with this value: a line for each kind of value
+-- the text of a row, by its type and value: a line for each kind of value
 abbrev pub row_text : DataType → Value → List ℕ
 row_text ty null = codes "null"
 row_text ty (boolean b) = boolean_text b

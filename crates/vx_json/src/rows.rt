@@ -1,10 +1,12 @@
 //! The text of a row.
 
 ghost use Rattle.std.specs.Prelude.{◌≡◌, ◌++◌, OnOk, IfOk, string_bytes};
+ghost use Rattle.std.specs.Fmt.{signed_decimal};
 ghost use Rattle.hex.specs.Hex.{encode_lower};
 ghost use Rattle.serde_json.specs.Data.{string};
 ghost use Rattle.serde_json.specs.Written.{compact_text};
-ghost use Rattle.vx_json.specs.RowText.{in_quotes, row_text};
+ghost use Rattle.vx_value.specs.Values as value;
+ghost use Rattle.vx_json.specs.RowText.{bytes_text, in_quotes, row_text};
 
 use itoa::Buffer;
 use serde_json::Value;
@@ -22,14 +24,30 @@ pub fn push_row(text: &mut String, scalar: &Scalar) -> Result<(), AllocError>
         Some(ScalarValue::Bool(true)) => text.push_str("true"),
         Some(ScalarValue::Bool(false)) => text.push_str("false"),
         Some(ScalarValue::Integer(number)) => text.push_str(Buffer::new().format(*number)),
-        Some(ScalarValue::Decimal(decimal)) => push_quoted(
-            text,
-            Buffer::new().format(decimal.unscaled),
-        ),
-        Some(ScalarValue::Bytes(bytes)) => match scalar.as_utf8() {
-            Some(utf8) => push_utf8(text, utf8),
-            None => push_hex(text, bytes.as_slice()),
-        },
+        Some(ScalarValue::Decimal(decimal)) => push_decimal(text, decimal.unscaled),
+        Some(ScalarValue::Bytes(bytes)) => push_bytes(text, scalar, bytes.as_slice()),
+    }
+}
+
+// These two aren't inlined: the rows of booleans and integers then take fewer instructions.
+
+/// Appends `unscaled` in decimal, between quotation marks.
+#[inline(never)]
+fn push_decimal(text: &mut String, unscaled: i128) -> Result<(), AllocError>
+    ensures { OnOk result (string_bytes text.new ≡ string_bytes text.old ++ in_quotes (signed_decimal unscaled)) }
+{
+    push_quoted(text, Buffer::new().format(unscaled))
+}
+
+/// Appends `bytes`, the value of `scalar`: as a JSON string if its type is `Utf8`, else in hexadecimal.
+#[inline(never)]
+fn push_bytes(text: &mut String, scalar: &Scalar, bytes: &[u8]) -> Result<(), AllocError>
+    requires { scalar.now.value ≡ value.bytes bytes.now }
+    ensures { OnOk result (string_bytes text.new ≡ string_bytes text.old ++ bytes_text scalar.now.of_type bytes.now) }
+{
+    match scalar.as_utf8() {
+        Some(utf8) => push_utf8(text, utf8),
+        None => push_hex(text, bytes),
     }
 }
 
