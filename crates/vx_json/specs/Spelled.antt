@@ -22,10 +22,12 @@ use Rattle.vx_json.specs.SpelledValues.{integer_spelled, value_spelled, all_read
 abbrev pub type_at : Data → Option DataType
 type_at d = option_and_then type_spelled (text_at (codes "type") d)
 
--- `{"enc":"col","type":T,"rows":[..]}` and `{"enc":"flat","type":T,"values":[..]}`: a column with a value for each row
+-- `{"enc":"col","type":T,"rows":[..]}` and `{"enc":"flat","type":T,"values":[..]}`: a column with a value for each row;
+-- a line for each storage that is spelled
 abbrev pub column_stored : Storage → Items → Option Tree
 column_stored Bits ds = option_map booleans (all_read as_bool ds)
 column_stored (Integers p) ds = option_map (integers p) (all_read (integer_spelled p) ds)
+column_stored _ ds = None
 
 abbrev pub column_of_items : DataType → Items → Option Tree
 column_of_items ty = column_stored (storage_of ty)

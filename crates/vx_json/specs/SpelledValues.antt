@@ -18,10 +18,11 @@ within p z = if in_range p z then Some z else None
 abbrev pub integer_spelled : PType → Data → Option ℤ
 integer_spelled p d = option_and_then (within p) (option_and_then as_integer (as_number d))
 
--- `true` or `false` for a boolean, a whole number for an integer
+-- `true` or `false` for a boolean, a whole number for an integer: a line for each storage that is spelled
 abbrev pub value_stored : Storage → Data → Option Value
 value_stored Bits d = option_map boolean (as_bool d)
 value_stored (Integers p) d = option_map integer (integer_spelled p d)
+value_stored _ d = None
 
 abbrev pub value_spelled : DataType → Data → Option Value
 value_spelled t = value_stored (storage_of t)

@@ -45,6 +45,7 @@ fn column_of_items(alloc: Global, dtype: &DType, list: &Vec<Value>) -> VortexRes
     match dtype.storage() {
         Storage::Bits => bool_column(alloc, list),
         Storage::Integers(ptype) => primitive_column(alloc, ptype, list),
+        _ => Err(BAD_VALUE),
     }
 }
 

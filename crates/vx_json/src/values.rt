@@ -73,7 +73,7 @@ pub(crate) fn booleans(alloc: Global, list: &Vec<Value>) -> VortexResult<BitBuff
     Ok(bits.finish(alloc)?)
 }
 
-/// Reads a scalar of `dtype`, never null.
+/// Reads a boolean or an integer of type `dtype`, never null. Returns `None` for a type of another kind.
 pub(crate) fn scalar(dtype: DType, value: &Value) -> Option<Scalar>
     ensures value { option_map (λ s. s.value) result ≡ value_spelled (type_of dtype) (view value.now) }
     ensures typed { IfSome result (λ s. s.of_type ≡ type_of dtype) }
@@ -81,6 +81,7 @@ pub(crate) fn scalar(dtype: DType, value: &Value) -> Option<Scalar>
     let value = match dtype.storage() {
         Storage::Bits => ScalarValue::Bool(value.as_bool()?),
         Storage::Integers(_) => ScalarValue::Integer(integer(value)?),
+        _ => return None,
     };
     Scalar::try_new(dtype, Some(value)).ok()
 }

@@ -2,12 +2,10 @@ use std::alloc::Global;
 use std::io;
 use std::io::{Read, Write};
 use std::test::Fail;
-use vx_json::row_text;
 use vx_stream::{
     Failed, MemSink, MemSource, PlainSink, PlainSource, ReadError, Sink, Source, StdinSource,
     StdoutSink, read_all, write_all,
 };
-use vx_value::{DType, Nullability, Scalar};
 
 /// 141 bytes: nine pieces of 16, and a read that finds the end.
 const INPUT: &str =
@@ -118,11 +116,4 @@ fn a_writer_without_room_fails(rt: HostRuntime) {
     let mut room = [0u8; 4];
     assert!(rt; is_taken(&mut StdoutSink::new(room.as_mut_slice()), true));
     assert!(rt; room == *b"type");
-}
-
-#[test]
-fn a_null_row(rt: HostRuntime) -> Result<(), Fail> {
-    let null = Scalar::null(DType::Bool(Nullability::Nullable));
-    assert!(rt; row_text(rt.alloc(), &null)?.as_str() == "null");
-    Ok(())
 }

@@ -49,12 +49,12 @@ lines_more f h vs v = append_assoc h (flat_map f vs) (f v) ∙ ap (λ l. h ++ l)
 
 -- a further row has its line
 pub shows_more : (ty : DataType) (id : Id) (cs : List Cell) (i : ℕ) (v : Value) (text longer : List ℕ) → Shows ty id (take i cs) text
-    → slice_get cs i ≡ Some (value v) → longer ≡ (text ++ row_text v) ++ 10 ∷ [] → Shows ty id (take (i + 1) cs) longer
+    → slice_get cs i ≡ Some (value v) → longer ≡ (text ++ row_text ty v) ++ 10 ∷ [] → Shows ty id (take (i + 1) cs) longer
 shows_more ty id cs i v text longer s e j = record {
   values = s.values ++ v ∷ [];
   own = rw add-one (take_suc cs i (value v) e) ∙ ap (λ l. l ++ value v ∷ []) s.own ∙ sym (map_more s.values v);
-  printed = j ∙ append_assoc text (row_text v) (10 ∷ []) ∙ ap (λ l. l ++ line (row_text v)) s.printed
-      ∙ lines_more (λ w. line (row_text w)) (head_lines ty id) s.values v;
+  printed = j ∙ append_assoc text (row_text ty v) (10 ∷ []) ∙ ap (λ l. l ++ line (row_text ty v)) s.printed
+      ∙ lines_more (λ w. line (row_text ty w)) (head_lines ty id) s.values v;
 }
 
 -- all rows are shown

@@ -18,7 +18,7 @@ head_lines ty id = line (codes "type " ++ type_text ty) ++ line (codes "encoding
 
 -- those, and a line for each value
 abbrev pub output : DataType → Id → List Value → List ℕ
-output ty id values = head_lines ty id ++ flat_map (λ v. line (row_text v)) values
+output ty id values = head_lines ty id ++ flat_map (λ v. line (row_text ty v)) values
 
 -- the text shows the cells: each is a value, and has its line
 pub record Shows (ty : DataType) (id : Id) (cells : List Cell) (text : List ℕ) : Type 0 where

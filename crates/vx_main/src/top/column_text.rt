@@ -30,6 +30,7 @@ fn row_of(alloc: Global, array: &ArrayRef, index: usize) -> VortexResult<Scalar>
     requires whole { HasNoFault (rows array.now) }
     requires within { index < len array.now }
     ensures ok { IfOk result (λ s. slice_get (rows array.now) index ≡ Some (value s.value)) }
+    ensures typed { IfOk result (λ s. s.of_type ≡ dtype array.now) }
     ensures err { IfErr result (λ e. e ≡ VortexError.OutOfMemory) }
 {
     execute_scalar(alloc, array, index)
