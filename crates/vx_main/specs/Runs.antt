@@ -1,5 +1,5 @@
 -- What a run must write, and why it has no answer.
-use Rattle.std.specs.Prelude.{◌≡◌, ℕ, ◌≤◌, ◌<◌, List, length, Bool, true, Option, Some, None, IfSome, ◌⊎◌}
+use Rattle.std.specs.Prelude.{◌≡◌, ℕ, ◌≤◌, ◌<◌, List, length, Bool, true, Option, Some, None, IfSome}
 use Rattle.std.specs.Io.KnownBytes.{Appends}
 use Rattle.vx_tree.specs.Tree.{Tree, dtype, datum, id_of, is_columnar}
 use Rattle.vx_tree.specs.Cells.{rows, IsClean}
