@@ -1,5 +1,5 @@
 -- The types of trees: there are columns of each.
-use Rattle.std.proofs.Common.{◌≡◌, ap, subst, refl, true}
+use Rattle.std.proofs.Common.{◌≡◌, ◌⊎◌, inl, inr, ℕ, List, [], ◌∷◌, Option, Some, None, ap, subst, refl, true}
 use Rattle.std.proofs.Math.Bool.{not}
 use Rattle.std.specs.Cmp.{first_so}
 use Rattle.vx_value.specs.Types.{DataType, primitive, bool, nullability_of, is_nullable}
@@ -11,8 +11,8 @@ use Rattle.vx_value.specs.declared.dtype.Storage.TheVariants.{Bits, Integers}
 use Rattle.vx_value.proofs.StorageLemmas.{stored_as_bits}
 use Rattle.vx_tree.specs.ColumnTypes.{has_column, is_column_stored}
 use Rattle.vx_tree.specs.Tree as enc
-use Rattle.vx_tree.specs.Tree.{Tree, node, no_slots, absent, slot, dtype}
-use Rattle.vx_tree.specs.Well.{IsWell}
+use Rattle.vx_tree.specs.Tree.{Tree, Data, node, no_slots, absent, slot, dtype}
+use Rattle.vx_tree.specs.Well.{Shape, shape, shapes, IsNode, IsWell}
 
 not_nullable : (n : Nullability) → not (is_nullable n) ≡ true → n ≡ NonNullable
 not_nullable NonNullable h = refl
@@ -33,14 +33,31 @@ stored_as_integers p _ h k = absurd (cc)
 pub column_of_integers : (p : PType) (ty : DataType) → has_column ty ≡ true → storage_of ty ≡ Integers p → ty ≡ primitive p NonNullable
 column_of_integers p ty h e = stored_as_integers p ty e (non_nullable ty h)
 
--- there are columns of the type of every tree: a line for each encoding, of a slice by its child
+-- there are columns of a node's type, or it is that of the one tree in its slots: a line for each encoding
+node_typed : (ty : DataType) (n : ℕ) (d : Data) (ss : List (Option Shape)) → IsNode ty n d ss
+    → (has_column ty ≡ true) ⊎ ((m : ℕ) × (ss ≡ Some (shape ty m) ∷ []))
+node_typed ty n (enc.constant v) ss w = inl w.1
+node_typed ty n (enc.slice a b) ss w = inr (w.0, w.1)
+node_typed ty n (enc.function f) ss w = inl w.3
+node_typed ty n (enc.bool bs) ss w = inl (ap has_column w.0)
+node_typed ty n (enc.primitive p zs) ss w = inl (ap has_column w.0)
+
+-- so there are of the type of every tree
 pub well_typed : (t : Tree) → IsWell t → has_column (dtype t) ≡ true
-well_typed (node ty n (enc.constant v) ss) w = w.0.1
-well_typed (node ty n (enc.slice a b) (slot c ss)) w =
-    let same : dtype c ≡ ty = cc (w.0.1) in
-    subst (λ x. has_column x ≡ true) same (well_typed c w.1.0)
-well_typed (node ty n (enc.slice a b) no_slots) w = absurd (cc (w.0.1))
-well_typed (node ty n (enc.slice a b) (absent ss)) w = absurd (cc (w.0.1))
-well_typed (node ty n (enc.function f) ss) w = w.0.3
-well_typed (node ty n (enc.bool bs) ss) w = ap has_column w.0.0
-well_typed (node ty n (enc.primitive p zs) ss) w = ap has_column w.0.0
+well_typed (node ty n d (slot c ss)) w =
+    elim (node_typed ty n d (shapes (slot c ss)) w.0) [
+      | inl h ↦ h
+      | inr h ↦
+        let same : dtype c ≡ ty = cc (h.1) in
+        subst (λ x. has_column x ≡ true) same (well_typed c w.1.0)
+    ]
+well_typed (node ty n d no_slots) w =
+    elim (node_typed ty n d [] w.0) [
+      | inl h ↦ h
+      | inr h ↦ absurd (cc (h.1))
+    ]
+well_typed (node ty n d (absent ss)) w =
+    elim (node_typed ty n d (shapes (absent ss)) w.0) [
+      | inl h ↦ h
+      | inr h ↦ absurd (cc (h.1))
+    ]
