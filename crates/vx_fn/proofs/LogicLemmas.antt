@@ -1,5 +1,5 @@
 -- Truth values: of which type they are, and the laws of logic.
-use Rattle.std.proofs.Common.{◌≡◌, Bool, true, false, refl, ap}
+use Rattle.std.proofs.Common.{◌≡◌, Bool, true, false, refl, ap, sym, ◌∙◌}
 use Rattle.std.specs.Prelude.{[], ◌∷◌, Option, Some, None}
 use Rattle.vx_value.specs.Types.{DataType, bool}
 use Rattle.vx_value.specs.Nullabilities.{union}
@@ -50,13 +50,6 @@ and_commutes (Some true) (Some true) = refl
 and_commutes (Some false) (Some false) = refl
 and_commutes _ _ = refl
 
-pub or_commutes : (p q : Option Bool) → kleene_or p q ≡ kleene_or q p
-or_commutes None (Some true) = refl
-or_commutes None (Some false) = refl
-or_commutes (Some true) (Some true) = refl
-or_commutes (Some false) (Some false) = refl
-or_commutes _ _ = refl
-
 pub and_by_or : (p q : Option Bool) → not_truth (kleene_and p q) ≡ kleene_or (not_truth p) (not_truth q)
 and_by_or None None = refl
 and_by_or None (Some true) = refl
@@ -64,12 +57,20 @@ and_by_or None (Some false) = refl
 and_by_or (Some true) q = refl
 and_by_or (Some false) q = refl
 
+not_twice : (p : Option Bool) → not_truth (not_truth p) ≡ p
+not_twice None = refl
+not_twice (Some true) = refl
+not_twice (Some false) = refl
+
+-- so `or` is the negation of `and` of the negations
+or_as_and : (p q : Option Bool) → kleene_or p q ≡ not_truth (kleene_and (not_truth p) (not_truth q))
+or_as_and p q = (λ i. kleene_or (sym (not_twice p) i) (sym (not_twice q) i)) ∙ sym (and_by_or (not_truth p) (not_truth q))
+
 pub or_by_and : (p q : Option Bool) → not_truth (kleene_or p q) ≡ kleene_and (not_truth p) (not_truth q)
-or_by_and None None = refl
-or_by_and None (Some true) = refl
-or_by_and None (Some false) = refl
-or_by_and (Some true) q = refl
-or_by_and (Some false) q = refl
+or_by_and p q = ap not_truth (or_as_and p q) ∙ not_twice (kleene_and (not_truth p) (not_truth q))
+
+pub or_commutes : (p q : Option Bool) → kleene_or p q ≡ kleene_or q p
+or_commutes p q = or_as_and p q ∙ ap not_truth (and_commutes (not_truth p) (not_truth q)) ∙ sym (or_as_and q p)
 
 -- a truth value is the truth that it stands for
 pub truth_back : (p : Option Bool) → boolean_in (truth p) ≡ p

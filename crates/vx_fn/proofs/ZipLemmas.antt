@@ -1,10 +1,10 @@
 -- Where `zip` takes its arguments, and what the result's type then is.
-use Rattle.std.proofs.Common.{◌≡◌, Bool, true, false, refl, ap, ◌∙◌, if◌then◌else◌, Some, None}
-use Rattle.std.specs.Prelude.{Option, IsSome}
+use Rattle.std.proofs.Common.{◌≡◌, Bool, true, false, refl, if◌then◌else◌, Some, None}
+use Rattle.std.specs.Prelude.{IsSome}
 use Rattle.vx_value.specs.Types as type
 use Rattle.vx_value.specs.Types.{DataType, nullability_of}
 use Rattle.vx_value.specs.Nullabilities.{with_nullability, union, same_but_nullability}
-use Rattle.vx_fn.specs.Zip.{chosen_type, zip_type}
+use Rattle.vx_fn.specs.Zip.{zip_type}
 
 -- a test whose answer is there was passed
 passed : (b : Bool) (t : DataType) → IsSome (if b then Some t else None) → (b ≡ true) × ((if b then Some t else None) ≡ Some t)

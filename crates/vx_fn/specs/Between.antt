@@ -1,5 +1,5 @@
 -- Whether a value lies between two others.
-use Rattle.std.specs.Prelude.{Bool, ◌&&◌, if◌then◌else◌, Option, Some, None, codes}
+use Rattle.std.specs.Prelude.{Bool, ◌&&◌, if◌then◌else◌, Option, None, codes}
 use Rattle.std.specs.Ordering.{is_lt, is_le}
 use Rattle.std.specs.declared.cmp.Ordering.{Ordering}
 use Rattle.vx_value.specs.Types.{DataType}

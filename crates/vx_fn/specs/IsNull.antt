@@ -1,13 +1,15 @@
 -- Whether a value is null, or isn't.
-use Rattle.std.specs.Prelude.{Bool, Option, Some, codes}
+use Rattle.std.specs.Prelude.{Option, Some, codes}
 use Rattle.std.proofs.Math.Bool.{not}
 use Rattle.vx_value.specs.Types.{DataType, bool}
-use Rattle.vx_value.specs.Values.{Value, boolean}
-use Rattle.vx_value.specs.Cell.{Cell, value}
+use Rattle.vx_value.specs.Values.{boolean}
+use Rattle.vx_value.specs.Cell.{value}
 use Rattle.vx_value.specs.IsOf.{is_null}
 use Rattle.vx_value.specs.declared.dtype.Nullability.TheVariants.{NonNullable}
 use Rattle.vx_value.specs.declared.id.Id.TheVariants as id
 use Rattle.vx_fn.specs.Meanings.{Meaning, taking_one, kept}
+use Rattle.vx_fn.specs.declared.functions.is_null.NullTest.{NullTest}
+use Rattle.vx_fn.specs.declared.functions.is_null.NullTest.TheVariants as test
 
 -- values of every type are tested
 abbrev pub test_type : DataType → Option DataType
@@ -18,3 +20,7 @@ null_test = taking_one kept kept id.IsNull (codes "input") test_type (λ ty v. v
 
 abbrev pub value_test : Meaning
 value_test = taking_one kept kept id.IsNotNull (codes "input") test_type (λ ty v. value (boolean (not (is_null v))))
+
+abbrev pub null_meaning : NullTest → Meaning
+null_meaning test.IsNull = null_test
+null_meaning test.IsNotNull = value_test

@@ -1,5 +1,5 @@
 -- A value where the mask is true, null where it is false.
-use Rattle.std.specs.Prelude.{Bool, true, Option, Some, None, codes}
+use Rattle.std.specs.Prelude.{true, Option, Some, None, codes}
 use Rattle.vx_value.specs.Types.{DataType, bool}
 use Rattle.vx_value.specs.Nullabilities.{with_nullability}
 use Rattle.vx_value.specs.Values.{Value, null, boolean}

@@ -1,5 +1,5 @@
 -- The first value where the mask is true, else the second.
-use Rattle.std.specs.Prelude.{Bool, true, if◌then◌else◌, Option, Some, None, codes}
+use Rattle.std.specs.Prelude.{true, if◌then◌else◌, Option, Some, None, codes}
 use Rattle.vx_value.specs.Types.{DataType, bool, nullability_of}
 use Rattle.vx_value.specs.Nullabilities.{with_nullability, union, same_but_nullability}
 use Rattle.vx_value.specs.Values.{Value, boolean}

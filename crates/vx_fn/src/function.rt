@@ -107,7 +107,7 @@ impl ScalarFnRef {
     pub fn id(&self) -> Id
         ensures { result ≡ function_id self.now }
     {
-        by_function!(self, function => function.id())
+        by_function!(self, function => function.signature()).0
     }
 
     /// Returns the name of the argument at `index`, counted from 0, for example `lhs` or `input`. Returns `None`
@@ -115,15 +115,15 @@ impl ScalarFnRef {
     pub fn child_name(&self, index: usize) -> Option<&'static str>
         ensures { option_map (λ s. s.now) result ≡ slice_get (argument_names self.now) index }
     {
-        by_function!(self, function => function.child_names())
-            .get(index)
-            .copied()
+        let (_, names) = by_function!(self, function => function.signature());
+        names.get(index).copied()
     }
 
     /// Returns the number of arguments that the function takes.
     pub fn arity(&self) -> Arity
         ensures { result ≡ Arity.Exact (arity self.now) }
     {
-        Arity::Exact(by_function!(self, function => function.child_names()).len())
+        let (_, names) = by_function!(self, function => function.signature());
+        Arity::Exact(names.len())
     }
 }

@@ -16,13 +16,10 @@ pub(crate) trait RowFunction {
     // what the function is
     ghost meaning: { Self → Meaning };
 
-    /// Returns the function's id.
-    fn id(&self) -> Id
-        ensures { result ≡ (meaning self.now).id };
-
-    /// Returns the names of the arguments, in order.
-    fn child_names(&self) -> &'static [&'static str]
-        ensures { map (λ s. s.now) result.now ≡ (meaning self.now).names };
+    /// Returns the function's id, and the names of its arguments, in order.
+    fn signature(&self) -> (Id, &'static [&'static str])
+        ensures id { result.0 ≡ (meaning self.now).id }
+        ensures names { map (λ s. s.now) result.1.now ≡ (meaning self.now).names };
 
     /// Returns the type of the result, or `None` if the function doesn't accept the arguments. Fails only if there is no memory
     /// for the type.

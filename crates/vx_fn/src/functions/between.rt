@@ -36,12 +36,8 @@ pub struct BetweenOptions {
 impl RowFunction for BetweenOptions {
     ghost meaning = { between };
 
-    fn id(&self) -> Id {
-        Id::Between
-    }
-
-    fn child_names(&self) -> &'static [&'static str] {
-        &["array", "lower", "upper"]
+    fn signature(&self) -> (Id, &'static [&'static str]) {
+        (Id::Between, &["array", "lower", "upper"])
     }
 
     fn return_dtype(&self, arguments: &[DType]) -> Result<Option<DType>, AllocError> {

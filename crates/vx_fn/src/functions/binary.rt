@@ -23,12 +23,8 @@ use vx_value::{
 impl RowFunction for Operator {
     ghost meaning = { binary };
 
-    fn id(&self) -> Id {
-        Id::Binary
-    }
-
-    fn child_names(&self) -> &'static [&'static str] {
-        &["lhs", "rhs"]
+    fn signature(&self) -> (Id, &'static [&'static str]) {
+        (Id::Binary, &["lhs", "rhs"])
     }
 
     fn return_dtype(&self, arguments: &[DType]) -> Result<Option<DType>, AllocError> {

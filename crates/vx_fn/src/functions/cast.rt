@@ -14,12 +14,8 @@ use vx_value::{DType, Id, Scalar, VortexError, VortexResult, has_cast};
 impl RowFunction for DType {
     ghost meaning = { λ target. conversion (type_of target) };
 
-    fn id(&self) -> Id {
-        Id::Cast
-    }
-
-    fn child_names(&self) -> &'static [&'static str] {
-        &["input"]
+    fn signature(&self) -> (Id, &'static [&'static str]) {
+        (Id::Cast, &["input"])
     }
 
     fn return_dtype(&self, arguments: &[DType]) -> Result<Option<DType>, AllocError> {

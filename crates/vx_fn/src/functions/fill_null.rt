@@ -16,12 +16,8 @@ pub(crate) struct FillNull;
 impl RowFunction for FillNull {
     ghost meaning = { λ _. fill_null };
 
-    fn id(&self) -> Id {
-        Id::FillNull
-    }
-
-    fn child_names(&self) -> &'static [&'static str] {
-        &["input", "fill_value"]
+    fn signature(&self) -> (Id, &'static [&'static str]) {
+        (Id::FillNull, &["input", "fill_value"])
     }
 
     fn return_dtype(&self, arguments: &[DType]) -> Result<Option<DType>, AllocError> {

@@ -1,54 +1,28 @@
 //! Whether a value is null, or isn't.
 
+ghost use Rattle.vx_fn.specs.IsNull.{null_meaning};
+
 use crate::row_function::RowFunction;
 use std::alloc::AllocError;
 use vx_value::{DType, Id, Nullability, Scalar, VortexResult};
 
-/// Whether the argument `input` is null. (own)
-pub(crate) struct IsNull;
-
-/// Whether the argument `input` isn't null. (own)
-pub(crate) struct IsNotNull;
-
-impl RowFunction for IsNull {
-    ghost use Rattle.vx_fn.specs.IsNull.{null_test};
-
-    ghost meaning = { λ _. null_test };
-
-    fn id(&self) -> Id {
-        Id::IsNull
-    }
-
-    fn child_names(&self) -> &'static [&'static str] {
-        &["input"]
-    }
-
-    fn return_dtype(&self, arguments: &[DType]) -> Result<Option<DType>, AllocError> {
-        match arguments {
-            [_] => Ok(Some(DType::Bool(Nullability::NonNullable))),
-            _ => Ok(None),
-        }
-    }
-
-    fn apply(&self, arguments: &[Scalar]) -> VortexResult<Scalar> {
-        match arguments {
-            [input] => Ok(Scalar::bool(input.is_null(), Nullability::NonNullable)),
-            _ => unreachable!(),
-        }
-    }
+/// A test of the argument `input`. (own)
+#[derive(Clone, Copy)]
+pub(crate) enum NullTest {
+    /// Whether it is null.
+    IsNull,
+    /// Whether it isn't null.
+    IsNotNull,
 }
 
-impl RowFunction for IsNotNull {
-    ghost use Rattle.vx_fn.specs.IsNull.{value_test};
+impl RowFunction for NullTest {
+    ghost meaning = { null_meaning };
 
-    ghost meaning = { λ _. value_test };
-
-    fn id(&self) -> Id {
-        Id::IsNotNull
-    }
-
-    fn child_names(&self) -> &'static [&'static str] {
-        &["input"]
+    fn signature(&self) -> (Id, &'static [&'static str]) {
+        match self {
+            NullTest::IsNull => (Id::IsNull, &["input"]),
+            NullTest::IsNotNull => (Id::IsNotNull, &["input"]),
+        }
     }
 
     fn return_dtype(&self, arguments: &[DType]) -> Result<Option<DType>, AllocError> {
@@ -59,9 +33,11 @@ impl RowFunction for IsNotNull {
     }
 
     fn apply(&self, arguments: &[Scalar]) -> VortexResult<Scalar> {
-        match arguments {
-            [input] => Ok(Scalar::bool(!input.is_null(), Nullability::NonNullable)),
+        let passed = match (self, arguments) {
+            (NullTest::IsNull, [input]) => input.is_null(),
+            (NullTest::IsNotNull, [input]) => !input.is_null(),
             _ => unreachable!(),
-        }
+        };
+        Ok(Scalar::bool(passed, Nullability::NonNullable))
     }
 }

@@ -15,12 +15,8 @@ pub(crate) struct Mask;
 impl RowFunction for Mask {
     ghost meaning = { λ _. mask };
 
-    fn id(&self) -> Id {
-        Id::Mask
-    }
-
-    fn child_names(&self) -> &'static [&'static str] {
-        &["input", "mask"]
+    fn signature(&self) -> (Id, &'static [&'static str]) {
+        (Id::Mask, &["input", "mask"])
     }
 
     fn return_dtype(&self, arguments: &[DType]) -> Result<Option<DType>, AllocError> {

@@ -9,7 +9,7 @@ pub(crate) mod mask;
 pub(crate) mod not;
 pub(crate) mod zip;
 
-/// Evaluates one expression over the function that a `ScalarFnRef` names: `by_function!(self, function => function.id())`.
+/// Evaluates one expression over the function that a `ScalarFnRef` names: `by_function!(self, function => function.signature())`.
 macro_rules! by_function {
     ($named:expr, $function:ident => $body:expr) => {
         match $named {
@@ -19,8 +19,8 @@ macro_rules! by_function {
             $crate::function::ScalarFnRef::Mask => { let $function = &$crate::functions::mask::Mask; $body }
             $crate::function::ScalarFnRef::Zip => { let $function = &$crate::functions::zip::Zip; $body }
             $crate::function::ScalarFnRef::FillNull => { let $function = &$crate::functions::fill_null::FillNull; $body }
-            $crate::function::ScalarFnRef::IsNull => { let $function = &$crate::functions::is_null::IsNull; $body }
-            $crate::function::ScalarFnRef::IsNotNull => { let $function = &$crate::functions::is_null::IsNotNull; $body }
+            $crate::function::ScalarFnRef::IsNull => { let $function = &$crate::functions::is_null::NullTest::IsNull; $body }
+            $crate::function::ScalarFnRef::IsNotNull => { let $function = &$crate::functions::is_null::NullTest::IsNotNull; $body }
             $crate::function::ScalarFnRef::Cast($function) => $body,
         }
     };

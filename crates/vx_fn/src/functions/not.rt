@@ -15,12 +15,8 @@ pub(crate) struct Not;
 impl RowFunction for Not {
     ghost meaning = { λ _. negation };
 
-    fn id(&self) -> Id {
-        Id::Not
-    }
-
-    fn child_names(&self) -> &'static [&'static str] {
-        &["input"]
+    fn signature(&self) -> (Id, &'static [&'static str]) {
+        (Id::Not, &["input"])
     }
 
     fn return_dtype(&self, arguments: &[DType]) -> Result<Option<DType>, AllocError> {

@@ -16,12 +16,8 @@ pub(crate) struct Zip;
 impl RowFunction for Zip {
     ghost meaning = { λ _. zip };
 
-    fn id(&self) -> Id {
-        Id::Zip
-    }
-
-    fn child_names(&self) -> &'static [&'static str] {
-        &["if_true", "if_false", "mask"]
+    fn signature(&self) -> (Id, &'static [&'static str]) {
+        (Id::Zip, &["if_true", "if_false", "mask"])
     }
 
     fn return_dtype(&self, arguments: &[DType]) -> Result<Option<DType>, AllocError> {
