@@ -1,9 +1,9 @@
 -- What an operator gives on columns: the type of its result and the value of a row, over booleans and over integers.
-use Rattle.std.proofs.Common.{◌≡◌, Bool, true, false, refl, ap, ◌∙◌, sym, ◌∷◌, [], Some, None, subst}
+use Rattle.std.proofs.Common.{◌≡◌, Bool, true, false, refl, ap, ◌∙◌, ◌∷◌, [], Some, None, subst}
 use Rattle.std.specs.Prelude.{ℤ, Option, IsSome, option_map}
 use Rattle.std.specs.Ordering.{int_cmp}
 use Rattle.vx_value.specs.Types.{DataType, bool, primitive, nullability_of}
-use Rattle.vx_value.specs.Nullabilities.{with_nullability, union, same_but_nullability, same_but_nullability_Decides}
+use Rattle.vx_value.specs.Nullabilities.{with_nullability, union, same_but_nullability_Decides}
 use Rattle.vx_value.specs.Storage.{storage_of}
 use Rattle.vx_value.specs.Values.{boolean, integer}
 use Rattle.vx_value.specs.Cell.{value}

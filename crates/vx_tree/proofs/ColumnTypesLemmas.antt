@@ -1,5 +1,5 @@
 -- The types of trees: there are columns of each.
-use Rattle.std.proofs.Common.{◌≡◌, ◌⊎◌, inl, inr, ℕ, List, [], ◌∷◌, Option, Some, None, ap, subst, refl, true}
+use Rattle.std.proofs.Common.{◌≡◌, ◌⊎◌, inl, inr, ℕ, List, [], ◌∷◌, Option, Some, ap, subst, refl, true}
 use Rattle.std.proofs.Math.Bool.{not}
 use Rattle.std.specs.Cmp.{first_so}
 use Rattle.vx_value.specs.Types.{DataType, primitive, bool, nullability_of, is_nullable}
@@ -48,8 +48,8 @@ well_typed (node ty n d (slot c ss)) w =
     elim (node_typed ty n d (shapes (slot c ss)) w.0) [
       | inl h ↦ h
       | inr h ↦
-        let same : dtype c ≡ ty = cc (h.1) in
-        subst (λ x. has_column x ≡ true) same (well_typed c w.1.0)
+          let same : dtype c ≡ ty = cc (h.1) in
+          subst (λ x. has_column x ≡ true) same (well_typed c w.1.0)
     ]
 well_typed (node ty n d no_slots) w =
     elim (node_typed ty n d [] w.0) [

@@ -75,5 +75,5 @@ function_at-returns-clause-err t c =
     elim c.in-Err-apply_row.ensures.fault [
       | inl memory ↦ inl memory
       | inr fault ↦
-        inr (fault.0, function_faulted c.args.array.now c.args.scalar_fn.now xs c.args.index c.requires.shape c.requires.well ss read c.requires.index fault.1)
+          inr (fault.0, function_faulted c.args.array.now c.args.scalar_fn.now xs c.args.index c.requires.shape c.requires.well ss read c.requires.index fault.1)
     ]
