@@ -80,7 +80,7 @@ type Types = &'static [Type];
 /// A function, the types of its arguments, and the type of its result, or the error if it doesn't accept them.
 type Signature = (Function, Types, VortexResult<Type>);
 
-static TYPES: [Signature; 37] = [
+static TYPES: [Signature; 39] = [
     (ADD, &[I32, I32], Ok(I32)),
     (ADD, &[I32, NULLABLE_I32], Ok(NULLABLE_I32)),
     (MUL, &[NULLABLE_I32, I32], Ok(NULLABLE_I32)),
@@ -118,6 +118,8 @@ static TYPES: [Signature; 37] = [
     (CAST, &[I32], Ok(I32)),
     (CAST, &[I64], Ok(I32)),
     (CAST, &[NULLABLE_I32], Ok(I32)),
+    (Function::Cast(DECIMAL), &[NULLABLE_I32], Ok(DECIMAL)),
+    (Function::Cast(NULLABLE_UTF8), &[BINARY], Ok(NULLABLE_UTF8)),
 ];
 
 /// Types that a function doesn't accept.

@@ -77,6 +77,7 @@ fn decimal(precision: u8, scale: u8, nullability: Nullability) -> VortexResult<D
     Ok(DType::Decimal(DecimalDType::try_new(precision, scale)?, nullability))
 }
 
+/// Returns the type that stands in a table.
 pub(crate) fn dtype(written: Type) -> VortexResult<DType> {
     match written {
         Type::Null => Ok(DType::Null),
@@ -88,7 +89,8 @@ pub(crate) fn dtype(written: Type) -> VortexResult<DType> {
     }
 }
 
-pub(crate) fn scalar_value(alloc: Global, written: Value) -> VortexResult<Option<ScalarValue>> {
+/// Returns the value that stands in a table. `None` is null.
+fn scalar_value(alloc: Global, written: Value) -> VortexResult<Option<ScalarValue>> {
     match written {
         Value::Null => Ok(None),
         Value::Bool(value) => Ok(Some(ScalarValue::Bool(value))),
@@ -100,6 +102,7 @@ pub(crate) fn scalar_value(alloc: Global, written: Value) -> VortexResult<Option
     }
 }
 
+/// Returns the scalar of a type and a value in a table. `InvalidArgument` with `BadValue` if the value isn't of the type.
 pub(crate) fn scalar(alloc: Global, of_type: Type, value: Value) -> VortexResult<Scalar> {
     Scalar::try_new(dtype(of_type)?, scalar_value(alloc, value)?)
 }

@@ -9,8 +9,8 @@ use std::cmp::Ordering;
 use std::hash::{DefaultHasher, Hash, Hasher};
 use vx_value::Nullability::{NonNullable, Nullable};
 use vx_value::{
-    ArgKind, DType, DecimalDType, DecimalType, DecimalValue, Id, Scalar, ScalarKind, VortexError,
-    VortexResult, fits, type_text,
+    ArgKind, ByteBuffer, DType, DecimalDType, DecimalType, DecimalValue, Id, Scalar, ScalarKind,
+    VortexError, VortexResult, fits, type_text,
 };
 
 const MINUS_ONE: Value = Integer(-1);
@@ -374,6 +374,21 @@ fn has_forms(row: &(Type, Type, Type)) -> VortexResult<bool> {
     Ok(forms && joined && nullable.is_nullable() && given.eq_ignore_nullability(&nullable))
 }
 
+/// Checks the ways to make bytes, and to read them.
+fn are_bytes(alloc: Global) -> VortexResult<bool> {
+    let text = ByteBuffer::from_string(alloc, "\u{e9}".to_string(alloc)?)?;
+    let bytes = ByteBuffer::from_vec(alloc, vec![in alloc; 195, 169]?)?;
+    let none = ByteBuffer::empty();
+    Ok(
+        text == bytes
+            && text.len() == 2
+            && text.as_str() == Some("\u{e9}")
+            && none.is_empty()
+            && none == ByteBuffer::copy_from(alloc, b"")?
+            && none.as_slice() == b"".as_slice(),
+    )
+}
+
 /// Checks that the nullable form of a scalar has the same value.
 fn is_made_nullable(alloc: Global) -> VortexResult<bool> {
     let nullable = scalar(alloc, UTF8, Bytes(b"a"))?.into_nullable();
@@ -400,7 +415,7 @@ fn values_of_types(rt: HostRuntime) {
     let alloc = rt.alloc();
     let wrong = VALUES.iter().position(|row| !is_taken(alloc, row));
     assert_eq!(rt; wrong, None);
-    assert!(rt; is_made_nullable(alloc) == Ok(true));
+    assert!(rt; are_bytes(alloc) == Ok(true) && is_made_nullable(alloc) == Ok(true));
     assert!(rt; Scalar::null(DType::Null).is_null());
 }
 
