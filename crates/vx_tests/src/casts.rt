@@ -332,15 +332,15 @@ fn first_wrong(alloc: Global, rows: &[Row]) -> Option<usize> {
 fn casts(rt: HostRuntime) {
     let alloc = rt.alloc();
     let tables = [
-        SAME_TYPES.as_slice(),
-        INTEGERS.as_slice(),
-        TO_DECIMALS.as_slice(),
-        DECIMALS.as_slice(),
-        BYTES.as_slice(),
-        NULLS.as_slice(),
-        NO_ROWS.as_slice(),
+        ("same types", SAME_TYPES.as_slice()),
+        ("integers", INTEGERS.as_slice()),
+        ("to decimals", TO_DECIMALS.as_slice()),
+        ("decimals", DECIMALS.as_slice()),
+        ("bytes", BYTES.as_slice()),
+        ("nulls", NULLS.as_slice()),
+        ("no rows", NO_ROWS.as_slice()),
     ];
-    for rows in tables {
-        assert_eq!(rt; first_wrong(alloc, rows), None);
+    for (name, rows) in tables {
+        assert_eq!(rt; first_wrong(alloc, rows), None, "{name}");
     }
 }

@@ -470,14 +470,14 @@ fn types_of_results(rt: HostRuntime) {
 fn values_of_rows(rt: HostRuntime) {
     let alloc = rt.alloc();
     let tables = [
-        LOGIC.as_slice(),
-        BETWEENS.as_slice(),
-        NUMBERS.as_slice(),
-        ORDERS.as_slice(),
-        STRICT.as_slice(),
-        CHOICES.as_slice(),
+        ("logic", LOGIC.as_slice()),
+        ("betweens", BETWEENS.as_slice()),
+        ("numbers", NUMBERS.as_slice()),
+        ("orders", ORDERS.as_slice()),
+        ("strict", STRICT.as_slice()),
+        ("choices", CHOICES.as_slice()),
     ];
-    for rows in tables {
-        assert_eq!(rt; first_wrong(alloc, rows), None);
+    for (name, rows) in tables {
+        assert_eq!(rt; first_wrong(alloc, rows), None, "{name}");
     }
 }
