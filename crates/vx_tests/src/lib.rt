@@ -10,6 +10,8 @@ mod casts;
 #[cfg(test)]
 mod functions;
 #[cfg(test)]
+mod tables;
+#[cfg(test)]
 mod trees;
 #[cfg(test)]
 mod values;

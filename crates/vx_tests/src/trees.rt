@@ -1,3 +1,4 @@
+use crate::tables::{Type, Value, scalar};
 use std::alloc::Global;
 use std::ops::Range;
 use std::rc::Rc;
@@ -24,11 +25,17 @@ const I8: DType = DType::Primitive(PType::I8, Nullability::NonNullable);
 
 const BOOL: DType = DType::Bool(Nullability::NonNullable);
 
+const UTF8: DType = DType::Utf8(Nullability::NonNullable);
+
 const ADD: ScalarFnRef = ScalarFnRef::Binary(Operator::Add);
 
 const LESS: ScalarFnRef = ScalarFnRef::Binary(Operator::Lt);
 
+const AND: ScalarFnRef = ScalarFnRef::Binary(Operator::And);
+
 const NOT: ScalarFnRef = ScalarFnRef::Not;
+
+const CAST: ScalarFnRef = ScalarFnRef::Cast(DType::Primitive(PType::I64, Nullability::NonNullable));
 
 fn is_refused<T: Drop>(answer: VortexResult<T>, kind: ArgKind) -> bool {
     match answer {
@@ -82,6 +89,7 @@ fn zeros(alloc: Global, dtype: &DType, len: usize) -> VortexResult<ArrayRef> {
             let dtype = DType::Primitive(ptype, Nullability::NonNullable);
             Ok(PrimitiveArray::try_new(alloc, dtype, values)?.into_array())
         }
+        _ => Err(VortexError::InvalidArgument(ArgKind::BadType)),
     }
 }
 
@@ -246,6 +254,28 @@ fn parts_of_a_column_are_refused_in_order(rt: HostRuntime) {
     assert!(rt; column_of_parts(alloc, I32, 2, &[None]).is_ok());
 }
 
+// The result of making a constant from a value in a table.
+fn constant_of(alloc: Global, of_type: Type, value: Value) -> VortexResult<ConstantArray> {
+    ConstantArray::new(alloc, scalar(alloc, of_type, value)?, 1)
+}
+
+#[test]
+fn constants_of_types_without_columns(rt: HostRuntime) {
+    let alloc = rt.alloc();
+    let cases = [
+        (Type::Null, Value::Null),
+        (
+            Type::Decimal(5, 2, Nullability::NonNullable),
+            Value::Decimal(1, 2),
+        ),
+        (Type::Utf8(Nullability::NonNullable), Value::Bytes(b"a")),
+        (Type::Binary(Nullability::NonNullable), Value::Bytes(b"a")),
+    ];
+    for (of_type, value) in cases {
+        assert!(rt; is_refused(constant_of(alloc, of_type, value), ArgKind::BadType));
+    }
+}
+
 #[test]
 fn constants_of_any_length(rt: HostRuntime) -> Result<(), Fail> {
     let alloc = rt.alloc();
@@ -282,6 +312,7 @@ fn canonical_columns(rt: HostRuntime) -> Result<(), Fail> {
     let alloc = rt.alloc();
     assert!(rt; is_empty_column(alloc, &I32) && is_empty_column(alloc, &BOOL));
     assert!(rt; is_refused(Canonical::empty(alloc, &NULLABLE), ArgKind::BadType));
+    assert!(rt; is_refused(Canonical::empty(alloc, &UTF8), ArgKind::BadType));
     let flags = Canonical::Bool(booleans(alloc, 3)?);
     assert!(rt; flags.as_bool().is_some() && flags.as_primitive().is_none());
     assert!(rt; flags.clone()?.into_primitive().is_none());
@@ -354,12 +385,15 @@ fn functions_are_lazy(rt: HostRuntime) {
     assert!(rt; is_lazy_call(call_of(alloc, ADD, &numbers), &ADD, &I32));
     assert!(rt; is_lazy_call(call_of(alloc, LESS, &numbers), &LESS, &BOOL));
     assert!(rt; is_lazy_call(call_of(alloc, NOT, &[(BOOL, 3)]), &NOT, &BOOL));
+    assert!(rt; is_lazy_call(call_of(alloc, AND, &[(BOOL, 3), (BOOL, 3)]), &AND, &BOOL));
 }
 
 #[test]
 fn types_with_columns(rt: HostRuntime) {
     assert!(rt; has_column(&BOOL) && has_column(&U8) && !has_column(&NULLABLE));
-    assert!(rt; is_computed(&ADD) && is_computed(&NOT));
+    assert!(rt; !has_column(&UTF8) && !has_column(&DType::Null));
+    assert!(rt; is_computed(&ADD) && is_computed(&AND) && is_computed(&NOT));
+    assert!(rt; !is_computed(&ScalarFnRef::IsNull) && !is_computed(&CAST));
 }
 
 #[test]
@@ -379,6 +413,9 @@ fn functions_are_refused_in_order(rt: HostRuntime) {
     ];
     for (columns, kind) in cases {
         assert!(rt; is_refused(call_of(alloc, ADD, columns), kind), "{kind:?}");
+    }
+    for function in [ScalarFnRef::IsNull, CAST] {
+        assert!(rt; is_refused(call_of(alloc, function, &[(I32, 3)]), ArgKind::BadType));
     }
 }
 

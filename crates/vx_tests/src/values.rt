@@ -1,44 +1,25 @@
-use std::alloc::AllocError;
+use crate::tables::Value::{Bytes, Decimal, Integer};
+use crate::tables::{
+    BINARY, BOOL, DECIMAL, FALSE, I8, I16, I32, I64, NULL, NULLABLE_BINARY, NULLABLE_BOOL,
+    NULLABLE_DECIMAL, NULLABLE_I32, NULLABLE_UTF8, TRUE, Type, U8, U16, U32, U64, UTF8, Value,
+    dtype, scalar,
+};
+use std::alloc::{AllocError, Global};
 use std::cmp::Ordering;
 use std::hash::{DefaultHasher, Hash, Hasher};
+use vx_value::Nullability::{NonNullable, Nullable};
 use vx_value::{
-    ArgKind, DType, DecimalDType, DecimalType, Id, Nullability, PType, Scalar, ScalarKind,
-    ScalarValue, VortexError, VortexResult, fits, type_text,
+    ArgKind, ByteBuffer, DType, DecimalDType, DecimalType, DecimalValue, Id, Scalar, ScalarKind,
+    VortexError, VortexResult, fits, type_text,
 };
 
-const BOOL: DType = DType::Bool(Nullability::NonNullable);
+const MINUS_ONE: Value = Integer(-1);
 
-const U8: DType = DType::Primitive(PType::U8, Nullability::NonNullable);
+const ZERO: Value = Integer(0);
 
-const U16: DType = DType::Primitive(PType::U16, Nullability::NonNullable);
+const ONE: Value = Integer(1);
 
-const U32: DType = DType::Primitive(PType::U32, Nullability::NonNullable);
-
-const U64: DType = DType::Primitive(PType::U64, Nullability::NonNullable);
-
-const I8: DType = DType::Primitive(PType::I8, Nullability::NonNullable);
-
-const I16: DType = DType::Primitive(PType::I16, Nullability::NonNullable);
-
-const I32: DType = DType::Primitive(PType::I32, Nullability::NonNullable);
-
-const I64: DType = DType::Primitive(PType::I64, Nullability::NonNullable);
-
-const NULLABLE_BOOL: DType = DType::Bool(Nullability::Nullable);
-
-const NULLABLE_I32: DType = DType::Primitive(PType::I32, Nullability::Nullable);
-
-const FALSE: Option<ScalarValue> = Some(ScalarValue::Bool(false));
-
-const TRUE: Option<ScalarValue> = Some(ScalarValue::Bool(true));
-
-const MINUS_ONE: Option<ScalarValue> = Some(ScalarValue::Integer(-1));
-
-const ZERO: Option<ScalarValue> = Some(ScalarValue::Integer(0));
-
-const ONE: Option<ScalarValue> = Some(ScalarValue::Integer(1));
-
-const TYPE_TEXTS: [(DType, &str); 11] = [
+static TYPE_TEXTS: [(Type, &str); 17] = [
     (BOOL, "bool"),
     (NULLABLE_BOOL, "bool?"),
     (NULLABLE_I32, "i32?"),
@@ -50,48 +31,84 @@ const TYPE_TEXTS: [(DType, &str); 11] = [
     (I16, "i16"),
     (I32, "i32"),
     (I64, "i64"),
+    (Type::Null, "null"),
+    (Type::Decimal(38, 0, NonNullable), "decimal(38,0)"),
+    (NULLABLE_DECIMAL, "decimal(5,2)?"),
+    (UTF8, "utf8"),
+    (NULLABLE_UTF8, "utf8?"),
+    (NULLABLE_BINARY, "binary?"),
 ];
 
+const WHOLE: Type = Type::Decimal(38, 0, NonNullable);
+
+/// The number of 38 nines.
+const NINES: i128 = 99999999999999999999999999999999999999;
+
 /// A type, a value, and whether the value is of the type.
-const VALUES: [(DType, Option<ScalarValue>, bool); 38] = [
-    (U8, Some(ScalarValue::Integer(-1)), false),
-    (U8, Some(ScalarValue::Integer(0)), true),
-    (U8, Some(ScalarValue::Integer(255)), true),
-    (U8, Some(ScalarValue::Integer(256)), false),
-    (U16, Some(ScalarValue::Integer(-1)), false),
-    (U16, Some(ScalarValue::Integer(0)), true),
-    (U16, Some(ScalarValue::Integer(65535)), true),
-    (U16, Some(ScalarValue::Integer(65536)), false),
-    (U32, Some(ScalarValue::Integer(-1)), false),
-    (U32, Some(ScalarValue::Integer(0)), true),
-    (U32, Some(ScalarValue::Integer(4294967295)), true),
-    (U32, Some(ScalarValue::Integer(4294967296)), false),
-    (U64, Some(ScalarValue::Integer(-1)), false),
-    (U64, Some(ScalarValue::Integer(0)), true),
-    (U64, Some(ScalarValue::Integer(18446744073709551615)), true),
-    (U64, Some(ScalarValue::Integer(18446744073709551616)), false),
-    (I8, Some(ScalarValue::Integer(-129)), false),
-    (I8, Some(ScalarValue::Integer(-128)), true),
-    (I8, Some(ScalarValue::Integer(127)), true),
-    (I8, Some(ScalarValue::Integer(128)), false),
-    (I16, Some(ScalarValue::Integer(-32769)), false),
-    (I16, Some(ScalarValue::Integer(-32768)), true),
-    (I16, Some(ScalarValue::Integer(32767)), true),
-    (I16, Some(ScalarValue::Integer(32768)), false),
-    (I32, Some(ScalarValue::Integer(-2147483649)), false),
-    (I32, Some(ScalarValue::Integer(-2147483648)), true),
-    (I32, Some(ScalarValue::Integer(2147483647)), true),
-    (I32, Some(ScalarValue::Integer(2147483648)), false),
-    (I64, Some(ScalarValue::Integer(-9223372036854775809)), false),
-    (I64, Some(ScalarValue::Integer(-9223372036854775808)), true),
-    (I64, Some(ScalarValue::Integer(9223372036854775807)), true),
-    (I64, Some(ScalarValue::Integer(9223372036854775808)), false),
+static VALUES: [(Type, Value, bool); 63] = [
+    (U8, Integer(-1), false),
+    (U8, Integer(0), true),
+    (U8, Integer(255), true),
+    (U8, Integer(256), false),
+    (U16, Integer(-1), false),
+    (U16, Integer(0), true),
+    (U16, Integer(65535), true),
+    (U16, Integer(65536), false),
+    (U32, Integer(-1), false),
+    (U32, Integer(0), true),
+    (U32, Integer(4294967295), true),
+    (U32, Integer(4294967296), false),
+    (U64, Integer(-1), false),
+    (U64, Integer(0), true),
+    (U64, Integer(18446744073709551615), true),
+    (U64, Integer(18446744073709551616), false),
+    (I8, Integer(-129), false),
+    (I8, Integer(-128), true),
+    (I8, Integer(127), true),
+    (I8, Integer(128), false),
+    (I16, Integer(-32769), false),
+    (I16, Integer(-32768), true),
+    (I16, Integer(32767), true),
+    (I16, Integer(32768), false),
+    (I32, Integer(-2147483649), false),
+    (I32, Integer(-2147483648), true),
+    (I32, Integer(2147483647), true),
+    (I32, Integer(2147483648), false),
+    (I64, Integer(-9223372036854775809), false),
+    (I64, Integer(-9223372036854775808), true),
+    (I64, Integer(9223372036854775807), true),
+    (I64, Integer(9223372036854775808), false),
     (NULLABLE_BOOL, TRUE, true),
-    (NULLABLE_BOOL, None, true),
-    (BOOL, None, false),
+    (NULLABLE_BOOL, NULL, true),
+    (BOOL, NULL, false),
     (BOOL, ONE, false),
-    (I32, None, false),
+    (I32, NULL, false),
     (I32, TRUE, false),
+    (DECIMAL, Decimal(99999, 2), true),
+    (DECIMAL, Decimal(100000, 2), false),
+    (DECIMAL, Decimal(-99999, 2), true),
+    (DECIMAL, Decimal(-100000, 2), false),
+    (DECIMAL, Decimal(1, 1), false),
+    (DECIMAL, ONE, false),
+    (DECIMAL, NULL, false),
+    (NULLABLE_DECIMAL, NULL, true),
+    (WHOLE, Decimal(NINES, 0), true),
+    (WHOLE, Decimal(NINES + 1, 0), false),
+    (WHOLE, Decimal(-NINES, 0), true),
+    (WHOLE, Decimal(-NINES - 1, 0), false),
+    (UTF8, Bytes(b""), true),
+    (UTF8, Bytes(b"\xc3\xa9"), true),
+    (UTF8, Bytes(b"\xc3"), false),
+    (UTF8, Bytes(b"\xff"), false),
+    (UTF8, NULL, false),
+    (UTF8, ONE, false),
+    (NULLABLE_UTF8, NULL, true),
+    (BINARY, Bytes(b"\xff"), true),
+    (BINARY, TRUE, false),
+    (NULLABLE_BINARY, NULL, true),
+    (Type::Null, NULL, true),
+    (Type::Null, FALSE, false),
+    (Type::Null, Bytes(b""), false),
 ];
 
 const LESS: Option<Ordering> = Some(Ordering::Less);
@@ -100,28 +117,63 @@ const EQUAL: Option<Ordering> = Some(Ordering::Equal);
 
 const GREATER: Option<Ordering> = Some(Ordering::Greater);
 
+/// A type, and its nullable and its non-nullable form.
+static FORMS: [(Type, Type, Type); 6] = [
+    (BOOL, NULLABLE_BOOL, BOOL),
+    (NULLABLE_I32, NULLABLE_I32, I32),
+    (DECIMAL, NULLABLE_DECIMAL, DECIMAL),
+    (NULLABLE_DECIMAL, NULLABLE_DECIMAL, DECIMAL),
+    (UTF8, NULLABLE_UTF8, UTF8),
+    (NULLABLE_BINARY, NULLABLE_BINARY, BINARY),
+];
+
+/// A type, the zero of the type, and its default.
+static DEFAULTS: [(Type, Value, Value); 11] = [
+    (BOOL, FALSE, FALSE),
+    (NULLABLE_BOOL, FALSE, NULL),
+    (I32, ZERO, ZERO),
+    (NULLABLE_I32, ZERO, NULL),
+    (DECIMAL, Decimal(0, 2), Decimal(0, 2)),
+    (NULLABLE_DECIMAL, Decimal(0, 2), NULL),
+    (UTF8, Bytes(b""), Bytes(b"")),
+    (NULLABLE_UTF8, Bytes(b""), NULL),
+    (BINARY, Bytes(b""), Bytes(b"")),
+    (NULLABLE_BINARY, Bytes(b""), NULL),
+    (Type::Null, NULL, NULL),
+];
+
 /// Two scalars, by type and value, and how they compare.
-const ORDERS: [(
-    DType,
-    Option<ScalarValue>,
-    DType,
-    Option<ScalarValue>,
-    Option<Ordering>,
-); 10] = [
-    (NULLABLE_I32, None, NULLABLE_I32, ZERO, LESS),
-    (NULLABLE_I32, None, NULLABLE_I32, ONE, LESS),
+type Order = (Type, Value, Type, Value, Option<Ordering>);
+
+static ORDERS: [Order; 24] = [
+    (NULLABLE_I32, NULL, NULLABLE_I32, ZERO, LESS),
+    (NULLABLE_I32, NULL, NULLABLE_I32, ONE, LESS),
     (NULLABLE_I32, ZERO, NULLABLE_I32, ONE, LESS),
     (NULLABLE_I32, ONE, NULLABLE_I32, MINUS_ONE, GREATER),
     (NULLABLE_I32, ONE, NULLABLE_I32, ONE, EQUAL),
-    (NULLABLE_I32, None, NULLABLE_I32, None, EQUAL),
+    (NULLABLE_I32, NULL, NULLABLE_I32, NULL, EQUAL),
     (BOOL, FALSE, BOOL, TRUE, LESS),
     (U8, ONE, I8, ONE, None),
     (I32, ONE, NULLABLE_I32, ONE, None),
-    (NULLABLE_BOOL, None, NULLABLE_I32, None, None),
+    (NULLABLE_BOOL, NULL, NULLABLE_I32, NULL, None),
+    (DECIMAL, Decimal(-1, 2), DECIMAL, Decimal(1, 2), LESS),
+    (DECIMAL, Decimal(10, 2), DECIMAL, Decimal(9, 2), GREATER),
+    (DECIMAL, Decimal(10, 2), DECIMAL, Decimal(10, 2), EQUAL),
+    (DECIMAL, Decimal(0, 2), WHOLE, Decimal(0, 0), None),
+    (NULLABLE_UTF8, NULL, NULLABLE_UTF8, Bytes(b""), LESS),
+    (UTF8, Bytes(b""), UTF8, Bytes(b"a"), LESS),
+    (UTF8, Bytes(b"a"), UTF8, Bytes(b"ab"), LESS),
+    (UTF8, Bytes(b"b"), UTF8, Bytes(b"ab"), GREATER),
+    (UTF8, Bytes(b"ab"), UTF8, Bytes(b"ab"), EQUAL),
+    (UTF8, Bytes(b"a"), BINARY, Bytes(b"a"), None),
+    (BINARY, Bytes(b"\x00"), BINARY, Bytes(b"\x00\x00"), LESS),
+    (BINARY, Bytes(b"\x01"), BINARY, Bytes(b"\x00\x00"), GREATER),
+    (BINARY, Bytes(b"\xff"), BINARY, Bytes(b"\xff"), EQUAL),
+    (Type::Null, NULL, Type::Null, NULL, EQUAL),
 ];
 
 /// A precision, a scale, and the narrowest integers that hold the decimals, or `None` if there is no such type.
-const DECIMALS: [(u8, u8, Option<DecimalType>); 13] = [
+static DECIMALS: [(u8, u8, Option<DecimalType>); 13] = [
     (1, 0, Some(DecimalType::I8)),
     (2, 2, Some(DecimalType::I8)),
     (3, 0, Some(DecimalType::I16)),
@@ -137,7 +189,7 @@ const DECIMALS: [(u8, u8, Option<DecimalType>); 13] = [
     (2, 3, None),
 ];
 
-const ERROR_TEXTS: [(VortexError, &str); 16] = [
+static ERROR_TEXTS: [(VortexError, &str); 16] = [
     (VortexError::OutOfMemory, "out of memory"),
     (
         VortexError::IterationLimit { limit: 4 },
@@ -187,11 +239,18 @@ const ERROR_TEXTS: [(VortexError, &str); 16] = [
     (VortexError::InvalidArgument(ArgKind::BadValue), "bad value"),
 ];
 
-const IDS: [(&str, Option<Id>); 10] = [
+static IDS: [(&str, Option<Id>); 17] = [
     ("vortex.constant", Some(Id::Constant)),
     ("vortex.slice", Some(Id::Slice)),
     ("vortex.binary", Some(Id::Binary)),
+    ("vortex.between", Some(Id::Between)),
     ("vortex.not", Some(Id::Not)),
+    ("vortex.mask", Some(Id::Mask)),
+    ("vortex.zip", Some(Id::Zip)),
+    ("vortex.fill_null", Some(Id::FillNull)),
+    ("vortex.is_null", Some(Id::IsNull)),
+    ("vortex.is_not_null", Some(Id::IsNotNull)),
+    ("vortex.cast", Some(Id::Cast)),
     ("vortex.bool", Some(Id::Bool)),
     ("vortex.primitive", Some(Id::Primitive)),
     ("", None),
@@ -200,6 +259,10 @@ const IDS: [(&str, Option<Id>); 10] = [
     ("Vortex.bool", None),
 ];
 
+fn has_text(alloc: Global, row: &(Type, &str)) -> VortexResult<bool> {
+    Ok(type_text(alloc, &dtype(row.0)?)?.as_str() == row.1)
+}
+
 fn is_text(written: Result<String, AllocError>, text: &str) -> bool {
     match written {
         Ok(written) => written.as_str() == text,
@@ -207,26 +270,60 @@ fn is_text(written: Result<String, AllocError>, text: &str) -> bool {
     }
 }
 
-fn scalar(dtype: &DType, value: Option<ScalarValue>) -> VortexResult<Scalar> {
-    Ok(Scalar::try_new(dtype.clone()?, value)?.clone()?)
+/// Checks that a scalar has the value, and no other of the kinds.
+fn has_value(scalar: &Scalar, value: Value) -> bool {
+    match value {
+        Value::Null => scalar.is_null() && scalar.value() == None,
+        Value::Bool(boolean) => scalar.as_bool() == Some(boolean),
+        Integer(number) => scalar.as_integer() == Some(number),
+        Decimal(unscaled, scale) => {
+            scalar.as_decimal() == Some(DecimalValue { unscaled, scale })
+        }
+        Bytes(bytes) => scalar.as_bytes() == Some(bytes),
+    }
+}
+
+fn is_no_value(scalar: &Scalar) -> bool {
+    scalar.as_bool().is_none()
+        && scalar.as_integer().is_none()
+        && scalar.as_decimal().is_none()
+        && scalar.as_bytes().is_none()
+        && scalar.as_utf8().is_none()
 }
 
 /// Checks that a scalar made of the parts that `kind` gives is the same.
 fn is_of_its_kind(scalar: &Scalar) -> bool {
     match scalar.kind() {
-        ScalarKind::Null(dtype) => dtype == scalar.dtype() && scalar.is_null(),
+        ScalarKind::Null(dtype) => dtype == scalar.dtype() && is_no_value(scalar),
         ScalarKind::Bool(value, dtype) => *scalar == Scalar::bool(value, dtype.nullability()),
         ScalarKind::Integer(value, ptype, dtype) => {
             *scalar == Scalar::primitive(value, ptype, dtype.nullability())
         }
+        ScalarKind::Decimal(value, dtype) => {
+            dtype == scalar.dtype() && scalar.as_decimal() == Some(value)
+        }
+        ScalarKind::Utf8(bytes, dtype) => {
+            dtype == scalar.dtype() && scalar.as_utf8() == bytes.as_str()
+        }
+        ScalarKind::Binary(bytes, dtype) => {
+            dtype == scalar.dtype()
+                && scalar.as_utf8() == None
+                && scalar.as_bytes() == Some(bytes.as_slice())
+        }
     }
 }
 
-fn is_taken(row: &(DType, Option<ScalarValue>, bool)) -> bool {
-    match scalar(&row.0, row.1) {
-        Ok(scalar) => row.2 && scalar.value() == row.1 && is_of_its_kind(&scalar),
+fn is_taken(alloc: Global, row: &(Type, Value, bool)) -> bool {
+    match scalar(alloc, row.0, row.1) {
+        Ok(scalar) => row.2 && has_value(&scalar, row.1) && is_of_its_kind(&scalar),
         Err(e) => !row.2 && e == VortexError::InvalidArgument(ArgKind::BadValue),
     }
+}
+
+fn has_defaults(row: &(Type, Value, Value)) -> VortexResult<bool> {
+    let zero = Scalar::zero_value(dtype(row.0)?);
+    let default = Scalar::default_value(dtype(row.0)?);
+    Ok(has_value(&zero, row.1) && has_value(&default, row.2))
 }
 
 fn hash_of(scalar: &Scalar) -> u64 {
@@ -243,19 +340,10 @@ fn is_ordered(left: &Scalar, right: &Scalar, order: Option<Ordering>) -> bool {
         && (hash_of(left) == hash_of(right)) == equal
 }
 
-fn has_order(
-    row: &(
-        DType,
-        Option<ScalarValue>,
-        DType,
-        Option<ScalarValue>,
-        Option<Ordering>,
-    ),
-) -> bool {
-    match (scalar(&row.0, row.1), scalar(&row.2, row.3)) {
-        (Ok(left), Ok(right)) => is_ordered(&left, &right, row.4),
-        _ => false,
-    }
+fn has_order(alloc: Global, row: &Order) -> VortexResult<bool> {
+    let left = scalar(alloc, row.0, row.1)?;
+    let right = scalar(alloc, row.2, row.3)?;
+    Ok(is_ordered(&left, &right, row.4))
 }
 
 fn is_decimal(row: &(u8, u8, Option<DecimalType>)) -> bool {
@@ -276,12 +364,43 @@ fn is_id(text: &str, id: Option<Id>) -> bool {
         }
 }
 
+/// Checks the type's nullable and its non-nullable form, and that they are the same type apart from that.
+fn has_forms(row: &(Type, Type, Type)) -> VortexResult<bool> {
+    let given = dtype(row.0)?;
+    let nullable = given.as_nullable()?;
+    let forms = nullable == dtype(row.1)? && given.as_nonnullable()? == dtype(row.2)?;
+    let joined = given.union_nullability(Nullable)? == nullable
+        && given.union_nullability(NonNullable)? == given;
+    Ok(forms && joined && nullable.is_nullable() && given.eq_ignore_nullability(&nullable))
+}
+
+/// Checks the ways to make bytes, and to read them.
+fn are_bytes(alloc: Global) -> VortexResult<bool> {
+    let text = ByteBuffer::from_string(alloc, "\u{e9}".to_string(alloc)?)?;
+    let bytes = ByteBuffer::from_vec(alloc, vec![in alloc; 195, 169]?)?;
+    let none = ByteBuffer::empty();
+    Ok(
+        text == bytes
+            && text.len() == 2
+            && text.as_str() == Some("\u{e9}")
+            && none.is_empty()
+            && none == ByteBuffer::copy_from(alloc, b"")?
+            && none.as_slice() == b"".as_slice(),
+    )
+}
+
+/// Checks that the nullable form of a scalar has the same value.
+fn is_made_nullable(alloc: Global) -> VortexResult<bool> {
+    let nullable = scalar(alloc, UTF8, Bytes(b"a"))?.into_nullable();
+    Ok(nullable == scalar(alloc, NULLABLE_UTF8, Bytes(b"a"))?)
+}
+
 #[test]
 fn type_texts(rt: HostRuntime) {
     for row in &TYPE_TEXTS {
-        assert!(rt; is_text(type_text(rt.alloc(), &row.0), row.1), "{}", row.1);
+        assert!(rt; has_text(rt.alloc(), row) == Ok(true), "{}", row.1);
     }
-    assert!(rt; NULLABLE_BOOL.is_nullable() && fits(&BOOL, usize::MAX));
+    assert!(rt; fits(&DType::Null, usize::MAX));
 }
 
 #[test]
@@ -293,25 +412,30 @@ fn error_texts(rt: HostRuntime) {
 
 #[test]
 fn values_of_types(rt: HostRuntime) {
-    for row in &VALUES {
-        assert!(rt; is_taken(row));
-    }
+    let alloc = rt.alloc();
+    let wrong = VALUES.iter().position(|row| !is_taken(alloc, row));
+    assert_eq!(rt; wrong, None);
+    assert!(rt; are_bytes(alloc) == Ok(true) && is_made_nullable(alloc) == Ok(true));
+    assert!(rt; Scalar::null(DType::Null).is_null());
 }
 
 #[test]
-fn defaults_of_types(rt: HostRuntime) {
-    assert!(rt; Scalar::default_value(BOOL).as_bool() == Some(false));
-    assert!(rt; Scalar::default_value(I32).as_integer() == Some(0));
-    assert!(rt; Scalar::default_value(NULLABLE_I32).is_null());
-    assert!(rt; Scalar::zero_value(NULLABLE_BOOL).as_bool() == Some(false));
-    assert!(rt; Scalar::null(NULLABLE_I32).value() == None);
+fn defaults_and_nullabilities(rt: HostRuntime) {
+    let wrong = DEFAULTS
+        .iter()
+        .position(|row| has_defaults(row) != Ok(true));
+    assert_eq!(rt; wrong, None);
+    let wrong = FORMS.iter().position(|row| has_forms(row) != Ok(true));
+    assert_eq!(rt; wrong, None);
 }
 
 #[test]
 fn scalars_in_order(rt: HostRuntime) {
-    for row in &ORDERS {
-        assert!(rt; has_order(row));
-    }
+    let alloc = rt.alloc();
+    let wrong = ORDERS
+        .iter()
+        .position(|row| has_order(alloc, row) != Ok(true));
+    assert_eq!(rt; wrong, None);
 }
 
 #[test]
@@ -319,16 +443,6 @@ fn decimals(rt: HostRuntime) {
     for row in &DECIMALS {
         assert!(rt; is_decimal(row));
     }
-}
-
-#[test]
-fn nullabilities(rt: HostRuntime) {
-    assert!(rt; I32.as_nullable() == Ok(NULLABLE_I32) && NULLABLE_I32.as_nonnullable() == Ok(I32));
-    assert!(rt; BOOL.union_nullability(Nullability::NonNullable) == Ok(BOOL));
-    assert!(rt; BOOL.union_nullability(Nullability::Nullable) == Ok(NULLABLE_BOOL));
-    assert!(rt; NULLABLE_BOOL.union_nullability(Nullability::NonNullable) == Ok(NULLABLE_BOOL));
-    assert!(rt; I32.eq_ignore_nullability(&NULLABLE_I32) && !I32.eq_ignore_nullability(&U8));
-    assert!(rt; *Scalar::default_value(I32).into_nullable().dtype() == NULLABLE_I32);
 }
 
 #[test]
