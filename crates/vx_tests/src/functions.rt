@@ -10,7 +10,7 @@ use crate::tables::{
 use std::alloc::Global;
 use vx_fn::StrictComparison::{NonStrict, Strict};
 use vx_fn::{Arity, BetweenOptions, Operator, ScalarFnRef, StrictComparison, apply_row};
-use vx_value::Nullability::{NonNullable, Nullable};
+use vx_value::Nullability::NonNullable;
 use vx_value::{DType, Id, Scalar, VortexResult};
 
 /// A function, as it stands in a table.

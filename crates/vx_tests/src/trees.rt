@@ -12,7 +12,7 @@ use vx_tree::{
     SliceArray, SliceData, has_column, is_computed, slice_canonical,
 };
 use vx_value::{
-    ArgKind, DType, Id, Nullability, PType, Scalar, ScalarValue, Storage, VortexError, VortexResult,
+    ArgKind, DType, Id, Nullability, PType, Scalar, Storage, VortexError, VortexResult,
 };
 
 const I32: DType = DType::Primitive(PType::I32, Nullability::NonNullable);
