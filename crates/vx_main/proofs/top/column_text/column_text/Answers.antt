@@ -12,8 +12,8 @@ loop-index-preserved c =
     shows_more _ _ (rows c.args.array.now) c.loop-index.index c.in_ok-row_of.field-0.value
     (string_bytes c.loop-index.text) _ c.loop-index.invariant c.in_ok-row_of.ensures.ok
     (c.in_ok-push_str.ensures.bytes ∙ ap (λ l. l ++ 10 ∷ [])
-        (c.in_ok-push_row.ensures
-        ∙ ap (λ ty. string_bytes c.loop-index.text ++ row_text ty c.in_ok-row_of.field-0.value) c.in_ok-row_of.ensures.typed))
+    (c.in_ok-push_row.ensures
+    ∙ ap (λ ty. string_bytes c.loop-index.text ++ row_text ty c.in_ok-row_of.field-0.value) c.in_ok-row_of.ensures.typed))
 
 pub returns-clause-ok : goal.returns-clause-ok
 returns-clause-ok c =
