@@ -1,17 +1,17 @@
 //! The text of a row.
 
-ghost use Rattle.std.specs.Prelude.{◌≡◌, ◌++◌, OnOk, IfOk, string_bytes};
+ghost use Rattle.std.specs.Prelude.{◌≡◌, ◌++◌, OnOk, IfOk, true, string_bytes};
 ghost use Rattle.std.specs.Fmt.{signed_decimal};
 ghost use Rattle.hex.specs.Hex.{encode_lower};
 ghost use Rattle.serde_json.specs.Data.{string};
 ghost use Rattle.serde_json.specs.Written.{compact_text};
-ghost use Rattle.vx_value.specs.Values as value;
-ghost use Rattle.vx_json.specs.RowText.{bytes_text, in_quotes, row_text};
+ghost use Rattle.std.specs.Str.{is_utf8};
+ghost use Rattle.vx_json.specs.RowText.{in_quotes, row_text};
 
 use itoa::Buffer;
 use serde_json::Value;
 use std::alloc::{AllocError, Global};
-use vx_value::{Scalar, ScalarValue, VortexResult};
+use vx_value::{DType, Scalar, ScalarValue, VortexResult};
 
 /// Appends the text of a row: `null`, `true`, `false`, an integer in decimal, or a string. The string of a decimal is its unscaled
 /// integer, as `"4200"` for 42.00; that of a binary value has two lower-case hexadecimal digits for each byte. If memory runs out,
@@ -25,11 +25,14 @@ pub fn push_row(text: &mut String, scalar: &Scalar) -> Result<(), AllocError>
         Some(ScalarValue::Bool(false)) => text.push_str("false"),
         Some(ScalarValue::Integer(number)) => text.push_str(Buffer::new().format(*number)),
         Some(ScalarValue::Decimal(decimal)) => push_decimal(text, decimal.unscaled),
-        Some(ScalarValue::Bytes(bytes)) => push_bytes(text, scalar, bytes.as_slice()),
+        Some(ScalarValue::Bytes(bytes)) => match scalar.dtype() {
+            DType::Utf8(_) => push_utf8(text, bytes.as_slice()),
+            _ => push_hex(text, bytes.as_slice()),
+        },
     }
 }
 
-// These two aren't inlined: the rows of booleans and integers then take fewer instructions.
+// These three aren't inlined and don't see the scalar: the rows of booleans and integers then take fewer instructions.
 
 /// Appends `unscaled` in decimal, between quotation marks.
 #[inline(never)]
@@ -37,18 +40,6 @@ fn push_decimal(text: &mut String, unscaled: i128) -> Result<(), AllocError>
     ensures { OnOk result (string_bytes text.new ≡ string_bytes text.old ++ in_quotes (signed_decimal unscaled)) }
 {
     push_quoted(text, Buffer::new().format(unscaled))
-}
-
-/// Appends `bytes`, the value of `scalar`: as a JSON string if its type is `Utf8`, else in hexadecimal.
-#[inline(never)]
-fn push_bytes(text: &mut String, scalar: &Scalar, bytes: &[u8]) -> Result<(), AllocError>
-    requires { scalar.now.value ≡ value.bytes bytes.now }
-    ensures { OnOk result (string_bytes text.new ≡ string_bytes text.old ++ bytes_text scalar.now.of_type bytes.now) }
-{
-    match scalar.as_utf8() {
-        Some(utf8) => push_utf8(text, utf8),
-        None => push_hex(text, bytes),
-    }
 }
 
 /// Appends `inner` between quotation marks.
@@ -60,16 +51,23 @@ fn push_quoted(text: &mut String, inner: &str) -> Result<(), AllocError>
     text.push_str("\"")
 }
 
-/// Appends `utf8` as a JSON string.
-fn push_utf8(text: &mut String, utf8: &str) -> Result<(), AllocError>
-    ensures { OnOk result (string_bytes text.new ≡ string_bytes text.old ++ compact_text (string utf8.now)) }
+/// Appends `bytes`, which must be UTF-8, as a JSON string.
+#[inline(never)]
+#[tactic(auto, using(vx_value::proofs::BytesLemmas::is_no_text))]
+fn push_utf8(text: &mut String, bytes: &[u8]) -> Result<(), AllocError>
+    requires { is_utf8 bytes.now ≡ true }
+    ensures { OnOk result (string_bytes text.new ≡ string_bytes text.old ++ compact_text (string bytes.now)) }
 {
+    let Ok(utf8) = str::from_utf8(bytes) else {
+        unreachable!();
+    };
     let alloc = *text.allocator();
     let value = Value::String(String::from_str(alloc, utf8)?);
     text.push_str(value.to_string(alloc)?.as_str())
 }
 
 /// Appends two hexadecimal digits for each of `bytes`, between quotation marks.
+#[inline(never)]
 fn push_hex(text: &mut String, bytes: &[u8]) -> Result<(), AllocError>
     ensures { OnOk result (string_bytes text.new ≡ string_bytes text.old ++ in_quotes (encode_lower bytes.now)) }
 {
