@@ -1,6 +1,6 @@
 -- The types of operators' results.
-use Rattle.std.proofs.Common.{◌≡◌, Bool, true, false, if◌then◌else◌, refl, ap, sym, ◌∙◌, subst}
-use Rattle.std.specs.Prelude.{[], ◌∷◌, ℤ, Option, Some, None, IsSome, option_map}
+use Rattle.std.proofs.Common.{◌≡◌, Bool, true, false, if◌then◌else◌, refl, ap, sym, ◌∙◌}
+use Rattle.std.specs.Prelude.{[], ◌∷◌, ℤ, Option, Some, None, option_map}
 use Rattle.vx_value.specs.Types as type
 use Rattle.vx_value.specs.Types.{DataType, nullability_of, is_nullable}
 use Rattle.vx_value.specs.Nullabilities.{with_nullability, union, same_but_nullability}
@@ -11,15 +11,11 @@ use Rattle.vx_value.specs.Cell.{Cell}
 use Rattle.vx_value.specs.Casts.{sized}
 use Rattle.vx_value.specs.IsOf.{is_of}
 use Rattle.vx_value.specs.Parts.{boolean_in}
-use Rattle.vx_value.specs.Storage.{storage_of}
-use Rattle.vx_value.specs.declared.dtype.Storage.TheVariants.{Integers}
-use Rattle.vx_value.specs.declared.dtype.PType.{PType}
 use Rattle.vx_value.specs.declared.dtype.Nullability.{Nullability}
 use Rattle.vx_value.specs.declared.dtype.Nullability.TheVariants.{NonNullable}
 use Rattle.vx_fn.specs.Meanings.{widened}
 use Rattle.vx_fn.specs.Apply.{apply}
-use Rattle.vx_fn.specs.ReturnTypes.{return_type}
-use Rattle.vx_fn.specs.Binary.{is_comparison, is_logical, logical_type, operator_type, binary_type, decided, operated, binary}
+use Rattle.vx_fn.specs.Binary.{is_logical, logical_type, operator_type, binary_type, decided, operated, binary}
 use Rattle.vx_fn.specs.Comparisons.{is_ordered, ordered_type}
 use Rattle.vx_fn.specs.Arithmetic.{summed_type, multiplied_type, number, calculated_by}
 use Rattle.vx_fn.specs.Logic.{kleene_and, kleene_or, truth}
@@ -83,53 +79,6 @@ plain_widened s t (Some r) plain = ap Some (widened_twice s t r (plain r refl))
 pub result_type : (op : Operator) (s t : DataType) → same_but_nullability s t ≡ true
     → (binary op).types (s ∷ t ∷ []) ≡ option_map (with_nullability (union (nullability_of s) (nullability_of t))) (operator_type op s)
 result_type op s t e = ap (λ o. widened s (widened t o)) (of_one_type op s t e) ∙ plain_widened s t (operator_type op s) (plain_result op s)
-
--- the same for arguments that are taken
-module _ (op : Operator) (s t : DataType) (taken : IsSome (return_type (function.Binary op) (s ∷ t ∷ []))) where
-  abbrev joined : DataType → DataType
-  joined = with_nullability (union (nullability_of s) (nullability_of t))
-
-  same_taken : same_but_nullability s t ≡ true
-  same_taken = by_test (same_but_nullability s t) taken
-    where
-      by_test : (b : Bool) → IsSome (widened s (widened t (if b then operator_type op s else None))) → b ≡ true
-      by_test true h = refl
-      by_test false h = absurd (cc)
-
-  taken_type : return_type (function.Binary op) (s ∷ t ∷ []) ≡ option_map joined (operator_type op s)
-  taken_type = result_type op s t same_taken
-
-  pub comparison_type : is_comparison op ≡ true
-      → return_type (function.Binary op) (s ∷ t ∷ []) ≡ Some (type.bool (union (nullability_of s) (nullability_of t)))
-  comparison_type c = taken_type ∙ compared op c (subst IsSome taken_type taken)
-    where
-      ordered : (b : Bool) → IsSome (option_map joined (if b then Some (type.bool NonNullable) else None))
-          → option_map joined (if b then Some (type.bool NonNullable) else None) ≡ Some (joined (type.bool NonNullable))
-      ordered true h = refl
-      ordered false h = absurd (cc)
-
-      compared : (op : Operator) → is_comparison op ≡ true → IsSome (option_map joined (operator_type op s))
-          → option_map joined (operator_type op s) ≡ Some (joined (type.bool NonNullable))
-      compared operator.Eq c h = refl
-      compared operator.NotEq c h = refl
-      compared operator.Gt c h = ordered (is_ordered s) h
-      compared operator.Gte c h = ordered (is_ordered s) h
-      compared operator.Lt c h = ordered (is_ordered s) h
-      compared operator.Lte c h = ordered (is_ordered s) h
-      compared _ c h = absurd (cc)
-
-  pub calculation_type : (p : PType) → is_comparison op ≡ false → storage_of s ≡ Integers p
-      → return_type (function.Binary op) (s ∷ t ∷ []) ≡ Some (type.primitive p (union (nullability_of s) (nullability_of t)))
-  calculation_type p c stored = taken_type ∙ ap (option_map joined) (calculated op s c stored (subst IsSome taken_type taken))
-    where
-      calculated : (op : Operator) (s : DataType) → is_comparison op ≡ false → storage_of s ≡ Integers p → IsSome (option_map joined (operator_type op s))
-          → operator_type op s ≡ Some (type.primitive p NonNullable)
-      calculated operator.Add (type.primitive q n) c e h = let same : q ≡ p = cc in ap (λ k. Some (type.primitive k NonNullable)) same
-      calculated operator.Sub (type.primitive q n) c e h = let same : q ≡ p = cc in ap (λ k. Some (type.primitive k NonNullable)) same
-      calculated operator.Mul (type.primitive q n) c e h = let same : q ≡ p = cc in ap (λ k. Some (type.primitive k NonNullable)) same
-      calculated operator.Div (type.primitive q n) c e h = let same : q ≡ p = cc in ap (λ k. Some (type.primitive k NonNullable)) same
-      calculated _ (type.primitive q n) c e h = absurd (cc)
-      calculated _ _ c e h = absurd (cc)
 
 -- and has null if one of them is null
 pub null_first : (op : Operator) (s t ty : DataType) → is_of s null ≡ true → (binary op).types (s ∷ t ∷ []) ≡ Some ty → is_of ty null ≡ true

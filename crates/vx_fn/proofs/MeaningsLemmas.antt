@@ -6,19 +6,12 @@ use Rattle.vx_value.specs.Types.{DataType, nullability_of, is_nullable}
 use Rattle.vx_value.specs.Nullabilities.{with_nullability, union}
 use Rattle.vx_value.specs.declared.dtype.Nullability.{Nullability}
 use Rattle.vx_value.specs.declared.dtype.Nullability.TheVariants.{NonNullable, Nullable}
+use Rattle.vx_value.proofs.NullabilitiesLemmas.{union_first, union_second}
 use Rattle.vx_fn.specs.Meanings.{widen, widened}
 
 pub union_with_plain : (m n : Nullability) → n ≡ NonNullable → union m n ≡ m
 union_with_plain NonNullable n h = h
 union_with_plain Nullable n h = refl
-
-pub union_first : (m n : Nullability) → is_nullable m ≡ true → is_nullable (union m n) ≡ true
-union_first NonNullable n h = absurd (cc)
-union_first Nullable n h = refl
-
-pub union_second : (m n : Nullability) → is_nullable n ≡ true → is_nullable (union m n) ≡ true
-union_second NonNullable n h = h
-union_second Nullable n h = refl
 
 -- a widened type's nullability; null is nullable already
 pub widened_nullability : (s t : DataType) → nullability_of (widen s t) ≡ union (nullability_of s) (nullability_of t)
@@ -46,12 +39,10 @@ nullable_by_argument s None ty h e = absurd (cc)
 nullable_by_argument s (Some r) ty h e =
     let same : widen s r ≡ ty = cc in
     ap (λ u. is_nullable (nullability_of u)) (sym same)
-    ∙ ap is_nullable (widened_nullability s r)
-    ∙ union_first (nullability_of s) (nullability_of r) h
+    ∙ ap is_nullable (widened_nullability s r ∙ union_first (nullability_of s) (nullability_of r) h)
 
 pub nullable_before : (s r ty : DataType) → is_nullable (nullability_of r) ≡ true → widened s (Some r) ≡ Some ty → is_nullable (nullability_of ty) ≡ true
 nullable_before s r ty h e =
     let same : widen s r ≡ ty = cc in
     ap (λ u. is_nullable (nullability_of u)) (sym same)
-    ∙ ap is_nullable (widened_nullability s r)
-    ∙ union_second (nullability_of s) (nullability_of r) h
+    ∙ ap is_nullable (widened_nullability s r ∙ union_second (nullability_of s) (nullability_of r) h)

@@ -1,11 +1,12 @@
 -- What a function means, and the functions of one, two and three arguments.
-use Rattle.std.specs.Prelude.{◌≡◌, ℕ, List, [], ◌∷◌, length, Option, Some, None, option_map}
+use Rattle.std.specs.Prelude.{◌≡◌, Bool, true, false, ℕ, List, [], ◌∷◌, length, Option, Some, None, option_map}
 use Rattle.vx_value.specs.Types.{DataType, nullability_of}
 use Rattle.vx_value.specs.Nullabilities.{with_nullability, union}
 use Rattle.vx_value.specs.Values.{Value, null}
 use Rattle.vx_value.specs.Cell as cell
 use Rattle.vx_value.specs.Cell.{Cell, fault}
 use Rattle.vx_value.specs.declared.id.Id.{Id}
+use Rattle.vx_value.specs.declared.id.Id.TheVariants as id
 use Rattle.vx_fn.specs.Arity.{of_one, of_two, of_three}
 use Rattle.vx_fn.specs.ArityLaws.{on_one, on_two, on_three}
 
@@ -17,6 +18,14 @@ pub record Meaning : Type 0 where
   pub types : List DataType → Option DataType
   pub value : DataType → List Value → Cell
   pub taken : (tys : List DataType) (ty : DataType) → types tys ≡ Some ty → length tys ≡ length names
+
+-- whether the result, or its type, is the clone of an argument's or of the function's own: no other function wants memory
+abbrev pub clones : Id → Bool
+clones id.Mask = true
+clones id.Zip = true
+clones id.FillNull = true
+clones id.Cast = true
+clones _ = false
 
 -- ---- what an argument makes of the answer
 

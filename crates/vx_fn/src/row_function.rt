@@ -1,11 +1,11 @@
 //! What every scalar function is, whichever it is.
 
-ghost use Rattle.std.specs.Prelude.{◌≡◌, ◌⊎◌, map, option_map, IfOk, IfErr, IsSome, Some};
+ghost use Rattle.std.specs.Prelude.{◌≡◌, ◌⊎◌, map, option_map, IfOk, IfErr, IsSome, Some, true};
 ghost use Rattle.vx_value.specs.Types.{DataType};
 ghost use Rattle.vx_value.specs.View.{type_of, cell_of};
 ghost use Rattle.vx_value.specs.IsOf.{is_of};
 ghost use Rattle.vx_value.specs.Cell.{value, fault};
-ghost use Rattle.vx_fn.specs.Meanings.{Meaning};
+ghost use Rattle.vx_fn.specs.Meanings.{Meaning, clones};
 ghost use Rattle.vx_fn.specs.Apply.{on_values};
 
 use std::alloc::AllocError;
@@ -22,9 +22,10 @@ pub(crate) trait RowFunction {
         ensures names { map (λ s. s.now) result.1.now ≡ (meaning self.now).names };
 
     /// Returns the type of the result, or `None` if the function doesn't accept the arguments. Fails only if there is no memory
-    /// for the type.
+    /// for the type, and only in a function that clones one.
     fn return_dtype(&self, arguments: &[DType]) -> Result<Option<DType>, AllocError>
-        ensures { IfOk result (λ t. option_map type_of t ≡ (meaning self.now).types (map type_of arguments.now)) };
+        ensures ok { IfOk result (λ t. option_map type_of t ≡ (meaning self.now).types (map type_of arguments.now)) }
+        ensures memory { IfErr result (λ _. clones (meaning self.now).id ≡ true) };
 
     /// Applies the function to one row of its arguments, whose types it must accept. `Fault` if the row has no value;
     /// `OutOfMemory`.
@@ -35,5 +36,6 @@ pub(crate) trait RowFunction {
             ≡ value s.value) }
         ensures fault { IfErr result (λ e. (e ≡ VortexError.OutOfMemory) ⊎ ((e ≡ VortexError.Fault) × ((t : DataType)
             → (meaning self.now).types (map (λ s. s.of_type) arguments.now) ≡ Some t
-            → on_values ((meaning self.now).value t) (map (λ a. value a.value) arguments.now) ≡ fault))) };
+            → on_values ((meaning self.now).value t) (map (λ a. value a.value) arguments.now) ≡ fault))) }
+        ensures memory { IfErr result (λ e. e ≡ VortexError.OutOfMemory → clones (meaning self.now).id ≡ true) };
 }

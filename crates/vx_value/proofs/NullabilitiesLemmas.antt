@@ -59,11 +59,11 @@ still_typed : (m : Nullability) (t : DataType) (v : Value) → (is_nullable (nul
 still_typed m t value.null h there = ap (λ n. is_of (with_nullability n t) value.null) (h there) ∙ null_typed t
 still_typed m t v h there = is_of_either m t v refl ∙ there
 
-union_first : (m n : Nullability) → is_nullable m ≡ true → union m n ≡ Nullable
+pub union_first : (m n : Nullability) → is_nullable m ≡ true → union m n ≡ Nullable
 union_first Nullable n h = refl
 union_first NonNullable n h = absurd (cc)
 
-union_second : (m n : Nullability) → is_nullable n ≡ true → union m n ≡ Nullable
+pub union_second : (m n : Nullability) → is_nullable n ≡ true → union m n ≡ Nullable
 union_second Nullable n h = refl
 union_second NonNullable Nullable h = refl
 union_second NonNullable NonNullable h = absurd (cc)

@@ -1,4 +1,3 @@
-use crate::tables::{Type, Value, scalar};
 use std::alloc::Global;
 use std::ops::Range;
 use std::rc::Rc;
@@ -12,7 +11,8 @@ use vx_tree::{
     SliceArray, SliceData, has_column, is_computed, slice_canonical,
 };
 use vx_value::{
-    ArgKind, DType, Id, Nullability, PType, Scalar, Storage, VortexError, VortexResult,
+    ArgKind, ByteBuffer, DType, DecimalDType, DecimalValue, Id, Nullability, PType, Scalar,
+    ScalarValue, Storage, VortexError, VortexResult,
 };
 
 const I32: DType = DType::Primitive(PType::I32, Nullability::NonNullable);
@@ -26,6 +26,8 @@ const I8: DType = DType::Primitive(PType::I8, Nullability::NonNullable);
 const BOOL: DType = DType::Bool(Nullability::NonNullable);
 
 const UTF8: DType = DType::Utf8(Nullability::NonNullable);
+
+const BINARY: DType = DType::Binary(Nullability::NonNullable);
 
 const ADD: ScalarFnRef = ScalarFnRef::Binary(Operator::Add);
 
@@ -254,26 +256,27 @@ fn parts_of_a_column_are_refused_in_order(rt: HostRuntime) {
     assert!(rt; column_of_parts(alloc, I32, 2, &[None]).is_ok());
 }
 
-// The result of making a constant from a value in a table.
-fn constant_of(alloc: Global, of_type: Type, value: Value) -> VortexResult<ConstantArray> {
-    ConstantArray::new(alloc, scalar(alloc, of_type, value)?, 1)
+// The result of making a constant of `value`.
+fn constant_of(alloc: Global, dtype: DType, value: ScalarValue) -> VortexResult<ConstantArray> {
+    ConstantArray::new(alloc, Scalar::try_new(dtype, Some(value))?, 1)
 }
 
 #[test]
-fn constants_of_types_without_columns(rt: HostRuntime) {
+fn constants_of_types_without_columns(rt: HostRuntime) -> Result<(), Fail> {
     let alloc = rt.alloc();
-    let cases = [
-        (Type::Null, Value::Null),
-        (
-            Type::Decimal(5, 2, Nullability::NonNullable),
-            Value::Decimal(1, 2),
-        ),
-        (Type::Utf8(Nullability::NonNullable), Value::Bytes(b"a")),
-        (Type::Binary(Nullability::NonNullable), Value::Bytes(b"a")),
-    ];
-    for (of_type, value) in cases {
-        assert!(rt; is_refused(constant_of(alloc, of_type, value), ArgKind::BadType));
-    }
+    let decimal = DType::Decimal(DecimalDType::try_new(5, 2)?, Nullability::NonNullable);
+    let digits = ScalarValue::Decimal(DecimalValue {
+        unscaled: 1,
+        scale: 2,
+    });
+    let text = ScalarValue::Bytes(ByteBuffer::copy_from(alloc, b"a")?);
+    let bytes = ScalarValue::Bytes(ByteBuffer::copy_from(alloc, b"a")?);
+    let null = ConstantArray::new(alloc, Scalar::null(DType::Null), 1);
+    assert!(rt; is_refused(null, ArgKind::BadType));
+    assert!(rt; is_refused(constant_of(alloc, decimal, digits), ArgKind::BadType));
+    assert!(rt; is_refused(constant_of(alloc, UTF8, text), ArgKind::BadType));
+    assert!(rt; is_refused(constant_of(alloc, BINARY, bytes), ArgKind::BadType));
+    Ok(())
 }
 
 #[test]
