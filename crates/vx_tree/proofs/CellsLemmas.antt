@@ -1,23 +1,25 @@
 -- A well-formed tree has a cell for each row; and rows without a fault.
 use Rattle.std.proofs.Common.{◌≡◌, ℕ, zero, suc, ◌-◌, ◌≤◌, List, [], ◌∷◌, length, take, drop, slice_get, Option, Some, None}
-use Rattle.std.proofs.Common.{sym, ◌∙◌, subst, arith, length-drop}
+use Rattle.std.proofs.Common.{refl, sym, ap, ◌∙◌, subst, arith, length-drop}
 use Rattle.std.proofs.lemmas.List.{length-take, length-map, length-replicate}
 use Rattle.std.proofs.lemmas.List.FromFn.{length-map-range_with_len}
-use Rattle.vx_value.specs.Types.{DataType}
+use Rattle.vx_value.specs.Types.{DataType, nullability_of}
+use Rattle.vx_value.specs.declared.dtype.Nullability.{Nullability}
+use Rattle.vx_value.specs.declared.dtype.Nullability.TheVariants.{NonNullable, Nullable}
 use Rattle.vx_value.specs.Values.{boolean, integer}
 use Rattle.vx_tree.specs.Tree as enc
 use Rattle.vx_tree.specs.Tree.{Tree, Data, Slots, node, no_slots, absent, slot, len}
 use Rattle.vx_value.specs.Cell.{Cell, value, fault}
 use Rattle.vx_fn.specs.Apply.{apply}
-use Rattle.vx_tree.specs.Cells.{row_at, rows, slots_rows, node_cells, cells_at, HasNoFault}
-use Rattle.vx_tree.specs.Well.{Shape, shape, shapes, IsNode, IsWell, AreWell}
+use Rattle.vx_tree.specs.Cells.{row_at, rows, slots_rows, node_cells, cells_at, valid_cells, HasNoFault}
+use Rattle.vx_tree.specs.Well.{Shape, shape, shapes, IsValidity, IsFlat, IsNode, IsWell, AreWell}
 
--- of each slot that holds a tree, as many cells as it has rows
+-- of each slot that holds a tree, as many cells as it has rows; of one that doesn't, none
 abbrev AreCounted : List (List Cell) → List (Option Shape) → Type 0
 AreCounted [] [] = Unit {0}
 AreCounted [] (s ∷ ss) = ⊥
 AreCounted (cs ∷ css) [] = ⊥
-AreCounted (cs ∷ css) (None ∷ ss) = AreCounted css ss
+AreCounted (cs ∷ css) (None ∷ ss) = (cs ≡ []) × AreCounted css ss
 AreCounted (cs ∷ css) (Some (shape ty m) ∷ ss) = (length cs ≡ m) × AreCounted css ss
 
 one_counted : (css : List (List Cell)) (ty : DataType) (m : ℕ) → AreCounted css (Some (shape ty m) ∷ []) → length (cells_at css 0) ≡ m
@@ -33,14 +35,36 @@ part_counted : (ty : DataType) (n a b : ℕ) (css : List (List Cell)) (ss : List
 part_counted ty n a b css ss h k =
     cut_counted a b h.0 (cells_at css 0) (one_counted css ty h.0 (subst (AreCounted css) h.1 k)) h.2 h.3 ∙ sym h.4
 
+-- the values of a column, by its validity
+valid_counted : (vs cs : List Cell) → length vs ≡ length cs → length (valid_cells vs cs) ≡ length cs
+valid_counted [] cs h = refl
+valid_counted (v ∷ vs) [] h = absurd (omega arith)
+valid_counted (v ∷ vs) (c ∷ cs) h = ap suc (valid_counted vs cs (omega arith))
+
+by_validity : (m : Nullability) (n : ℕ) (v : Option Shape) (css : List (List Cell)) (cs : List Cell) → IsValidity m n v → AreCounted css (v ∷ []) → length cs ≡ n
+    → length (valid_cells (cells_at css 0) cs) ≡ n
+by_validity m n v [] cs h k e = absurd (none v k)
+  where
+    none : (v : Option Shape) → AreCounted [] (v ∷ []) → ⊥
+    none v k = k
+by_validity m n None (vs ∷ css) cs h k e = ap (λ l. length (valid_cells l cs)) k.0 ∙ e
+by_validity NonNullable n (Some s) (vs ∷ css) cs h k e = absurd h
+by_validity Nullable n (Some s) (vs ∷ css) cs h k e =
+    let counted : length vs ≡ n = (subst (λ x. AreCounted (vs ∷ css) (Some x ∷ [])) h k).0 in
+    valid_counted vs cs (counted ∙ sym e) ∙ e
+
+flat_counted : (of_type : DataType) (k : ℕ) (ty : DataType) (n : ℕ) (css : List (List Cell)) (ss : List (Option Shape)) (cs : List Cell) →
+    IsFlat of_type k ty n ss → AreCounted css ss → length cs ≡ k → length (valid_cells (cells_at css 0) cs) ≡ n
+flat_counted of_type k ty n css ss cs h c e = by_validity (nullability_of ty) n h.0 css cs h.4 (subst (AreCounted css) h.3 c) (e ∙ sym h.2)
+
 -- a line for each encoding
 node_counted : (ty : DataType) (n : ℕ) (d : Data) (css : List (List Cell)) (ss : List (Option Shape)) →
     IsNode ty n d ss → AreCounted css ss → length (node_cells ty n d css) ≡ n
 node_counted ty n (enc.constant v) css ss h k = length-replicate n (value v.value)
 node_counted ty n (enc.slice a b) css ss h k = part_counted ty n a b css ss h k
 node_counted ty n (enc.function f) css ss h k = length-map-range_with_len (λ i. apply f ty (row_at css i)) 0 n
-node_counted ty n (enc.bool bs) css ss h k = length-map bs (λ b. value (boolean b)) ∙ sym h.1
-node_counted ty n (enc.primitive p zs) css ss h k = length-map zs (λ z. value (integer z)) ∙ sym h.1
+node_counted ty n (enc.bool bs) css ss h k = flat_counted _ _ ty n css ss _ h k (length-map bs (λ b. value (boolean b)))
+node_counted ty n (enc.primitive p zs) css ss h k = flat_counted _ _ ty n css ss _ h k (length-map zs (λ z. value (integer z)))
 
 mutual
   pub rows_counted : (t : Tree) → IsWell t → length (rows t) ≡ len t
@@ -48,7 +72,7 @@ mutual
 
   slots_counted : (ss : Slots) → AreWell ss → AreCounted (slots_rows ss) (shapes ss)
   slots_counted no_slots w = tt
-  slots_counted (absent ss) w = slots_counted ss w
+  slots_counted (absent ss) w = (refl, slots_counted ss w)
   slots_counted (slot t ss) w = (rows_counted t w.0, slots_counted ss w.1)
 
 -- where there is no fault, no row is one

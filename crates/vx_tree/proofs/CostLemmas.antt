@@ -1,7 +1,7 @@
 -- The bound on turns.
-use Rattle.std.proofs.Common.{◌≡◌, ◌<◌, ◌+◌, ℕ, None, true, arith, refl}
+use Rattle.std.proofs.Common.{◌≡◌, ◌<◌, ◌+◌, ℕ, true, arith, refl}
 use Rattle.vx_tree.specs.Tree as enc
-use Rattle.vx_tree.specs.Tree.{Tree, Data, Slots, node, no_slots, absent, slot, column, is_canonical}
+use Rattle.vx_tree.specs.Tree.{Tree, Data, Slots, node, no_slots, absent, slot, is_canonical}
 use Rattle.vx_tree.specs.Cost.{cost, base_cost, slots_cost, all_reached, slots_extra, slots_sum, reach}
 use Rattle.vx_value.specs.Types.{DataType}
 use Rattle.vx_fn.specs.declared.function.ScalarFnRef.{ScalarFnRef}
@@ -31,12 +31,12 @@ pub function_reach : (ty : DataType) (n : ℕ) (f : ScalarFnRef) (ss : Slots) �
 function_reach ty n f ss = omega (arith, slots_reached ss)
 
 -- a column costs one turn
-pub column_cost : (ty : DataType) (n : ℕ) (d : Data) → is_canonical d ≡ true → cost (column ty n d None) ≡ 1
-column_cost ty n (enc.bool bs) h = refl
-column_cost ty n (enc.primitive p zs) h = refl
-column_cost ty n _ h = absurd (cc)
+pub column_cost : (ty : DataType) (n : ℕ) (d : Data) (ss : Slots) → is_canonical d ≡ true → cost (node ty n d ss) ≡ 1
+column_cost ty n (enc.bool bs) ss h = refl
+column_cost ty n (enc.primitive p zs) ss h = refl
+column_cost ty n _ ss h = absurd (cc)
 
-pub column_reach : (ty : DataType) (n : ℕ) (d : Data) → is_canonical d ≡ true → reach (column ty n d None) ≡ 1
-column_reach ty n (enc.bool bs) h = refl
-column_reach ty n (enc.primitive p zs) h = refl
-column_reach ty n _ h = absurd (cc)
+pub column_reach : (ty : DataType) (n : ℕ) (d : Data) (ss : Slots) → is_canonical d ≡ true → reach (node ty n d ss) ≡ 1
+column_reach ty n (enc.bool bs) ss h = refl
+column_reach ty n (enc.primitive p zs) ss h = refl
+column_reach ty n _ ss h = absurd (cc)

@@ -7,7 +7,7 @@ use Rattle.vx_tree.specs.Tree as enc
 use Rattle.vx_tree.specs.Tree.{Tree, Data, Slots, node, no_slots, absent, slot, dtype, len}
 use Rattle.vx_value.specs.Cell.{Cell, value, fault}
 use Rattle.vx_fn.specs.Apply.{on_values, value_of}
-use Rattle.vx_tree.specs.Cells.{row_at, rows, slots_rows, node_cells, cells_at, IsClean, AreClean, HasNoFault}
+use Rattle.vx_tree.specs.Cells.{row_at, rows, slots_rows, node_cells, cells_at, valid_cell, valid_cells, IsClean, AreClean, HasNoFault}
 use Rattle.vx_tree.specs.Slots.{set_slot, put}
 use Rattle.vx_tree.specs.Keeps.{CellKeeps, RowsKeep, Keeps, KeepsExactly}
 
@@ -95,14 +95,26 @@ map_keep : (f g : ℕ → Cell) (is : List ℕ) → ((i : ℕ) → CellKeeps (f 
 map_keep f g [] h = tt
 map_keep f g (i ∷ is) h = (h i, map_keep f g is h)
 
+-- of a validity
+valid_cell_keep : (v w c : Cell) → CellKeeps v w → CellKeeps (valid_cell v c) (valid_cell w c)
+valid_cell_keep (value v) w c h = rw h (cell_refl (valid_cell (value v) c))
+valid_cell_keep fault w c h = tt
+
+valid_keep : (vs ws cs : List Cell) → RowsKeep vs ws → RowsKeep (valid_cells vs cs) (valid_cells ws cs)
+valid_keep [] [] cs h = rows_refl cs
+valid_keep [] (w ∷ ws) cs h = absurd h
+valid_keep (v ∷ vs) [] cs h = absurd h
+valid_keep (v ∷ vs) (w ∷ ws) [] h = tt
+valid_keep (v ∷ vs) (w ∷ ws) (c ∷ cs) h = (valid_cell_keep v w c h.0, valid_keep vs ws cs h.1)
+
 -- a node keeps what its slots keep: a line for each encoding
 pub node_mono : (ty : DataType) (n : ℕ) (d : Data) (css dss : List (List Cell)) → AllKeep css dss → RowsKeep (node_cells ty n d css) (node_cells ty n d dss)
 node_mono ty n (enc.constant v) css dss h = rows_refl (replicate n (value v.value))
 node_mono ty n (enc.slice a b) css dss h = take_keep (b - a) _ _ (drop_keep a _ _ (at_keep css dss 0 h))
 node_mono ty n (enc.function f) css dss h =
     map_keep _ _ (range_with_len 0 n) (λ i. values_keep (value_of f ty) _ _ (row_keep i css dss h))
-node_mono ty n (enc.bool bs) css dss h = rows_refl (map (λ b. value (boolean b)) bs)
-node_mono ty n (enc.primitive p zs) css dss h = rows_refl (map (λ z. value (integer z)) zs)
+node_mono ty n (enc.bool bs) css dss h = valid_keep _ _ (map (λ b. value (boolean b)) bs) (at_keep css dss 0 h)
+node_mono ty n (enc.primitive p zs) css dss h = valid_keep _ _ (map (λ z. value (integer z)) zs) (at_keep css dss 0 h)
 
 -- the laws, whatever the encodings
 

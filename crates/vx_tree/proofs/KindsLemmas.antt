@@ -8,11 +8,11 @@ use Rattle.vx_value.specs.declared.dtype.PType.{PType}
 use Rattle.vx_fn.specs.declared.function.ScalarFnRef.{ScalarFnRef}
 use Rattle.vx_tree.specs.ColumnTypes.{has_column}
 use Rattle.vx_tree.specs.Tree as enc
-use Rattle.vx_tree.specs.Tree.{Tree, Data, node, slots_of, dtype, len, column, constant_of, slice_of, booleans, integers}
+use Rattle.vx_tree.specs.Tree.{Tree, Data, node, slots_of, dtype, len, column, constant_of, slice_of}
 use Rattle.vx_tree.specs.Well.{Shape, shape, shapes, IsNode, IsNodeOf}
 use Rattle.vx_tree.specs.TreeView.{data_of, tree_of}
 use Rattle.vx_tree.specs.declared.array.node.Node.{Node}
-use Rattle.vx_tree.proofs.SlotsLemmas.{one_slot, one_absent, none_there}
+use Rattle.vx_tree.proofs.SlotsLemmas.{one_slot, only_slot, none_there}
 
 abbrev pub type_in : Shape → DataType
 type_in (shape ty n) = ty
@@ -44,16 +44,21 @@ module _ (n : Node) (well : IsNodeOf (tree_of n)) where
       let within = subst (λ m. b ≤ m) (sym (ap len_in o.2)) v.3 in
       subst (λ x. (tree_of n ≡ slice_of a b x) × (a ≤ b) × (b ≤ len x)) f (whole, v.2, within)
 
-  -- a column has one slot, for a validity
-  column_is : (ty : DataType) (k : ℕ) (d : Data) →
-      data_of n.encoding ≡ d → (type_of n.dtype ≡ ty) × (n.len ≡ k) × (shapes (slots_of n.slots.items) ≡ None ∷ []) → tree_of n ≡ column ty k d None
-  column_is ty k d e h = let i = one_absent n.slots.items h.2 in λ j. node (h.0 j) (h.1 j) (e j) (slots_of (i j))
+  -- a column has one slot, for its validity
+  column_is : (d : Data) (s v : Option Tree) (x : Option Shape) → data_of n.encoding ≡ d → shapes (slots_of n.slots.items) ≡ x ∷ []
+      → v ≡ get_or n.slots.items 0 s → tree_of n ≡ column (type_of n.dtype) n.len d v
+  column_is d s v x e h g =
+      let o = only_slot n.slots.items x h in
+      let same : o.0 ≡ v = sym (g ∙ ap (λ l. get_or l 0 s) o.1) in
+      λ j. node (type_of n.dtype) n.len (e j) (slots_of ((o.1 ∙ ap (λ z. z ∷ []) same) j))
 
-  pub kind_bool : (bs : List Bool) → data_of n.encoding ≡ enc.bool bs → tree_of n ≡ booleans bs
-  kind_bool bs e = column_is _ _ (enc.bool bs) e (of_data (enc.bool bs) e)
+  pub kind_bool : (bs : List Bool) (s v : Option Tree) → data_of n.encoding ≡ enc.bool bs → v ≡ get_or n.slots.items 0 s →
+      (tree_of n ≡ column (type_of n.dtype) n.len (enc.bool bs) v) × IsNodeOf (tree_of n)
+  kind_bool bs s v e g = let h = of_data (enc.bool bs) e in (column_is (enc.bool bs) s v h.0 e h.3 g, well)
 
-  pub kind_primitive : (p : PType) (zs : List ℤ) → data_of n.encoding ≡ enc.primitive p zs → tree_of n ≡ integers p zs
-  kind_primitive p zs e = column_is _ _ (enc.primitive p zs) e (of_data (enc.primitive p zs) e)
+  pub kind_primitive : (p : PType) (zs : List ℤ) (s v : Option Tree) → data_of n.encoding ≡ enc.primitive p zs → v ≡ get_or n.slots.items 0 s →
+      (tree_of n ≡ column (type_of n.dtype) n.len (enc.primitive p zs) v) × IsNodeOf (tree_of n)
+  kind_primitive p zs s v e g = let h = of_data (enc.primitive p zs) e in (column_is (enc.primitive p zs) s v h.0 e h.3 g, well)
 
   -- the slots, as a reference shows them
   pub kind_function : (f : ScalarFnRef) (shown : List (Option Tree)) → data_of n.encoding ≡ enc.function f → shown ≡ n.slots.items →

@@ -9,3 +9,4 @@ pub mod CallsLemmas
 pub mod CostLemmas
 pub mod ColumnsLemmas
 pub mod NativesLemmas
+pub mod ValiditiesLemmas

@@ -5,8 +5,12 @@ use Rattle.std.proofs.lemmas.Bool.{and_from, leb-true, le-leb}
 use Rattle.std.proofs.lemmas.List.{length-map}
 use Rattle.std.proofs.lemmas.List.Recursion.{and_push, and_fails_at}
 use Rattle.std.specs.Cmp.{unsigned_Decides, first_so, second_so}
-use Rattle.std.specs.Prelude.{◌==◌}
-use Rattle.vx_value.specs.Types.{DataType, same_type_Decides}
+use Rattle.std.specs.Prelude.{◌==◌, option_map}
+use Rattle.vx_value.specs.Types.{DataType, bool, nullability_of, same_type_Decides}
+use Rattle.vx_value.specs.Nullabilities.{with_nullability}
+use Rattle.vx_value.specs.declared.dtype.Nullability.{Nullability}
+use Rattle.vx_value.specs.declared.dtype.Nullability.TheVariants.{NonNullable, Nullable}
+use Rattle.vx_value.proofs.NullabilitiesLemmas.{alike_but_nullability, same_but_set}
 use Rattle.vx_value.specs.Typed.{Typed}
 use Rattle.vx_value.specs.declared.error.VortexError.TheVariants.{InvalidArgument}
 use Rattle.vx_value.specs.declared.error.ArgKind.TheVariants.{SlotCount, FnSlotMissing, NodeType}
@@ -19,17 +23,29 @@ use Rattle.vx_fn.proofs.ReturnTypesLemmas.{arity_of_row}
 use Rattle.vx_tree.specs.ColumnTypes.{has_column, is_computed}
 use Rattle.vx_tree.specs.Tree as enc
 use Rattle.vx_tree.specs.Tree.{Tree, Data, id_of, slots_of, dtype, len}
-use Rattle.vx_tree.specs.Well.{Shape, shape, shape_of, shapes, IsNode}
+use Rattle.vx_tree.specs.Well.{Shape, shape, shape_of, shapes, IsValidity, IsFlat, IsNode}
 use Rattle.vx_tree.specs.Refusals.{refusal, column_refusal, constant_refusal, slice_refusal, function_refusal}
 use Rattle.vx_tree.specs.Refusals.{slots_refusal, types_refusal, lengths_refusal, result_refusal, arity_refusal, column_type_refusal}
 use Rattle.vx_tree.specs.Conditions.{unless, first_of_both}
-use Rattle.vx_tree.specs.Refusals.{no_validity, all_present, all_long, types_in, type_in, is_present, is_long}
+use Rattle.vx_tree.specs.Refusals.{validity_type_refusal, validity_len_refusal, all_present, all_long, types_in, type_in, is_present, is_long}
 use Rattle.vx_tree.proofs.ConditionsLemmas.{none_refused, first_none, second_none, unless_none, none_unless}
-use Rattle.vx_tree.proofs.SlotsLemmas.{not_one}
+use Rattle.vx_tree.proofs.SlotsLemmas.{not_one, one_shape}
 
-absent_none : (s : Option Shape) → no_validity s ≡ None → s ≡ None
-absent_none None h = refl
-absent_none (Some s) h = absurd (cc)
+-- the tree in the slot of a validity
+validity_kept : (m : Nullability) (n : ℕ) (s : Option Shape) → validity_type_refusal m s ≡ None → validity_len_refusal n s ≡ None → IsValidity m n s
+validity_kept m n None h k = tt
+validity_kept NonNullable n (Some s) h k = absurd (cc)
+validity_kept Nullable n (Some (shape t m)) h k =
+    let typed : t ≡ bool NonNullable = (same_type_Decides t (bool NonNullable)).0 (unless_none _ _ h) in
+    let counted : m ≡ n = (unsigned_Decides m n).0 (unless_none _ _ k) in
+    λ i. shape (typed i) (counted i)
+
+validity_taken : (m : Nullability) (n : ℕ) (s : Option Shape) → IsValidity m n s → (validity_type_refusal m s ≡ None) × (validity_len_refusal n s ≡ None)
+validity_taken m n None h = (refl, refl)
+validity_taken NonNullable n (Some s) h = absurd h
+validity_taken Nullable n (Some s) h =
+    subst (λ x. (validity_type_refusal Nullable (Some x) ≡ None) × (validity_len_refusal n (Some x) ≡ None)) (sym h)
+    (none_unless _ _ ((same_type_Decides (bool NonNullable) (bool NonNullable)).1 refl), none_unless _ _ ((unsigned_Decides n n).1 refl))
 
 -- ---- the slots of a function's node
 
@@ -111,14 +127,14 @@ count_slots (Some t ∷ xs) = ap suc (count_slots xs)
 
 -- ---- the parts of a node that isn't refused meet its conditions
 
-column_kept : (ty : DataType) (n : ℕ) (of_type : DataType) (k : ℕ) (ss : List (Option Shape)) →
-    column_refusal ty n of_type k ss ≡ None → (ty ≡ of_type) × (n ≡ k) × (ss ≡ None ∷ [])
+column_kept : (ty : DataType) (n : ℕ) (of_type : DataType) (k : ℕ) (ss : List (Option Shape)) → column_refusal ty n of_type k ss ≡ None → IsFlat of_type k ty n ss
 column_kept ty n of_type k [] h = absurd (cc)
 column_kept ty n of_type k (s ∷ []) h =
     let later = second_none _ _ h in
-    let typed : ty ≡ of_type = (same_type_Decides ty of_type).0 (unless_none _ _ (first_none _ _ h)) in
-    let counted : n ≡ k = (unsigned_Decides n k).0 (unless_none _ _ (second_none _ _ later)) in
-    (typed, counted, ap (λ z. z ∷ []) (absent_none s (first_none _ _ later)))
+    let lengths = second_none _ _ later in
+    let typed : ty ≡ with_nullability (nullability_of ty) of_type = alike_but_nullability ty of_type (unless_none _ _ (first_none _ _ h)) in
+    let counted : n ≡ k = (unsigned_Decides n k).0 (unless_none _ _ (first_none _ _ lengths)) in
+    (s, typed, counted, refl, validity_kept (nullability_of ty) n s (first_none _ _ later) (second_none _ _ lengths))
 column_kept ty n of_type k (s ∷ r ∷ ss) h = absurd (cc)
 
 constant_kept : (ty : DataType) (n : ℕ) (v : Typed) (ss : List (Option Shape)) →
@@ -152,18 +168,18 @@ function_kept i ty n f ss h =
     let typed : first_of_both (result_refusal ty (return_type f (types_in ss))) (column_type_refusal f ty) ≡ None =
     second_none (unless (same_id i (function_id f)) (InvalidArgument NodeType)) _ types in
     let result = result_none ty (return_type f (types_in ss)) (first_none _ (column_type_refusal f ty) typed) in
-    let column : (is_computed f && has_column ty) ≡ true = unless_none _ _ (second_none (result_refusal ty (return_type f (types_in ss))) _ typed) in
-    (types_in ss, shapes_of_types n ss (unless_none _ _ present) (unless_none _ _ lengths), result, second_so (is_computed f) _ column, first_so _ _ column)
+    let column : is_computed f ty ≡ true = unless_none _ _ (second_none (result_refusal ty (return_type f (types_in ss))) _ typed) in
+    (types_in ss, shapes_of_types n ss (unless_none _ _ present) (unless_none _ _ lengths), result, column)
 
 -- ---- and the parts that meet them aren't refused
 
-column_taken : (ty : DataType) (n : ℕ) (of_type : DataType) (k : ℕ) (ss : List (Option Shape)) →
-    (ty ≡ of_type) × (n ≡ k) × (ss ≡ None ∷ []) → column_refusal ty n of_type k ss ≡ None
+column_taken : (ty : DataType) (n : ℕ) (of_type : DataType) (k : ℕ) (ss : List (Option Shape)) → IsFlat of_type k ty n ss → column_refusal ty n of_type k ss ≡ None
 column_taken ty n of_type k ss h =
-    let typed = none_unless _ _ ((same_type_Decides ty of_type).1 h.0) in
-    let counted = none_unless _ _ ((unsigned_Decides n k).1 h.1) in
-    let e : column_refusal ty n of_type k (None ∷ []) ≡ None = none_refused _ _ typed (none_refused None _ refl counted) in
-    subst (λ l. column_refusal ty n of_type k l ≡ None) (sym h.2) e
+    let typed = none_unless _ _ (same_but_set (nullability_of ty) ty of_type h.1) in
+    let counted = none_unless _ _ ((unsigned_Decides n k).1 h.2) in
+    let valid = validity_taken (nullability_of ty) n h.0 h.4 in
+    let e : column_refusal ty n of_type k (h.0 ∷ []) ≡ None = none_refused _ _ typed (none_refused _ _ valid.0 (none_refused _ _ counted valid.1)) in
+    subst (λ l. column_refusal ty n of_type k l ≡ None) (sym h.3) e
 
 constant_taken : (ty : DataType) (n : ℕ) (v : Typed) (ss : List (Option Shape)) →
     IsNode ty n (enc.constant v) ss → constant_refusal ty v ss ≡ None
@@ -193,7 +209,7 @@ function_taken ty n f ss h =
     let slots : slots_refusal f made ≡ None = none_refused _ _ (none_unless _ _ (present_types n tys)) (none_unless _ _ count) in
     let named : unless (same_id (function_id f) (function_id f)) (InvalidArgument NodeType) ≡ None =
     none_unless _ _ ((same_id_Decides (function_id f) (function_id f)).1 refl) in
-    let column : column_type_refusal f ty ≡ None = none_unless _ _ (and_from (is_computed f) (has_column ty) h.4 h.3) in
+    let column : column_type_refusal f ty ≡ None = none_unless _ _ h.3 in
     let types : types_refusal (function_id f) ty f made ≡ None =
     none_refused _ _ named (none_refused (result_refusal ty (return_type f (types_in made))) (column_type_refusal f ty) result column) in
     let lengths : lengths_refusal n made ≡ None = none_unless _ _ (long_types n tys) in
@@ -230,6 +246,10 @@ slice_slot_count ty n a b = not_one (slice_refusal ty n a b) _ refl two
 pub column_slot_count : (ty : DataType) (n : ℕ) (of_type : DataType) (k : ℕ) (xs : List (Option Tree)) →
     length xs ≢ 1 → column_refusal ty n of_type k (shapes (slots_of xs)) ≡ Some (InvalidArgument SlotCount)
 column_slot_count ty n of_type k = not_one (column_refusal ty n of_type k) _ refl (λ s r ss. refl)
+
+pub column_by_slot : (ty : DataType) (n : ℕ) (of_type : DataType) (k : ℕ) (xs : List (Option Tree)) (v : Option Tree) → xs ≡ v ∷ [] →
+    column_refusal ty n of_type k (shapes (slots_of xs)) ≡ column_refusal ty n of_type k (option_map shape_of v ∷ [])
+column_by_slot ty n of_type k xs v h = ap (column_refusal ty n of_type k) (ap (λ l. shapes (slots_of l)) h ∙ one_shape v)
 
 pub constant_slot_count : (ty : DataType) (v : Typed) (xs : List (Option Tree)) →
     length xs ≢ 0 → constant_refusal ty v (shapes (slots_of xs)) ≡ Some (InvalidArgument SlotCount)

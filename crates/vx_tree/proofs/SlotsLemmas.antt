@@ -1,5 +1,6 @@
 -- Slots as a list and as a tree has them: taking one out, filling it, and what a node's conditions say of them.
 use Rattle.std.proofs.Common.{◌≡◌, ◌≢◌, ℕ, zero, suc, ◌<◌, List, [], ◌∷◌, ◌++◌, length, get_or, set, Option, Some, None, IfSome, refl, sym, ap, arith}
+use Rattle.std.specs.Prelude.{option_map}
 use Rattle.vx_value.specs.Types.{DataType}
 use Rattle.vx_tree.specs.Tree.{Tree, absent, slot, slots_of}
 use Rattle.vx_tree.specs.Well.{Shape, shape, shape_of, shapes, AreWell, IsWell}
@@ -65,12 +66,18 @@ one_slot (Some t ∷ []) ty m h = (t, refl, cc)
 one_slot (Some t ∷ None ∷ xs) ty m h = absurd (cc)
 one_slot (Some t ∷ Some s ∷ xs) ty m h = absurd (cc)
 
-pub one_absent : (xs : List (Option Tree)) → shapes (slots_of xs) ≡ None ∷ [] → xs ≡ None ∷ []
-one_absent [] h = absurd (cc)
-one_absent (None ∷ []) h = refl
-one_absent (None ∷ None ∷ xs) h = absurd (cc)
-one_absent (None ∷ Some t ∷ xs) h = absurd (cc)
-one_absent (Some t ∷ xs) h = absurd (cc)
+-- the one slot of a column
+pub one_shape : (v : Option Tree) → shapes (slots_of (v ∷ [])) ≡ option_map shape_of v ∷ []
+one_shape None = refl
+one_shape (Some t) = refl
+
+pub only_slot : (xs : List (Option Tree)) (s : Option Shape) → shapes (slots_of xs) ≡ s ∷ [] → (v : Option Tree) × (xs ≡ v ∷ [])
+only_slot [] s h = absurd (cc)
+only_slot (v ∷ []) s h = (v, refl)
+only_slot (None ∷ None ∷ xs) s h = absurd (cc)
+only_slot (None ∷ Some t ∷ xs) s h = absurd (cc)
+only_slot (Some t ∷ None ∷ xs) s h = absurd (cc)
+only_slot (Some t ∷ Some u ∷ xs) s h = absurd (cc)
 
 pub none_there : (xs : List (Option Tree)) → shapes (slots_of xs) ≡ [] → xs ≡ []
 none_there [] h = refl

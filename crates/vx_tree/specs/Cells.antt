@@ -1,8 +1,8 @@
 -- What a tree means: a cell for each row.
-use Rattle.std.specs.Prelude.{ℕ, zero, suc, ◌-◌, List, [], ◌∷◌, take, drop, map, replicate, slice_index_or}
+use Rattle.std.specs.Prelude.{ℕ, zero, suc, true, false, ◌-◌, List, [], ◌∷◌, take, drop, map, replicate, slice_index_or}
 use Rattle.std.specs.List.{range_with_len}
 use Rattle.vx_value.specs.Types.{DataType}
-use Rattle.vx_value.specs.Values.{boolean, integer}
+use Rattle.vx_value.specs.Values.{null, boolean, integer}
 use Rattle.vx_value.specs.Cell.{Cell, value, fault}
 use Rattle.vx_fn.specs.Apply.{apply}
 use Rattle.vx_tree.specs.Tree as enc
@@ -18,13 +18,25 @@ cells_at (cs ∷ css) (suc k) = cells_at css k
 abbrev pub row_at : List (List Cell) → ℕ → List Cell
 row_at css i = map (λ cs. slice_index_or cs i fault) css
 
+-- a cell by that of a validity: itself if that is true, null if it is false; a fault in either is a fault
+abbrev pub valid_cell : Cell → Cell → Cell
+valid_cell (value (boolean true)) c = c
+valid_cell (value (boolean false)) (value v) = value null
+valid_cell v c = fault
+
+-- cells by those of a validity; as they are if it has none
+abbrev pub valid_cells : List Cell → List Cell → List Cell
+valid_cells [] cs = cs
+valid_cells (v ∷ vs) [] = []
+valid_cells (v ∷ vs) (c ∷ cs) = valid_cell v c ∷ valid_cells vs cs
+
 -- the cells of a node, from those of its slots: a line for each encoding
 abbrev pub node_cells : DataType → ℕ → Data → List (List Cell) → List Cell
 node_cells ty n (enc.constant v) css = replicate n (value v.value)
 node_cells ty n (enc.slice a b) css = take (b - a) (drop a (cells_at css 0))
 node_cells ty n (enc.function f) css = map (λ i. apply f ty (row_at css i)) (range_with_len 0 n)
-node_cells ty n (enc.bool bs) css = map (λ b. value (boolean b)) bs
-node_cells ty n (enc.primitive p zs) css = map (λ z. value (integer z)) zs
+node_cells ty n (enc.bool bs) css = valid_cells (cells_at css 0) (map (λ b. value (boolean b)) bs)
+node_cells ty n (enc.primitive p zs) css = valid_cells (cells_at css 0) (map (λ z. value (integer z)) zs)
 
 abbrev mutual
   pub rows : Tree → List Cell

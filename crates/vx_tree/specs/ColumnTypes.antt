@@ -14,17 +14,21 @@ is_column_stored Bits = true
 is_column_stored (Integers p) = true
 is_column_stored _ = false
 
--- the type is non-nullable, and a column stores its values
+-- a column stores the type's values
 abbrev pub has_column : DataType → Bool
-has_column ty = not (is_nullable (nullability_of ty)) && is_column_stored (storage_of ty)
+has_column ty = is_column_stored (storage_of ty)
 
 -- columns are computed by the function: by all but those that wait for columns with nulls
-abbrev pub is_computed : ScalarFnRef → Bool
-is_computed (function.Between options) = false
-is_computed function.Mask = false
-is_computed function.Zip = false
-is_computed function.FillNull = false
-is_computed function.IsNull = false
-is_computed function.IsNotNull = false
-is_computed (function.Cast target) = false
-is_computed _ = true
+abbrev pub has_kernel : ScalarFnRef → Bool
+has_kernel (function.Between options) = false
+has_kernel function.Mask = false
+has_kernel function.Zip = false
+has_kernel function.FillNull = false
+has_kernel function.IsNull = false
+has_kernel function.IsNotNull = false
+has_kernel (function.Cast target) = false
+has_kernel _ = true
+
+-- columns of the type are computed by the function: none with nulls yet
+abbrev pub is_computed : ScalarFnRef → DataType → Bool
+is_computed f ty = has_kernel f && (has_column ty && not (is_nullable (nullability_of ty)))

@@ -10,7 +10,7 @@ use Rattle.vx_value.specs.declared.id.Id.{Id}
 use Rattle.vx_value.specs.declared.id.Id.TheVariants as id
 use Rattle.vx_tree.specs.Tree as enc
 use Rattle.vx_tree.specs.Tree.{Tree, Data, column, dtype, datum, id_of, is_canonical}
-use Rattle.vx_tree.specs.Cells.{rows, HasNoFault, IsClean}
+use Rattle.vx_tree.specs.Cells.{rows}
 use Rattle.vx_tree.specs.Cost.{cost}
 use Rattle.vx_tree.specs.declared.canonical.Canonical.{Canonical}
 use Rattle.vx_tree.specs.declared.canonical.Canonical.TheVariants.{Bool, Primitive}
@@ -29,11 +29,8 @@ canonical_id ty = stored_id (storage_of ty)
 abbrev pub IsLawful : Id → DataType → List Cell → Type 0
 IsLawful i ty cells = (i ≡ canonical_id ty) ⊎ ((i ≡ id.Constant) × (v : Value) × (cells ≡ replicate (length cells) (value v)))
 
--- what every column is: no row is a fault, and no row of a tree in it; its encoding is lawful; and at most one turn is left, or
--- two for a constant
+-- what every column is: its encoding is lawful; and at most one turn is left, or two for a constant
 pub record IsColumn (t : Tree) : Type 0 where
-  pub whole : HasNoFault (rows t)
-  pub clean : IsClean t
   pub lawful : IsLawful (id_of (datum t)) (dtype t) (rows t)
   pub settled : cost t ≤ 2
   pub canonical_settled : is_canonical (datum t) ≡ true → cost t ≡ 1

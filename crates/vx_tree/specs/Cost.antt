@@ -1,7 +1,7 @@
 -- What bounds the turns of an execution.
-use Rattle.std.specs.Prelude.{ℕ, ◌+◌, ◌*◌, List, [], ◌∷◌, sum}
+use Rattle.std.specs.Prelude.{ℕ, ◌+◌, ◌*◌, if◌then◌else◌, List, [], ◌∷◌, sum}
 use Rattle.vx_tree.specs.Tree as enc
-use Rattle.vx_tree.specs.Tree.{Tree, Data, Slots, node, no_slots, absent, slot}
+use Rattle.vx_tree.specs.Tree.{Tree, Data, Slots, node, no_slots, absent, slot, is_columnar}
 
 -- the reach of each slot, added up
 abbrev pub all_reached : List ℕ → ℕ
@@ -46,10 +46,10 @@ base_cost d = (charge d).own
 abbrev pub slot_cost : Data → ℕ → ℕ → ℕ
 slot_cost d c e = c + 1 + (charge d).by_reach * e
 
--- at most so many turns are taken for the tree
+-- at most so many turns are taken for the tree; none for the validity of a column
 abbrev mutual
   pub cost : Tree → ℕ
-  cost (node ty n d ss) = base_cost d + slots_cost d ss
+  cost (node ty n d ss) = base_cost d + (if is_columnar d then 0 else slots_cost d ss)
 
   pub slots_cost : Data → Slots → ℕ
   slots_cost d no_slots = 0

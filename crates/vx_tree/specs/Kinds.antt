@@ -3,8 +3,8 @@ use Rattle.std.specs.Prelude.{◌≡◌, ◌≤◌, true}
 use Rattle.vx_value.specs.IsOf.{is_of}
 use Rattle.vx_tree.specs.ColumnTypes.{has_column}
 use Rattle.vx_tree.specs.Natives.{values_of, ptype_of}
-use Rattle.vx_tree.specs.Tree.{Tree, node, function, slots_of, dtype, len, constant_of, slice_of, booleans, integers}
-use Rattle.vx_tree.specs.Well.{IsNode, shapes}
+use Rattle.vx_tree.specs.Tree.{Tree, node, function, bool, primitive, slots_of, dtype, len, column, constant_of, slice_of}
+use Rattle.vx_tree.specs.Well.{IsNode, IsNodeOf, shapes}
 use Rattle.vx_tree.specs.declared.array.kind.ArrayKind.{ArrayKind}
 use Rattle.vx_tree.specs.declared.array.kind.ArrayKind.TheVariants as kind
 
@@ -15,5 +15,5 @@ IsKindOf (kind.Constant v) t =
 IsKindOf (kind.Slice c a b) t = (t ≡ slice_of a b c.now) × (a ≤ b) × (b ≤ len c.now)
 IsKindOf (kind.ScalarFn f ss) t =
     (t ≡ node (dtype t) (len t) (function f.now) (slots_of ss.now)) × IsNode (dtype t) (len t) (function f.now) (shapes (slots_of ss.now))
-IsKindOf (kind.Bool bs) t = t ≡ booleans bs.now
-IsKindOf (kind.Primitive vs) t = t ≡ integers (ptype_of vs.now) (values_of vs.now)
+IsKindOf (kind.Bool bs v) t = (t ≡ column (dtype t) (len t) (bool bs.now) v.now) × IsNodeOf t
+IsKindOf (kind.Primitive vs v) t = (t ≡ column (dtype t) (len t) (primitive (ptype_of vs.now) (values_of vs.now)) v.now) × IsNodeOf t

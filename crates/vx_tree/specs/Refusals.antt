@@ -1,13 +1,15 @@
 -- The first condition of a node that fails: slots, types, lengths, ranges, in this order.
 use Rattle.std.specs.Prelude.{ℕ, ◌-◌, List, [], ◌∷◌, length, Bool, true, false, ◌==◌, ◌&&◌, nat_le, Option, Some, None}
 use Rattle.vx_value.specs.Types as type
-use Rattle.vx_value.specs.Types.{DataType, same_type}
+use Rattle.vx_value.specs.Types.{DataType, same_type, nullability_of}
+use Rattle.vx_value.specs.Nullabilities.{same_but_nullability}
 use Rattle.vx_value.specs.IsOf.{is_of}
 use Rattle.vx_value.specs.Typed.{Typed}
-use Rattle.vx_value.specs.declared.dtype.Nullability.TheVariants.{NonNullable}
+use Rattle.vx_value.specs.declared.dtype.Nullability.{Nullability}
+use Rattle.vx_value.specs.declared.dtype.Nullability.TheVariants.{NonNullable, Nullable}
 use Rattle.vx_value.specs.declared.error.VortexError.{VortexError}
 use Rattle.vx_value.specs.declared.error.VortexError.TheVariants.{InvalidArgument, OutOfBounds}
-use Rattle.vx_value.specs.declared.error.ArgKind.TheVariants.{SlotCount, SlotMissing, SlotType, FnSlotMissing, Arity, ChildLen, NoRow}
+use Rattle.vx_value.specs.declared.error.ArgKind.TheVariants.{SlotCount, SlotMissing, SlotType, SlotLen, FnSlotMissing, Arity, ChildLen, NoRow}
 use Rattle.vx_value.specs.declared.error.ArgKind.TheVariants.{NodeType, NodeLen, BadType, BadValue}
 use Rattle.vx_value.specs.Ids.{same_id}
 use Rattle.vx_value.specs.declared.id.Id.{Id}
@@ -20,16 +22,23 @@ use Rattle.vx_tree.specs.Tree.{Tree, Data, dtype, len}
 use Rattle.vx_tree.specs.Well.{Shape, shape}
 use Rattle.vx_tree.specs.Conditions.{first_of_both, unless}
 
--- no tree may be in the slot of a column without nulls
-abbrev pub no_validity : Option Shape → Option VortexError
-no_validity None = None
-no_validity (Some s) = Some (InvalidArgument (SlotType 0))
+-- of the tree in the slot of a validity: its type, and its length
+abbrev pub validity_type_refusal : Nullability → Option Shape → Option VortexError
+validity_type_refusal m None = None
+validity_type_refusal NonNullable (Some s) = Some (InvalidArgument (SlotType 0))
+validity_type_refusal Nullable (Some (shape s m)) = unless (same_type s (type.bool NonNullable)) (InvalidArgument (SlotType 0))
 
--- of a column of this type, with k rows
+abbrev pub validity_len_refusal : ℕ → Option Shape → Option VortexError
+validity_len_refusal n None = None
+validity_len_refusal n (Some (shape s m)) = unless (m == n) (InvalidArgument (SlotLen 0))
+
+-- of a column of k values of the type, which may be null where the column's type is nullable
 abbrev pub column_refusal : DataType → ℕ → DataType → ℕ → List (Option Shape) → Option VortexError
 column_refusal ty n of_type k [] = Some (InvalidArgument SlotCount)
 column_refusal ty n of_type k (s ∷ []) =
-    first_of_both (unless (same_type ty of_type) (InvalidArgument BadType)) (first_of_both (no_validity s) (unless (n == k) (InvalidArgument NodeLen)))
+    first_of_both (unless (same_but_nullability ty of_type) (InvalidArgument BadType))
+    (first_of_both (validity_type_refusal (nullability_of ty) s)
+    (first_of_both (unless (n == k) (InvalidArgument NodeLen)) (validity_len_refusal n s)))
 column_refusal ty n of_type k (s ∷ r ∷ ss) = Some (InvalidArgument SlotCount)
 
 abbrev pub constant_refusal : DataType → Typed → List (Option Shape) → Option VortexError
@@ -87,7 +96,7 @@ result_refusal ty (Some s) = unless (same_type ty s) (InvalidArgument NodeType)
 
 -- where no column of the type is computed by the function
 abbrev pub column_type_refusal : ScalarFnRef → DataType → Option VortexError
-column_type_refusal f ty = unless (is_computed f && has_column ty) (InvalidArgument BadType)
+column_type_refusal f ty = unless (is_computed f ty) (InvalidArgument BadType)
 
 -- of a function: its slots, its types where the node is to go by the id, and its lengths
 abbrev pub slots_refusal : ScalarFnRef → List (Option Shape) → Option VortexError

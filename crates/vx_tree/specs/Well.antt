@@ -1,9 +1,11 @@
 -- Which trees are well formed: the invariant of an `ArrayRef`.
 use Rattle.std.specs.Prelude.{◌≡◌, ℕ, ◌-◌, ◌≤◌, List, [], ◌∷◌, length, map, Option, Some, None, true}
 use Rattle.vx_value.specs.Types as type
-use Rattle.vx_value.specs.Types.{DataType}
+use Rattle.vx_value.specs.Types.{DataType, nullability_of}
+use Rattle.vx_value.specs.Nullabilities.{with_nullability}
 use Rattle.vx_value.specs.IsOf.{is_of}
-use Rattle.vx_value.specs.declared.dtype.Nullability.TheVariants.{NonNullable}
+use Rattle.vx_value.specs.declared.dtype.Nullability.{Nullability}
+use Rattle.vx_value.specs.declared.dtype.Nullability.TheVariants.{NonNullable, Nullable}
 use Rattle.vx_fn.specs.ReturnTypes.{return_type}
 use Rattle.vx_tree.specs.ColumnTypes.{has_column, is_computed}
 use Rattle.vx_tree.specs.Tree as enc
@@ -21,15 +23,25 @@ shapes no_slots = []
 shapes (absent ss) = None ∷ shapes ss
 shapes (slot t ss) = Some (shape_of t) ∷ shapes ss
 
--- the conditions on a node, its slots' own apart: a line for each encoding. A column has a slot for a validity, which is
--- absent where no row is null.
+-- the slot of a column's validity: absent if no row is null, or in a nullable column a tree of as many booleans as it has rows
+abbrev pub IsValidity : Nullability → ℕ → Option Shape → Type 0
+IsValidity m n None = Unit {0}
+IsValidity NonNullable n (Some s) = ⊥
+IsValidity Nullable n (Some s) = s ≡ shape (type.bool NonNullable) n
+
+-- a column of k values of the type, which may be null where the column's type is nullable
+abbrev pub IsFlat : DataType → ℕ → DataType → ℕ → List (Option Shape) → Type 0
+IsFlat of_type k ty n ss =
+    (v : Option Shape) × (ty ≡ with_nullability (nullability_of ty) of_type) × (n ≡ k) × (ss ≡ v ∷ []) × IsValidity (nullability_of ty) n v
+
+-- the conditions on a node, its slots' own apart: a line for each encoding
 abbrev pub IsNode : DataType → ℕ → Data → List (Option Shape) → Type 0
 IsNode ty n (enc.constant v) ss = (ty ≡ v.of_type) × (has_column ty ≡ true) × (is_of ty v.value ≡ true) × (ss ≡ [])
 IsNode ty n (enc.slice a b) ss = (m : ℕ) × (ss ≡ Some (shape ty m) ∷ []) × (a ≤ b) × (b ≤ m) × (n ≡ b - a)
 IsNode ty n (enc.function f) ss =
-    (tys : List DataType) × (ss ≡ map (λ s. Some (shape s n)) tys) × (return_type f tys ≡ Some ty) × (has_column ty ≡ true) × (is_computed f ≡ true)
-IsNode ty n (enc.bool bs) ss = (ty ≡ type.bool NonNullable) × (n ≡ length bs) × (ss ≡ None ∷ [])
-IsNode ty n (enc.primitive p zs) ss = (ty ≡ type.primitive p NonNullable) × (n ≡ length zs) × (ss ≡ None ∷ [])
+    (tys : List DataType) × (ss ≡ map (λ s. Some (shape s n)) tys) × (return_type f tys ≡ Some ty) × (is_computed f ty ≡ true)
+IsNode ty n (enc.bool bs) ss = IsFlat (type.bool NonNullable) (length bs) ty n ss
+IsNode ty n (enc.primitive p zs) ss = IsFlat (type.primitive p NonNullable) (length zs) ty n ss
 
 -- the same of a tree's root
 abbrev pub IsNodeOf : Tree → Type 0

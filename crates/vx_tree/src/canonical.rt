@@ -9,7 +9,6 @@ ghost use Rattle.vx_tree.specs.Columns.{canonical_tree, empty_of};
 use crate::array::{ArrayRef, Encoding, IntoArray};
 use crate::arrays::boolean::BoolArray;
 use crate::arrays::primitive::PrimitiveArray;
-use crate::column_types::has_column;
 use std::alloc::Global;
 use vx_value::{ArgKind, DType, Storage, VortexError, VortexResult};
 
@@ -30,9 +29,10 @@ impl Canonical {
         ensures refused { IfErr result (λ e. (e ≡ VortexError.OutOfMemory)
             ⊎ ((e ≡ VortexError.InvalidArgument ArgKind.BadType) × (has_column (type_of dtype.now) ≡ false))) }
     {
-        match (has_column(dtype), dtype.storage()) {
-            (true, Storage::Bits) => Canonical::empty_bool(alloc),
-            (true, Storage::Integers(ptype)) => Canonical::empty_primitive(alloc, ptype),
+        let nullability = dtype.nullability();
+        match dtype.storage() {
+            Storage::Bits => Canonical::empty_bool(alloc, nullability),
+            Storage::Integers(ptype) => Canonical::empty_primitive(alloc, ptype, nullability),
             _ => Err(VortexError::InvalidArgument(ArgKind::BadType)),
         }
     }

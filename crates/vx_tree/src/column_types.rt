@@ -2,16 +2,16 @@
 
 ghost use Rattle.std.specs.Prelude.{◌≡◌};
 ghost use Rattle.vx_value.specs.View.{type_of};
-ghost use Rattle.vx_tree.specs.ColumnTypes.{has_column, is_column_stored, is_computed};
+ghost use Rattle.vx_tree.specs.ColumnTypes.{has_column, has_kernel, is_column_stored, is_computed};
 
 use vx_fn::ScalarFnRef;
 use vx_value::{DType, Storage};
 
-/// Checks whether there are columns of type `dtype`: it is non-nullable, and its values are booleans or integers. (own)
+/// Checks whether there are columns of type `dtype`: its values are booleans or integers. (own)
 pub fn has_column(dtype: &DType) -> bool
     ensures { result ≡ has_column (type_of dtype.now) }
 {
-    !dtype.is_nullable() && is_column_stored(dtype.storage())
+    is_column_stored(dtype.storage())
 }
 
 /// Checks whether a column stores values this way.
@@ -21,9 +21,17 @@ fn is_column_stored(storage: Storage) -> bool
     matches!(storage, Storage::Bits | Storage::Integers(_))
 }
 
-/// Checks whether columns are computed by `function`: by all but those that wait for columns with nulls. (own)
-pub fn is_computed(function: &ScalarFnRef) -> bool
-    ensures { result ≡ is_computed function.now }
+/// Checks whether columns of type `dtype` are computed by `function`: none with nulls yet, and none by those that wait for
+/// them. (own)
+pub fn is_computed(function: &ScalarFnRef, dtype: &DType) -> bool
+    ensures { result ≡ is_computed function.now (type_of dtype.now) }
+{
+    has_kernel(function) && has_column(dtype) && !dtype.is_nullable()
+}
+
+/// Checks whether columns are computed by `function`.
+fn has_kernel(function: &ScalarFnRef) -> bool
+    ensures { result ≡ has_kernel function.now }
 {
     !matches!(
         function,

@@ -3,13 +3,15 @@
 ghost use Rattle.std.specs.Prelude.{◌≡◌, ◌↔◌, ◌+◌, ◌*◌, ◌<◌, ◌≤◌, ℕ, List, Option, None, true, false};
 ghost use Rattle.vx_value.specs.Types.{DataType};
 ghost use Rattle.vx_value.specs.Typed.{Typed};
-ghost use Rattle.vx_tree.specs.Tree.{Tree, Slots, Data, id_of, node, constant, slice, function, column, slot, no_slots, datum, is_constant, is_canonical, is_columnar};
+ghost use Rattle.vx_tree.specs.Tree.{Tree, Slots, Data, id_of, node, constant, slice, function, slot, no_slots, datum, is_constant, is_canonical, is_columnar};
 ghost use Rattle.vx_tree.specs.Well.{Shape, IsNode, IsWell};
 ghost use Rattle.vx_tree.specs.Refusals.{refusal};
 ghost use Rattle.vx_tree.specs.Slots.{put};
 ghost use Rattle.vx_tree.specs.Keeps.{Keeps, KeepsExactly};
 ghost use Rattle.vx_tree.specs.Cost.{cost, reach, slots_sum};
 ghost use Rattle.vx_tree.specs.Columns.{IsColumn};
+ghost use Rattle.vx_tree.specs.Validities.{HasRows, nullability_by, child_of, validity_of, valid_rows};
+ghost use Rattle.vx_tree.specs.declared.validity.Validity.{Validity};
 ghost use Rattle.vx_fn.specs.declared.function.ScalarFnRef.{ScalarFnRef as ScalarFnOf};
 
 /// States that a node's parts under its own tag are refused exactly if they break its conditions. (own)
@@ -30,13 +32,18 @@ pub fn keeping_laws()
 pub fn execution_bounds()
     ensures constants { (ty : DataType) (n : ℕ) (v : Typed) → cost (node ty n (constant v) no_slots) ≡ 2 }
     ensures constant_reach { (ty : DataType) (n : ℕ) (v : Typed) → reach (node ty n (constant v) no_slots) ≡ 1 }
-    ensures columns { (ty : DataType) (n : ℕ) (d : Data) → is_canonical d ≡ true → cost (column ty n d None) ≡ 1 }
-    ensures column_reach { (ty : DataType) (n : ℕ) (d : Data) → is_canonical d ≡ true → reach (column ty n d None) ≡ 1 }
+    ensures columns { (ty : DataType) (n : ℕ) (d : Data) (ss : Slots) → is_canonical d ≡ true → cost (node ty n d ss) ≡ 1 }
+    ensures column_reach { (ty : DataType) (n : ℕ) (d : Data) (ss : Slots) → is_canonical d ≡ true → reach (node ty n d ss) ≡ 1 }
     ensures slices { (ty : DataType) (n a b : ℕ) (c : Tree) → cost (node ty n (slice a b) (slot c no_slots)) ≡ cost c + 3 * reach c }
     ensures slice_reach { (ty : DataType) (n a b : ℕ) (c : Tree) → reach (node ty n (slice a b) (slot c no_slots)) ≡ reach c }
     ensures functions { (ty : DataType) (n : ℕ) (f : ScalarFnOf) (ss : Slots) → cost (node ty n (function f) ss) ≡ 3 + slots_sum (λ c. 1 + cost c) ss }
     ensures function_reach { (ty : DataType) (n : ℕ) (f : ScalarFnOf) (ss : Slots) → reach (node ty n (function f) ss) ≡ 1 + slots_sum reach ss }
     ensures positive { (t : Tree) → 0 < cost t }
+{}
+
+/// States that the validity which a child tells is the one that it was made of. (own)
+pub fn validity_laws()
+    ensures { (v : Validity) (n : ℕ) → HasRows v n → valid_rows (validity_of (nullability_by v) (child_of v n)) n ≡ valid_rows v n }
 {}
 
 /// States what every column is, and that canonical columns are columns and no constants. (own)

@@ -10,6 +10,7 @@ mod laws;
 mod matcher;
 pub mod native;
 mod slicing;
+mod validity;
 
 pub use array::{
     Array, ArrayId, ArrayKind, ArrayParts, ArrayRef, ArraySlots, ArrayVTable, ArrayView, Encoded,
@@ -23,7 +24,8 @@ pub use arrays::slice::{Slice, SliceArray, SliceData, SliceDataParts};
 pub use canonical::Canonical;
 pub use column_types::{has_column, is_computed};
 pub use columnar::Columnar;
-pub use laws::{column_laws, execution_bounds, keeping_laws, refused_exactly};
+pub use laws::{column_laws, execution_bounds, keeping_laws, refused_exactly, validity_laws};
 pub use matcher::{AnyArray, AnyCanonical, AnyColumnar, AnyScalarFn, Matcher};
 pub use native::{NativeInteger, PrimitiveValues, native_of};
 pub use slicing::slice_canonical;
+pub use validity::{Validity, child_to_validity, validity_nchildren, validity_to_child};

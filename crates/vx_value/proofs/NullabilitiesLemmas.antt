@@ -53,6 +53,17 @@ pub set_alike : (n : Nullability) (s t : DataType) → same_but_nullability s t 
 set_alike n s t e =
     sym (set_twice n NonNullable s) ∙ ap (with_nullability n) ((same_but_nullability_Decides s t).0 e) ∙ set_twice n NonNullable t
 
+-- so the first is the second with its own nullability, and with whichever it was set
+own_nullability : (t : DataType) → with_nullability (nullability_of t) t ≡ t
+own_nullability type.null = refl
+own_nullability _ = refl
+
+pub alike_but_nullability : (s t : DataType) → same_but_nullability s t ≡ true → s ≡ with_nullability (nullability_of s) t
+alike_but_nullability s t e = sym (own_nullability s) ∙ set_alike (nullability_of s) s t e
+
+pub same_but_set : (n : Nullability) (s t : DataType) → s ≡ with_nullability n t → same_but_nullability s t ≡ true
+same_but_set n s t e = (same_but_nullability_Decides s t).1 (ap (with_nullability NonNullable) e ∙ set_twice NonNullable n t)
+
 -- a type that is nullable where another is has its values
 still_typed : (m : Nullability) (t : DataType) (v : Value) → (is_nullable (nullability_of t) ≡ true → m ≡ Nullable) → is_of t v ≡ true
     → is_of (with_nullability m t) v ≡ true

@@ -18,6 +18,9 @@ pub enum ArgKind {
     /// The tree in a slot has a type that the encoding doesn't accept there.
     #[error("slot type")]
     SlotType { slot: usize },
+    /// The tree in a slot differs in length, in rows, from what the encoding requires there.
+    #[error("slot len")]
+    SlotLen { slot: usize },
     /// The function takes `want` arguments, and there are `got`.
     #[error("ScalarFnArray requires {want} children, got {got}")]
     Arity { want: usize, got: usize },

@@ -20,10 +20,10 @@ pub enum ArrayKind<'a> {
     Slice(&'a ArrayRef, usize, usize),
     /// The function, and the slots of its arguments. Each slot has a tree.
     ScalarFn(&'a ScalarFnRef, &'a [Option<ArrayRef>]),
-    /// The rows of a column of booleans.
-    Bool(&'a BitBuffer),
-    /// The rows of a column of integers.
-    Primitive(&'a PrimitiveValues),
+    /// The rows of a column of booleans, and the slot of its validity.
+    Bool(&'a BitBuffer, &'a Option<ArrayRef>),
+    /// The rows of a column of integers, and the slot of its validity.
+    Primitive(&'a PrimitiveValues, &'a Option<ArrayRef>),
 }
 
 impl ArrayRef {

@@ -1,35 +1,37 @@
 //! Boolean columns.
 
-ghost use Rattle.std.specs.Prelude.{◌≡◌, ◌⊎◌, ◌≤◌, IfOk, IfErr, OnOk, true, refl, is_ok, option_map};
+ghost use Rattle.std.specs.Prelude.{◌≡◌, ◌⊎◌, ◌≤◌, IfOk, IfErr, OnOk, Some, None, true, refl, is_ok, length, option_map};
 ghost use Rattle.vx_value.specs.View.{type_of};
 ghost use Rattle.vx_value.specs.Types as type;
 ghost use Rattle.vx_value.specs.declared.dtype.Nullability.TheVariants.{NonNullable};
 ghost use Rattle.vx_value.specs.declared.id.Id.TheVariants as id;
-ghost use Rattle.vx_tree.specs.Tree.{bool, is_bool, booleans, len, datum, slice_of};
+ghost use Rattle.vx_tree.specs.Tree.{bool, is_bool, column, len, datum, slice_of};
 ghost use Rattle.vx_tree.specs.TreeView.{tree_of};
 ghost use Rattle.vx_tree.specs.Well.{IsNodeOf};
 ghost use Rattle.vx_tree.specs.Kinds.{IsKindOf};
 ghost use Rattle.vx_tree.specs.Keeps.{KeepsExactly};
+ghost use Rattle.vx_tree.specs.Validities.{child_of, flat_refusal};
 ghost use Rattle.vx_tree.specs.Columns.{canonical_tree, bool_column, empty_of};
 
 use crate::array::{
     Array, ArrayId, ArrayKind, ArrayParts, ArrayRef, Encoded, Encoding, Node, VTable,
 };
-use crate::arrays::column::check_column;
+use crate::arrays::column::{check_column, flat_column, only_slot};
 use crate::canonical::Canonical;
+use crate::validity::{Validity, slice_validity};
 use std::alloc::Global;
 use std::ops::Range;
 use vx_mask::BitBuffer;
-use vx_value::{ArgKind, DType, Id, Nullability, VortexError, VortexResult};
+use vx_value::{DType, Id, Nullability, VortexError, VortexResult};
 
 /// The tag of the boolean encoding.
 #[derive(Clone, Copy, Debug)]
 pub struct Bool;
 
-/// A column of non-null booleans.
+/// A column of booleans.
 pub type BoolArray = Array<Bool>;
 
-/// The data of a boolean column: one bit per row.
+/// The data of a boolean column: one bit per row, also if the row is null.
 #[derive(Clone, Debug, Drop)]
 pub struct BoolData {
     pub bits: BitBuffer,
@@ -42,7 +44,7 @@ impl BoolData {
         requires own { node.now.encoding ≡ Encoding.Bool self.now }
         ensures { IsKindOf result (tree_of node.now) }
     {
-        ArrayKind::Bool(&self.bits)
+        ArrayKind::Bool(&self.bits, &node.slots[0])
     }
 }
 
@@ -96,20 +98,25 @@ impl VTable for Bool {
 }
 
 impl BoolArray {
-    /// Makes the column of `bits`. `InvalidArgument` with `BadType` exactly if `dtype` isn't the non-nullable `bool`.
-    pub fn try_new(alloc: Global, dtype: DType, bits: BitBuffer) -> VortexResult<BoolArray>
-        ensures ok { IfOk result (λ a. a ≡ booleans bits) }
-        ensures valid { OnOk result (type_of dtype ≡ type.bool NonNullable) }
+    /// Makes the column of `bits`, whose null rows `validity` tells. What a null row's bit is doesn't count.
+    ///
+    /// The first condition that fails gives the error: `InvalidArgument` with `BadType` exactly if `dtype` isn't `bool` with the
+    /// nullability of `validity`, with `SlotType` exactly if the validity's array isn't one of non-nullable booleans, and with
+    /// `SlotLen` exactly if it hasn't as many rows as there are bits.
+    pub fn try_new(
+        alloc: Global,
+        dtype: DType,
+        bits: BitBuffer,
+        validity: &Validity,
+    ) -> VortexResult<BoolArray>
+        ensures ok { IfOk result (λ a. a ≡ column (type_of dtype) (length bits) (bool bits) (child_of validity.now (length bits))) }
+        ensures valid { OnOk result (flat_refusal (type.bool NonNullable) (type_of dtype) (length bits) validity.now ≡ None) }
         ensures refused { IfErr result (λ e. (e ≡ VortexError.OutOfMemory)
-            ⊎ ((e ≡ VortexError.InvalidArgument ArgKind.BadType) × (¬ (type_of dtype ≡ type.bool NonNullable)))) }
+            ⊎ (flat_refusal (type.bool NonNullable) (type_of dtype) (length bits) validity.now ≡ Some e)) }
     {
-        let mut slots = Vec::with_capacity(alloc, 1)?;
-        slots.push(None)?;
+        let of_type = DType::Bool(Nullability::NonNullable);
         let len = bits.len();
-        Array::try_from_parts(
-            alloc,
-            ArrayParts::new(Bool, dtype, len, BoolData { bits }, slots),
-        )
+        flat_column(alloc, Bool, dtype, &of_type, len, BoolData { bits }, validity)
     }
 
     /// Returns the rows in `range`, which must be in order and in bounds, as a column that shares its storage. The only
@@ -119,23 +126,28 @@ impl BoolArray {
         ensures ok { IfOk result (λ c. KeepsExactly (slice_of range.start range.end self.now) (canonical_tree c)) }
         ensures err { IfErr result (λ e. e ≡ VortexError.OutOfMemory) }
     {
-        let ArrayKind::Bool(bits) = self.as_array().kind() else {
+        let ArrayKind::Bool(bits, validity) = self.as_array().kind() else {
             unreachable!()
         };
+        let (start, end) = (range.start, range.end);
         let bits = bits.slice(range)?;
-        let dtype = DType::Bool(Nullability::NonNullable);
-        Ok(Canonical::Bool(BoolArray::try_new(alloc, dtype, bits)?))
+        let slots = only_slot(alloc, slice_validity(alloc, validity, start..end)?)?;
+        let dtype = self.dtype().clone()?;
+        let parts = ArrayParts::new(Bool, dtype, end - start, BoolData { bits }, slots);
+        Ok(Canonical::Bool(Array::from_parts_unchecked(alloc, parts)?))
     }
 }
 
 impl Canonical {
-    /// Makes the boolean column without rows. The only error is `OutOfMemory`. (own)
-    pub(crate) fn empty_bool(alloc: Global) -> VortexResult<Canonical>
-        ensures ok { IfOk result (λ c. canonical_tree c ≡ empty_of (type.bool NonNullable)) }
+    /// Makes the boolean column without rows, of this nullability. The only error is `OutOfMemory`. (own)
+    #[tactic(auto, using(crate::proofs::ValiditiesLemmas::no_child, crate::proofs::ValiditiesLemmas::same_nullability))]
+    pub(crate) fn empty_bool(alloc: Global, nullability: Nullability) -> VortexResult<Canonical>
+        ensures ok { IfOk result (λ c. canonical_tree c ≡ empty_of (type.bool nullability)) }
         ensures err { IfErr result (λ e. e ≡ VortexError.OutOfMemory) }
     {
         let bits = BitBuffer::repeat(alloc, false, 0)?;
-        let column = BoolArray::try_new(alloc, DType::Bool(Nullability::NonNullable), bits)?;
+        let validity = Validity::from(nullability);
+        let column = BoolArray::try_new(alloc, DType::Bool(nullability), bits, &validity)?;
         Ok(Canonical::Bool(column))
     }
 

@@ -1,17 +1,21 @@
-//! The conditions that all canonical columns share.
+//! What all flat columns share: a value in each row, and a slot for their validity.
 
-ghost use Rattle.std.specs.Prelude.{◌≡◌, MatchResult, Some, None};
+ghost use Rattle.std.specs.Prelude.{◌≡◌, ◌⊎◌, ◌≤◌, ◌-◌, ℕ, List, [], ◌∷◌, MatchResult, IfOk, IfErr, OnOk, Some, None, option_map};
+ghost use Rattle.vx_value.specs.Types.{DataType, nullability_of};
 ghost use Rattle.vx_value.specs.View.{type_of};
-ghost use Rattle.vx_tree.specs.Tree.{slots_of};
-ghost use Rattle.vx_tree.specs.Well.{shapes};
-ghost use Rattle.vx_tree.specs.Refusals.{column_refusal};
+ghost use Rattle.vx_tree.specs.Tree.{column, slots_of};
+ghost use Rattle.vx_tree.specs.Well.{Shape, shape_of, IsFlat, IsNode, shapes};
+ghost use Rattle.vx_tree.specs.Refusals.{column_refusal, validity_type_refusal, validity_len_refusal};
+ghost use Rattle.vx_tree.specs.Validities.{child_of, flat_refusal};
 
-use crate::array::{ArrayParts, Encoded};
+use crate::array::{Array, ArrayParts, ArrayRef, Encoded, VTable};
 use crate::arrays::types::is_same_type;
-use vx_value::{ArgKind, DType, VortexError, VortexResult};
+use crate::validity::{Validity, check_validity, validity_to_child};
+use std::alloc::{AllocError, Global};
+use vx_value::{ArgKind, DType, Nullability, VortexError, VortexResult};
 
-/// Checks that `parts` make a column of `values` values of type `of_type`.
-#[tactic(auto, using(crate::proofs::RefusalsLemmas::column_slot_count, crate::proofs::RefusalsLemmas::the_slot))]
+/// Checks that `parts` make a column of `values` values of type `of_type`, whose nullability doesn't count.
+#[tactic(auto, using(crate::proofs::RefusalsLemmas::column_slot_count, crate::proofs::RefusalsLemmas::the_slot, crate::proofs::RefusalsLemmas::column_by_slot))]
 pub(crate) fn check_column<V: Encoded>(
     parts: &ArrayParts<V>,
     of_type: &DType,
@@ -24,15 +28,102 @@ pub(crate) fn check_column<V: Encoded>(
     if parts.slots.len() != 1 {
         return Err(VortexError::InvalidArgument(ArgKind::SlotCount));
     }
-    let validity = &parts.slots[0];
-    if !is_same_type(&parts.dtype, of_type) {
+    check_flat(&parts.dtype, parts.len, of_type, values, &parts.slots[0])
+}
+
+/// Checks that a column of type `dtype` and `len` rows may have `values` values of type `of_type` and this tree in the slot
+/// of its validity.
+#[tactic(auto, using(crate::proofs::ConditionsLemmas::in_turn))]
+fn check_flat(
+    dtype: &DType,
+    len: usize,
+    of_type: &DType,
+    values: usize,
+    validity: &Option<ArrayRef>,
+) -> VortexResult<()>
+    ensures { MatchResult result
+        (λ _. column_refusal (type_of dtype.now) len (type_of of_type.now) values (option_map shape_of validity.now ∷ []) ≡ None)
+        (λ e. column_refusal (type_of dtype.now) len (type_of of_type.now) values (option_map shape_of validity.now ∷ []) ≡ Some e) }
+{
+    if !dtype.eq_ignore_nullability(of_type) {
         return Err(VortexError::InvalidArgument(ArgKind::BadType));
     }
-    if validity.is_some() {
-        return Err(VortexError::InvalidArgument(ArgKind::SlotType { slot: 0 }));
-    }
-    if parts.len != values {
+    check_validity_type(dtype, validity)?;
+    if len != values {
         return Err(VortexError::InvalidArgument(ArgKind::NodeLen));
     }
-    Ok(())
+    check_validity_len(len, validity)
+}
+
+/// Checks that a column of type `dtype` may have a tree of this type in the slot of its validity.
+fn check_validity_type(dtype: &DType, validity: &Option<ArrayRef>) -> VortexResult<()>
+    ensures { MatchResult result
+        (λ _. validity_type_refusal (nullability_of (type_of dtype.now)) (option_map shape_of validity.now) ≡ None)
+        (λ e. validity_type_refusal (nullability_of (type_of dtype.now)) (option_map shape_of validity.now) ≡ Some e) }
+{
+    let Some(child) = validity else {
+        return Ok(());
+    };
+    match dtype.nullability() {
+        Nullability::Nullable if is_same_type(child.dtype(), &BOOLEANS) => Ok(()),
+        _ => Err(VortexError::InvalidArgument(ArgKind::SlotType { slot: 0 })),
+    }
+}
+
+/// The type of a validity's rows.
+const BOOLEANS: DType = DType::Bool(Nullability::NonNullable);
+
+/// Checks that the tree in the slot of a validity has `len` rows.
+fn check_validity_len(len: usize, validity: &Option<ArrayRef>) -> VortexResult<()>
+    ensures { MatchResult result
+        (λ _. validity_len_refusal len (option_map shape_of validity.now) ≡ None)
+        (λ e. validity_len_refusal len (option_map shape_of validity.now) ≡ Some e) }
+{
+    match validity {
+        Some(child) if child.len() != len => {
+            Err(VortexError::InvalidArgument(ArgKind::SlotLen { slot: 0 }))
+        }
+        _ => Ok(()),
+    }
+}
+
+/// Makes the column of `payload`, `len` values of the non-nullable type `of_type`. `dtype` must be that type with the
+/// nullability of `validity`, else `InvalidArgument` with `BadType`; then `validity` must be one of `len` rows, else
+/// `InvalidArgument` with `SlotType` or `SlotLen`.
+#[tactic(auto, using(crate::proofs::ConditionsLemmas::in_turn, crate::proofs::ValiditiesLemmas::flat_made))]
+pub(crate) fn flat_column<V: VTable>(
+    alloc: Global,
+    vtable: V,
+    dtype: DType,
+    of_type: &DType,
+    len: usize,
+    payload: V::TypedArrayData,
+    validity: &Validity,
+) -> VortexResult<Array<V>>
+    requires { (ty : DataType) (n : ℕ) (ss : List (Option Shape)) → IsFlat (type_of of_type.now) len ty n ss → IsNode ty n (V.stands_for payload) ss }
+    ensures ok { IfOk result (λ a. a ≡ column (type_of dtype) len (V.stands_for payload) (child_of validity.now len)) }
+    ensures valid { OnOk result (flat_refusal (type_of of_type.now) (type_of dtype) len validity.now ≡ None) }
+    ensures refused { IfErr result (λ e. (e ≡ VortexError.OutOfMemory)
+        ⊎ (flat_refusal (type_of of_type.now) (type_of dtype) len validity.now ≡ Some e)) }
+{
+    if !is_same_type(&dtype, &of_type.with_nullability(validity.nullability())?) {
+        return Err(VortexError::InvalidArgument(ArgKind::BadType));
+    }
+    check_validity(validity, len)?;
+    let child = validity_to_child(alloc, validity, len)?;
+    let slots = only_slot(alloc, child)?;
+    let parts = ArrayParts::new(vtable, dtype, len, payload, slots);
+    Ok(Array::from_parts_unchecked(alloc, parts)?)
+}
+
+/// Returns `child` as the only slot of a node.
+pub(crate) fn only_slot(
+    alloc: Global,
+    child: Option<ArrayRef>,
+) -> Result<Vec<Option<ArrayRef>>, AllocError>
+    ensures { IfOk result (λ slots. slots.items ≡ child ∷ []) }
+{
+    let mut slots = Vec::with_capacity(alloc, 1)?;
+    slots.push(child)?;
+    Ok(slots)
 }

@@ -6,4 +6,4 @@ pub mod constant;
 pub mod primitive;
 pub mod scalar_fn;
 pub mod slice;
-mod types;
+pub(crate) mod types;

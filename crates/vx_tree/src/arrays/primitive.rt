@@ -1,36 +1,38 @@
 //! Integer columns.
 
-ghost use Rattle.std.specs.Prelude.{◌≡◌, ◌⊎◌, ◌≤◌, IfOk, IfErr, OnOk, true, refl, is_ok, option_map};
+ghost use Rattle.std.specs.Prelude.{◌≡◌, ◌⊎◌, ◌≤◌, IfOk, IfErr, OnOk, Some, None, true, refl, is_ok, length, option_map};
 ghost use Rattle.vx_value.specs.View.{type_of};
 ghost use Rattle.vx_value.specs.Types as type;
 ghost use Rattle.vx_value.specs.declared.dtype.Nullability.TheVariants.{NonNullable};
 ghost use Rattle.vx_tree.specs.Natives.{values_of, ptype_of};
 ghost use Rattle.vx_value.specs.declared.id.Id.TheVariants as id;
-ghost use Rattle.vx_tree.specs.Tree.{primitive, is_primitive, integers, len, datum, slice_of};
+ghost use Rattle.vx_tree.specs.Tree.{primitive, is_primitive, column, len, datum, slice_of};
 ghost use Rattle.vx_tree.specs.TreeView.{tree_of};
 ghost use Rattle.vx_tree.specs.Well.{IsNodeOf};
 ghost use Rattle.vx_tree.specs.Kinds.{IsKindOf};
 ghost use Rattle.vx_tree.specs.Keeps.{KeepsExactly};
+ghost use Rattle.vx_tree.specs.Validities.{child_of, flat_refusal};
 ghost use Rattle.vx_tree.specs.Columns.{canonical_tree, primitive_column, empty_of};
 
 use crate::array::{
     Array, ArrayId, ArrayKind, ArrayParts, ArrayRef, Encoded, Encoding, Node, VTable,
 };
-use crate::arrays::column::check_column;
+use crate::arrays::column::{check_column, flat_column, only_slot};
 use crate::canonical::Canonical;
 use crate::native::PrimitiveValues;
+use crate::validity::{Validity, slice_validity};
 use std::alloc::Global;
 use std::ops::Range;
-use vx_value::{ArgKind, DType, Id, Nullability, PType, VortexError, VortexResult};
+use vx_value::{DType, Id, Nullability, PType, VortexError, VortexResult};
 
 /// The tag of the primitive encoding.
 #[derive(Clone, Copy, Debug)]
 pub struct Primitive;
 
-/// A column of non-null integers.
+/// A column of integers.
 pub type PrimitiveArray = Array<Primitive>;
 
-/// The data of an integer column: the value of each row.
+/// The data of an integer column: a value in each row, also if the row is null.
 #[derive(Clone, Debug, Drop)]
 pub struct PrimitiveData {
     pub values: PrimitiveValues,
@@ -43,7 +45,7 @@ impl PrimitiveData {
         requires own { node.now.encoding ≡ Encoding.Primitive self.now }
         ensures { IsKindOf result (tree_of node.now) }
     {
-        ArrayKind::Primitive(&self.values)
+        ArrayKind::Primitive(&self.values, &node.slots[0])
     }
 }
 
@@ -95,25 +97,26 @@ impl VTable for Primitive {
 }
 
 impl PrimitiveArray {
-    /// Makes the column of `values`. `InvalidArgument` with `BadType` exactly if `dtype` isn't the non-nullable type of the
-    /// values.
+    /// Makes the column of `values`, whose null rows `validity` tells. What a null row's value is doesn't count.
+    ///
+    /// The first condition that fails gives the error: `InvalidArgument` with `BadType` exactly if `dtype` isn't the values' type
+    /// with the nullability of `validity`, with `SlotType` exactly if the validity's array isn't one of non-nullable booleans,
+    /// and with `SlotLen` exactly if it hasn't as many rows as there are values.
     pub fn try_new(
         alloc: Global,
         dtype: DType,
         values: PrimitiveValues,
+        validity: &Validity,
     ) -> VortexResult<PrimitiveArray>
-        ensures ok { IfOk result (λ a. a ≡ integers (ptype_of values) (values_of values)) }
-        ensures valid { OnOk result (type_of dtype ≡ type.primitive (ptype_of values) NonNullable) }
+        ensures ok { IfOk result (λ a. a ≡ column (type_of dtype) (length (values_of values)) (primitive (ptype_of values) (values_of values))
+            (child_of validity.now (length (values_of values)))) }
+        ensures valid { OnOk result (flat_refusal (type.primitive (ptype_of values) NonNullable) (type_of dtype) (length (values_of values)) validity.now ≡ None) }
         ensures refused { IfErr result (λ e. (e ≡ VortexError.OutOfMemory)
-            ⊎ ((e ≡ VortexError.InvalidArgument ArgKind.BadType) × (¬ (type_of dtype ≡ type.primitive (ptype_of values) NonNullable)))) }
+            ⊎ (flat_refusal (type.primitive (ptype_of values) NonNullable) (type_of dtype) (length (values_of values)) validity.now ≡ Some e)) }
     {
-        let mut slots = Vec::with_capacity(alloc, 1)?;
-        slots.push(None)?;
+        let of_type = DType::Primitive(values.ptype(), Nullability::NonNullable);
         let len = values.len();
-        Array::try_from_parts(
-            alloc,
-            ArrayParts::new(Primitive, dtype, len, PrimitiveData { values }, slots),
-        )
+        flat_column(alloc, Primitive, dtype, &of_type, len, PrimitiveData { values }, validity)
     }
 
     /// Returns the rows in `range`, which must be in order and in bounds, as a column that shares its storage. The only
@@ -123,25 +126,34 @@ impl PrimitiveArray {
         ensures ok { IfOk result (λ c. KeepsExactly (slice_of range.start range.end self.now) (canonical_tree c)) }
         ensures err { IfErr result (λ e. e ≡ VortexError.OutOfMemory) }
     {
-        let ArrayKind::Primitive(values) = self.as_array().kind() else {
+        let ArrayKind::Primitive(values, validity) = self.as_array().kind() else {
             unreachable!()
         };
+        let (start, end) = (range.start, range.end);
         let values = values.slice(range)?;
-        let dtype = DType::Primitive(values.ptype(), Nullability::NonNullable);
-        Ok(Canonical::Primitive(PrimitiveArray::try_new(alloc, dtype, values)?))
+        let slots = only_slot(alloc, slice_validity(alloc, validity, start..end)?)?;
+        let dtype = self.dtype().clone()?;
+        let parts = ArrayParts::new(Primitive, dtype, end - start, PrimitiveData { values }, slots);
+        Ok(Canonical::Primitive(Array::from_parts_unchecked(alloc, parts)?))
     }
 }
 
 impl Canonical {
-    /// Makes the integer column of type `ptype` without rows. The only error is `OutOfMemory`. (own)
-    #[tactic(auto, using(vx_value::proofs::DefaultsLemmas::zero_in_range))]
-    pub(crate) fn empty_primitive(alloc: Global, ptype: PType) -> VortexResult<Canonical>
-        ensures ok { IfOk result (λ c. canonical_tree c ≡ empty_of (type.primitive ptype NonNullable)) }
+    /// Makes the integer column of type `ptype` without rows, of this nullability. The only error is `OutOfMemory`. (own)
+    #[tactic(auto, using(vx_value::proofs::DefaultsLemmas::zero_in_range, crate::proofs::ValiditiesLemmas::no_child, crate::proofs::ValiditiesLemmas::same_nullability))]
+    pub(crate) fn empty_primitive(
+        alloc: Global,
+        ptype: PType,
+        nullability: Nullability,
+    ) -> VortexResult<Canonical>
+        ensures ok { IfOk result (λ c. canonical_tree c ≡ empty_of (type.primitive ptype nullability)) }
         ensures err { IfErr result (λ e. e ≡ VortexError.OutOfMemory) }
     {
         let values = PrimitiveValues::repeat(alloc, ptype, 0, 0)?;
-        let dtype = DType::Primitive(ptype, Nullability::NonNullable);
-        Ok(Canonical::Primitive(PrimitiveArray::try_new(alloc, dtype, values)?))
+        let validity = Validity::from(nullability);
+        let dtype = DType::Primitive(ptype, nullability);
+        let column = PrimitiveArray::try_new(alloc, dtype, values, &validity)?;
+        Ok(Canonical::Primitive(column))
     }
 
     /// Returns `array` as a column. Hands it back if it isn't an integer column. (own)

@@ -254,7 +254,7 @@ fn check_column_type(function: &ScalarFnRef, dtype: &DType) -> VortexResult<()>
     ensures valid { OnOk result (column_type_refusal function.now (type_of dtype.now) ≡ None) }
     ensures refused { IfErr result (λ e. column_type_refusal function.now (type_of dtype.now) ≡ Some e) }
 {
-    if is_computed(function) && has_column(dtype) {
+    if is_computed(function, dtype) {
         Ok(())
     } else {
         Err(VortexError::InvalidArgument(ArgKind::BadType))

@@ -7,4 +7,5 @@ use Rattle.vx_tree.proofs.arrays.primitive.PrimitiveData.kind_of.Goals as goal
 pub returns : goal.returns
 returns c =
     let values = c.args.self.now.values in
-    kind_primitive c.args.node.now c.requires.well (ptype_of values) (values_of values) (ap data_of c.requires.own)
+    let validity = c.index.result.now in
+    kind_primitive c.args.node.now c.requires.well (ptype_of values) (values_of values) validity validity (ap data_of c.requires.own) c.index.ensures

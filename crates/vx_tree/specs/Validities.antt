@@ -1,0 +1,90 @@
+-- Which rows of a column are null, and the tree that tells it.
+use Rattle.std.specs.Prelude.{◌≡◌, ◌≤◌, ℕ, List, replicate, Bool, true, false, ◌==◌, Option, Some, None}
+use Rattle.vx_value.specs.Types.{DataType, bool, same_type}
+use Rattle.vx_value.specs.Nullabilities.{with_nullability}
+use Rattle.vx_value.specs.Values.{Value, boolean}
+use Rattle.vx_value.specs.Typed.{Typed}
+use Rattle.vx_value.specs.Cell.{Cell, value}
+use Rattle.vx_value.specs.declared.dtype.Nullability.{Nullability}
+use Rattle.vx_value.specs.declared.dtype.Nullability.TheVariants.{NonNullable, Nullable}
+use Rattle.vx_value.specs.declared.error.VortexError.{VortexError}
+use Rattle.vx_value.specs.declared.error.VortexError.TheVariants.{InvalidArgument}
+use Rattle.vx_value.specs.declared.error.ArgKind.TheVariants.{SlotType, SlotLen, BadType}
+use Rattle.vx_tree.specs.Conditions.{first_of_both, unless}
+use Rattle.vx_tree.specs.Tree.{Tree, Data, constant, dtype, len, datum, constant_of, slice_of}
+use Rattle.vx_tree.specs.Cells.{rows}
+use Rattle.vx_tree.specs.Keeps.{KeepsExactly}
+use Rattle.vx_tree.specs.Well.{IsWell}
+use Rattle.vx_tree.specs.declared.validity.Validity.{Validity}
+use Rattle.vx_tree.specs.declared.validity.Validity.TheVariants as validity
+
+-- the nullability of its column's type
+abbrev pub nullability_by : Validity → Nullability
+nullability_by validity.NonNullable = NonNullable
+nullability_by _ = Nullable
+
+-- the validity of a column of this nullability without a null
+abbrev pub without_nulls : Nullability → Validity
+without_nulls NonNullable = validity.NonNullable
+without_nulls Nullable = validity.AllValid
+
+-- n rows of one truth value
+abbrev pub truths : Bool → ℕ → Tree
+truths b n = constant_of (record { of_type = bool NonNullable; value = boolean b }) n
+
+-- its tree in a column of n rows: none if no row is null
+abbrev pub child_of : Validity → ℕ → Option Tree
+child_of validity.AllInvalid n = Some (truths false n)
+child_of (validity.Array t) n = Some t
+child_of _ n = None
+
+-- how many children tell it
+abbrev pub count_children : Option Tree → ℕ
+count_children None = 0
+count_children (Some t) = 1
+
+-- what it says of n rows: whether each isn't null
+abbrev pub valid_rows : Validity → ℕ → List Cell
+valid_rows validity.AllInvalid n = replicate n (value (boolean false))
+valid_rows (validity.Array t) n = rows t
+valid_rows _ n = replicate n (value (boolean true))
+
+-- the validity that a child stands for: a constant is read back
+abbrev pub of_truth : Value → Tree → Validity
+of_truth (boolean true) t = validity.AllValid
+of_truth (boolean false) t = validity.AllInvalid
+of_truth v t = validity.Array t
+
+abbrev pub of_data : Data → Tree → Validity
+of_data (constant v) t = of_truth v.value t
+of_data d t = validity.Array t
+
+abbrev pub validity_of : Nullability → Option Tree → Validity
+validity_of m None = without_nulls m
+validity_of m (Some t) = of_data (datum t) t
+
+-- it is one of n rows
+abbrev pub HasRows : Validity → ℕ → Type 0
+HasRows (validity.Array t) n = IsWell t × (dtype t ≡ bool NonNullable) × (len t ≡ n)
+HasRows _ n = Unit {0}
+
+-- why it is none of n rows
+abbrev pub array_refusal : ℕ → Validity → Option VortexError
+array_refusal n (validity.Array t) =
+    first_of_both (unless (same_type (dtype t) (bool NonNullable)) (InvalidArgument (SlotType 0))) (unless (len t == n) (InvalidArgument (SlotLen 0)))
+array_refusal n _ = None
+
+-- why no column of n values of the type `of_type` has the type ty and this validity
+abbrev pub flat_refusal : DataType → DataType → ℕ → Validity → Option VortexError
+flat_refusal of_type ty n v =
+    first_of_both (unless (same_type ty (with_nullability (nullability_by v) of_type)) (InvalidArgument BadType)) (array_refusal n v)
+
+-- the tree in a validity's slot for the rows from a to b
+abbrev pub IsValidityPart : ℕ → ℕ → Option Tree → Option Tree → Type 0
+IsValidityPart a b None w = w ≡ None
+IsValidityPart a b (Some t) w = (u : Tree) × (w ≡ Some u) × KeepsExactly (slice_of a b t) u
+
+-- the range is one of its rows
+abbrev pub HasRange : ℕ → ℕ → Option Tree → Type 0
+HasRange a b None = Unit {0}
+HasRange a b (Some t) = (a ≤ b) × (b ≤ len t)

@@ -1,0 +1,137 @@
+//! Which rows of a column are null.
+
+ghost use Rattle.std.specs.Prelude.{◌≡◌, ℕ, IfOk, IfErr, MatchResult, Some, None, option_map};
+ghost use Rattle.vx_value.specs.View.{type_of};
+ghost use Rattle.vx_tree.specs.Validities.{nullability_by, without_nulls, child_of, count_children, validity_of, array_refusal, IsValidityPart, HasRange};
+
+use crate::array::{ArrayKind, ArrayRef, IntoArray};
+use crate::arrays::constant::ConstantArray;
+use crate::arrays::slice::SliceArray;
+use crate::arrays::types::is_same_type;
+use std::alloc::{AllocError, Global};
+use std::ops::Range;
+use vx_value::{ArgKind, DType, Nullability, Scalar, VortexError, VortexResult};
+
+/// Which rows of a column are null.
+#[derive(Clone, Debug, Drop)]
+pub enum Validity {
+    /// No row, since the column's type is non-nullable.
+    NonNullable,
+    /// No row, though the column's type is nullable.
+    AllValid,
+    /// Every row.
+    AllInvalid,
+    /// The rows for which this array of non-nullable booleans is false.
+    Array(ArrayRef),
+}
+
+impl Validity {
+    /// Returns the nullability of the column's type.
+    pub fn nullability(&self) -> Nullability
+        ensures { result ≡ nullability_by self.now }
+    {
+        match self {
+            Validity::NonNullable => Nullability::NonNullable,
+            _ => Nullability::Nullable,
+        }
+    }
+}
+
+impl From<Nullability> for Validity {
+    ghost from_gives = { λ n v. v ≡ without_nulls n };
+
+    fn from(nullability: Nullability) -> Validity {
+        match nullability {
+            Nullability::NonNullable => Validity::NonNullable,
+            Nullability::Nullable => Validity::AllValid,
+        }
+    }
+}
+
+/// Returns the child that tells `validity` in a column of `len` rows, or `None` if no row is null. The only error is
+/// `OutOfMemory`.
+pub fn validity_to_child(
+    alloc: Global,
+    validity: &Validity,
+    len: usize,
+) -> VortexResult<Option<ArrayRef>>
+    ensures ok { IfOk result (λ child. child ≡ child_of validity.now len) }
+    ensures err { IfErr result (λ e. e ≡ VortexError.OutOfMemory) }
+{
+    match validity {
+        Validity::NonNullable | Validity::AllValid => Ok(None),
+        Validity::AllInvalid => {
+            let invalid = Scalar::bool(false, Nullability::NonNullable);
+            Ok(Some(ConstantArray::new(alloc, invalid, len)?.into_array()))
+        }
+        Validity::Array(array) => Ok(Some(array.clone()?)),
+    }
+}
+
+/// Returns the validity that `child` tells in a column of this nullability. A constant is read back: it is `AllValid` or
+/// `AllInvalid`.
+pub fn child_to_validity(
+    child: Option<&ArrayRef>,
+    nullability: Nullability,
+) -> Result<Validity, AllocError>
+    ensures { IfOk result (λ v. v ≡ validity_of nullability (option_map (λ c. c.now) child)) }
+{
+    let Some(child) = child else {
+        return Ok(Validity::from(nullability));
+    };
+    if let ArrayKind::Constant(scalar) = child.kind() {
+        match scalar.as_bool() {
+            Some(true) => return Ok(Validity::AllValid),
+            Some(false) => return Ok(Validity::AllInvalid),
+            None => {}
+        }
+    }
+    Ok(Validity::Array(child.clone()?))
+}
+
+/// Returns the number of children that tell `validity`: 0 or 1.
+pub fn validity_nchildren(validity: &Validity) -> usize
+    ensures { (n : ℕ) → result ≡ count_children (child_of validity.now n) }
+{
+    match validity {
+        Validity::NonNullable | Validity::AllValid => 0,
+        Validity::AllInvalid | Validity::Array(_) => 1,
+    }
+}
+
+/// Checks that `validity` is one of `len` rows.
+pub(crate) fn check_validity(validity: &Validity, len: usize) -> VortexResult<()>
+    ensures { MatchResult result (λ _. array_refusal len validity.now ≡ None) (λ e. array_refusal len validity.now ≡ Some e) }
+{
+    let Validity::Array(array) = validity else {
+        return Ok(());
+    };
+    if !is_same_type(array.dtype(), &DType::Bool(Nullability::NonNullable)) {
+        return Err(VortexError::InvalidArgument(ArgKind::SlotType { slot: 0 }));
+    }
+    if array.len() != len {
+        return Err(VortexError::InvalidArgument(ArgKind::SlotLen { slot: 0 }));
+    }
+    Ok(())
+}
+
+/// Returns the validity of the rows in `range`, which must be in order and in bounds, from the slot of their column's. A
+/// constant stays one. The only error is `OutOfMemory`.
+pub(crate) fn slice_validity(
+    alloc: Global,
+    validity: &Option<ArrayRef>,
+    range: Range<usize>,
+) -> VortexResult<Option<ArrayRef>>
+    requires { HasRange range.start range.end validity.now }
+    ensures ok { IfOk result (IsValidityPart range.start range.end validity.now) }
+    ensures err { IfErr result (λ e. e ≡ VortexError.OutOfMemory) }
+{
+    let Some(child) = validity else {
+        return Ok(None);
+    };
+    if let ArrayKind::Constant(scalar) = child.kind() {
+        let len = range.end - range.start;
+        return Ok(Some(ConstantArray::new(alloc, scalar.clone()?, len)?.into_array()));
+    }
+    Ok(Some(SliceArray::new(alloc, child.clone()?, range)?.into_array()))
+}
