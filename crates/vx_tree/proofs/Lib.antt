@@ -8,4 +8,3 @@ pub mod RefusalsLemmas
 pub mod CallsLemmas
 pub mod CostLemmas
 pub mod ColumnsLemmas
-pub mod NativesLemmas

@@ -8,7 +8,6 @@ mod column_types;
 mod columnar;
 mod laws;
 mod matcher;
-pub mod native;
 mod slicing;
 
 pub use array::{
@@ -25,5 +24,5 @@ pub use column_types::{has_column, is_computed};
 pub use columnar::Columnar;
 pub use laws::{column_laws, execution_bounds, keeping_laws, refused_exactly};
 pub use matcher::{AnyArray, AnyCanonical, AnyColumnar, AnyScalarFn, Matcher};
-pub use native::{NativeInteger, PrimitiveValues, native_of};
 pub use slicing::slice_canonical;
+pub use vx_native::PrimitiveValues;

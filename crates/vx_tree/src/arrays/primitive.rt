@@ -4,7 +4,7 @@ ghost use Rattle.std.specs.Prelude.{◌≡◌, ◌⊎◌, ◌≤◌, IfOk, IfErr
 ghost use Rattle.vx_value.specs.View.{type_of};
 ghost use Rattle.vx_value.specs.Types as type;
 ghost use Rattle.vx_value.specs.declared.dtype.Nullability.TheVariants.{NonNullable};
-ghost use Rattle.vx_tree.specs.Natives.{values_of, ptype_of};
+ghost use Rattle.vx_native.specs.Natives.{values_of, ptype_of};
 ghost use Rattle.vx_value.specs.declared.id.Id.TheVariants as id;
 ghost use Rattle.vx_tree.specs.Tree.{primitive, is_primitive, integers, len, datum, slice_of};
 ghost use Rattle.vx_tree.specs.TreeView.{tree_of};
@@ -18,9 +18,9 @@ use crate::array::{
 };
 use crate::arrays::column::check_column;
 use crate::canonical::Canonical;
-use crate::native::PrimitiveValues;
 use std::alloc::Global;
 use std::ops::Range;
+use vx_native::PrimitiveValues;
 use vx_value::{ArgKind, DType, Id, Nullability, PType, VortexError, VortexResult};
 
 /// The tag of the primitive encoding.
