@@ -19,7 +19,7 @@ use Rattle.vx_tree.specs.Keeps.{KeepsExactly}
 use Rattle.vx_tree.specs.Well.{IsNode, IsWell, shapes}
 use Rattle.vx_tree.specs.declared.canonical.Canonical.{Canonical}
 use Rattle.vx_tree.proofs.ColumnTypesLemmas.{column_of_bits, column_of_integers}
-use Rattle.vx_tree.proofs.NativesLemmas.{map_copies}
+use Rattle.vx_native.proofs.NativesLemmas.{map_copies}
 use Rattle.vx_tree.proofs.KeepsLemmas.{rows_equal}
 
 -- a tree that has another's type, length and rows, and no fault below, stands for it exactly

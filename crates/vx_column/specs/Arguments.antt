@@ -12,7 +12,7 @@ use Rattle.vx_value.specs.declared.dtype.Nullability.TheVariants.{NonNullable}
 use Rattle.vx_value.specs.declared.dtype.PType.{PType}
 use Rattle.vx_mask.specs.Operands.{bit_in, HasBits}
 use Rattle.vx_tree.specs.ColumnTypes.{has_column}
-use Rattle.vx_tree.specs.Natives.{values_of, ptype_of}
+use Rattle.vx_native.specs.Natives.{values_of, ptype_of}
 use Rattle.vx_tree.specs.Tree.{dtype, len}
 use Rattle.vx_tree.specs.Cells.{rows}
 use Rattle.vx_tree.specs.Columns.{columnar_tree}

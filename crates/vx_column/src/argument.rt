@@ -7,7 +7,8 @@ ghost use Rattle.vx_column.specs.declared.argument.Argument.TheVariants.{Integer
 
 use std::alloc::{AllocError, Global};
 use vx_mask::BitOperand;
-use vx_tree::{ArrayKind, Columnar, PrimitiveValues};
+use vx_native::PrimitiveValues;
+use vx_tree::{ArrayKind, Columnar};
 use vx_value::{DType, PType, ScalarKind};
 
 /// The rows of an argument, by how they are stored: a column, or one value for every row.

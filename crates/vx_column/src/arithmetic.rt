@@ -10,7 +10,7 @@ ghost use Rattle.vx_fn.specs.declared.function.Operator.{Operator as OperatorOf}
 ghost use Rattle.vx_fn.specs.declared.function.Operator.TheVariants.{Add, Sub, Mul, Div};
 ghost use Rattle.vx_fn.specs.declared.function.ScalarFnRef.TheVariants.{Binary};
 ghost use Rattle.vx_tree.specs.Tree.{integers};
-ghost use Rattle.vx_tree.specs.Natives.{values_of, ptype_of};
+ghost use Rattle.vx_native.specs.Natives.{values_of, ptype_of};
 ghost use Rattle.vx_tree.specs.Columns.{canonical_tree};
 ghost use Rattle.vx_column.specs.Arguments.{AreIntegers, types_of};
 ghost use Rattle.vx_column.specs.Computed.{IsComputed, IsNotComputed};
@@ -21,7 +21,8 @@ use crate::operand::{Operand, operand_of};
 use num_traits::{CheckedAdd, CheckedDiv, CheckedMul, CheckedSub};
 use std::alloc::Global;
 use vx_mask::Buffer;
-use vx_tree::{Canonical, NativeInteger, PrimitiveArray, PrimitiveValues};
+use vx_native::{NativeInteger, PrimitiveValues};
+use vx_tree::{Canonical, PrimitiveArray};
 use vx_value::{DType, Nullability, VortexError, VortexResult};
 
 /// An arithmetic operator.

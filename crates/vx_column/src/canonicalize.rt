@@ -9,7 +9,8 @@ use crate::arithmetic::primitive_column;
 use crate::boolean::bool_column;
 use std::alloc::Global;
 use vx_mask::BitBuffer;
-use vx_tree::{ArrayView, Canonical, Constant, PrimitiveValues};
+use vx_native::PrimitiveValues;
+use vx_tree::{ArrayView, Canonical, Constant};
 use vx_value::{ScalarKind, VortexError, VortexResult};
 
 /// Expands `array` to a canonical column. The rows take one allocation, which is made before any is written. The only

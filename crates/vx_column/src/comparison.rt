@@ -18,7 +18,8 @@ use crate::boolean::bool_column;
 use crate::operand::{Operand, operand_of};
 use std::alloc::Global;
 use vx_mask::BitBuilder;
-use vx_tree::{Canonical, NativeInteger};
+use vx_native::NativeInteger;
+use vx_tree::Canonical;
 use vx_value::{VortexError, VortexResult};
 
 /// A comparison operator.

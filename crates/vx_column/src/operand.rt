@@ -5,7 +5,7 @@ ghost use Rattle.vx_column.specs.Arguments.{integer_in, ptype_in, IsInRange, Has
 ghost use Rattle.vx_column.specs.Operands.{number_in, HasRow, HasRows};
 
 use crate::argument::{IntegerOperand, IntegerRows};
-use vx_tree::{NativeInteger, native_of};
+use vx_native::{NativeInteger, native_of};
 
 /// Numbers of a native type: one for each row, or one for every row.
 #[derive(Clone, Copy)]

@@ -14,7 +14,8 @@ use crate::boolean::operate_bools;
 use crate::comparison::{Above, Below, Different, Equal, NotAbove, NotBelow, compare};
 use std::alloc::Global;
 use vx_fn::Operator;
-use vx_tree::{Canonical, NativeInteger, by_type};
+use vx_native::{NativeInteger, by_type};
+use vx_tree::Canonical;
 use vx_value::VortexResult;
 
 /// Applies `operator` to `lhs` and `rhs`, `len` rows each, whose types it must accept. `Fault` if a row has no value.

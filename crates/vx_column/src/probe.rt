@@ -2,7 +2,7 @@
 
 ghost use Rattle.std.specs.Prelude.{◌≡◌, ◌⊎◌, ◌≤◌, ◌<◌, IfOk, IfErr, OnOk, length, slice_get, Some};
 ghost use Rattle.vx_value.specs.Cell.{value, fault};
-ghost use Rattle.vx_tree.specs.Natives.{values_of, ptype_of};
+ghost use Rattle.vx_native.specs.Natives.{values_of, ptype_of};
 ghost use Rattle.vx_tree.specs.Tree.{node, function, dtype, len, slots_of, booleans, integers};
 ghost use Rattle.vx_tree.specs.Cells.{rows};
 ghost use Rattle.vx_tree.specs.Well.{IsNode, shapes};
@@ -10,7 +10,8 @@ ghost use Rattle.vx_tree.specs.Well.{IsNode, shapes};
 use std::alloc::Global;
 use vx_fn::{ScalarFnRef, apply_row};
 use vx_mask::BitBuffer;
-use vx_tree::{ArrayKind, ArrayRef, PrimitiveValues};
+use vx_native::PrimitiveValues;
+use vx_tree::{ArrayKind, ArrayRef};
 use vx_value::{Nullability, Scalar, VortexError, VortexResult};
 
 /// Returns the value of row `index`, counted from 0. Takes no turns.

@@ -4,7 +4,7 @@ ghost use Rattle.std.specs.Prelude.{◌≡◌, Some, None, option_map, option_an
 ghost use Rattle.serde_json.specs.View.{view, items_view};
 ghost use Rattle.serde_json.specs.Find.{as_bool, as_number, as_integer};
 ghost use Rattle.vx_value.specs.View.{type_of};
-ghost use Rattle.vx_tree.specs.Natives.{values_of, ptype_of};
+ghost use Rattle.vx_native.specs.Natives.{values_of, ptype_of};
 ghost use Rattle.vx_json.specs.Refused.{IsRefused};
 ghost use Rattle.vx_json.specs.SpelledValues.{integer_spelled, value_spelled, all_read};
 
@@ -12,7 +12,7 @@ use crate::BAD_VALUE;
 use serde_json::Value;
 use std::alloc::Global;
 use vx_mask::{BitBuffer, BitBuilder, Buffer};
-use vx_tree::{NativeInteger, PrimitiveValues, by_type};
+use vx_native::{NativeInteger, PrimitiveValues, by_type};
 use vx_value::{DType, PType, Scalar, ScalarValue, Storage, VortexResult};
 
 /// Reads an integer in the range of `i64` or `u64`.

@@ -16,7 +16,7 @@ use Rattle.vx_tree.specs.Keeps.{KeepsExactly}
 use Rattle.vx_tree.specs.Columns.{IsColumn, canonical_id}
 use Rattle.vx_tree.proofs.CostLemmas.{column_cost}
 use Rattle.vx_tree.proofs.KeepsLemmas.{column_exactly}
-use Rattle.vx_tree.proofs.NativesLemmas.{map_part}
+use Rattle.vx_native.proofs.NativesLemmas.{map_part}
 
 pub canonical_columnar : (d : Data) → is_canonical d ≡ true → is_columnar d ≡ true
 canonical_columnar d h = or_left (is_canonical d) (is_constant d) h

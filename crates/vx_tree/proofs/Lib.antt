@@ -8,5 +8,4 @@ pub mod RefusalsLemmas
 pub mod CallsLemmas
 pub mod CostLemmas
 pub mod ColumnsLemmas
-pub mod NativesLemmas
 pub mod ValiditiesLemmas

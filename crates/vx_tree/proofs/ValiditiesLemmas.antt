@@ -23,7 +23,7 @@ use Rattle.vx_tree.specs.declared.validity.Validity.TheVariants as validity
 use Rattle.vx_tree.proofs.CellsLemmas.{rows_counted}
 use Rattle.vx_tree.proofs.ConditionsLemmas.{first_none, second_none, unless_none}
 use Rattle.vx_tree.proofs.KeepsLemmas.{column_exactly, rows_equal}
-use Rattle.vx_tree.proofs.NativesLemmas.{map_part}
+use Rattle.vx_native.proofs.NativesLemmas.{map_part}
 use Rattle.vx_tree.proofs.SlotsLemmas.{one_shape}
 
 -- a validity without nulls has no tree, and the nullability that it was made for

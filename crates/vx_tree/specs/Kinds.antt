@@ -2,7 +2,7 @@
 use Rattle.std.specs.Prelude.{◌≡◌, ◌≤◌, true}
 use Rattle.vx_value.specs.IsOf.{is_of}
 use Rattle.vx_tree.specs.ColumnTypes.{has_column}
-use Rattle.vx_tree.specs.Natives.{values_of, ptype_of}
+use Rattle.vx_native.specs.Natives.{values_of, ptype_of}
 use Rattle.vx_tree.specs.Tree.{Tree, node, function, bool, primitive, slots_of, dtype, len, column, constant_of, slice_of}
 use Rattle.vx_tree.specs.Well.{IsNode, IsNodeOf, shapes}
 use Rattle.vx_tree.specs.declared.array.kind.ArrayKind.{ArrayKind}

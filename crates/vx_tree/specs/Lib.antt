@@ -5,10 +5,9 @@ pub use Rattle.vx_value.specs.View
 pub use Rattle.vx_value.specs.IsOf
 pub use Rattle.vx_value.specs.Typed
 pub use Rattle.vx_value.specs.Ids
+pub use Rattle.vx_native.specs.Natives
 pub mod Tree
 pub mod ColumnTypes
-pub mod Ranges
-pub mod Natives
 pub mod Names
 pub mod TreeView
 pub mod Falls

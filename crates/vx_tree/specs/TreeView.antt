@@ -1,6 +1,6 @@
 -- The tree that a node of the program stands for.
 use Rattle.vx_value.specs.View.{type_of}
-use Rattle.vx_tree.specs.Natives.{values_of, ptype_of}
+use Rattle.vx_native.specs.Natives.{values_of, ptype_of}
 use Rattle.vx_tree.specs.Tree as enc
 use Rattle.vx_tree.specs.Tree.{Tree, node, Data, slots_of}
 use Rattle.vx_tree.specs.declared.array.node.Node.{Node}

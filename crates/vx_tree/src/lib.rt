@@ -8,7 +8,6 @@ mod column_types;
 mod columnar;
 mod laws;
 mod matcher;
-pub mod native;
 mod slicing;
 mod validity;
 
@@ -26,6 +25,6 @@ pub use column_types::{has_column, is_computed};
 pub use columnar::Columnar;
 pub use laws::{column_laws, execution_bounds, keeping_laws, refused_exactly, validity_laws};
 pub use matcher::{AnyArray, AnyCanonical, AnyColumnar, AnyScalarFn, Matcher};
-pub use native::{NativeInteger, PrimitiveValues, native_of};
 pub use slicing::slice_canonical;
 pub use validity::{Validity, child_to_validity, validity_nchildren, validity_to_child};
+pub use vx_native::PrimitiveValues;

@@ -6,9 +6,9 @@ ghost use Rattle.vx_tree.specs.Well.{IsNodeOf};
 ghost use Rattle.vx_tree.specs.Kinds.{IsKindOf};
 
 use crate::array::{ArrayRef, Encoding, Node};
-use crate::native::PrimitiveValues;
 use vx_fn::ScalarFnRef;
 use vx_mask::BitBuffer;
+use vx_native::PrimitiveValues;
 use vx_value::Scalar;
 
 /// The root of a tree, with its data and children by their roles. (own)

@@ -4,7 +4,7 @@ ghost use Rattle.std.specs.Prelude.{◌≡◌, ◌⊎◌, ◌≤◌, IfOk, IfErr
 ghost use Rattle.vx_value.specs.View.{type_of};
 ghost use Rattle.vx_value.specs.Types as type;
 ghost use Rattle.vx_value.specs.declared.dtype.Nullability.TheVariants.{NonNullable};
-ghost use Rattle.vx_tree.specs.Natives.{values_of, ptype_of};
+ghost use Rattle.vx_native.specs.Natives.{values_of, ptype_of};
 ghost use Rattle.vx_value.specs.declared.id.Id.TheVariants as id;
 ghost use Rattle.vx_tree.specs.Tree.{primitive, is_primitive, column, len, datum, slice_of};
 ghost use Rattle.vx_tree.specs.TreeView.{tree_of};
@@ -19,10 +19,10 @@ use crate::array::{
 };
 use crate::arrays::column::{check_column, flat_column, only_slot};
 use crate::canonical::Canonical;
-use crate::native::PrimitiveValues;
 use crate::validity::{Validity, slice_validity};
 use std::alloc::Global;
 use std::ops::Range;
+use vx_native::PrimitiveValues;
 use vx_value::{DType, Id, Nullability, PType, VortexError, VortexResult};
 
 /// The tag of the primitive encoding.

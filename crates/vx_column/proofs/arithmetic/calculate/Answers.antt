@@ -7,7 +7,7 @@ use Rattle.vx_value.specs.declared.dtype.Storage.TheVariants as storage
 use Rattle.vx_value.specs.declared.error.VortexError.TheVariants.{Fault}
 use Rattle.vx_fn.specs.Arithmetic.{calculated}
 use Rattle.vx_fn.specs.declared.function.ScalarFnRef.TheVariants.{Binary}
-use Rattle.vx_tree.specs.Natives.{values_of, ptype_of}
+use Rattle.vx_native.specs.Natives.{values_of, ptype_of}
 use Rattle.vx_column.specs.declared.argument.Argument.TheVariants.{Integers}
 use Rattle.vx_column.proofs.ComputedLemmas.{calculation_fault, cells_read, integers_computed}
 use Rattle.vx_column.proofs.OperatorLemmas.{integers_plain, integers_calculated, calculated_value}

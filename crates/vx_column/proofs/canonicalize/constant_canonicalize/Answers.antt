@@ -4,7 +4,7 @@ use Rattle.std.specs.Int.{w128}
 use Rattle.vx_value.specs.Values.{boolean, integer}
 use Rattle.vx_value.specs.Storage.{storage_of}
 use Rattle.vx_value.specs.declared.dtype.Storage.TheVariants.{Bits, Integers}
-use Rattle.vx_tree.specs.Natives.{values_of, ptype_of}
+use Rattle.vx_native.specs.Natives.{values_of, ptype_of}
 use Rattle.vx_column.proofs.KeepsLemmas.{bools_written, integers_written}
 use Rattle.vx_column.proofs.canonicalize.constant_canonicalize.Goals as goal
 

@@ -1,5 +1,5 @@
 use Rattle.std.proofs.Common.{ap}
-use Rattle.vx_tree.specs.Natives.{values_of, ptype_of}
+use Rattle.vx_native.specs.Natives.{values_of, ptype_of}
 use Rattle.vx_tree.specs.TreeView.{data_of}
 use Rattle.vx_tree.proofs.KindsLemmas.{kind_primitive}
 use Rattle.vx_tree.proofs.arrays.primitive.PrimitiveData.kind_of.Goals as goal

@@ -2,10 +2,9 @@
 
 ghost use Rattle.std.specs.Prelude.{◌≡◌, ◌<◌, ◌≤◌, ℤ, map, length, IfOk, Some, true, slice_get, slice_range, replicate};
 ghost use Rattle.vx_value.specs.IsOf.{in_range};
-ghost use Rattle.vx_tree.specs.Natives.{values_of, ptype_of};
+ghost use Rattle.vx_native.specs.Natives.{values_of, ptype_of};
 
-use crate::native::{NativeInteger, native_of};
-use crate::{by_buffer, by_type};
+use crate::{NativeInteger, by_buffer, by_type, native_of};
 use std::alloc::{AllocError, Global};
 use std::ops::Range;
 use vx_mask::Buffer;

@@ -22,14 +22,14 @@ macro_rules! by_buffer {
 macro_rules! by_type {
     ($ptype:expr, $function:ident($($argument:expr),* $(,)?)) => {
         match $ptype {
-            $crate::native::PType::U8 => $function::<u8>($($argument),*),
-            $crate::native::PType::U16 => $function::<u16>($($argument),*),
-            $crate::native::PType::U32 => $function::<u32>($($argument),*),
-            $crate::native::PType::U64 => $function::<u64>($($argument),*),
-            $crate::native::PType::I8 => $function::<i8>($($argument),*),
-            $crate::native::PType::I16 => $function::<i16>($($argument),*),
-            $crate::native::PType::I32 => $function::<i32>($($argument),*),
-            $crate::native::PType::I64 => $function::<i64>($($argument),*),
+            $crate::PType::U8 => $function::<u8>($($argument),*),
+            $crate::PType::U16 => $function::<u16>($($argument),*),
+            $crate::PType::U32 => $function::<u32>($($argument),*),
+            $crate::PType::U64 => $function::<u64>($($argument),*),
+            $crate::PType::I8 => $function::<i8>($($argument),*),
+            $crate::PType::I16 => $function::<i16>($($argument),*),
+            $crate::PType::I32 => $function::<i32>($($argument),*),
+            $crate::PType::I64 => $function::<i64>($($argument),*),
         }
     };
 }

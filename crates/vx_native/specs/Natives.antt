@@ -2,8 +2,8 @@
 use Rattle.std.specs.Prelude.{ℤ, pos, List, map}
 use Rattle.vx_value.specs.declared.dtype.PType.{PType}
 use Rattle.vx_value.specs.declared.dtype.PType.TheVariants as ptype
-use Rattle.vx_tree.specs.declared.native.values.PrimitiveValues.{PrimitiveValues}
-use Rattle.vx_tree.specs.declared.native.values.PrimitiveValues.TheVariants.{U8, U16, U32, U64, I8, I16, I32, I64}
+use Rattle.vx_native.specs.declared.values.PrimitiveValues.{PrimitiveValues}
+use Rattle.vx_native.specs.declared.values.PrimitiveValues.TheVariants.{U8, U16, U32, U64, I8, I16, I32, I64}
 
 abbrev pub values_of : PrimitiveValues → List ℤ
 values_of (U8 xs) = map (λ n. pos n) xs

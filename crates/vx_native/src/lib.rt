@@ -1,4 +1,5 @@
-//! The eight native integer types, and values of any of them.
+//! The eight native integer types, and values of any of them in shared storage.
+#![tactic(auto)]
 
 mod impls;
 mod integer;

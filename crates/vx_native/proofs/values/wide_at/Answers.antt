@@ -1,8 +1,8 @@
 use Rattle.std.proofs.Common.{◌≡◌, Some, true, sym, ap, subst, ◌∙◌}
 use Rattle.std.proofs.Math.Facts.{to_z-of_z}
 use Rattle.vx_value.specs.IsOf.{in_range}
-use Rattle.vx_tree.proofs.NativesLemmas.{fits_wide, value_read}
-use Rattle.vx_tree.proofs.native.values.wide_at.Goals as goal
+use Rattle.vx_native.proofs.NativesLemmas.{fits_wide, value_read}
+use Rattle.vx_native.proofs.values.wide_at.Goals as goal
 
 pub returns-clause-value : goal.returns-clause-value
 returns-clause-value g c =

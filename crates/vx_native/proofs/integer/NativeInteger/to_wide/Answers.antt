@@ -2,8 +2,8 @@ use Rattle.std.proofs.Common.{◌≡◌, FitsSigned, true, sym, ◌∙◌, subst
 use Rattle.std.proofs.Math.Facts.{to_z-of_z}
 use Rattle.std.specs.Int.{w128}
 use Rattle.vx_value.specs.IsOf.{in_range}
-use Rattle.vx_tree.proofs.NativesLemmas.{fits_wide, wide_there, wide_is}
-use Rattle.vx_tree.proofs.native.integer.NativeInteger.to_wide.Goals as goal
+use Rattle.vx_native.proofs.NativesLemmas.{fits_wide, wide_there, wide_is}
+use Rattle.vx_native.proofs.integer.NativeInteger.to_wide.Goals as goal
 
 pub unreachable-requires : goal.unreachable-requires
 unreachable-requires g c =

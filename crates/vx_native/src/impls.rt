@@ -2,14 +2,14 @@
 
 ghost use Rattle.std.specs.Prelude.{◌≡◌, pos, map};
 ghost use Rattle.vx_value.specs.declared.dtype.PType.TheVariants as ptype;
-ghost use Rattle.vx_tree.specs.Natives.{values_of, ptype_of};
+ghost use Rattle.vx_native.specs.Natives.{values_of, ptype_of};
 
-use crate::native::{NativeInteger, PrimitiveValues};
+use crate::{NativeInteger, PrimitiveValues};
 use vx_mask::Buffer;
 use vx_value::PType;
 
 impl NativeInteger for u8 {
-    ghost use Rattle.vx_tree.specs.Ranges.{unsigned_range};
+    ghost use Rattle.vx_native.specs.Ranges.{unsigned_range};
 
     ghost kind = { ptype.U8 };
 
@@ -40,7 +40,7 @@ impl NativeInteger for u8 {
 }
 
 impl NativeInteger for u16 {
-    ghost use Rattle.vx_tree.specs.Ranges.{unsigned_range};
+    ghost use Rattle.vx_native.specs.Ranges.{unsigned_range};
 
     ghost kind = { ptype.U16 };
 
@@ -71,7 +71,7 @@ impl NativeInteger for u16 {
 }
 
 impl NativeInteger for u32 {
-    ghost use Rattle.vx_tree.specs.Ranges.{unsigned_range};
+    ghost use Rattle.vx_native.specs.Ranges.{unsigned_range};
 
     ghost kind = { ptype.U32 };
 
@@ -102,7 +102,7 @@ impl NativeInteger for u32 {
 }
 
 impl NativeInteger for u64 {
-    ghost use Rattle.vx_tree.specs.Ranges.{unsigned_range};
+    ghost use Rattle.vx_native.specs.Ranges.{unsigned_range};
 
     ghost kind = { ptype.U64 };
 
@@ -133,7 +133,7 @@ impl NativeInteger for u64 {
 }
 
 impl NativeInteger for i8 {
-    ghost use Rattle.vx_tree.specs.Ranges.{signed_range};
+    ghost use Rattle.vx_native.specs.Ranges.{signed_range};
     ghost use Rattle.std.specs.Int.{w8};
 
     ghost kind = { ptype.I8 };
@@ -165,7 +165,7 @@ impl NativeInteger for i8 {
 }
 
 impl NativeInteger for i16 {
-    ghost use Rattle.vx_tree.specs.Ranges.{signed_range};
+    ghost use Rattle.vx_native.specs.Ranges.{signed_range};
     ghost use Rattle.std.specs.Int.{w16};
 
     ghost kind = { ptype.I16 };
@@ -197,7 +197,7 @@ impl NativeInteger for i16 {
 }
 
 impl NativeInteger for i32 {
-    ghost use Rattle.vx_tree.specs.Ranges.{signed_range};
+    ghost use Rattle.vx_native.specs.Ranges.{signed_range};
     ghost use Rattle.std.specs.Int.{w32};
 
     ghost kind = { ptype.I32 };
@@ -229,7 +229,7 @@ impl NativeInteger for i32 {
 }
 
 impl NativeInteger for i64 {
-    ghost use Rattle.vx_tree.specs.Ranges.{signed_range};
+    ghost use Rattle.vx_native.specs.Ranges.{signed_range};
     ghost use Rattle.std.specs.Int.{w64};
 
     ghost kind = { ptype.I64 };

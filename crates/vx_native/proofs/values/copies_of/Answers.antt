@@ -1,7 +1,7 @@
 use Rattle.std.proofs.Common.{◌≡◌, replicate, ◌∙◌}
 use Rattle.std.proofs.Math.Facts.{to_z-of_z}
-use Rattle.vx_tree.proofs.NativesLemmas.{copies_read}
-use Rattle.vx_tree.proofs.native.values.copies_of.Goals as goal
+use Rattle.vx_native.proofs.NativesLemmas.{copies_read}
+use Rattle.vx_native.proofs.values.copies_of.Goals as goal
 
 pub returns-clause-values : goal.returns-clause-values
 returns-clause-values g c =

@@ -2,8 +2,8 @@ use Rattle.std.proofs.Common.{subst}
 use Rattle.std.proofs.Math.Facts.{to_z-of_z}
 use Rattle.num_traits.specs.Laws.{Checks}
 use Rattle.vx_value.specs.IsOf.{in_range}
-use Rattle.vx_tree.proofs.NativesLemmas.{native_is}
-use Rattle.vx_tree.proofs.native.integer.NativeInteger.from_wide.Goals as goal
+use Rattle.vx_native.proofs.NativesLemmas.{native_is}
+use Rattle.vx_native.proofs.integer.NativeInteger.from_wide.Goals as goal
 
 pub returns : goal.returns
 returns g c =

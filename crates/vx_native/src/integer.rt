@@ -4,9 +4,9 @@ ghost use Rattle.std.specs.Prelude.{◌≡◌, ◌↔◌, ℤ, map, Some, None, 
 ghost use Rattle.vx_value.specs.Types.{same_ptype};
 ghost use Rattle.vx_value.specs.IsOf.{in_range};
 ghost use Rattle.vx_value.specs.declared.dtype.PType.{PType as PTypeOf};
-ghost use Rattle.vx_tree.specs.Natives.{values_of, ptype_of};
+ghost use Rattle.vx_native.specs.Natives.{values_of, ptype_of};
 
-use crate::native::PrimitiveValues;
+use crate::PrimitiveValues;
 use num_traits::{FromPrimitive, PrimInt};
 use vx_mask::Buffer;
 use vx_value::PType;
