@@ -8,11 +8,11 @@ use Rattle.vx_value.specs.declared.error.VortexError.{VortexError}
 use Rattle.vx_value.specs.declared.error.VortexError.TheVariants.{OutOfMemory, Fault, OutOfBounds}
 use Rattle.vx_value.specs.declared.id.Id.{Id}
 use Rattle.vx_value.specs.Cell.{Cell, value, fault}
-use Rattle.vx_tree.specs.Cells.{rows, HasNoFault}
+use Rattle.vx_tree.specs.Cells.{rows}
 use Rattle.vx_json.specs.RowText.{row_text}
 use Rattle.vx_tree.specs.Tree.{Tree, len}
 use Rattle.vx_tree.proofs.CellsLemmas.{no_fault_at}
-use Rattle.vx_main.specs.Output.{Shows, head_lines, line}
+use Rattle.vx_main.specs.Output.{Shows, IsUnread, head_lines, line}
 
 -- the lines of the type and of the encoding, as they are appended
 head_of : (h ty e id n : List ℕ) → (((h ++ ty) ++ 10 ∷ e) ++ id) ++ n ≡ ((h ++ ty) ++ 10 ∷ []) ++ ((e ++ id) ++ n)
@@ -61,9 +61,9 @@ shows_more ty id cs i v text longer s e j = record {
 pub shows_all : (ty : DataType) (id : Id) (cs : List Cell) (i : ℕ) (text : List ℕ) → Shows ty id (take i cs) text → length cs ≤ i → Shows ty id cs text
 shows_all ty id cs i text s h = let e : take i cs ≡ cs = grind (arith, common_steps) in subst (λ l. Shows ty id l text) e s
 
--- a row of a column is read
-pub column_stopped : (t : Tree) (i : ℕ) (e : VortexError) → HasNoFault (rows t) → i < len t
-    → (e ≡ OutOfMemory) ⊎ ((e ≡ OutOfBounds i i (len t)) × (len t ≤ i)) ⊎ ((e ≡ Fault) × (slice_get (rows t) i ≡ Some fault)) → e ≡ OutOfMemory
-column_stopped t i e c lt (inl m) = m
-column_stopped t i e c lt (inr (inl b)) = absurd (omega (arith, b.1))
-column_stopped t i e c lt (inr (inr f)) = absurd (no_fault_at (rows t) i c f.1)
+-- a row that isn't read
+pub row_unread : (t : Tree) (i : ℕ) (e : VortexError) → i < len t
+    → (e ≡ OutOfMemory) ⊎ ((e ≡ OutOfBounds i i (len t)) × (len t ≤ i)) ⊎ ((e ≡ Fault) × (slice_get (rows t) i ≡ Some fault)) → IsUnread t e
+row_unread t i e lt (inl m) = inl m
+row_unread t i e lt (inr (inl b)) = absurd (omega (arith, b.1))
+row_unread t i e lt (inr (inr f)) = inr (f.0, λ whole. no_fault_at (rows t) i whole f.1)

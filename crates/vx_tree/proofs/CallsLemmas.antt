@@ -1,7 +1,6 @@
 -- A call of a function: its node, and why there is none.
 use Rattle.std.proofs.Common.{◌≡◌, ℕ, List, [], ◌∷◌, ◌++◌, length, map, true, ◌&&◌, Option, Some, None, refl, sym, ◌∙◌, ap}
 use Rattle.std.specs.Prelude.{◌==◌, option_map}
-use Rattle.std.specs.Cmp.{first_so, second_so}
 use Rattle.vx_value.specs.Types.{DataType}
 use Rattle.vx_value.specs.declared.error.VortexError.{VortexError}
 use Rattle.vx_value.specs.declared.error.VortexError.TheVariants.{InvalidArgument}
@@ -10,7 +9,6 @@ use Rattle.vx_fn.specs.ReturnTypes.{return_type}
 use Rattle.vx_fn.specs.declared.function.ScalarFnRef.{ScalarFnRef}
 use Rattle.vx_tree.specs.Tree.{Tree, Slots, node, function, no_slots, absent, slot, filled_slots, slots_of, dtype, len, call_of}
 use Rattle.vx_tree.specs.Well.{shape, shapes, IsNode}
-use Rattle.vx_tree.specs.ColumnTypes.{has_column, is_computed}
 use Rattle.vx_tree.specs.Refusals.{lengths_refusal, arity_refusal, column_type_refusal, all_present, all_long, types_in}
 use Rattle.vx_tree.specs.Conditions.{unless}
 use Rattle.vx_tree.specs.Calls.{all_of_len, row_refusal, call_refusal, called}
@@ -101,8 +99,7 @@ module _ (f : ScalarFnRef) (ts : List Tree) (n : ℕ) (ss : Slots) (filled : ss 
     call_is_node ty long row column =
         let present : all_present (shapes ss) ≡ true = ap (λ x. all_present (shapes x)) filled ∙ filled_present ts in
         let same = shapes_of_types n (shapes ss) present (unless_none _ _ long) ∙ ap (map (λ s. Some (shape s n))) (sym typed) in
-        let known : (is_computed f && has_column ty) ≡ true = unless_none _ _ column in
-        (tys, same, row, second_so (is_computed f) _ known, first_so _ _ known)
+        (tys, same, row, unless_none _ _ column)
 
 -- what a call's constructor needs
 pub ruleset calls = (call_count_refused, call_lengths_refused, call_row_refused, call_type_refused, call_taken, call_made, call_is_node)

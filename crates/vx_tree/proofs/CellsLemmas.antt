@@ -1,9 +1,9 @@
 -- A well-formed tree has a cell for each row; and rows without a fault.
-use Rattle.std.proofs.Common.{◌≡◌, ℕ, zero, suc, ◌-◌, ◌≤◌, List, [], ◌∷◌, length, take, drop, slice_get, Option, Some, None}
+use Rattle.std.proofs.Common.{◌≡◌, ℕ, zero, suc, ◌-◌, ◌≤◌, List, [], ◌∷◌, length, map, take, drop, slice_get, Option, Some, None}
 use Rattle.std.proofs.Common.{refl, sym, ap, ◌∙◌, subst, arith, length-drop}
 use Rattle.std.proofs.lemmas.List.{length-take, length-map, length-replicate}
 use Rattle.std.proofs.lemmas.List.FromFn.{length-map-range_with_len}
-use Rattle.vx_value.specs.Types.{DataType, nullability_of}
+use Rattle.vx_value.specs.Types.{DataType, bool, primitive, nullability_of}
 use Rattle.vx_value.specs.declared.dtype.Nullability.{Nullability}
 use Rattle.vx_value.specs.declared.dtype.Nullability.TheVariants.{NonNullable, Nullable}
 use Rattle.vx_value.specs.Values.{boolean, integer}
@@ -63,8 +63,8 @@ node_counted : (ty : DataType) (n : ℕ) (d : Data) (css : List (List Cell)) (ss
 node_counted ty n (enc.constant v) css ss h k = length-replicate n (value v.value)
 node_counted ty n (enc.slice a b) css ss h k = part_counted ty n a b css ss h k
 node_counted ty n (enc.function f) css ss h k = length-map-range_with_len (λ i. apply f ty (row_at css i)) 0 n
-node_counted ty n (enc.bool bs) css ss h k = flat_counted _ _ ty n css ss _ h k (length-map bs (λ b. value (boolean b)))
-node_counted ty n (enc.primitive p zs) css ss h k = flat_counted _ _ ty n css ss _ h k (length-map zs (λ z. value (integer z)))
+node_counted ty n (enc.bool bs) css ss h k = flat_counted (bool NonNullable) _ ty n css ss (map (λ b. value (boolean b)) bs) h k (length-map bs (λ b. value (boolean b)))
+node_counted ty n (enc.primitive p zs) css ss h k = flat_counted (primitive p NonNullable) _ ty n css ss (map (λ z. value (integer z)) zs) h k (length-map zs (λ z. value (integer z)))
 
 mutual
   pub rows_counted : (t : Tree) → IsWell t → length (rows t) ≡ len t

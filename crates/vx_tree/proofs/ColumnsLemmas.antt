@@ -1,22 +1,17 @@
 -- Which encodings are columns, and what every column is.
-use Rattle.std.proofs.Common.{◌≡◌, ◌≤◌, ℕ, zero, suc, ◌-◌, List, [], ◌∷◌, length, map, replicate, drop, slice_range, true, false, None}
-use Rattle.std.proofs.Common.{refl, sym, ap, subst, ◌∙◌, inl, inr, arith, length-drop}
+use Rattle.std.proofs.Common.{◌≡◌, ℕ, [], replicate, true, false}
+use Rattle.std.proofs.Common.{refl, sym, ap, subst, inl, inr, arith}
 use Rattle.std.proofs.lemmas.Bool.{or_left}
-use Rattle.std.proofs.lemmas.List.{length-replicate, length-take-le}
+use Rattle.std.proofs.lemmas.List.{length-replicate}
 use Rattle.vx_value.specs.Types.{DataType}
-use Rattle.vx_value.specs.Values.{Value, boolean, integer}
 use Rattle.vx_value.specs.Typed.{Typed}
 use Rattle.vx_value.specs.Cell.{value}
 use Rattle.vx_tree.specs.Tree as enc
 use Rattle.vx_tree.specs.Tree.{Tree, Data, Slots, node, no_slots, absent, slot, column, datum, id_of, constant_of, slice_of}
 use Rattle.vx_tree.specs.Tree.{is_bool, is_primitive, is_constant, is_canonical, is_columnar}
 use Rattle.vx_tree.specs.Well.{IsWell, shapes}
-use Rattle.vx_tree.specs.Cells.{rows, node_cells, HasNoFault}
-use Rattle.vx_tree.specs.Keeps.{KeepsExactly}
 use Rattle.vx_tree.specs.Columns.{IsColumn, canonical_id}
 use Rattle.vx_tree.proofs.CostLemmas.{column_cost}
-use Rattle.vx_tree.proofs.KeepsLemmas.{column_exactly}
-use Rattle.vx_native.proofs.NativesLemmas.{map_part}
 
 pub canonical_columnar : (d : Data) → is_canonical d ≡ true → is_columnar d ≡ true
 canonical_columnar d h = or_left (is_canonical d) (is_constant d) h

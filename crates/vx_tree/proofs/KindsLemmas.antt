@@ -1,5 +1,5 @@
 -- A node, opened.
-use Rattle.std.proofs.Common.{◌≡◌, ℕ, ℤ, Bool, true, ◌≤◌, List, [], ◌∷◌, get_or, Option, Some, None, sym, ◌∙◌, ap, subst}
+use Rattle.std.proofs.Common.{◌≡◌, ℕ, ℤ, Bool, true, ◌≤◌, List, [], ◌∷◌, get_or, Option, Some, sym, ◌∙◌, ap, subst}
 use Rattle.vx_value.specs.Types.{DataType}
 use Rattle.vx_value.specs.Typed.{Typed}
 use Rattle.vx_value.specs.View.{type_of}

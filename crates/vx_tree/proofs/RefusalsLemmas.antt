@@ -6,21 +6,21 @@ use Rattle.std.proofs.lemmas.List.{length-map}
 use Rattle.std.proofs.lemmas.List.Recursion.{and_push, and_fails_at}
 use Rattle.std.specs.Cmp.{unsigned_Decides, first_so, second_so}
 use Rattle.std.specs.Prelude.{◌==◌, option_map}
-use Rattle.vx_value.specs.Types.{DataType, bool, nullability_of, same_type_Decides}
+use Rattle.vx_value.specs.Types.{DataType, bool, primitive, nullability_of, same_type_Decides}
 use Rattle.vx_value.specs.Nullabilities.{with_nullability}
 use Rattle.vx_value.specs.declared.dtype.Nullability.{Nullability}
 use Rattle.vx_value.specs.declared.dtype.Nullability.TheVariants.{NonNullable, Nullable}
 use Rattle.vx_value.proofs.NullabilitiesLemmas.{alike_but_nullability, same_but_set}
 use Rattle.vx_value.specs.Typed.{Typed}
 use Rattle.vx_value.specs.declared.error.VortexError.TheVariants.{InvalidArgument}
-use Rattle.vx_value.specs.declared.error.ArgKind.TheVariants.{SlotCount, FnSlotMissing, NodeType}
+use Rattle.vx_value.specs.declared.error.ArgKind.TheVariants.{SlotCount, SlotType, SlotLen, FnSlotMissing, NodeType}
 use Rattle.vx_value.specs.declared.id.Id.{Id}
 use Rattle.vx_value.specs.Ids.{same_id, same_id_Decides}
 use Rattle.vx_fn.specs.Functions.{arity, function_id}
 use Rattle.vx_fn.specs.ReturnTypes.{return_type}
 use Rattle.vx_fn.specs.declared.function.ScalarFnRef.{ScalarFnRef}
 use Rattle.vx_fn.proofs.ReturnTypesLemmas.{arity_of_row}
-use Rattle.vx_tree.specs.ColumnTypes.{has_column, is_computed}
+use Rattle.vx_tree.specs.ColumnTypes.{is_computed}
 use Rattle.vx_tree.specs.Tree as enc
 use Rattle.vx_tree.specs.Tree.{Tree, Data, id_of, slots_of, dtype, len}
 use Rattle.vx_tree.specs.Well.{Shape, shape, shape_of, shapes, IsValidity, IsFlat, IsNode}
@@ -44,8 +44,10 @@ validity_taken : (m : Nullability) (n : ℕ) (s : Option Shape) → IsValidity m
 validity_taken m n None h = (refl, refl)
 validity_taken NonNullable n (Some s) h = absurd h
 validity_taken Nullable n (Some s) h =
-    subst (λ x. (validity_type_refusal Nullable (Some x) ≡ None) × (validity_len_refusal n (Some x) ≡ None)) (sym h)
-    (none_unless _ _ ((same_type_Decides (bool NonNullable) (bool NonNullable)).1 refl), none_unless _ _ ((unsigned_Decides n n).1 refl))
+    subst (λ x. (validity_type_refusal Nullable (Some x) ≡ None) × (validity_len_refusal n (Some x) ≡ None)) (sym h) (
+      none_unless _ (InvalidArgument (SlotType 0)) ((same_type_Decides (bool NonNullable) (bool NonNullable)).1 refl),
+      none_unless _ (InvalidArgument (SlotLen 0)) ((unsigned_Decides n n).1 refl),
+    )
 
 -- ---- the slots of a function's node
 
@@ -223,8 +225,8 @@ decided : (ty : DataType) (n : ℕ) (d : Data) (ss : List (Option Shape)) →
 decided ty n (enc.constant v) ss = (λ i. constant_kept ty n v ss, constant_taken ty n v ss)
 decided ty n (enc.slice a b) ss = (λ i. slice_kept ty n a b ss, slice_taken ty n a b ss)
 decided ty n (enc.function f) ss = (λ i. function_kept i ty n f ss, function_taken ty n f ss)
-decided ty n (enc.bool bs) ss = (λ i. column_kept ty n _ _ ss, column_taken ty n _ _ ss)
-decided ty n (enc.primitive p zs) ss = (λ i. column_kept ty n _ _ ss, column_taken ty n _ _ ss)
+decided ty n (enc.bool bs) ss = (λ i. column_kept ty n (bool NonNullable) _ ss, column_taken ty n (bool NonNullable) _ ss)
+decided ty n (enc.primitive p zs) ss = (λ i. column_kept ty n (primitive p NonNullable) _ ss, column_taken ty n (primitive p NonNullable) _ ss)
 
 pub node_unless_refused : (i : Id) (ty : DataType) (n : ℕ) (d : Data) (ss : List (Option Shape)) →
     refusal i ty n d ss ≡ None → IsNode ty n d ss

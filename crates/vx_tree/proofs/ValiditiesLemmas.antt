@@ -1,5 +1,5 @@
 -- Validities: their slot, and the rows of a range.
-use Rattle.std.proofs.Common.{◌≡◌, ◌≤◌, ℕ, zero, suc, ◌-◌, List, [], ◌∷◌, length, take, drop, map, replicate, slice_range, Bool, true, false}
+use Rattle.std.proofs.Common.{◌≡◌, ◌≤◌, ℕ, zero, suc, ◌-◌, List, [], ◌∷◌, length, take, drop, map, replicate, slice_range, true, false}
 use Rattle.std.proofs.Common.{Option, Some, None, refl, sym, ap, subst, ◌∙◌, arith, length-drop}
 use Rattle.std.specs.Prelude.{option_map}
 use Rattle.std.proofs.lemmas.List.{length-map, length-take-le, take-replicate, drop-replicate}
@@ -14,10 +14,10 @@ use Rattle.vx_value.specs.declared.dtype.Nullability.{Nullability}
 use Rattle.vx_value.specs.declared.dtype.Nullability.TheVariants.{NonNullable, Nullable}
 use Rattle.vx_tree.specs.Tree as enc
 use Rattle.vx_tree.specs.Tree.{Tree, Data, node, no_slots, slots_of, dtype, len, datum, column, constant_of, slice_of}
-use Rattle.vx_tree.specs.Well.{Shape, shape, shape_of, shapes, IsWell, IsValidity, IsFlat}
+use Rattle.vx_tree.specs.Well.{Shape, shape, shape_of, shapes, IsWell, AreWell, IsValidity, IsFlat, IsNode}
 use Rattle.vx_tree.specs.Cells.{rows, slots_rows, node_cells, cells_at, valid_cell, valid_cells, HasNoFault, IsClean, AreClean}
 use Rattle.vx_tree.specs.Keeps.{KeepsExactly}
-use Rattle.vx_tree.specs.Validities.{nullability_by, without_nulls, child_of, validity_of, of_truth, of_data, valid_rows, array_refusal, flat_refusal, HasRows, IsValidityPart}
+use Rattle.vx_tree.specs.Validities.{nullability_by, without_nulls, child_of, validity_of, of_truth, of_data, valid_rows, array_refusal, flat_refusal, HasRows, IsValidityPart, HasRange}
 use Rattle.vx_tree.specs.declared.validity.Validity.{Validity}
 use Rattle.vx_tree.specs.declared.validity.Validity.TheVariants as validity
 use Rattle.vx_tree.proofs.CellsLemmas.{rows_counted}
@@ -88,6 +88,19 @@ valid_take (suc k) [] cs h = refl
 valid_take (suc k) (v ∷ vs) [] h = absurd (omega arith)
 valid_take (suc k) (v ∷ vs) (c ∷ cs) h = ap (λ l. valid_cell v c ∷ l) (valid_take k vs cs (omega arith))
 
+-- a column's validity is as long
+flat_long : (of_type ty : DataType) (k n : ℕ) (t : Tree) → IsFlat of_type k ty n (shapes (slots_of (Some t ∷ []))) → len t ≡ n
+flat_long of_type ty k n t h = by_nullability (nullability_of ty) h.0 (sym h.3) h.4
+  where
+    len_in : Option Shape → ℕ
+    len_in None = 0
+    len_in (Some (shape s m)) = m
+
+    by_nullability : (m : Nullability) (s : Option Shape) → s ∷ [] ≡ Some (shape_of t) ∷ [] → IsValidity m n s → len t ≡ n
+    by_nullability m None e h = absurd (cc)
+    by_nullability NonNullable (Some s) e h = absurd h
+    by_nullability Nullable (Some s) e h = let same : Some s ≡ Some (shape_of t) = cc in ap len_in (sym same ∙ ap Some h)
+
 valid_part : (a b : ℕ) (vs cs : List Cell) → length vs ≡ length cs → slice_range (valid_cells vs cs) a b ≡ valid_cells (slice_range vs a b) (slice_range cs a b)
 valid_part a b vs cs h =
     ap (take (b - a)) (valid_drop a vs cs h) ∙ valid_take (b - a) (drop a vs) (drop a cs) (length-drop a vs ∙ ap (λ n. n - a) h ∙ sym (length-drop a cs))
@@ -104,7 +117,7 @@ whole_take (suc k) [] h = h
 whole_take (suc k) (value v ∷ cs) h = whole_take k cs h
 whole_take (suc k) (fault ∷ cs) h = absurd h
 
-whole : (t : Tree) → IsClean t → HasNoFault (rows t)
+pub whole : (t : Tree) → IsClean t → HasNoFault (rows t)
 whole (node ty n d ss) h = h.0
 
 -- a clean tree's range is clean
@@ -115,6 +128,11 @@ part_clean a b t h = (whole_take (b - a) (drop a (rows t)) (whole_drop a (rows t
 abbrev told : Option Tree → List Cell
 told None = []
 told (Some t) = rows t
+
+-- as many as n, if there is one
+abbrev IsTold : ℕ → Option Tree → Type 0
+IsTold n None = Unit {0}
+IsTold n (Some t) = length (rows t) ≡ n
 
 told_rows : (v : Option Tree) → slots_rows (slots_of (v ∷ [])) ≡ told v ∷ []
 told_rows None = refl
@@ -133,7 +151,7 @@ constant_part v n a b h k =
 
 module _ (a b : ℕ) where
   -- the range of a validity is one of the range
-  part_told : (n : ℕ) (v w : Option Tree) (cs : List Cell) → IsValidityPart a b v w → length cs ≡ n → length (told v) ≡ n
+  part_told : (n : ℕ) (v w : Option Tree) (cs : List Cell) → IsValidityPart a b v w → length cs ≡ n → IsTold n v
       → slice_range (valid_cells (told v) cs) a b ≡ valid_cells (told w) (slice_range cs a b)
   part_told n None w cs h e k = ap (λ x. valid_cells (told x) (slice_range cs a b)) (sym h)
   part_told n (Some t) w cs h e k =
@@ -178,7 +196,7 @@ module _ (a b : ℕ) where
   -- the rows of a column, whose values are those that items are read as, in the range
   pub part_exactly : {X : Type 0} (ty : DataType) (read : X → Value) (of_items : List X → Data) →
       ((n : ℕ) (xs : List X) (css : List (List Cell)) → node_cells ty n (of_items xs) css ≡ valid_cells (cells_at css 0) (map (λ x. value (read x)) xs)) →
-      (xs ys : List X) (v w : Option Tree) (t : Tree) → t ≡ column ty (length xs) (of_items xs) v → length (told v) ≡ length xs → b ≤ length xs →
+      (xs ys : List X) (v w : Option Tree) (t : Tree) → t ≡ column ty (length xs) (of_items xs) v → IsTold (length xs) v → b ≤ length xs →
       ys ≡ slice_range xs a b → IsValidityPart a b v w → KeepsExactly (slice_of a b t) (column ty (length ys) (of_items ys) w)
   part_exactly ty read of_items cells xs ys v w t is counted within range part =
       let of = λ (zs : List _) (u : Option Tree). column ty (length zs) (of_items zs) u in
@@ -202,6 +220,43 @@ module _ (a b : ℕ) where
     where
       length-map-read : (xs : List _) → length (map (λ x. value (read x)) xs) ≡ length xs
       length-map-read xs = length-map xs (λ x. value (read x))
+
+-- a range of a column's rows is one of its validity's
+pub flat_range : (of_type ty : DataType) (k n a b : ℕ) (v : Option Tree) → IsFlat of_type k ty n (shapes (slots_of (v ∷ []))) → a ≤ b → b ≤ n → HasRange a b v
+flat_range of_type ty k n a b None h p q = tt
+flat_range of_type ty k n a b (Some t) h p q = (p, subst (λ m. b ≤ m) (sym (flat_long of_type ty k n t h)) q)
+
+-- the cells of its validity are as many as its rows
+pub told_counted : (of_type ty : DataType) (k n : ℕ) (v : Option Tree) → IsFlat of_type k ty n (shapes (slots_of (v ∷ []))) → AreWell (slots_of (v ∷ []))
+    → IsTold n v
+told_counted of_type ty k n None h w = tt
+told_counted of_type ty k n (Some t) h w = rows_counted t w.0 ∙ flat_long of_type ty k n t h
+
+-- a column of values of one type, each read from an item, and a range of it
+module _ {X : Type 0} (of_type : DataType) (read : X → Value) (of_items : List X → Data)
+    (cells : (ty : DataType) (n : ℕ) (xs : List X) (css : List (List Cell))
+    → node_cells ty n (of_items xs) css ≡ valid_cells (cells_at css 0) (map (λ x. value (read x)) xs))
+    (flat : (ty : DataType) (n : ℕ) (xs : List X) (ss : List (Option Shape)) → IsNode ty n (of_items xs) ss → IsFlat of_type (length xs) ty n ss)
+    (node_of : (ty : DataType) (n : ℕ) (xs : List X) (ss : List (Option Shape)) → IsFlat of_type (length xs) ty n ss → IsNode ty n (of_items xs) ss)
+    (a b : ℕ) (xs ys : List X) (v : Option Tree) (t : Tree) (shown : t ≡ column (dtype t) (len t) (of_items xs) v) (well : IsWell t)
+    (within : b ≤ len t) (range : ys ≡ slice_range xs a b) where
+  is_flat : IsFlat of_type (length xs) (dtype t) (len t) (shapes (slots_of (v ∷ [])))
+  is_flat = flat (dtype t) (len t) xs (shapes (slots_of (v ∷ []))) (subst IsWell shown well).0
+
+  counted : b - a ≡ length ys
+  counted = sym (ap length range ∙ length-take-le (b - a) (drop a xs) (omega (arith, length-drop a xs, is_flat.2)))
+
+  pub flat_ready : (s : DataType) × (k : ℕ) × IsFlat s k (dtype t) (len t) (shapes (slots_of (v ∷ [])))
+      × ((ty : DataType) (n : ℕ) (ss : List (Option Shape)) → IsFlat s (b - a) ty n ss → IsNode ty n (of_items ys) ss)
+  flat_ready = (of_type, length xs, is_flat, λ ty n ss h. node_of ty n ys ss (subst (λ k. IsFlat of_type k ty n ss) counted h))
+
+  pub flat_sliced : (u : Tree) → (w : Option Tree) × IsValidityPart a b v w × (u ≡ column (dtype t) (b - a) (of_items ys) w) → KeepsExactly (slice_of a b t) u
+  flat_sliced u h =
+      let whole_is : t ≡ column (dtype t) (length xs) (of_items xs) v = shown ∙ ap (λ n. column (dtype t) n (of_items xs) v) is_flat.2 in
+      let part_is : column (dtype t) (length ys) (of_items ys) h.0 ≡ u = sym (h.2 ∙ ap (λ n. column (dtype t) n (of_items ys) h.0) counted) in
+      let told_there = subst (λ n. IsTold n v) is_flat.2 (told_counted of_type (dtype t) (length xs) (len t) v is_flat (subst IsWell shown well).1) in
+      subst (KeepsExactly (slice_of a b t)) part_is
+      (part_exactly a b (dtype t) read of_items (cells (dtype t)) xs ys v h.0 t whole_is told_there (subst (λ n. b ≤ n) is_flat.2 within) range h.1)
 
 -- ---- what a validity says is read back from its child
 

@@ -22,3 +22,4 @@ pub mod Kinds
 pub mod Cost
 pub mod Columns
 pub mod Validities
+pub mod Rows

@@ -1,17 +1,17 @@
 -- Which rows of a column are null, and the tree that tells it.
-use Rattle.std.specs.Prelude.{◌≡◌, ◌≤◌, ℕ, List, replicate, Bool, true, false, ◌==◌, Option, Some, None}
+use Rattle.std.specs.Prelude.{◌≡◌, ◌≤◌, ℕ, List, length, replicate, Bool, true, false, ◌==◌, if◌then◌else◌, Option, Some, None}
 use Rattle.vx_value.specs.Types.{DataType, bool, same_type}
 use Rattle.vx_value.specs.Nullabilities.{with_nullability}
 use Rattle.vx_value.specs.Values.{Value, boolean}
-use Rattle.vx_value.specs.Typed.{Typed}
 use Rattle.vx_value.specs.Cell.{Cell, value}
 use Rattle.vx_value.specs.declared.dtype.Nullability.{Nullability}
 use Rattle.vx_value.specs.declared.dtype.Nullability.TheVariants.{NonNullable, Nullable}
 use Rattle.vx_value.specs.declared.error.VortexError.{VortexError}
 use Rattle.vx_value.specs.declared.error.VortexError.TheVariants.{InvalidArgument}
 use Rattle.vx_value.specs.declared.error.ArgKind.TheVariants.{SlotType, SlotLen, BadType}
+use Rattle.vx_mask.specs.Masks.{is_all_true, is_all_false}
 use Rattle.vx_tree.specs.Conditions.{first_of_both, unless}
-use Rattle.vx_tree.specs.Tree.{Tree, Data, constant, dtype, len, datum, constant_of, slice_of}
+use Rattle.vx_tree.specs.Tree.{Tree, Data, constant, dtype, len, datum, booleans, constant_of, slice_of}
 use Rattle.vx_tree.specs.Cells.{rows}
 use Rattle.vx_tree.specs.Keeps.{KeepsExactly}
 use Rattle.vx_tree.specs.Well.{IsWell}
@@ -37,6 +37,10 @@ abbrev pub child_of : Validity → ℕ → Option Tree
 child_of validity.AllInvalid n = Some (truths false n)
 child_of (validity.Array t) n = Some t
 child_of _ n = None
+
+-- the tree of the validity that a column is given by its rows, in its one form: row i is null if bit i is false
+abbrev pub child_by : List Bool → Option Tree
+child_by bits = if is_all_true bits then None else (if is_all_false bits then Some (truths false (length bits)) else Some (booleans bits))
 
 -- how many children tell it
 abbrev pub count_children : Option Tree → ℕ

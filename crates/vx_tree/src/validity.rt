@@ -1,15 +1,17 @@
 //! Which rows of a column are null.
 
-ghost use Rattle.std.specs.Prelude.{◌≡◌, ℕ, IfOk, IfErr, MatchResult, Some, None, option_map};
+ghost use Rattle.std.specs.Prelude.{◌≡◌, ℕ, IfOk, IfErr, MatchResult, Some, None, length, option_map};
 ghost use Rattle.vx_value.specs.View.{type_of};
-ghost use Rattle.vx_tree.specs.Validities.{nullability_by, without_nulls, child_of, count_children, validity_of, array_refusal, IsValidityPart, HasRange};
+ghost use Rattle.vx_tree.specs.Validities.{nullability_by, without_nulls, child_of, child_by, count_children, validity_of, array_refusal, IsValidityPart, HasRange};
 
 use crate::array::{ArrayKind, ArrayRef, IntoArray};
+use crate::arrays::boolean::BoolArray;
 use crate::arrays::constant::ConstantArray;
 use crate::arrays::slice::SliceArray;
 use crate::arrays::types::is_same_type;
 use std::alloc::{AllocError, Global};
 use std::ops::Range;
+use vx_mask::{BitBuffer, Mask};
 use vx_value::{ArgKind, DType, Nullability, Scalar, VortexError, VortexResult};
 
 /// Which rows of a column are null.
@@ -33,6 +35,27 @@ impl Validity {
         match self {
             Validity::NonNullable => Nullability::NonNullable,
             _ => Nullability::Nullable,
+        }
+    }
+}
+
+impl Validity {
+    /// Returns the validity of a nullable column whose rows are null where `bits` is false, in its one form: `AllValid` if no row
+    /// is, `AllInvalid` if there is a row and all are. The only error is `OutOfMemory`. (own)
+    pub fn from_bits(alloc: Global, bits: BitBuffer) -> VortexResult<Validity>
+        ensures ok { IfOk result (λ v. child_of v (length bits) ≡ child_by bits) }
+        ensures nullable { IfOk result (λ v. nullability_by v ≡ Nullability.Nullable) }
+        ensures err { IfErr result (λ e. e ≡ VortexError.OutOfMemory) }
+    {
+        match Mask::from_bits(bits) {
+            Mask::AllTrue(_) => Ok(Validity::AllValid),
+            Mask::AllFalse(_) => Ok(Validity::AllInvalid),
+            Mask::Values(values) => {
+                let dtype = DType::Bool(Nullability::NonNullable);
+                let bits = values.bit_buffer().clone()?;
+                let array = BoolArray::try_new(alloc, dtype, bits, &Validity::NonNullable)?;
+                Ok(Validity::Array(array.into_array()))
+            }
         }
     }
 }
@@ -74,7 +97,7 @@ pub fn child_to_validity(
     child: Option<&ArrayRef>,
     nullability: Nullability,
 ) -> Result<Validity, AllocError>
-    ensures { IfOk result (λ v. v ≡ validity_of nullability (option_map (λ c. c.now) child)) }
+    ensures { IfOk result (λ v. v ≡ validity_of nullability (option_map (λ c. c.now) child.entry)) }
 {
     let Some(child) = child else {
         return Ok(Validity::from(nullability));

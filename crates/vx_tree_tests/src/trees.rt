@@ -8,7 +8,8 @@ use vx_tree::{
     AnyCanonical, AnyColumnar, Array, ArrayKind, ArrayParts, ArrayRef, ArrayView, BoolArray,
     Canonical, Columnar, Constant, ConstantArray, ConstantData, IntoArray, Primitive,
     PrimitiveArray, PrimitiveData, PrimitiveValues, ScalarFn, ScalarFnArray, ScalarFnData, Slice,
-    SliceArray, SliceData, has_column, is_computed, slice_canonical,
+    SliceArray, SliceData, Validity, child_to_validity, has_column, is_computed, slice_canonical, validity_nchildren,
+    validity_to_child,
 };
 use vx_value::{
     ArgKind, ByteBuffer, DType, DecimalDType, DecimalValue, Id, Nullability, PType, Scalar,
@@ -59,11 +60,16 @@ fn values(alloc: Global, items: &[i32]) -> VortexResult<PrimitiveValues> {
 }
 
 fn column(alloc: Global, items: &[i32]) -> VortexResult<PrimitiveArray> {
-    PrimitiveArray::try_new(alloc, I32, values(alloc, items)?)
+    PrimitiveArray::try_new(alloc, I32, values(alloc, items)?, &Validity::NonNullable)
 }
 
 fn booleans(alloc: Global, len: usize) -> VortexResult<BoolArray> {
-    BoolArray::try_new(alloc, BOOL, BitBuffer::repeat(alloc, true, len)?)
+    BoolArray::try_new(
+        alloc,
+        BOOL,
+        BitBuffer::repeat(alloc, true, len)?,
+        &Validity::NonNullable,
+    )
 }
 
 fn seven(nullability: Nullability) -> Scalar {
@@ -89,7 +95,8 @@ fn zeros(alloc: Global, dtype: &DType, len: usize) -> VortexResult<ArrayRef> {
         Storage::Integers(ptype) => {
             let values = PrimitiveValues::repeat(alloc, ptype, 0, len)?;
             let dtype = DType::Primitive(ptype, Nullability::NonNullable);
-            Ok(PrimitiveArray::try_new(alloc, dtype, values)?.into_array())
+            let validity = Validity::NonNullable;
+            Ok(PrimitiveArray::try_new(alloc, dtype, values, &validity)?.into_array())
         }
         _ => Err(VortexError::InvalidArgument(ArgKind::BadType)),
     }
@@ -245,14 +252,16 @@ fn parts_of_a_column_are_refused_in_order(rt: HostRuntime) {
     let alloc = rt.alloc();
     let one = [Some((I32, 3))];
     assert!(rt; is_refused(column_of_parts(alloc, NULLABLE, 9, &[]), ArgKind::SlotCount));
-    assert!(rt; is_refused(column_of_parts(alloc, NULLABLE, 9, &one), ArgKind::BadType));
-    assert!(rt;
-        is_refused(
-            column_of_parts(alloc, I32, 9, &one),
-            ArgKind::SlotType { slot: 0 }
-        )
-    );
-    assert!(rt; is_refused(column_of_parts(alloc, I32, 9, &[None]), ArgKind::NodeLen));
+    let flags = [Some((BOOL, 3))];
+    assert!(rt; is_refused(column_of_parts(alloc, U8, 9, &one), ArgKind::BadType));
+    for (dtype, slots) in [(I32, &flags), (NULLABLE, &one)] {
+        let parts = column_of_parts(alloc, dtype, 9, slots);
+        assert!(rt; is_refused(parts, ArgKind::SlotType { slot: 0 }));
+    }
+    assert!(rt; is_refused(column_of_parts(alloc, NULLABLE, 9, &flags), ArgKind::NodeLen));
+    let short = column_of_parts(alloc, NULLABLE, 2, &flags);
+    assert!(rt; is_refused(short, ArgKind::SlotLen { slot: 0 }));
+    assert!(rt; column_of_parts(alloc, NULLABLE, 2, &[Some((BOOL, 2))]).is_ok());
     assert!(rt; column_of_parts(alloc, I32, 2, &[None]).is_ok());
 }
 
@@ -282,7 +291,7 @@ fn constants_of_types_without_columns(rt: HostRuntime) -> Result<(), Fail> {
 #[test]
 fn constants_of_any_length(rt: HostRuntime) -> Result<(), Fail> {
     let alloc = rt.alloc();
-    assert!(rt; is_refused(sevens(alloc, Nullability::Nullable, 1), ArgKind::BadType));
+    assert!(rt; sevens(alloc, Nullability::Nullable, 1).is_ok());
     assert!(rt; is_refused(constant_of_parts(alloc, BOOL), ArgKind::NodeType));
     let array = sevens(alloc, Nullability::NonNullable, usize::MAX)?;
     assert!(rt; array.len() == usize::MAX && array.scalar().as_integer() == Some(7));
@@ -314,7 +323,7 @@ fn rest_len(alloc: Global, column: &Canonical) -> Option<usize> {
 fn canonical_columns(rt: HostRuntime) -> Result<(), Fail> {
     let alloc = rt.alloc();
     assert!(rt; is_empty_column(alloc, &I32) && is_empty_column(alloc, &BOOL));
-    assert!(rt; is_refused(Canonical::empty(alloc, &NULLABLE), ArgKind::BadType));
+    assert!(rt; is_empty_column(alloc, &NULLABLE));
     assert!(rt; is_refused(Canonical::empty(alloc, &UTF8), ArgKind::BadType));
     let flags = Canonical::Bool(booleans(alloc, 3)?);
     assert!(rt; flags.as_bool().is_some() && flags.as_primitive().is_none());
@@ -392,11 +401,26 @@ fn functions_are_lazy(rt: HostRuntime) {
 }
 
 #[test]
+fn validities_and_their_children(rt: HostRuntime) -> Result<(), Fail> {
+    let alloc = rt.alloc();
+    let nullable = Nullability::Nullable;
+    let flags = Validity::Array(booleans(alloc, 3)?.into_array());
+    assert!(rt; validity_nchildren(&Validity::AllValid) == 0 && validity_nchildren(&flags) == 1);
+    let child = validity_to_child(alloc, &Validity::AllInvalid, 3)?;
+    assert!(rt; matches!(child_to_validity(child.as_ref(), nullable)?, Validity::AllInvalid));
+    let child = validity_to_child(alloc, &flags, 3)?;
+    assert!(rt; matches!(child_to_validity(child.as_ref(), nullable)?, Validity::Array(_)));
+    assert!(rt; matches!(child_to_validity(None, nullable)?, Validity::AllValid));
+    Ok(())
+}
+
+#[test]
 fn types_with_columns(rt: HostRuntime) {
-    assert!(rt; has_column(&BOOL) && has_column(&U8) && !has_column(&NULLABLE));
+    assert!(rt; has_column(&BOOL) && has_column(&U8) && has_column(&NULLABLE));
     assert!(rt; !has_column(&UTF8) && !has_column(&DType::Null));
-    assert!(rt; is_computed(&ADD) && is_computed(&AND) && is_computed(&NOT));
-    assert!(rt; !is_computed(&ScalarFnRef::IsNull) && !is_computed(&CAST));
+    assert!(rt; is_computed(&ADD, &I32) && is_computed(&AND, &BOOL) && is_computed(&NOT, &BOOL));
+    assert!(rt; !is_computed(&ADD, &NULLABLE) && !is_computed(&CAST, &I32));
+    assert!(rt; !is_computed(&ScalarFnRef::IsNull, &BOOL));
 }
 
 #[test]

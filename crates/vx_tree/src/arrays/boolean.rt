@@ -16,9 +16,9 @@ ghost use Rattle.vx_tree.specs.Columns.{canonical_tree, bool_column, empty_of};
 use crate::array::{
     Array, ArrayId, ArrayKind, ArrayParts, ArrayRef, Encoded, Encoding, Node, VTable,
 };
-use crate::arrays::column::{check_column, flat_column, only_slot};
+use crate::arrays::column::{check_column, flat_column, flat_slice};
 use crate::canonical::Canonical;
-use crate::validity::{Validity, slice_validity};
+use crate::validity::Validity;
 use std::alloc::Global;
 use std::ops::Range;
 use vx_mask::BitBuffer;
@@ -116,7 +116,15 @@ impl BoolArray {
     {
         let of_type = DType::Bool(Nullability::NonNullable);
         let len = bits.len();
-        flat_column(alloc, Bool, dtype, &of_type, len, BoolData { bits }, validity)
+        flat_column(
+            alloc,
+            Bool,
+            dtype,
+            &of_type,
+            len,
+            BoolData { bits },
+            validity,
+        )
     }
 
     /// Returns the rows in `range`, which must be in order and in bounds, as a column that shares its storage. The only
@@ -126,15 +134,16 @@ impl BoolArray {
         ensures ok { IfOk result (λ c. KeepsExactly (slice_of range.start range.end self.now) (canonical_tree c)) }
         ensures err { IfErr result (λ e. e ≡ VortexError.OutOfMemory) }
     {
-        let ArrayKind::Bool(bits, validity) = self.as_array().kind() else {
+        let array = self.as_array();
+        array.well();
+        let ArrayKind::Bool(bits, validity) = array.kind() else {
             unreachable!()
         };
         let (start, end) = (range.start, range.end);
         let bits = bits.slice(range)?;
-        let slots = only_slot(alloc, slice_validity(alloc, validity, start..end)?)?;
-        let dtype = self.dtype().clone()?;
-        let parts = ArrayParts::new(Bool, dtype, end - start, BoolData { bits }, slots);
-        Ok(Canonical::Bool(Array::from_parts_unchecked(alloc, parts)?))
+        let payload = BoolData { bits };
+        let column = flat_slice(alloc, Bool, payload, array, validity, start..end)?;
+        Ok(Canonical::Bool(column))
     }
 }
 

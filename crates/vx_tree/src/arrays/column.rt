@@ -1,17 +1,18 @@
 //! What all flat columns share: a value in each row, and a slot for their validity.
 
-ghost use Rattle.std.specs.Prelude.{◌≡◌, ◌⊎◌, ◌≤◌, ◌-◌, ℕ, List, [], ◌∷◌, MatchResult, IfOk, IfErr, OnOk, Some, None, option_map};
+ghost use Rattle.std.specs.Prelude.{◌≡◌, ◌⊎◌, ◌≤◌, ◌-◌, ℕ, List, [], ◌∷◌, Option, MatchResult, IfOk, IfErr, OnOk, Some, None, option_map};
 ghost use Rattle.vx_value.specs.Types.{DataType, nullability_of};
 ghost use Rattle.vx_value.specs.View.{type_of};
-ghost use Rattle.vx_tree.specs.Tree.{column, slots_of};
+ghost use Rattle.vx_tree.specs.Tree.{Tree, column, slots_of, dtype, len};
 ghost use Rattle.vx_tree.specs.Well.{Shape, shape_of, IsFlat, IsNode, shapes};
 ghost use Rattle.vx_tree.specs.Refusals.{column_refusal, validity_type_refusal, validity_len_refusal};
-ghost use Rattle.vx_tree.specs.Validities.{child_of, flat_refusal};
+ghost use Rattle.vx_tree.specs.Validities.{child_of, flat_refusal, IsValidityPart};
 
 use crate::array::{Array, ArrayParts, ArrayRef, Encoded, VTable};
 use crate::arrays::types::is_same_type;
-use crate::validity::{Validity, check_validity, validity_to_child};
+use crate::validity::{Validity, check_validity, slice_validity, validity_to_child};
 use std::alloc::{AllocError, Global};
+use std::ops::Range;
 use vx_value::{ArgKind, DType, Nullability, VortexError, VortexResult};
 
 /// Checks that `parts` make a column of `values` values of type `of_type`, whose nullability doesn't count.
@@ -116,11 +117,32 @@ pub(crate) fn flat_column<V: VTable>(
     Ok(Array::from_parts_unchecked(alloc, parts)?)
 }
 
-/// Returns `child` as the only slot of a node.
-pub(crate) fn only_slot(
+/// Makes the column of `payload`, the values of the rows of `array` in `range`, which must be in order and in bounds. `validity`
+/// is the slot of the array's validity. The only error is `OutOfMemory`.
+pub(crate) fn flat_slice<V: VTable>(
     alloc: Global,
-    child: Option<ArrayRef>,
-) -> Result<Vec<Option<ArrayRef>>, AllocError>
+    vtable: V,
+    payload: V::TypedArrayData,
+    array: &ArrayRef,
+    validity: &Option<ArrayRef>,
+    range: Range<usize>,
+) -> VortexResult<Array<V>>
+    requires range { (range.start ≤ range.end) × (range.end ≤ len array.now) }
+    requires flat { (of_type : DataType) × (k : ℕ) × IsFlat of_type k (dtype array.now) (len array.now) (shapes (slots_of (validity.now ∷ [])))
+        × ((ty : DataType) (n : ℕ) (ss : List (Option Shape)) → IsFlat of_type (range.end - range.start) ty n ss → IsNode ty n (V.stands_for payload) ss) }
+    ensures ok { IfOk result (λ a. (v : Option Tree) × IsValidityPart range.start range.end validity.now v
+        × (a ≡ column (dtype array.now) (range.end - range.start) (V.stands_for payload) v)) }
+    ensures err { IfErr result (λ e. e ≡ VortexError.OutOfMemory) }
+{
+    let dtype = array.dtype().clone()?;
+    let len = range.end - range.start;
+    let slots = only_slot(alloc, slice_validity(alloc, validity, range)?)?;
+    let parts = ArrayParts::new(vtable, dtype, len, payload, slots);
+    Ok(Array::from_parts_unchecked(alloc, parts)?)
+}
+
+/// Returns `child` as the only slot of a node.
+fn only_slot(alloc: Global, child: Option<ArrayRef>) -> Result<Vec<Option<ArrayRef>>, AllocError>
     ensures { IfOk result (λ slots. slots.items ≡ child ∷ []) }
 {
     let mut slots = Vec::with_capacity(alloc, 1)?;

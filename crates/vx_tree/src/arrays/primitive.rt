@@ -17,9 +17,9 @@ ghost use Rattle.vx_tree.specs.Columns.{canonical_tree, primitive_column, empty_
 use crate::array::{
     Array, ArrayId, ArrayKind, ArrayParts, ArrayRef, Encoded, Encoding, Node, VTable,
 };
-use crate::arrays::column::{check_column, flat_column, only_slot};
+use crate::arrays::column::{check_column, flat_column, flat_slice};
 use crate::canonical::Canonical;
-use crate::validity::{Validity, slice_validity};
+use crate::validity::Validity;
 use std::alloc::Global;
 use std::ops::Range;
 use vx_native::PrimitiveValues;
@@ -116,7 +116,15 @@ impl PrimitiveArray {
     {
         let of_type = DType::Primitive(values.ptype(), Nullability::NonNullable);
         let len = values.len();
-        flat_column(alloc, Primitive, dtype, &of_type, len, PrimitiveData { values }, validity)
+        flat_column(
+            alloc,
+            Primitive,
+            dtype,
+            &of_type,
+            len,
+            PrimitiveData { values },
+            validity,
+        )
     }
 
     /// Returns the rows in `range`, which must be in order and in bounds, as a column that shares its storage. The only
@@ -126,15 +134,16 @@ impl PrimitiveArray {
         ensures ok { IfOk result (λ c. KeepsExactly (slice_of range.start range.end self.now) (canonical_tree c)) }
         ensures err { IfErr result (λ e. e ≡ VortexError.OutOfMemory) }
     {
-        let ArrayKind::Primitive(values, validity) = self.as_array().kind() else {
+        let array = self.as_array();
+        array.well();
+        let ArrayKind::Primitive(values, validity) = array.kind() else {
             unreachable!()
         };
         let (start, end) = (range.start, range.end);
         let values = values.slice(range)?;
-        let slots = only_slot(alloc, slice_validity(alloc, validity, start..end)?)?;
-        let dtype = self.dtype().clone()?;
-        let parts = ArrayParts::new(Primitive, dtype, end - start, PrimitiveData { values }, slots);
-        Ok(Canonical::Primitive(Array::from_parts_unchecked(alloc, parts)?))
+        let payload = PrimitiveData { values };
+        let column = flat_slice(alloc, Primitive, payload, array, validity, start..end)?;
+        Ok(Canonical::Primitive(column))
     }
 }
 

@@ -1,23 +1,31 @@
-use Rattle.std.proofs.Common.{◌≡◌, ◌≤◌, refl, sym, ap, subst, ◌∙◌}
-use Rattle.vx_value.specs.Types as type
+use Rattle.std.proofs.Common.{◌≤◌, refl, subst, sym}
+use Rattle.vx_value.specs.Types.{primitive}
 use Rattle.vx_value.specs.Values.{integer}
 use Rattle.vx_value.specs.declared.dtype.Nullability.TheVariants.{NonNullable}
 use Rattle.vx_native.specs.Natives.{values_of, ptype_of}
 use Rattle.vx_tree.specs.Tree as enc
-use Rattle.vx_tree.specs.Tree.{len, slice_of, integers}
+use Rattle.vx_tree.specs.Tree.{len, slice_of}
 use Rattle.vx_tree.specs.Keeps.{KeepsExactly}
-use Rattle.vx_tree.proofs.ColumnsLemmas.{part_exactly}
+use Rattle.vx_tree.proofs.ValiditiesLemmas.{flat_ready, flat_sliced}
 use Rattle.vx_tree.proofs.arrays.primitive.PrimitiveArray.slice.Goals as goal
+
+pub flat_slice-requires-clause-flat : goal.flat_slice-requires-clause-flat
+flat_slice-requires-clause-flat c =
+    let t = c.as_array-array.result.now in
+    let p = ptype_of c.in-Primitive.values.now in
+    let within = subst (λ x. c.args.range.end ≤ len x) (sym c.as_array-array.ensures.of) c.requires.1 in
+    rw c.in_ok-values.ensures.kind
+    (flat_ready (primitive p NonNullable) integer (enc.primitive p) (λ ty n xs css. refl) (λ ty n xs ss h. h) (λ ty n xs ss h. h) c.args.range.start c.args.range.end
+    (values_of c.in-Primitive.values.now) (values_of c.in_ok-values.values) c.in-Primitive.validity.now t c.in-Primitive.ensures.0 c.well.ensures.formed
+    within c.in_ok-values.ensures.values)
 
 pub returns-clause-ok : goal.returns-clause-ok
 returns-clause-ok c =
-    let a = c.args.range.start in
-    let b = c.args.range.end in
+    let t = c.as_array-array.result.now in
     let p = ptype_of c.in-Primitive.values.now in
-    let xs = values_of c.in-Primitive.values.now in
-    let ys = values_of c.in_ok-values.values in
-    let kind = c.in_ok-values.ensures.kind in
-    let whole : c.args.self.now ≡ integers p xs = sym c.as_array.ensures.of ∙ c.in-Primitive.ensures in
-    let within = subst (λ n. b ≤ n) (ap len whole) c.requires.1 in
-    subst (KeepsExactly (slice_of a b c.args.self.now)) (ap (λ q. integers q ys) (sym kind) ∙ sym c.in_ok-try_new.ensures.ok)
-    (part_exactly (type.primitive p NonNullable) integer (enc.primitive p) (λ n zs. refl) a b xs ys c.args.self.now whole within c.in_ok-values.ensures.values)
+    let within = subst (λ x. c.args.range.end ≤ len x) (sym c.as_array-array.ensures.of) c.requires.1 in
+    let part = rw c.in_ok-values.ensures.kind at c.in_ok-column.ensures.ok in
+    subst (λ x. KeepsExactly (slice_of c.args.range.start c.args.range.end x) c.in_ok-column.column) c.as_array-array.ensures.of
+    (flat_sliced (primitive p NonNullable) integer (enc.primitive p) (λ ty n xs css. refl) (λ ty n xs ss h. h) (λ ty n xs ss h. h) c.args.range.start c.args.range.end
+    (values_of c.in-Primitive.values.now) (values_of c.in_ok-values.values) c.in-Primitive.validity.now t c.in-Primitive.ensures.0 c.well.ensures.formed
+    within c.in_ok-values.ensures.values c.in_ok-column.column part)

@@ -1,0 +1,20 @@
+-- The column of rows, null among them: what it stores, and its validity, by one definition.
+use Rattle.std.specs.Prelude.{ℤ, pos, List, length, map, Bool, false, Option, Some, None, is_some}
+use Rattle.vx_value.specs.Types as type
+use Rattle.vx_value.specs.declared.dtype.Nullability.{Nullability}
+use Rattle.vx_value.specs.declared.dtype.PType.{PType}
+use Rattle.vx_tree.specs.Tree as enc
+use Rattle.vx_tree.specs.Tree.{Tree, column}
+use Rattle.vx_tree.specs.Validities.{child_by}
+
+-- a row's item, or `other` if it is null
+abbrev pub item_or : {A : Type 0} → A → Option A → A
+item_or other None = other
+item_or other (Some x) = x
+
+-- of booleans, and of integers: false and 0 stand under a null
+abbrev pub boolean_rows : Nullability → List (Option Bool) → Tree
+boolean_rows m rows = column (type.bool m) (length rows) (enc.bool (map (item_or false) rows)) (child_by (map is_some rows))
+
+abbrev pub integer_rows : Nullability → PType → List (Option ℤ) → Tree
+integer_rows m p rows = column (type.primitive p m) (length rows) (enc.primitive p (map (item_or (pos 0)) rows)) (child_by (map is_some rows))
