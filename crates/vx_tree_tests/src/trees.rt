@@ -8,8 +8,8 @@ use vx_tree::{
     AnyCanonical, AnyColumnar, Array, ArrayKind, ArrayParts, ArrayRef, ArrayView, BoolArray,
     Canonical, Columnar, Constant, ConstantArray, ConstantData, IntoArray, Primitive,
     PrimitiveArray, PrimitiveData, PrimitiveValues, ScalarFn, ScalarFnArray, ScalarFnData, Slice,
-    SliceArray, SliceData, Validity, child_to_validity, has_column, is_computed, slice_canonical, validity_nchildren,
-    validity_to_child,
+    SliceArray, SliceData, Validity, child_to_validity, has_column, is_computed, slice_canonical,
+    validity_nchildren, validity_to_child,
 };
 use vx_value::{
     ArgKind, ByteBuffer, DType, DecimalDType, DecimalValue, Id, Nullability, PType, Scalar,
@@ -258,7 +258,12 @@ fn parts_of_a_column_are_refused_in_order(rt: HostRuntime) {
         let parts = column_of_parts(alloc, dtype, 9, slots);
         assert!(rt; is_refused(parts, ArgKind::SlotType { slot: 0 }));
     }
-    assert!(rt; is_refused(column_of_parts(alloc, NULLABLE, 9, &flags), ArgKind::NodeLen));
+    assert!(rt;
+        is_refused(
+            column_of_parts(alloc, NULLABLE, 9, &flags),
+            ArgKind::NodeLen
+        )
+    );
     let short = column_of_parts(alloc, NULLABLE, 2, &flags);
     assert!(rt; is_refused(short, ArgKind::SlotLen { slot: 0 }));
     assert!(rt; column_of_parts(alloc, NULLABLE, 2, &[Some((BOOL, 2))]).is_ok());
@@ -407,9 +412,19 @@ fn validities_and_their_children(rt: HostRuntime) -> Result<(), Fail> {
     let flags = Validity::Array(booleans(alloc, 3)?.into_array());
     assert!(rt; validity_nchildren(&Validity::AllValid) == 0 && validity_nchildren(&flags) == 1);
     let child = validity_to_child(alloc, &Validity::AllInvalid, 3)?;
-    assert!(rt; matches!(child_to_validity(child.as_ref(), nullable)?, Validity::AllInvalid));
+    assert!(rt;
+        matches!(
+            child_to_validity(child.as_ref(), nullable)?,
+            Validity::AllInvalid
+        )
+    );
     let child = validity_to_child(alloc, &flags, 3)?;
-    assert!(rt; matches!(child_to_validity(child.as_ref(), nullable)?, Validity::Array(_)));
+    assert!(rt;
+        matches!(
+            child_to_validity(child.as_ref(), nullable)?,
+            Validity::Array(_)
+        )
+    );
     assert!(rt; matches!(child_to_validity(None, nullable)?, Validity::AllValid));
     Ok(())
 }
