@@ -52,7 +52,7 @@ move_push fits fs gs i t p c g going e hole formed w aim h join =
 
 -- a slot that is to be executed first is there
 pub awaited_present : (i : ℕ) (t : Tree) → Awaits i t → IsPresent i t
-awaited_present i (node ty n d ss) h = at_slot _ i ss h
+awaited_present i (node ty n d ss) h = at_slot _ i ss h.1
   where
     at_slot : (g : SlotTarget) (i : ℕ) (ss : Slots) → AwaitsAt g i ss → IsPresentAt i ss
     at_slot g i no_slots h = h

@@ -1,6 +1,6 @@
 -- The turns that are left: they are at most the cost, and fall where a slot is taken out and where it is put back.
-use Rattle.std.proofs.Common.{◌≡◌, ℕ, zero, suc, ◌+◌, ◌<◌, ◌≤◌, Bool, true, false, refl, ap, arith}
-use Rattle.vx_tree.specs.Tree.{Tree, Data, Slots, node, no_slots, absent, slot, datum}
+use Rattle.std.proofs.Common.{◌≡◌, ℕ, zero, suc, ◌+◌, ◌<◌, ◌≤◌, Bool, true, false, if◌then◌else◌, refl, ap, arith}
+use Rattle.vx_tree.specs.Tree.{Tree, Data, Slots, node, no_slots, absent, slot, datum, is_columnar}
 use Rattle.vx_tree.specs.Slots.{set_slot, put, IsAbsentAt, IsHole}
 use Rattle.vx_tree.proofs.CostLemmas.{base_positive}
 use Rattle.vx_tree.specs.Cost.{cost, base_cost, slot_cost, slots_cost, extra}
@@ -25,8 +25,13 @@ slots_paid d (absent ss) = slots_paid d ss
 slots_paid d (slot t ss) =
     omega (arith, slots_paid d ss, slot_bound (meets (slot_target d) t) (cost t), slot_paid d (cost t) (extra t))
 
+-- where the slots count, and where they don't
+either_paid : (column : Bool) (m n : ℕ) → m ≤ n → (if column then 0 else m) ≤ (if column then 0 else n)
+either_paid true m n h = omega arith
+either_paid false m n h = h
+
 pub top_paid : (t : Tree) → top t ≤ cost t
-top_paid (node ty n d ss) = omega (arith, slots_paid d ss)
+top_paid (node ty n d ss) = omega (arith, either_paid (is_columnar d) _ _ (slots_paid d ss))
 
 pub top_positive : (t : Tree) → 0 < top t
 top_positive (node ty n d ss) = omega (arith, base_positive d)
@@ -54,10 +59,11 @@ awaited_put g (suc i) c (slot s ss) h w = awaited_put g i c ss h w.1
 
 pub take_falls : (i : ℕ) (c p : Tree) → IsHole i p → Awaits i (put i c p) → top p + top c < top (put i c p)
 take_falls i c (node ty n d ss) h w =
-    let weighs : slot_top (meets (slot_target d) c) (cost c) ≡ cost c + 1 = ap (λ b. slot_top b (cost c)) (awaited_put (slot_target d) i c ss h w) in
-    omega (arith, put_top d i c ss h, top_paid c, weighs)
+    let weighs : slot_top (meets (slot_target d) c) (cost c) ≡ cost c + 1 = ap (λ b. slot_top b (cost c)) (awaited_put (slot_target d) i c ss h w.1) in
+    rw w.0 (omega (arith, put_top d i c ss h, top_paid c, weighs))
 
 pub put_falls : (i : ℕ) (c p : Tree) → IsHole i p → meets (target_of p) c ≡ true → top (put i c p) < top p + top c
 put_falls i c (node ty n d ss) h m =
     let done : slot_top (meets (slot_target d) c) (cost c) ≡ 0 = ap (λ b. slot_top b (cost c)) m in
-    omega (arith, put_top d i c ss h, top_positive c, done)
+    let same : slots_top d (set_slot i c ss) ≡ slots_top d ss = omega (arith, put_top d i c ss h, done) in
+    omega (arith, ap (λ k. if is_columnar d then 0 else k) same, top_positive c)

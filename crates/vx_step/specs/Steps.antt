@@ -18,8 +18,9 @@ AwaitsAt g zero (slot t ss) = meets g t ≡ false
 AwaitsAt g (suc i) (absent ss) = AwaitsAt g i ss
 AwaitsAt g (suc i) (slot t ss) = (meets g t ≡ true) × AwaitsAt g i ss
 
+-- the node isn't a column, and slot i is its first that isn't ready
 abbrev pub Awaits : ℕ → Tree → Type 0
-Awaits i (node ty n d ss) = AwaitsAt (slot_target d) i ss
+Awaits i (node ty n d ss) = (is_columnar d ≡ false) × AwaitsAt (slot_target d) i ss
 
 -- the tree of each slot has reached the target g
 abbrev pub AreReady : SlotTarget → Slots → Type 0

@@ -1,5 +1,5 @@
 -- The targets of slots, and the turns left at a node.
-use Rattle.std.specs.Prelude.{ℕ, ◌+◌, Bool, true, false}
+use Rattle.std.specs.Prelude.{ℕ, ◌+◌, Bool, true, false, if◌then◌else◌}
 use Rattle.vx_tree.specs.Tree.{Tree, Data, Slots, node, function, no_slots, absent, slot, datum, is_canonical, is_columnar}
 use Rattle.vx_tree.specs.Cost.{cost, base_cost}
 use Rattle.vx_step.specs.declared.steps.SlotTarget.{SlotTarget}
@@ -35,6 +35,6 @@ slots_top d no_slots = 0
 slots_top d (absent ss) = slots_top d ss
 slots_top d (slot t ss) = slot_top (meets (slot_target d) t) (cost t) + slots_top d ss
 
--- the turns left at a node, current or suspended
+-- the turns left at a node, current or suspended; none for the validity of a column
 abbrev pub top : Tree → ℕ
-top (node ty n d ss) = base_top d + slots_top d ss
+top (node ty n d ss) = base_top d + (if is_columnar d then 0 else slots_top d ss)
