@@ -1,22 +1,13 @@
 -- The answer of a run.
 use Rattle.std.proofs.Common.{◌≡◌, ℕ, ◌≤◌, List, true, sym, subst}
 use Rattle.vx_tree.specs.Tree.{Tree, dtype, datum, id_of}
-use Rattle.vx_tree.specs.Cells.{rows, HasNoFault}
-use Rattle.vx_tree.proofs.ValiditiesLemmas.{whole}
+use Rattle.vx_tree.specs.Cells.{rows}
 use Rattle.vx_tree.specs.Keeps.{KeepsExactly}
 use Rattle.vx_tree.specs.Columns.{IsLawful}
 use Rattle.vx_exec.specs.Moves.{IsExecuted}
 use Rattle.vx_json.specs.Spelled.{Spells}
 use Rattle.vx_main.specs.Output.{Shows}
-use Rattle.vx_main.specs.Runs.{Answers, IsFaulty, is_column}
-
--- a column with a fault among its rows stands for a tree that isn't clean
-pub faulty_of : (bytes : List ℕ) (t u : Tree) → Spells bytes t → KeepsExactly t u → ¬ (HasNoFault (rows u)) → IsFaulty bytes
-faulty_of bytes t u s k unread = record {
-  tree = t;
-  spelled = s;
-  unclean = λ clean. unread (subst HasNoFault k.equal (whole t clean));
-}
+use Rattle.vx_main.specs.Runs.{Answers, is_column}
 
 -- the column that a tree is executed to shows the answer for the bytes that spell the tree
 pub answers_of : (bytes text : List ℕ) (limit turns : ℕ) (t u : Tree) → Spells bytes t → KeepsExactly t u → IsExecuted is_column t turns u
