@@ -2,6 +2,7 @@
 use Rattle.std.proofs.Common.{◌≡◌, inl, inr, ℕ, zero, suc, ◌<◌, ◌+◌, List, [], ◌∷◌, length, map, get_or, replicate, Bool, true, false, ◌&&◌, Some, refl, sym, ◌∙◌, ap, subst, arith}
 use Rattle.std.specs.Prelude.{is_some, IsSome, IfSome, nat_lt}
 use Rattle.std.specs.List.{AllZip, range_with_len}
+use Rattle.std.specs.Cmp.{first_so}
 use Rattle.std.proofs.lemmas.Bool.Decides.{nat_tests}
 use Rattle.vx_value.specs.Types.{DataType}
 use Rattle.vx_value.specs.Typed.{Typed}
@@ -10,10 +11,11 @@ use Rattle.vx_value.specs.declared.error.VortexError.{VortexError}
 use Rattle.vx_fn.specs.Apply.{apply}
 use Rattle.vx_fn.specs.ReturnTypes.{return_type}
 use Rattle.vx_fn.specs.declared.function.ScalarFnRef.{ScalarFnRef}
-use Rattle.vx_tree.specs.ColumnTypes.{has_column, is_computed}
+use Rattle.vx_tree.specs.ColumnTypes.{has_column, has_kernel}
 use Rattle.vx_tree.specs.Tree.{Tree, dtype, datum, is_constant, constant_of, call_of}
 use Rattle.vx_tree.specs.Cells.{rows, HasNoFault}
 use Rattle.vx_tree.specs.Columns.{columnar_tree}
+use Rattle.vx_tree.proofs.ColumnTypesLemmas.{computed_type}
 use Rattle.vx_tree.specs.declared.columnar.Columnar.{Columnar}
 use Rattle.vx_column.specs.Applied.{IsCall, IsApplied, IsUnapplied, all_constant, gives_constant, Repeats}
 use Rattle.vx_column.specs.Computed.{IsResult, IsNoResult, cells_of}
@@ -29,10 +31,10 @@ taken f {ts = ts} {n = n} same call = ap is_some (ap (return_type f) (sym same.t
 pub column_given : (f : ScalarFnRef) {ts : List Tree} {n : ℕ} {tys : List DataType} {row : ℕ → List Cell} → AreRows ts n tys row → IsCall f ts n
     → IfSome (return_type f tys) (λ ty. has_column ty ≡ true)
 column_given f {ts = ts} {n = n} same call =
-    subst (λ o. IfSome o (λ ty. has_column ty ≡ true)) (sym (ap (return_type f) (sym same.types) ∙ call_typed f ts n call)) call.1.3
+    subst (λ o. IfSome o (λ ty. has_column ty ≡ true)) (sym (ap (return_type f) (sym same.types) ∙ call_typed f ts n call)) (computed_type f call.0 call.1.3)
 
-pub call_computed : (f : ScalarFnRef) (ts : List Tree) (n : ℕ) → IsCall f ts n → is_computed f ≡ true
-call_computed f ts n call = call.1.4
+pub call_computed : (f : ScalarFnRef) (ts : List Tree) (n : ℕ) → IsCall f ts n → has_kernel f ≡ true
+call_computed f ts n call = first_so (has_kernel f) _ call.1.3
 
 rows_are : (f : ScalarFnRef) (ts : List Tree) (n : ℕ) (tys : List DataType) (row : ℕ → List Cell) → AreRows ts n tys row → (ty : DataType)
     → rows (call_of f ty n ts) ≡ cells_of f ty row n

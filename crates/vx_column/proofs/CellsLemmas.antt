@@ -1,5 +1,5 @@
 -- One row of a node.
-use Rattle.std.proofs.Common.{◌≡◌, ℕ, zero, suc, ◌+◌, ◌-◌, ◌≤◌, ◌<◌, List, [], ◌∷◌, length, map, get_or, take, drop, Option, Some, None, refl, sym, ◌∙◌, ap, arith}
+use Rattle.std.proofs.Common.{◌≡◌, ℕ, zero, suc, ◌+◌, ◌-◌, ◌≤◌, ◌<◌, List, [], ◌∷◌, length, map, get_or, take, drop, Option, Some, None, refl, sym, ◌∙◌, ap, subst, arith}
 use Rattle.std.specs.Prelude.{slice_get, slice_index_or, is_some, IsSome}
 use Rattle.std.specs.List.{AllZip, range_with_len}
 use Rattle.std.proofs.lemmas.List.{take_all}
@@ -13,11 +13,12 @@ use Rattle.vx_fn.specs.Apply.{apply, on_values, value_of}
 use Rattle.vx_fn.specs.ReturnTypes.{return_type}
 use Rattle.vx_fn.specs.declared.function.ScalarFnRef.{ScalarFnRef}
 use Rattle.vx_tree.specs.Tree.{Tree, node, function, slots_of, dtype, len, height, slots_height, slice_of}
-use Rattle.vx_tree.specs.Cells.{row_at, rows, slots_rows}
+use Rattle.vx_tree.specs.Cells.{row_at, rows, slots_rows, valid_cell, valid_cells}
 use Rattle.vx_tree.specs.Well.{shape, shapes, IsNode}
 use Rattle.vx_tree.specs.Refusals.{types_in}
 use Rattle.vx_tree.proofs.RefusalsLemmas.{types_back}
 use Rattle.vx_column.specs.Applied.{types_of_scalars, cells_of_scalars}
+use Rattle.vx_column.specs.Nulls.{IsRowBy}
 
 -- ---- a row of a slice
 
@@ -36,6 +37,24 @@ pub slice_row : (t c : Tree) (a b i : ℕ) → t ≡ slice_of a b c → i < len 
 slice_row t c a b i e h =
     let l = ap len e in
     ap (λ u. slice_get (rows u) i) e ∙ get_take (b - a) i (drop a (rows c)) (omega arith) ∙ get_drop a i (rows c)
+
+-- ---- of a column
+
+valid_get : (vs cs : List Cell) (i : ℕ) (v c : Cell) → slice_get vs i ≡ Some v → slice_get cs i ≡ Some c
+    → slice_get (valid_cells vs cs) i ≡ Some (valid_cell v c)
+valid_get [] cs i v c h k = absurd (cc)
+valid_get (w ∷ vs) [] i v c h k = absurd (cc)
+valid_get (w ∷ vs) (d ∷ cs) zero v c h k =
+    let left : w ≡ v = cc in
+    let right : d ≡ c = cc in
+    λ i. Some (valid_cell (left i) (right i))
+valid_get (w ∷ vs) (d ∷ cs) (suc i) v c h k = valid_get vs cs i v c h k
+
+-- what a validity's tree tells of a row
+pub row_told : (validity : Option Tree) (t : Tree) (i : ℕ) (v stored : Cell) → validity ≡ Some t → slice_get (rows t) i ≡ Some v
+    → IsRowBy validity i stored (valid_cell v stored)
+row_told validity t i v stored is told =
+    subst (λ w. IsRowBy w i stored (valid_cell v stored)) (sym is) (λ cs there. valid_get (rows t) cs i v stored told there)
 
 -- ---- of a function
 

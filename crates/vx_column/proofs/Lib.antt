@@ -5,3 +5,4 @@ pub mod CellsLemmas
 pub mod OperatorLemmas
 pub mod ComputedLemmas
 pub mod KeepsLemmas
+pub mod NullsLemmas

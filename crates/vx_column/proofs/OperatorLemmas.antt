@@ -19,7 +19,6 @@ use Rattle.vx_fn.specs.declared.function.Operator.{Operator}
 use Rattle.vx_fn.specs.declared.function.Operator.TheVariants as operator
 use Rattle.vx_fn.specs.declared.function.ScalarFnRef.TheVariants.{Binary}
 use Rattle.vx_fn.proofs.BinaryLemmas.{result_type}
-use Rattle.vx_tree.specs.ColumnTypes.{has_column}
 use Rattle.vx_tree.proofs.ColumnTypesLemmas.{column_of_integers}
 use Rattle.vx_column.specs.Bits.{bit_by}
 
@@ -60,12 +59,12 @@ bools_valued _ a b = refl
 
 -- ---- integers
 
-module _ (op : Operator) (p : PType) (s t : DataType) (first : has_column s ≡ true) (second : has_column t ≡ true)
+module _ (op : Operator) (p : PType) (s t : DataType) (first : nullability_of s ≡ NonNullable) (second : nullability_of t ≡ NonNullable)
     (first_stored : storage_of s ≡ Integers p) (second_stored : storage_of t ≡ Integers p) where
   of_integers : return_type (Binary op) (s ∷ t ∷ []) ≡ option_map (with_nullability NonNullable) (operator_type op (primitive p NonNullable))
   of_integers =
-      let left : s ≡ primitive p NonNullable = column_of_integers p s first first_stored in
-      let right : t ≡ primitive p NonNullable = column_of_integers p t second second_stored in
+      let left : s ≡ primitive p NonNullable = column_of_integers p s first_stored ∙ ap (primitive p) first in
+      let right : t ≡ primitive p NonNullable = column_of_integers p t second_stored ∙ ap (primitive p) second in
       (λ i. return_type (Binary op) (left i ∷ right i ∷ [])) ∙ of_columns op (primitive p NonNullable) refl
 
   -- logic takes none

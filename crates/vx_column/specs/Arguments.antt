@@ -1,7 +1,7 @@
 -- The arguments of a function: for each a type, and a value for each row.
 use Rattle.std.specs.Prelude.{◌≡◌, ◌<◌, ℕ, ℤ, pos, List, map, length, true, slice_index_or}
 use Rattle.vx_value.specs.Types as type
-use Rattle.vx_value.specs.Types.{DataType}
+use Rattle.vx_value.specs.Types.{DataType, nullability_of}
 use Rattle.vx_value.specs.Values.{Value, boolean, integer}
 use Rattle.vx_value.specs.Cell.{Cell, value, fault}
 use Rattle.vx_value.specs.View.{type_of}
@@ -11,7 +11,6 @@ use Rattle.vx_value.specs.IsOf.{in_range}
 use Rattle.vx_value.specs.declared.dtype.Nullability.TheVariants.{NonNullable}
 use Rattle.vx_value.specs.declared.dtype.PType.{PType}
 use Rattle.vx_mask.specs.Operands.{bit_in, HasBits}
-use Rattle.vx_tree.specs.ColumnTypes.{has_column}
 use Rattle.vx_native.specs.Natives.{values_of, ptype_of}
 use Rattle.vx_tree.specs.Tree.{dtype, len}
 use Rattle.vx_tree.specs.Cells.{rows}
@@ -22,6 +21,10 @@ use Rattle.vx_column.specs.declared.argument.IntegerRows.{IntegerRows}
 use Rattle.vx_column.specs.declared.argument.IntegerRows.TheVariants as rows_in
 use Rattle.vx_column.specs.declared.argument.Argument.{Argument}
 use Rattle.vx_column.specs.declared.argument.Argument.TheVariants as argument
+
+-- no row may be null, by the column's type
+abbrev pub HasNoNulls : Columnar → Type 0
+HasNoNulls c = nullability_of (dtype (columnar_tree c)) ≡ NonNullable
 
 -- the integer at row i, or 0 past the last one
 abbrev pub integer_at : IntegerRows → ℕ → ℤ
@@ -48,11 +51,11 @@ integer_in zs = integer_at zs.rows
 abbrev pub ptype_in : IntegerOperand → PType
 ptype_in zs = ptype_at zs.rows
 
--- n integers of type p, as columns of their type store them
+-- n integers of type p, which columns of their type store, and none of which may be null
 abbrev pub AreIntegers : PType → IntegerOperand → ℕ → Type 0
 AreIntegers p zs n =
     (ptype_in zs ≡ p) × IsInRange zs.rows × HasIntegers zs.rows n
-    × (storage_of (type_of zs.dtype.now) ≡ storage.Integers p) × (has_column (type_of zs.dtype.now) ≡ true)
+    × (storage_of (type_of zs.dtype.now) ≡ storage.Integers p) × (nullability_of (type_of zs.dtype.now) ≡ NonNullable)
 
 -- the value at row i: a line for each storage
 abbrev pub value_at : Argument → ℕ → Value

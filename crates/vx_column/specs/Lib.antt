@@ -9,3 +9,5 @@ pub mod Arguments
 pub mod Computed
 pub mod Operands
 pub mod Bits
+pub mod Expanded
+pub mod Nulls

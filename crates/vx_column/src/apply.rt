@@ -3,7 +3,7 @@
 ghost use Rattle.std.specs.Prelude.{◌≡◌, map, IfOk, IfErr, IsSome, true};
 ghost use Rattle.std.specs.List.{AllByRecursion};
 ghost use Rattle.vx_fn.specs.ReturnTypes.{return_type};
-ghost use Rattle.vx_tree.specs.ColumnTypes.{is_computed};
+ghost use Rattle.vx_tree.specs.ColumnTypes.{has_kernel};
 ghost use Rattle.vx_tree.specs.Columns.{columnar_tree, canonical_tree};
 ghost use Rattle.vx_column.specs.Applied.{IsCall, IsApplied, IsUnapplied};
 ghost use Rattle.vx_column.specs.Arguments.{types_of, IsSized};
@@ -49,7 +49,7 @@ pub fn apply_fn(
     }
 }
 
-/// Applies `function`, by which columns must be computed, to `arguments`, `len` rows each, whose types it must accept. `Fault`
+/// Applies `function`, which must have a kernel, to `arguments`, `len` rows each, whose types it must accept. `Fault`
 /// if a row has no value.
 fn apply_to_columns(
     alloc: Global,
@@ -57,7 +57,7 @@ fn apply_to_columns(
     arguments: &[Argument<'_>],
     len: usize,
 ) -> VortexResult<Canonical>
-    requires computed { is_computed function.now ≡ true }
+    requires kernel { has_kernel function.now ≡ true }
     requires sized { AllByRecursion (IsSized len) arguments.now }
     requires taken { IsSome (return_type function.now (types_of arguments.now)) }
     ensures ok { IfOk result (λ c. IsComputed function.now arguments.now len (canonical_tree c)) }

@@ -1,8 +1,8 @@
 //! Columns as the arguments of a function.
 
 ghost use Rattle.std.specs.Prelude.{◌≡◌, IfOk};
-ghost use Rattle.std.specs.List.{AllZip};
-ghost use Rattle.vx_column.specs.Arguments.{IsArgument, ptype_in};
+ghost use Rattle.std.specs.List.{AllZip, AllByRecursion};
+ghost use Rattle.vx_column.specs.Arguments.{IsArgument, HasNoNulls, ptype_in};
 ghost use Rattle.vx_column.specs.declared.argument.Argument.TheVariants.{Integers};
 
 use std::alloc::{AllocError, Global};
@@ -46,15 +46,16 @@ impl IntegerOperand<'_> {
     }
 }
 
-/// Returns the rows of `column`.
-#[tactic(auto, using(vx_tree::proofs::ColumnTypesLemmas::column_of_bits))]
+/// Returns the rows of `column`, whose type must be non-nullable.
+#[tactic(auto, using(vx_tree::proofs::ColumnTypesLemmas::column_of_bits, crate::proofs::NullsLemmas::plain_booleans, crate::proofs::NullsLemmas::plain_integers))]
 fn argument_of(column: &Columnar) -> Argument<'_>
+    requires { HasNoNulls column.now }
     ensures { IsArgument column.now result }
 {
     let dtype = column.dtype();
     match column.as_array().kind() {
-        ArrayKind::Bool(bits) => Argument::Bits(BitOperand::Bits(bits)),
-        ArrayKind::Primitive(values) => integer_argument(dtype, IntegerRows::Rows(values)),
+        ArrayKind::Bool(bits, _) => Argument::Bits(BitOperand::Bits(bits)),
+        ArrayKind::Primitive(values, _) => integer_argument(dtype, IntegerRows::Rows(values)),
         ArrayKind::Constant(scalar) => match scalar.kind() {
             ScalarKind::Bool(bit, _) => Argument::Bits(BitOperand::Bit(bit)),
             ScalarKind::Integer(wide, ptype, _) => {
@@ -73,11 +74,12 @@ fn integer_argument<'a>(dtype: &'a DType, rows: IntegerRows<'a>) -> Argument<'a>
     Argument::Integers(IntegerOperand { dtype, rows })
 }
 
-/// Returns the rows of each of `columns`.
+/// Returns the rows of each of `columns`, whose types must be non-nullable.
 pub(crate) fn arguments_of(
     alloc: Global,
     columns: &[Columnar],
 ) -> Result<Vec<Argument<'_>>, AllocError>
+    requires { AllByRecursion HasNoNulls columns.now }
     ensures { IfOk result (λ v. AllZip IsArgument columns.now v.items) }
 {
     let mut arguments = Vec::with_capacity(alloc, columns.len())?;

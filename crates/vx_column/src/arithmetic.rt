@@ -1,6 +1,6 @@
 //! Arithmetic on integers.
 
-ghost use Rattle.std.specs.Prelude.{◌≡◌, ◌∷◌, [], false, IfOk, IfErr, IsSome, MatchOption};
+ghost use Rattle.std.specs.Prelude.{◌≡◌, ◌∷◌, [], false, length, IfOk, IfErr, IsSome, MatchOption};
 ghost use Rattle.vx_value.specs.Values.{integer};
 ghost use Rattle.vx_value.specs.Cell.{value, fault};
 ghost use Rattle.vx_fn.specs.Binary.{is_comparison};
@@ -9,11 +9,12 @@ ghost use Rattle.vx_fn.specs.ReturnTypes.{return_type};
 ghost use Rattle.vx_fn.specs.declared.function.Operator.{Operator as OperatorOf};
 ghost use Rattle.vx_fn.specs.declared.function.Operator.TheVariants.{Add, Sub, Mul, Div};
 ghost use Rattle.vx_fn.specs.declared.function.ScalarFnRef.TheVariants.{Binary};
-ghost use Rattle.vx_tree.specs.Tree.{integers};
+ghost use Rattle.vx_tree.specs.Validities.{HasRows};
 ghost use Rattle.vx_native.specs.Natives.{values_of, ptype_of};
 ghost use Rattle.vx_tree.specs.Columns.{canonical_tree};
 ghost use Rattle.vx_column.specs.Arguments.{AreIntegers, types_of};
 ghost use Rattle.vx_column.specs.Computed.{IsComputed, IsNotComputed};
+ghost use Rattle.vx_column.specs.Expanded.{integer_column};
 ghost use Rattle.vx_column.specs.declared.argument.Argument.TheVariants.{Integers};
 
 use crate::argument::IntegerOperand;
@@ -22,8 +23,8 @@ use num_traits::{CheckedAdd, CheckedDiv, CheckedMul, CheckedSub};
 use std::alloc::Global;
 use vx_mask::Buffer;
 use vx_native::{NativeInteger, PrimitiveValues};
-use vx_tree::{Canonical, PrimitiveArray};
-use vx_value::{DType, Nullability, VortexError, VortexResult};
+use vx_tree::{Canonical, PrimitiveArray, Validity};
+use vx_value::{DType, VortexError, VortexResult};
 
 /// An arithmetic operator.
 pub(crate) trait Arithmetic {
@@ -88,13 +89,19 @@ impl Arithmetic for Quotient {
     }
 }
 
-/// Makes a column of `values`. The only error is `OutOfMemory`.
-pub(crate) fn primitive_column(alloc: Global, values: PrimitiveValues) -> VortexResult<Canonical>
-    ensures ok { IfOk result (λ c. canonical_tree c ≡ integers (ptype_of values) (values_of values)) }
+/// Makes the column of `values`, whose null rows `validity` tells. The only error is `OutOfMemory`.
+#[tactic(auto, using(crate::proofs::NullsLemmas::flat_taken))]
+pub(crate) fn primitive_column(
+    alloc: Global,
+    values: PrimitiveValues,
+    validity: &Validity,
+) -> VortexResult<Canonical>
+    requires { HasRows validity.now (length (values_of values)) }
+    ensures ok { IfOk result (λ c. canonical_tree c ≡ integer_column (ptype_of values) (values_of values) validity.now) }
     ensures err { IfErr result (λ e. e ≡ VortexError.OutOfMemory) }
 {
-    let dtype = DType::Primitive(values.ptype(), Nullability::NonNullable);
-    let column = PrimitiveArray::try_new(alloc, dtype, values)?;
+    let dtype = DType::Primitive(values.ptype(), validity.nullability());
+    let column = PrimitiveArray::try_new(alloc, dtype, values, validity)?;
     Ok(Canonical::Primitive(column))
 }
 
@@ -122,5 +129,6 @@ pub(crate) fn calculate<T: NativeInteger, A: Arithmetic>(
         };
         numbers.push_reserved(number);
     }
-    primitive_column(alloc, T::wrap(Buffer::from_vec(alloc, numbers)?))
+    let values = T::wrap(Buffer::from_vec(alloc, numbers)?);
+    primitive_column(alloc, values, &Validity::NonNullable)
 }

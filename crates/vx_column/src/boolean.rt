@@ -1,6 +1,6 @@
 //! Functions of booleans.
 
-ghost use Rattle.std.specs.Prelude.{◌≡◌, ◌∷◌, [], map, IfOk, IfErr, IsSome};
+ghost use Rattle.std.specs.Prelude.{◌≡◌, ◌∷◌, [], map, length, IfOk, IfErr, IsSome};
 ghost use Rattle.std.specs.List.{range_with_len};
 ghost use Rattle.vx_mask.specs.Operands.{bit_in, HasBits};
 ghost use Rattle.vx_value.specs.Types.{bool};
@@ -8,10 +8,11 @@ ghost use Rattle.vx_fn.specs.Binary.{operator_type};
 ghost use Rattle.vx_column.specs.Bits.{bit_by};
 ghost use Rattle.vx_fn.specs.ReturnTypes.{return_type};
 ghost use Rattle.vx_fn.specs.declared.function.ScalarFnRef.TheVariants.{Binary, Not};
-ghost use Rattle.vx_tree.specs.Tree.{booleans};
+ghost use Rattle.vx_tree.specs.Validities.{HasRows};
 ghost use Rattle.vx_tree.specs.Columns.{canonical_tree};
 ghost use Rattle.vx_column.specs.Arguments.{types_of, IsSized};
 ghost use Rattle.vx_column.specs.Computed.{IsComputed};
+ghost use Rattle.vx_column.specs.Expanded.{boolean_column};
 ghost use Rattle.vx_column.specs.declared.argument.Argument.TheVariants.{Bits};
 
 use crate::argument::Argument;
@@ -20,15 +21,22 @@ use vx_fn::Operator;
 use vx_mask::{
     BitAnd, BitBuffer, BitEq, BitGt, BitGte, BitLt, BitLte, BitNotEq, BitOperand, BitOr,
 };
-use vx_tree::{BoolArray, Canonical};
+use vx_tree::{BoolArray, Canonical, Validity};
 use vx_value::{DType, Nullability, VortexError, VortexResult};
 
-/// Makes a column of `bits`. The only error is `OutOfMemory`.
-pub(crate) fn bool_column(alloc: Global, bits: BitBuffer) -> VortexResult<Canonical>
-    ensures ok { IfOk result (λ c. canonical_tree c ≡ booleans bits) }
+/// Makes the column of `bits`, whose null rows `validity` tells. The only error is `OutOfMemory`.
+#[tactic(auto, using(crate::proofs::NullsLemmas::flat_taken))]
+pub(crate) fn bool_column(
+    alloc: Global,
+    bits: BitBuffer,
+    validity: &Validity,
+) -> VortexResult<Canonical>
+    requires { HasRows validity.now (length bits) }
+    ensures ok { IfOk result (λ c. canonical_tree c ≡ boolean_column bits validity.now) }
     ensures err { IfErr result (λ e. e ≡ VortexError.OutOfMemory) }
 {
-    let column = BoolArray::try_new(alloc, DType::Bool(Nullability::NonNullable), bits)?;
+    let dtype = DType::Bool(validity.nullability());
+    let column = BoolArray::try_new(alloc, dtype, bits, validity)?;
     Ok(Canonical::Bool(column))
 }
 
@@ -74,7 +82,7 @@ pub(crate) fn operate_bools(
     ensures err { IfErr result (λ e. e ≡ VortexError.OutOfMemory) }
 {
     let bits = operate_bits(alloc, operator, lhs, rhs, len)?;
-    bool_column(alloc, bits)
+    bool_column(alloc, bits, &Validity::NonNullable)
 }
 
 /// Negates each row of `input`, `len` booleans. The only error is `OutOfMemory`.
@@ -88,5 +96,5 @@ pub(crate) fn negate(alloc: Global, input: Argument<'_>, len: usize) -> VortexRe
         unreachable!()
     };
     let bits = BitBuffer::zip::<BitNotEq>(alloc, input, BitOperand::Bit(true), len)?;
-    bool_column(alloc, bits)
+    bool_column(alloc, bits, &Validity::NonNullable)
 }

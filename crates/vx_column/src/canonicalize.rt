@@ -1,17 +1,19 @@
 //! Constants expanded to canonical columns.
 
-ghost use Rattle.std.specs.Prelude.{◌≡◌, IfOk, IfErr};
-ghost use Rattle.vx_tree.specs.Tree.{datum, constant};
+ghost use Rattle.std.specs.Prelude.{◌≡◌, true, IfOk, IfErr};
+ghost use Rattle.vx_tree.specs.ColumnTypes.{has_column};
+ghost use Rattle.vx_tree.specs.Tree.{datum, constant, constant_of};
 ghost use Rattle.vx_tree.specs.Columns.{canonical_tree};
 ghost use Rattle.vx_tree.specs.Keeps.{KeepsExactly};
+ghost use Rattle.vx_column.specs.Expanded.{repeated_validity};
 
 use crate::arithmetic::primitive_column;
 use crate::boolean::bool_column;
 use std::alloc::Global;
 use vx_mask::BitBuffer;
 use vx_native::PrimitiveValues;
-use vx_tree::{ArrayView, Canonical, Constant};
-use vx_value::{ScalarKind, VortexError, VortexResult};
+use vx_tree::{ArrayView, Canonical, Constant, Validity};
+use vx_value::{Scalar, Storage, VortexError, VortexResult};
 
 /// Expands `array` to a canonical column. The rows take one allocation, which is made before any is written. The only
 /// error is `OutOfMemory`.
@@ -24,16 +26,43 @@ pub fn constant_canonicalize(
     ensures err { IfErr result (λ e. e ≡ VortexError.OutOfMemory) }
 {
     array.array.well();
-    let scalar = array.payload.scalar();
-    match scalar.kind() {
-        ScalarKind::Bool(bit, _) => {
-            let bits = BitBuffer::repeat(alloc, bit, array.len())?;
-            bool_column(alloc, bits)
+    if array.is_empty() {
+        Canonical::empty(alloc, array.dtype())
+    } else {
+        repeat(alloc, array.payload.scalar(), array.len())
+    }
+}
+
+/// Makes the column of `len` rows, each `scalar`; `false` or 0 stands under a null. The only error is `OutOfMemory`.
+#[tactic(auto, using(crate::proofs::KeepsLemmas::stored_integer, crate::proofs::KeepsLemmas::repeated_rows))]
+fn repeat(alloc: Global, scalar: &Scalar, len: usize) -> VortexResult<Canonical>
+    requires { has_column scalar.now.of_type ≡ true }
+    ensures ok { IfOk result (λ c. KeepsExactly (constant_of scalar.now len) (canonical_tree c)) }
+    ensures err { IfErr result (λ e. e ≡ VortexError.OutOfMemory) }
+{
+    let validity = repeated_validity(scalar);
+    match scalar.dtype().storage() {
+        Storage::Bits => {
+            let bit = scalar.as_bool().unwrap_or(false);
+            let bits = BitBuffer::repeat(alloc, bit, len)?;
+            bool_column(alloc, bits, &validity)
         }
-        ScalarKind::Integer(wide, ptype, _) => {
-            let values = PrimitiveValues::repeat(alloc, ptype, wide, array.len())?;
-            primitive_column(alloc, values)
+        Storage::Integers(ptype) => {
+            let wide = scalar.as_integer().unwrap_or(0);
+            let values = PrimitiveValues::repeat(alloc, ptype, wide, len)?;
+            primitive_column(alloc, values, &validity)
         }
         _ => unreachable!(),
+    }
+}
+
+/// Returns the validity of a column whose rows are all `scalar`.
+fn repeated_validity(scalar: &Scalar) -> Validity
+    ensures { result ≡ repeated_validity scalar.now }
+{
+    if scalar.is_null() {
+        Validity::AllInvalid
+    } else {
+        Validity::from(scalar.dtype().nullability())
     }
 }

@@ -19,7 +19,7 @@ use crate::operand::{Operand, operand_of};
 use std::alloc::Global;
 use vx_mask::BitBuilder;
 use vx_native::NativeInteger;
-use vx_tree::Canonical;
+use vx_tree::{Canonical, Validity};
 use vx_value::{VortexError, VortexResult};
 
 /// A comparison operator.
@@ -125,5 +125,5 @@ pub(crate) fn compare<T: NativeInteger, C: Comparison>(
     for index in 0..len {
         bits.push(C::compare_row(left.row(index), right.row(index)))?;
     }
-    bool_column(alloc, bits.finish(alloc)?)
+    bool_column(alloc, bits.finish(alloc)?, &Validity::NonNullable)
 }

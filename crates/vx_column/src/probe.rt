@@ -1,18 +1,23 @@
 //! Single rows of a tree.
 
-ghost use Rattle.std.specs.Prelude.{◌≡◌, ◌⊎◌, ◌≤◌, ◌<◌, IfOk, IfErr, OnOk, length, slice_get, Some};
+ghost use Rattle.std.specs.Prelude.{◌≡◌, ◌⊎◌, ◌≤◌, ◌<◌, IfOk, IfErr, OnOk, length, map, slice_get, Some};
+ghost use Rattle.vx_value.specs.Types as type;
+ghost use Rattle.vx_value.specs.Types.{nullability_of};
+ghost use Rattle.vx_value.specs.View.{type_of};
+ghost use Rattle.vx_value.specs.Values.{boolean, integer};
 ghost use Rattle.vx_value.specs.Cell.{value, fault};
 ghost use Rattle.vx_native.specs.Natives.{values_of, ptype_of};
-ghost use Rattle.vx_tree.specs.Tree.{node, function, dtype, len, slots_of, booleans, integers};
+ghost use Rattle.vx_tree.specs.Tree.{node, function, dtype, len, slots_of};
 ghost use Rattle.vx_tree.specs.Cells.{rows};
 ghost use Rattle.vx_tree.specs.Well.{IsNode, shapes};
+ghost use Rattle.vx_column.specs.Nulls.{TellsRow, IsRowBy};
 
 use std::alloc::Global;
 use vx_fn::{ScalarFnRef, apply_row};
 use vx_mask::BitBuffer;
 use vx_native::PrimitiveValues;
 use vx_tree::{ArrayKind, ArrayRef};
-use vx_value::{Nullability, Scalar, VortexError, VortexResult};
+use vx_value::{DType, Nullability, Scalar, ScalarKind, VortexError, VortexResult};
 
 /// Returns the value of row `index`, counted from 0. Takes no turns.
 ///
@@ -37,8 +42,8 @@ pub fn execute_scalar(alloc: Global, array: &ArrayRef, index: usize) -> VortexRe
         });
     }
     match array.kind() {
-        ArrayKind::Bool(bits) => Ok(bool_at(bits, index)),
-        ArrayKind::Primitive(values) => Ok(integer_at(values, index)),
+        ArrayKind::Bool(bits, None) => Ok(bool_at(bits, index, array.dtype())),
+        ArrayKind::Primitive(values, None) => Ok(integer_at(values, index, array.dtype())),
         _ => scalar_at(alloc, array, index),
     }
 }
@@ -52,12 +57,55 @@ fn scalar_at(alloc: Global, array: &ArrayRef, index: usize) -> VortexResult<Scal
         (λ e. (e ≡ VortexError.OutOfMemory)
         ⊎ ((e ≡ VortexError.Fault) × (slice_get (rows array.now) index ≡ Some fault))) }
 {
+    let dtype = array.dtype();
     match array.kind() {
-        ArrayKind::Bool(bits) => Ok(bool_at(bits, index)),
-        ArrayKind::Primitive(values) => Ok(integer_at(values, index)),
+        ArrayKind::Bool(bits, validity) => {
+            unless_null(alloc, validity, index, bool_at(bits, index, dtype))
+        }
+        ArrayKind::Primitive(values, validity) => {
+            unless_null(alloc, validity, index, integer_at(values, index, dtype))
+        }
         ArrayKind::Constant(scalar) => Ok(scalar.clone()?),
         ArrayKind::Slice(child, start, _) => scalar_at(alloc, child, start + index),
         ArrayKind::ScalarFn(scalar_fn, slots) => function_at(alloc, array, scalar_fn, slots, index),
+    }
+}
+
+/// Returns row `index` of a column that stores `stored` there and has `validity` in its slot: null if the row is null, else
+/// `stored`.
+#[inline]
+#[cycle(scalar_at)]
+fn unless_null(
+    alloc: Global,
+    validity: &Option<ArrayRef>,
+    index: usize,
+    stored: Scalar,
+) -> VortexResult<Scalar>
+    requires { TellsRow stored.of_type validity.now index }
+    ensures ok { IfOk result (λ s. IsRowBy validity.now index (value stored.value) (value s.value)) }
+    ensures typed { IfOk result (λ s. s.of_type ≡ stored.of_type) }
+    ensures err { IfErr result
+        (λ e. (e ≡ VortexError.OutOfMemory)
+        ⊎ ((e ≡ VortexError.Fault) × IsRowBy validity.now index (value stored.value) fault)) }
+{
+    let Some(child) = validity else {
+        return Ok(stored);
+    };
+    match scalar_at(alloc, child, index) {
+        Ok(valid) if is_true(&valid) => Ok(stored),
+        Ok(_) => Ok(Scalar::null(stored.dtype().clone()?)),
+        Err(e) => Err(e),
+    }
+}
+
+/// Returns the value of `scalar`, which must be a non-nullable boolean.
+fn is_true(scalar: &Scalar) -> bool
+    requires { scalar.now.of_type ≡ type.bool Nullability.NonNullable }
+    ensures { scalar.now.value ≡ boolean result }
+{
+    match scalar.kind() {
+        ScalarKind::Bool(bit, _) => bit,
+        _ => unreachable!(),
     }
 }
 
@@ -92,26 +140,22 @@ fn function_at(
     }
 }
 
-/// Returns row `index` of a column of booleans.
+/// Returns the boolean that a column of type `dtype` stores in row `index`.
 #[inline]
-fn bool_at(bits: &BitBuffer, index: usize) -> Scalar
+fn bool_at(bits: &BitBuffer, index: usize, dtype: &DType) -> Scalar
     requires { index < length bits.now }
-    ensures row { slice_get (rows (booleans bits.now)) index ≡ Some (value result.value) }
-    ensures typed { result.of_type ≡ dtype (booleans bits.now) }
+    ensures row { slice_get (map (λ b. value (boolean b)) bits.now) index ≡ Some (value result.value) }
+    ensures typed { result.of_type ≡ type.bool (nullability_of (type_of dtype.now)) }
 {
-    Scalar::bool(bits.value(index), Nullability::NonNullable)
+    Scalar::bool(bits.value(index), dtype.nullability())
 }
 
-/// Returns row `index` of a column of integers.
+/// Returns the integer that a column of type `dtype` stores in row `index`.
 #[inline]
-fn integer_at(values: &PrimitiveValues, index: usize) -> Scalar
+fn integer_at(values: &PrimitiveValues, index: usize, dtype: &DType) -> Scalar
     requires { index < length (values_of values.now) }
-    ensures row { slice_get (rows (integers (ptype_of values.now) (values_of values.now))) index ≡ Some (value result.value) }
-    ensures typed { result.of_type ≡ dtype (integers (ptype_of values.now) (values_of values.now)) }
+    ensures row { slice_get (map (λ z. value (integer z)) (values_of values.now)) index ≡ Some (value result.value) }
+    ensures typed { result.of_type ≡ type.primitive (ptype_of values.now) (nullability_of (type_of dtype.now)) }
 {
-    Scalar::primitive(
-        values.wide_at(index),
-        values.ptype(),
-        Nullability::NonNullable,
-    )
+    Scalar::primitive(values.wide_at(index), values.ptype(), dtype.nullability())
 }

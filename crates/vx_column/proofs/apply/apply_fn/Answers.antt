@@ -4,6 +4,7 @@ use Rattle.vx_tree.specs.Columns.{canonical_tree, columnar_tree}
 use Rattle.vx_tree.proofs.ColumnsLemmas.{canonical_open}
 use Rattle.vx_column.proofs.AppliedLemmas.{taken, column_given, call_computed, applied, unapplied, all_repeat}
 use Rattle.vx_column.proofs.ArgumentsLemmas.{argument_rows, scalar_rows, arguments_sized}
+use Rattle.vx_column.proofs.NullsLemmas.{call_without_nulls}
 use Rattle.vx_column.proofs.apply.apply_fn.Goals as goal
 
 pub apply_constants-requires-clause-taken : goal.apply_constants-requires-clause-taken
@@ -34,8 +35,12 @@ returns-in-Some-clause-err c =
     let rows = scalar_rows c.args.function.now c.args.len c.args.arguments.now c.in-Some.scalars.items c.requires all in
     unapplied c.args.function.now rows c.in-Err.e (rw c.as_slice.ensures.value at c.in-Err.ensures.err)
 
-pub apply_to_columns-requires-clause-computed : goal.apply_to_columns-requires-clause-computed
-apply_to_columns-requires-clause-computed c =
+pub arguments_of-requires : goal.arguments_of-requires
+arguments_of-requires c =
+    call_without_nulls c.args.function.now c.args.arguments.now c.args.len c.requires
+
+pub apply_to_columns-requires-clause-kernel : goal.apply_to_columns-requires-clause-kernel
+apply_to_columns-requires-clause-kernel c =
     call_computed c.args.function.now (map columnar_tree c.args.arguments.now) c.args.len c.requires
 
 pub apply_to_columns-requires-clause-sized : goal.apply_to_columns-requires-clause-sized

@@ -35,8 +35,8 @@ returns-clause-ok g c =
     let l = c.args.lhs in
     let r = c.args.rhs in
     let read = g.T.Number.value in
-    let v = c.wrap.result in
-    let kind = sym c.wrap.ensures.same_kind in
+    let v = c.wrap-values.result in
+    let kind = sym c.wrap-values.ensures.same_kind in
     let left = c.operand_of-left.ensures.numbers in
     let right = c.operand_of-right.ensures.numbers in
     let all : c.loop-index.index ≡ c.args.len = omega arith in
@@ -48,7 +48,7 @@ returns-clause-ok g c =
     let plain = integers_plain op p s t c.requires.lhs.4 c.requires.rhs.4 first second c.requires.taken in
     integers_computed (Binary op) (Integers l ∷ Integers r ∷ []) c.args.len c.primitive_column.result p (values_of v)
     (integers_calculated op p s t c.requires.lhs.4 c.requires.rhs.4 first second c.requires.taken c.requires.operator)
-    (ap (map (λ z. value (integer z))) c.wrap.ensures.values ∙ cells_read read c.in_ok-from_vec.field-0
+    (ap (map (λ z. value (integer z))) c.wrap-values.ensures.values ∙ cells_read read c.in_ok-from_vec.field-0
     ∙ ap (map (λ x. value (integer (read x)))) c.in_ok-from_vec.ensures ∙ c.loop-index.invariant.2
     ∙ (λ j. map (λ i. calculated op (kind j) (left j i) (right j i)) (range_with_len 0 (all j)))
     ∙ (λ j. map (λ i. sym (calculated_value op p (integer_in l i) (integer_in r i) plain) j) (range_with_len 0 c.args.len)))

@@ -1,7 +1,9 @@
-use Rattle.std.proofs.Common.{get_or, inl, inr, arith, sym, ap, subst, ◌∙◌}
+use Rattle.std.proofs.Common.{get_or, inl, inr, arith, true, false, Some, sym, ap, subst, ◌∙◌}
+use Rattle.vx_value.specs.Values.{boolean}
+use Rattle.vx_value.specs.Cell.{value, fault}
 use Rattle.vx_tree.specs.Tree.{slots_of, slots_height, dtype, len}
 use Rattle.vx_column.proofs.ArgumentsLemmas.{zipped_more}
-use Rattle.vx_column.proofs.CellsLemmas.{IsRead, IsBelow, all_read, slice_row, child_below, child_faulted, function_taken, function_row, function_faulted}
+use Rattle.vx_column.proofs.CellsLemmas.{IsRead, IsBelow, all_read, slice_row, child_below, child_faulted, function_taken, function_row, function_faulted, row_told}
 use Rattle.vx_column.proofs.probe.+scalar_at.Goals as goal
 
 pub scalar_at-returns-in-Slice-clause-ok : goal.scalar_at-returns-in-Slice-clause-ok
@@ -74,6 +76,24 @@ function_at-returns-clause-err t c =
     c.loop-slot.invariant in
     elim c.in-Err-apply_row.ensures.fault [
       | inl memory ↦ inl memory
-      | inr fault ↦
-          inr (fault.0, function_faulted c.args.array.now c.args.scalar_fn.now xs c.args.index c.requires.shape c.requires.well ss read c.requires.index fault.1)
+      | inr m ↦
+          inr (m.0, function_faulted c.args.array.now c.args.scalar_fn.now xs c.args.index c.requires.shape c.requires.well ss read c.requires.index m.1)
+    ]
+
+pub unless_null-returns-in-Ok-clause-ok : goal.unless_null-returns-in-Ok-clause-ok
+unless_null-returns-in-Ok-clause-ok t c =
+    let told = c.in-Ok.ensures.ok.0 ∙ ap (λ v. Some (value v)) (c.is_true.ensures ∙ ap boolean c.if-is_true.true) in
+    row_told c.args.validity.now c.in-Some.child c.args.index (value (boolean true)) (value c.args.stored.value) c.in-Some.is told
+
+pub unless_null-returns-in_ok-clone-in-Ok-2-clause-ok : goal.unless_null-returns-in_ok-clone-in-Ok-2-clause-ok
+unless_null-returns-in_ok-clone-in-Ok-2-clause-ok t c =
+    let told = c.in-Ok.ensures.ok.0 ∙ ap (λ v. Some (value v)) (c.is_true.ensures ∙ ap boolean c.if-is_true.false) in
+    rw c.null.ensures
+    (row_told c.args.validity.now c.in-Some.child c.args.index (value (boolean false)) (value c.args.stored.value) c.in-Some.is told)
+
+pub unless_null-returns-in-Err-clause-err : goal.unless_null-returns-in-Err-clause-err
+unless_null-returns-in-Err-clause-err t c =
+    elim c.in-Err.ensures.err [
+      | inl m ↦ inl m
+      | inr m ↦ inr (m.0, row_told c.args.validity.now c.in-Some.child c.args.index fault (value c.args.stored.value) c.in-Some.is m.1)
     ]
