@@ -1,8 +1,9 @@
 -- The keys that hold trees.
 use Rattle.std.specs.Prelude.{ℕ, List, codes}
 use Rattle.vx_json.specs.declared.key.Key.{Key}
-use Rattle.vx_json.specs.declared.key.Key.TheVariants.{Child, Args}
+use Rattle.vx_json.specs.declared.key.Key.TheVariants.{Child, Args, Validity}
 
 abbrev pub key_text : Key → List ℕ
 key_text Child = codes "child"
 key_text Args = codes "args"
+key_text Validity = codes "validity"

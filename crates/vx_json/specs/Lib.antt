@@ -1,5 +1,7 @@
 pub use Rattle.vx_value.specs.Values
 pub use Rattle.vx_tree.specs.Tree
+pub use Rattle.vx_tree.specs.Rows
+pub use Rattle.vx_tree.specs.Validities
 pub use Rattle.vx_tree.specs.Calls
 pub mod Keys
 pub mod Fields
@@ -7,5 +9,6 @@ pub mod Refused
 pub mod SpelledFunctions
 pub mod SpelledTypes
 pub mod SpelledValues
+pub mod SpelledColumns
 pub mod Spelled
 pub mod RowText

@@ -3,37 +3,18 @@ use Rattle.std.specs.Prelude.{◌≡◌, ℕ, ◌&&◌, List, [], ◌∷◌, is_
 use Rattle.std.specs.Ordering.{nat_cmp, match_ordering}
 use Rattle.std.specs.Cmp.Lexicographic.{slice_cmp}
 use Rattle.serde_json.specs.Data.{Data, null, boolean, number, string, array, object, Items, no_items, item, Members, no_members, member}
-use Rattle.serde_json.specs.Find.{get, as_bool}
+use Rattle.serde_json.specs.Find.{get}
 use Rattle.serde_json.specs.Read.{read}
 use Rattle.vx_value.specs.Types.{DataType}
 use Rattle.vx_value.specs.Typed.{Typed}
-use Rattle.vx_value.specs.Storage.{storage_of}
-use Rattle.vx_value.specs.declared.dtype.Storage.{Storage}
-use Rattle.vx_value.specs.declared.dtype.Storage.TheVariants.{Bits, Integers}
 use Rattle.vx_fn.specs.declared.function.ScalarFnRef.{ScalarFnRef}
 use Rattle.vx_tree.specs.Calls.{inferred_refusal, inferred}
-use Rattle.vx_tree.specs.Tree.{Tree, booleans, integers, constant_of, slice_of, len}
+use Rattle.vx_tree.specs.Tree.{Tree, constant_of, slice_of, len}
 use Rattle.vx_json.specs.Fields.{keyed, text_at, number_at, items_at}
+use Rattle.vx_json.specs.SpelledColumns.{col_spelled, nulls_at, flat_spelled}
 use Rattle.vx_json.specs.SpelledFunctions.{function_at}
-use Rattle.vx_json.specs.SpelledTypes.{type_spelled}
-use Rattle.vx_json.specs.SpelledValues.{integer_spelled, value_spelled, all_read}
-
--- the type named under `type`
-abbrev pub type_at : Data → Option DataType
-type_at d = option_and_then type_spelled (text_at (codes "type") d)
-
--- `{"enc":"col","type":T,"rows":[..]}` and `{"enc":"flat","type":T,"values":[..]}`: a column with a value for each row;
--- a line for each storage that is spelled
-abbrev pub column_stored : Storage → Items → Option Tree
-column_stored Bits ds = option_map booleans (all_read as_bool ds)
-column_stored (Integers p) ds = option_map (integers p) (all_read (integer_spelled p) ds)
-column_stored _ ds = None
-
-abbrev pub column_of_items : DataType → Items → Option Tree
-column_of_items ty = column_stored (storage_of ty)
-
-abbrev pub column_spelled : List ℕ → Data → Option Tree
-column_spelled key d = keyed 3 d (option_and_then (λ ty. option_and_then (column_of_items ty) (items_at key d)) (type_at d))
+use Rattle.vx_json.specs.SpelledTypes.{type_at}
+use Rattle.vx_json.specs.SpelledValues.{value_spelled}
 
 -- `{"enc":"constant","type":T,"value":v,"len":n}`: n rows of the value v
 abbrev pub scalar_at : DataType → Data → Option Typed
@@ -61,8 +42,8 @@ call_spelled d ts = option_and_then (call_on ts) (function_at d)
 -- the tree of an object by its `enc`, given the tree and the list of trees under each key: a line for each encoding
 abbrev pub node_of : Data → (List ℕ → Option Tree) → (List ℕ → Option (List Tree)) → List ℕ → Option Tree
 node_of d child children enc =
-    if bytes_eq enc (codes "col") then column_spelled (codes "rows") d
-    else (if bytes_eq enc (codes "flat") then column_spelled (codes "values") d
+    if bytes_eq enc (codes "col") then col_spelled d
+    else (if bytes_eq enc (codes "flat") then option_and_then (flat_spelled d) (nulls_at d (child (codes "validity")))
     else (if bytes_eq enc (codes "constant") then constant_spelled d
     else (if bytes_eq enc (codes "slice") then option_and_then (slice_spelled d) (child (codes "child"))
     else (if bytes_eq enc (codes "fn") then option_and_then (call_spelled d) (children (codes "args"))

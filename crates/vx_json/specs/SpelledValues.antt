@@ -1,14 +1,16 @@
 -- The value that JSON spells, by type, and the values that a list spells.
-use Rattle.std.specs.Prelude.{ℤ, List, [], ◌∷◌, if◌then◌else◌, Option, Some, None, option_map, option_and_then}
+use Rattle.std.specs.Prelude.{ℤ, List, [], ◌∷◌, Bool, ◌&&◌, if◌then◌else◌, Option, Some, None, is_some, option_map, option_and_then}
 use Rattle.serde_json.specs.Data.{Data, Items, no_items, item}
-use Rattle.serde_json.specs.Find.{as_bool, as_number, as_integer}
-use Rattle.vx_value.specs.Types.{DataType}
-use Rattle.vx_value.specs.Values.{Value, boolean, integer}
+use Rattle.serde_json.specs.Find.{as_null, as_bool, as_number, as_integer}
+use Rattle.vx_value.specs.Types.{DataType, nullability_of, is_nullable}
+use Rattle.vx_value.specs.Values.{Value, null, boolean, integer}
 use Rattle.vx_value.specs.Storage.{storage_of}
 use Rattle.vx_value.specs.IsOf.{in_range}
 use Rattle.vx_value.specs.declared.dtype.Storage.{Storage}
 use Rattle.vx_value.specs.declared.dtype.Storage.TheVariants.{Bits, Integers}
 use Rattle.vx_value.specs.declared.dtype.PType.{PType}
+use Rattle.vx_value.specs.declared.dtype.Nullability.{Nullability}
+use Rattle.vx_tree.specs.Rows.{item_or}
 
 -- the number, if it is in the range of the type
 abbrev pub within : PType → ℤ → Option ℤ
@@ -24,8 +26,16 @@ value_stored Bits d = option_map boolean (as_bool d)
 value_stored (Integers p) d = option_map integer (integer_spelled p d)
 value_stored _ d = None
 
+abbrev pub is_null : Data → Bool
+is_null d = is_some (as_null d)
+
+-- null if the type has it, as None, and else what is read
+abbrev pub or_null : {A : Type 0} → Nullability → (Data → Option A) → Data → Option (Option A)
+or_null m read d = if is_nullable m && is_null d then Some None else option_map Some (read d)
+
+-- a value of the type, or null
 abbrev pub value_spelled : DataType → Data → Option Value
-value_spelled t = value_stored (storage_of t)
+value_spelled t d = option_map (item_or null) (or_null (nullability_of t) (value_stored (storage_of t)) d)
 
 -- all items of a list, or None if one can't be read
 abbrev pub all_read : {A : Type 0} → (Data → Option A) → Items → Option (List A)

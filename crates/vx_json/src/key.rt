@@ -8,6 +8,7 @@ ghost use Rattle.vx_json.specs.Keys.{key_text};
 pub(crate) enum Key {
     Child,
     Args,
+    Validity,
 }
 
 impl Key {
@@ -18,6 +19,7 @@ impl Key {
         match self {
             Key::Child => "child",
             Key::Args => "args",
+            Key::Validity => "validity",
         }
     }
 }

@@ -1,83 +1,28 @@
 //! The tree that a JSON value spells.
 //!
 //! A tree is an object whose `enc` names the encoding. Each encoding has exactly its own keys:
-//! `{"enc":"col","type":"i32","rows":[1,-2]}`, `{"enc":"flat","type":"i32","values":[1,-2]}`,
-//! `{"enc":"constant","type":"bool","value":true,"len":3}`, `{"enc":"slice","start":0,"stop":1,"child":{..}}` and
+//! `{"enc":"col","type":"i32?","rows":[1,null]}`, `{"enc":"flat","type":"i32?","values":[1,-2],"validity":{..}}`, of which
+//! `validity` may be absent, `{"enc":"constant","type":"bool","value":true,"len":3}`, `{"enc":"slice","start":0,"stop":1,"child":{..}}` and
 //! `{"enc":"fn","fn":"add","args":[{..},{..}]}`.
 
-ghost use Rattle.std.specs.Prelude.{◌≡◌, ◌⊎◌, true, Some, None, option_map, IfOk, IfErr, IfSome};
+ghost use Rattle.std.specs.Prelude.{◌≡◌, ◌⊎◌, Some, None, IfOk, IfErr};
 ghost use Rattle.serde_json.specs.View.{view, items_view};
-ghost use Rattle.vx_value.specs.View.{type_of};
-ghost use Rattle.serde_json.specs.Find.{as_bool};
-ghost use Rattle.vx_tree.specs.ColumnTypes.{has_column};
-ghost use Rattle.vx_tree.specs.Tree.{booleans as booleans_of, integers as integers_of};
-ghost use Rattle.vx_json.specs.SpelledValues.{integer_spelled, all_read};
 ghost use Rattle.vx_json.specs.Keys.{key_text};
 ghost use Rattle.vx_json.specs.Refused.{IsRefused};
-ghost use Rattle.vx_json.specs.Spelled.{type_at, column_of_items, column_spelled, constant_spelled, slice_spelled, call_spelled, tree_spelled, trees_spelled, tree_at, trees_at, Spells, SpellsNone};
+ghost use Rattle.vx_json.specs.SpelledColumns.{nulls_at};
+ghost use Rattle.vx_json.specs.Spelled.{constant_spelled, slice_spelled, call_spelled, tree_spelled, trees_spelled, tree_at, trees_at, Spells, SpellsNone};
 
 use crate::BAD_VALUE;
+use crate::columns::{Nulls, col, flat};
 use crate::fields::{check_keys, items, number, text};
 use crate::functions::function_at;
 use crate::key::Key;
-use crate::types::type_named;
-use crate::values::{booleans, integers, scalar};
+use crate::types::type_at;
+use crate::values::scalar;
 use serde_json::Value;
 use std::alloc::Global;
-use vx_tree::{
-    ArrayRef, BoolArray, ConstantArray, IntoArray, PrimitiveArray, ScalarFnArray, SliceArray,
-};
-use vx_value::{ArgKind, DType, Nullability, PType, Storage, VortexError, VortexResult};
-
-/// Returns the type named under `type`, of which there are columns.
-fn dtype_of(value: &Value) -> Option<DType>
-    ensures named { option_map type_of result ≡ type_at (view value.now) }
-    ensures column { IfSome result (λ t. has_column (type_of t) ≡ true) }
-{
-    type_named(text(value, "type")?)
-}
-
-/// Reads a column of `dtype` with the values in `list`; null isn't accepted.
-fn column_of_items(alloc: Global, dtype: &DType, list: &Vec<Value>) -> VortexResult<ArrayRef>
-    ensures ok { IfOk result (λ t. column_of_items (type_of dtype.now) (items_view list.now.items) ≡ Some t) }
-    ensures err { IfErr result (IsRefused (column_of_items (type_of dtype.now) (items_view list.now.items) ≡ None)) }
-{
-    match dtype.storage() {
-        Storage::Bits => bool_column(alloc, list),
-        Storage::Integers(ptype) => primitive_column(alloc, ptype, list),
-        _ => Err(BAD_VALUE),
-    }
-}
-
-/// Reads a column of the booleans in `list`.
-fn bool_column(alloc: Global, list: &Vec<Value>) -> VortexResult<ArrayRef>
-    ensures ok { IfOk result (λ t. option_map booleans_of (all_read as_bool (items_view list.now.items)) ≡ Some t) }
-    ensures err { IfErr result (IsRefused (option_map booleans_of (all_read as_bool (items_view list.now.items)) ≡ None)) }
-{
-    let dtype = DType::Bool(Nullability::NonNullable);
-    Ok(BoolArray::try_new(alloc, dtype, booleans(alloc, list)?)?.into_array())
-}
-
-/// Reads a column of the integers of type `ptype` in `list`.
-fn primitive_column(alloc: Global, ptype: PType, list: &Vec<Value>) -> VortexResult<ArrayRef>
-    ensures ok { IfOk result (λ t. option_map (integers_of ptype) (all_read (integer_spelled ptype) (items_view list.now.items)) ≡ Some t) }
-    ensures err { IfErr result (IsRefused (option_map (integers_of ptype) (all_read (integer_spelled ptype) (items_view list.now.items)) ≡ None)) }
-{
-    let dtype = DType::Primitive(ptype, Nullability::NonNullable);
-    let values = integers(alloc, ptype, list)?;
-    Ok(PrimitiveArray::try_new(alloc, dtype, values)?.into_array())
-}
-
-/// Reads a column with the values in the list under `key`.
-fn column(alloc: Global, value: &Value, key: &str) -> VortexResult<ArrayRef>
-    ensures ok { IfOk result (λ t. column_spelled key.now (view value.now) ≡ Some t) }
-    ensures err { IfErr result (IsRefused (column_spelled key.now (view value.now) ≡ None)) }
-{
-    check_keys(value, 3)?;
-    let dtype = dtype_of(value).ok_or(BAD_VALUE)?;
-    let list = items(value, key).ok_or(BAD_VALUE)?;
-    column_of_items(alloc, &dtype, list)
-}
+use vx_tree::{ArrayRef, ConstantArray, IntoArray, ScalarFnArray, SliceArray};
+use vx_value::{ArgKind, VortexError, VortexResult};
 
 /// Reads a constant: `len` rows of one value.
 fn constant(alloc: Global, value: &Value) -> VortexResult<ArrayRef>
@@ -85,7 +30,7 @@ fn constant(alloc: Global, value: &Value) -> VortexResult<ArrayRef>
     ensures err { IfErr result (IsRefused (constant_spelled (view value.now) ≡ None)) }
 {
     check_keys(value, 4)?;
-    let dtype = dtype_of(value).ok_or(BAD_VALUE)?;
+    let dtype = type_at(value).ok_or(BAD_VALUE)?;
     let spelled = value.get("value").ok_or(BAD_VALUE)?;
     let scalar = scalar(dtype, spelled).ok_or(BAD_VALUE)?;
     let len = number(value, "len").ok_or(BAD_VALUE)?;
@@ -159,6 +104,24 @@ fn child(alloc: Global, value: &Value, key: Key) -> VortexResult<ArrayRef>
     }
 }
 
+/// Reads which rows are null from what stands under `validity`.
+#[cycle(tree_of)]
+fn nulls(alloc: Global, value: &Value) -> VortexResult<Nulls>
+    ensures ok { IfOk result (λ n. nulls_at (view value.now) (tree_at (key_text Key.Validity) (view value.now)) ≡ Some n) }
+    ensures err { IfErr result (IsRefused (nulls_at (view value.now) (tree_at (key_text Key.Validity) (view value.now)) ≡ None)) }
+{
+    let Some(spelled) = value.get(Key::Validity.text()) else {
+        return Ok(Nulls::Absent);
+    };
+    if let Value::Bool(false) = spelled {
+        return Ok(Nulls::EveryRow);
+    }
+    match tree_of(alloc, spelled) {
+        Ok(tree) => Ok(Nulls::Told(tree)),
+        Err(e) => Err(e),
+    }
+}
+
 /// Reads the tree that `value` spells. (own)
 ///
 /// # Errors
@@ -173,8 +136,11 @@ pub fn tree_of(alloc: Global, value: &Value) -> VortexResult<ArrayRef>
         × (tree_spelled (view value.now) ≡ None))) }
 {
     match text(value, "enc") {
-        Some("col") => column(alloc, value, "rows"),
-        Some("flat") => column(alloc, value, "values"),
+        Some("col") => col(alloc, value),
+        Some("flat") => match nulls(alloc, value) {
+            Ok(nulls) => flat(alloc, value, &nulls),
+            Err(e) => Err(e),
+        },
         Some("constant") => constant(alloc, value),
         Some("slice") => match child(alloc, value, Key::Child) {
             Ok(child) => slice(alloc, value, child),

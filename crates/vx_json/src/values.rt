@@ -1,19 +1,20 @@
 //! Single values of a type, and lists of them.
 
-ghost use Rattle.std.specs.Prelude.{◌≡◌, Some, None, option_map, option_and_then, IfOk, IfErr, IfSome};
+ghost use Rattle.std.specs.Prelude.{◌≡◌, pos, false, map, Some, None, is_some, option_map, option_and_then, IfOk, IfErr, IfSome};
 ghost use Rattle.serde_json.specs.View.{view, items_view};
 ghost use Rattle.serde_json.specs.Find.{as_bool, as_number, as_integer};
 ghost use Rattle.vx_value.specs.View.{type_of};
 ghost use Rattle.vx_native.specs.Natives.{values_of, ptype_of};
+ghost use Rattle.vx_tree.specs.Rows.{item_or};
 ghost use Rattle.vx_json.specs.Refused.{IsRefused};
-ghost use Rattle.vx_json.specs.SpelledValues.{integer_spelled, value_spelled, all_read};
+ghost use Rattle.vx_json.specs.SpelledValues.{integer_spelled, value_spelled, or_null, all_read};
 
 use crate::BAD_VALUE;
 use serde_json::Value;
 use std::alloc::Global;
 use vx_mask::{BitBuffer, BitBuilder, Buffer};
-use vx_native::{NativeInteger, PrimitiveValues, by_type};
-use vx_value::{DType, PType, Scalar, ScalarValue, Storage, VortexResult};
+use vx_native::{NativeInteger, PrimitiveValues, by_type, native_of};
+use vx_value::{DType, Nullability, PType, Scalar, ScalarValue, Storage, VortexResult};
 
 /// Reads an integer in the range of `i64` or `u64`.
 fn integer(value: &Value) -> Option<i128>
@@ -73,11 +74,107 @@ pub(crate) fn booleans(alloc: Global, list: &Vec<Value>) -> VortexResult<BitBuff
     Ok(bits.finish(alloc)?)
 }
 
-/// Reads a boolean or an integer of type `dtype`, never null. Returns `None` for a type of another kind.
+/// Reads an integer in the range of `T`. Null is read as `zero`.
+fn native_or<T: NativeInteger>(zero: T, value: &Value) -> Option<T>
+    ensures { option_map T.value result ≡ option_map (item_or (T.value zero)) (or_null Nullability.Nullable (integer_spelled T.kind) (view value.now)) }
+{
+    if value.is_null() {
+        Some(zero)
+    } else {
+        native(value)
+    }
+}
+
+/// Reads a list of integers in the range of `T`, null among them. Returns their values, 0 for null, and whether each isn't null.
+/// `InvalidArgument(BadValue)` if an item is neither.
+#[tactic(auto, using(vx_value::proofs::DefaultsLemmas::zero_in_range))]
+fn nullable_natives<T: NativeInteger>(
+    alloc: Global,
+    list: &Vec<Value>,
+) -> VortexResult<(PrimitiveValues, BitBuffer)>
+    ensures kind { IfOk result (λ v. ptype_of v.0 ≡ T.kind) }
+    ensures values { IfOk result (λ v. option_map (map (item_or (pos 0)))
+        (all_read (or_null Nullability.Nullable (integer_spelled T.kind)) (items_view list.now.items)) ≡ Some (values_of v.0)) }
+    ensures valid { IfOk result (λ v. option_map (map is_some)
+        (all_read (or_null Nullability.Nullable (integer_spelled T.kind)) (items_view list.now.items)) ≡ Some v.1) }
+    ensures err { IfErr result (IsRefused
+        (all_read (or_null Nullability.Nullable (integer_spelled T.kind)) (items_view list.now.items) ≡ None)) }
+{
+    let zero: T = native_of(0);
+    let mut values: Vec<T> = Vec::with_capacity(alloc, list.len())?;
+    let mut valid = BitBuilder::with_capacity(alloc, list.len())?;
+    for value in list {
+        match native_or(zero, value) {
+            Some(native) => values.push(native)?,
+            None => return Err(BAD_VALUE),
+        }
+        valid.push(!value.is_null())?;
+    }
+    let values = T::wrap(Buffer::from_vec(alloc, values)?);
+    Ok((values, valid.finish(alloc)?))
+}
+
+/// Reads a list of integers in the range of `ptype`, null among them. Returns their values, 0 for null, and whether each isn't
+/// null. `InvalidArgument(BadValue)` if an item is neither.
+pub(crate) fn nullable_integers(
+    alloc: Global,
+    ptype: PType,
+    list: &Vec<Value>,
+) -> VortexResult<(PrimitiveValues, BitBuffer)>
+    ensures kind { IfOk result (λ v. ptype_of v.0 ≡ ptype) }
+    ensures values { IfOk result (λ v. option_map (map (item_or (pos 0)))
+        (all_read (or_null Nullability.Nullable (integer_spelled ptype)) (items_view list.now.items)) ≡ Some (values_of v.0)) }
+    ensures valid { IfOk result (λ v. option_map (map is_some)
+        (all_read (or_null Nullability.Nullable (integer_spelled ptype)) (items_view list.now.items)) ≡ Some v.1) }
+    ensures err { IfErr result (IsRefused
+        (all_read (or_null Nullability.Nullable (integer_spelled ptype)) (items_view list.now.items) ≡ None)) }
+{
+    by_type!(ptype, nullable_natives(alloc, list))
+}
+
+/// Reads a boolean. Null is read as false.
+fn boolean_or_false(value: &Value) -> Option<bool>
+    ensures { result ≡ option_map (item_or false) (or_null Nullability.Nullable as_bool (view value.now)) }
+{
+    if value.is_null() {
+        Some(false)
+    } else {
+        value.as_bool()
+    }
+}
+
+/// Reads a list of booleans, null among them. Returns their values, false for null, and whether each isn't null.
+/// `InvalidArgument(BadValue)` if an item is neither.
+pub(crate) fn nullable_booleans(
+    alloc: Global,
+    list: &Vec<Value>,
+) -> VortexResult<(BitBuffer, BitBuffer)>
+    ensures values { IfOk result (λ bits. option_map (map (item_or false))
+        (all_read (or_null Nullability.Nullable as_bool) (items_view list.now.items)) ≡ Some bits.0) }
+    ensures valid { IfOk result (λ bits. option_map (map is_some)
+        (all_read (or_null Nullability.Nullable as_bool) (items_view list.now.items)) ≡ Some bits.1) }
+    ensures err { IfErr result (IsRefused (all_read (or_null Nullability.Nullable as_bool) (items_view list.now.items) ≡ None)) }
+{
+    let mut bits = BitBuilder::with_capacity(alloc, list.len())?;
+    let mut valid = BitBuilder::with_capacity(alloc, list.len())?;
+    for value in list {
+        match boolean_or_false(value) {
+            Some(bit) => bits.push(bit)?,
+            None => return Err(BAD_VALUE),
+        }
+        valid.push(!value.is_null())?;
+    }
+    Ok((bits.finish(alloc)?, valid.finish(alloc)?))
+}
+
+/// Reads a boolean or an integer of type `dtype`, or null if the type is nullable. Returns `None` for a type of another kind.
 pub(crate) fn scalar(dtype: DType, value: &Value) -> Option<Scalar>
     ensures value { option_map (λ s. s.value) result ≡ value_spelled (type_of dtype) (view value.now) }
     ensures typed { IfSome result (λ s. s.of_type ≡ type_of dtype) }
 {
+    if value.is_null() {
+        return Scalar::try_new(dtype, None).ok();
+    }
     let value = match dtype.storage() {
         Storage::Bits => ScalarValue::Bool(value.as_bool()?),
         Storage::Integers(_) => ScalarValue::Integer(integer(value)?),

@@ -19,3 +19,7 @@ children-trees_of-requires t c = (
 pub child-tree_of-requires : goal.child-tree_of-requires
 child-tree_of-requires t c =
     (let l = get_less c.text.result.now (view c.args.value.now) (view c.in-Some.child.now) (sym c.in-Some.ensures) in let d = c.decreases in omega arith, tt)
+
+pub nulls-tree_of-requires : goal.nulls-tree_of-requires
+nulls-tree_of-requires t c =
+    (let l = get_less c.text.result.now (view c.args.value.now) (view c.in-Some.spelled.now) (sym c.in-Some.ensures) in let d = c.decreases in omega arith, tt)

@@ -20,3 +20,6 @@ decreases-children l = 2 * depth (view l.value.now)
 
 abbrev pub decreases-child : goal.decreases-child
 decreases-child l = 2 * depth (view l.value.now)
+
+abbrev pub decreases-nulls : goal.decreases-nulls
+decreases-nulls l = 2 * depth (view l.value.now)

@@ -1,0 +1,45 @@
+-- Columns of rows: those of rows that are all there, and those by values and a validity.
+use Rattle.std.proofs.Common.{◌≡◌, ℤ, pos, List, [], ◌∷◌, length, map, Bool, true, false, Option, Some, None, refl, sym, ap, ◌∙◌}
+use Rattle.std.proofs.lemmas.List.{length-map}
+use Rattle.std.proofs.lemmas.Option.{same_Some}
+use Rattle.std.specs.Prelude.{option_map, is_some, if◌then◌else◌}
+use Rattle.vx_value.specs.Types as type
+use Rattle.vx_value.specs.Types.{DataType}
+use Rattle.vx_value.specs.declared.dtype.Nullability.TheVariants.{NonNullable}
+use Rattle.vx_value.specs.declared.dtype.PType.{PType}
+use Rattle.vx_mask.specs.Masks.{is_all_true, is_all_false}
+use Rattle.vx_tree.specs.Tree as enc
+use Rattle.vx_tree.specs.Tree.{Tree, Data, column, booleans, integers}
+use Rattle.vx_tree.specs.Rows.{item_or, boolean_rows, integer_rows}
+use Rattle.vx_tree.specs.Validities.{child_by, truths}
+
+-- of rows that are all there
+items_there : {A : Type 0} (d : A) (xs : List A) → map (item_or d) (map Some xs) ≡ xs
+items_there d [] = refl
+items_there d (x ∷ xs) = ap (λ l. x ∷ l) (items_there d xs)
+
+all_there : {A : Type 0} (xs : List A) → is_all_true (map is_some (map Some xs)) ≡ true
+all_there [] = refl
+all_there (x ∷ xs) = all_there xs
+
+no_child : {A : Type 0} (xs : List A) → child_by (map is_some (map Some xs)) ≡ None
+no_child xs =
+    let bits = map is_some (map Some xs) in
+    ap (λ b. if b then None else (if is_all_false bits then Some (truths false (length bits)) else Some (booleans bits))) (all_there xs)
+
+column_there : {A : Type 0} (d : A) (ty : DataType) (of_items : List A → Data) (xs : List A) →
+    column ty (length (map Some xs)) (of_items (map (item_or d) (map Some xs))) (child_by (map is_some (map Some xs))) ≡ column ty (length xs) (of_items xs) None
+column_there d ty of_items xs = λ i. column ty (length-map xs Some i) (of_items (items_there d xs i)) (no_child xs i)
+
+pub booleans_there : (bs : List Bool) → boolean_rows NonNullable (map Some bs) ≡ booleans bs
+booleans_there bs = column_there false (type.bool NonNullable) enc.bool bs
+
+pub integers_there : (p : PType) (zs : List ℤ) → integer_rows NonNullable p (map Some zs) ≡ integers p zs
+integers_there p zs = column_there (pos 0) (type.primitive p NonNullable) (enc.primitive p) zs
+
+-- what rows hold and whether each is there are as long
+pub both_long : {A : Type 0} (d : A) (read : Option (List (Option A))) (xs : List A) (valid : List Bool) →
+    option_map (map (item_or d)) read ≡ Some xs → option_map (map is_some) read ≡ Some valid → length valid ≡ length xs
+both_long d None xs valid e h = absurd (cc)
+both_long d (Some rows) xs valid e h =
+    sym (ap length (same_Some _ _ h)) ∙ length-map rows is_some ∙ sym (length-map rows (item_or d)) ∙ ap length (same_Some _ _ e)

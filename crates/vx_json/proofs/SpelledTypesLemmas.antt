@@ -1,0 +1,19 @@
+-- The type that a text without the mark names.
+use Rattle.std.proofs.Common.{◌≡◌, ◌≢◌, ℕ, ◌-◌, List, ◌++◌, length, take, drop, Bool, true, false, refl, sym, ap, ◌∙◌}
+use Rattle.std.proofs.lemmas.List.{take-append-drop}
+use Rattle.std.proofs.lemmas.Slice.Eq.{bytes_eq-Decides}
+use Rattle.std.specs.Prelude.{codes, if◌then◌else◌}
+use Rattle.vx_value.specs.declared.dtype.Nullability.TheVariants.{NonNullable, Nullable}
+use Rattle.vx_json.specs.SpelledTypes.{is_marked, unmarked, type_named, type_spelled}
+
+unmarked_no : (text : List ℕ) → ((front : List ℕ) → text ≢ front ++ codes "?") → is_marked text ≡ false
+unmarked_no text h = by_test (is_marked text) refl
+  where
+    by_test : (b : Bool) → is_marked text ≡ b → b ≡ false
+    by_test true e =
+        let last : drop (length text - 1) text ≡ codes "?" = (bytes_eq-Decides (drop (length text - 1) text) (codes "?")).0 e in
+        absurd (h (take (length text - 1) text) (sym (take-append-drop (length text - 1) text) ∙ ap (λ l. take (length text - 1) text ++ l) last))
+    by_test false e = refl
+
+pub unmarked_spelled : (text : List ℕ) → ((front : List ℕ) → text ≢ front ++ codes "?") → type_spelled text ≡ type_named text NonNullable
+unmarked_spelled text h = ap (λ b. if b then type_named (unmarked text) Nullable else type_named text NonNullable) (unmarked_no text h)

@@ -1,0 +1,192 @@
+//! Columns: by their rows, or by their values and their validity.
+
+ghost use Rattle.std.specs.Prelude.{◌≡◌, length, Some, None, option_map, option_and_then, IfOk, IfErr};
+ghost use Rattle.serde_json.specs.View.{view, items_view};
+ghost use Rattle.serde_json.specs.Find.{as_bool};
+ghost use Rattle.vx_value.specs.View.{type_of};
+ghost use Rattle.vx_value.specs.Storage.{storage_of};
+ghost use Rattle.vx_tree.specs.Rows.{boolean_rows, integer_rows};
+ghost use Rattle.vx_json.specs.Refused.{IsRefused};
+ghost use Rattle.vx_json.specs.SpelledValues.{integer_spelled, or_null, all_read};
+ghost use Rattle.vx_json.specs.SpelledColumns.{column_of_rows, rows_stored, col_spelled, validity_spelled, tells, column_of_values, values_stored, flat_keys, flat_spelled};
+
+use crate::BAD_VALUE;
+use crate::fields::{check_keys, items};
+use crate::types::type_at;
+use crate::values::{booleans, integers, nullable_booleans, nullable_integers};
+use serde_json::Value;
+use std::alloc::Global;
+use vx_tree::{ArrayRef, BoolArray, IntoArray, PrimitiveArray, Validity, child_to_validity};
+use vx_value::{DType, Nullability, PType, Storage, VortexResult};
+
+/// Which rows of a column are null, as its `validity` spells it.
+#[derive(Drop)]
+pub(crate) enum Nulls {
+    /// No row: the key is absent.
+    Absent,
+    /// Every row: `false`.
+    EveryRow,
+    /// The rows for which this tree is false.
+    Told(ArrayRef),
+}
+
+/// Reads a column by its rows.
+pub(crate) fn col(alloc: Global, value: &Value) -> VortexResult<ArrayRef>
+    ensures ok { IfOk result (λ t. col_spelled (view value.now) ≡ Some t) }
+    ensures err { IfErr result (IsRefused (col_spelled (view value.now) ≡ None)) }
+{
+    check_keys(value, 3)?;
+    let dtype = type_at(value).ok_or(BAD_VALUE)?;
+    let list = items(value, "rows").ok_or(BAD_VALUE)?;
+    column_of_rows(alloc, &dtype, list)
+}
+
+/// Reads a column of `dtype` with the rows in `list`, null among them if the type is nullable.
+#[tactic(auto, using(crate::proofs::SpelledColumnsLemmas::rows_are_values))]
+fn column_of_rows(alloc: Global, dtype: &DType, list: &Vec<Value>) -> VortexResult<ArrayRef>
+    ensures ok { IfOk result (λ t. column_of_rows (type_of dtype.now) (items_view list.now.items) ≡ Some t) }
+    ensures err { IfErr result (IsRefused (column_of_rows (type_of dtype.now) (items_view list.now.items) ≡ None)) }
+{
+    match dtype.nullability() {
+        Nullability::NonNullable => column_of_values(alloc, dtype, list, &Nulls::Absent),
+        Nullability::Nullable => nullable_column(alloc, dtype.storage(), list),
+    }
+}
+
+/// Reads a nullable column with the rows in `list`, null among them.
+fn nullable_column(alloc: Global, storage: Storage, list: &Vec<Value>) -> VortexResult<ArrayRef>
+    ensures ok { IfOk result (λ t. rows_stored Nullability.Nullable storage (items_view list.now.items) ≡ Some t) }
+    ensures err { IfErr result (IsRefused (rows_stored Nullability.Nullable storage (items_view list.now.items) ≡ None)) }
+{
+    match storage {
+        Storage::Bits => nullable_bool_column(alloc, list),
+        Storage::Integers(ptype) => nullable_primitive_column(alloc, ptype, list),
+        _ => Err(BAD_VALUE),
+    }
+}
+
+/// Reads a nullable column of the booleans in `list`, null among them.
+fn nullable_bool_column(alloc: Global, list: &Vec<Value>) -> VortexResult<ArrayRef>
+    ensures ok { IfOk result (λ t. option_map (boolean_rows Nullability.Nullable)
+        (all_read (or_null Nullability.Nullable as_bool) (items_view list.now.items)) ≡ Some t) }
+    ensures err { IfErr result (IsRefused (all_read (or_null Nullability.Nullable as_bool) (items_view list.now.items) ≡ None)) }
+{
+    let (bits, valid) = nullable_booleans(alloc, list)?;
+    let validity = Validity::from_bits(alloc, valid)?;
+    let dtype = DType::Bool(Nullability::Nullable);
+    Ok(BoolArray::try_new(alloc, dtype, bits, &validity)?.into_array())
+}
+
+/// Reads a nullable column of the integers of type `ptype` in `list`, null among them.
+fn nullable_primitive_column(
+    alloc: Global,
+    ptype: PType,
+    list: &Vec<Value>,
+) -> VortexResult<ArrayRef>
+    ensures ok { IfOk result (λ t. option_map (integer_rows Nullability.Nullable ptype)
+        (all_read (or_null Nullability.Nullable (integer_spelled ptype)) (items_view list.now.items)) ≡ Some t) }
+    ensures err { IfErr result (IsRefused
+        (all_read (or_null Nullability.Nullable (integer_spelled ptype)) (items_view list.now.items) ≡ None)) }
+{
+    let (values, valid) = nullable_integers(alloc, ptype, list)?;
+    let validity = Validity::from_bits(alloc, valid)?;
+    let dtype = DType::Primitive(ptype, Nullability::Nullable);
+    Ok(PrimitiveArray::try_new(alloc, dtype, values, &validity)?.into_array())
+}
+
+/// Reads a column by its values, which are never null, and by `nulls`, which is what its `validity` spells.
+pub(crate) fn flat(alloc: Global, value: &Value, nulls: &Nulls) -> VortexResult<ArrayRef>
+    ensures ok { IfOk result (λ t. flat_spelled (view value.now) nulls.now ≡ Some t) }
+    ensures err { IfErr result (IsRefused (flat_spelled (view value.now) nulls.now ≡ None)) }
+{
+    check_keys(value, flat_keys(nulls))?;
+    let dtype = type_at(value).ok_or(BAD_VALUE)?;
+    let list = items(value, "values").ok_or(BAD_VALUE)?;
+    column_of_values(alloc, &dtype, list, nulls)
+}
+
+/// Returns the number of keys of a column by its values: with or without `validity`.
+fn flat_keys(nulls: &Nulls) -> usize
+    ensures { result ≡ flat_keys nulls.now }
+{
+    match nulls {
+        Nulls::Absent => 3,
+        _ => 4,
+    }
+}
+
+/// Reads a column of `dtype` with the values in `list`, which are never null.
+fn column_of_values(
+    alloc: Global,
+    dtype: &DType,
+    list: &Vec<Value>,
+    nulls: &Nulls,
+) -> VortexResult<ArrayRef>
+    ensures ok { IfOk result (λ t. column_of_values nulls.now (type_of dtype.now) (items_view list.now.items) ≡ Some t) }
+    ensures err { IfErr result (IsRefused (column_of_values nulls.now (type_of dtype.now) (items_view list.now.items) ≡ None)) }
+{
+    let nullability = dtype.nullability();
+    match dtype.storage() {
+        Storage::Bits => bool_column(alloc, nullability, list, nulls),
+        Storage::Integers(ptype) => primitive_column(alloc, ptype, nullability, list, nulls),
+        _ => Err(BAD_VALUE),
+    }
+}
+
+/// Reads a column of the booleans in `list`.
+fn bool_column(
+    alloc: Global,
+    nullability: Nullability,
+    list: &Vec<Value>,
+    nulls: &Nulls,
+) -> VortexResult<ArrayRef>
+    ensures ok { IfOk result (λ t. values_stored nullability Storage.Bits nulls.now (items_view list.now.items) ≡ Some t) }
+    ensures err { IfErr result (IsRefused (values_stored nullability Storage.Bits nulls.now (items_view list.now.items) ≡ None)) }
+{
+    let bits = booleans(alloc, list)?;
+    let validity = validity_of(nullability, bits.len(), nulls)?;
+    let dtype = DType::Bool(nullability);
+    Ok(BoolArray::try_new(alloc, dtype, bits, &validity)?.into_array())
+}
+
+/// Reads a column of the integers of type `ptype` in `list`.
+fn primitive_column(
+    alloc: Global,
+    ptype: PType,
+    nullability: Nullability,
+    list: &Vec<Value>,
+    nulls: &Nulls,
+) -> VortexResult<ArrayRef>
+    ensures ok { IfOk result (λ t. values_stored nullability (Storage.Integers ptype) nulls.now (items_view list.now.items) ≡ Some t) }
+    ensures err { IfErr result (IsRefused (values_stored nullability (Storage.Integers ptype) nulls.now (items_view list.now.items) ≡ None)) }
+{
+    let values = integers(alloc, ptype, list)?;
+    let validity = validity_of(nullability, values.len(), nulls)?;
+    let dtype = DType::Primitive(ptype, nullability);
+    Ok(PrimitiveArray::try_new(alloc, dtype, values, &validity)?.into_array())
+}
+
+/// Returns the validity of a column of `len` rows. A constant is read back. `InvalidArgument(BadValue)` if a column of this
+/// nullability has no `validity`, or if the tree can't tell which rows are null.
+fn validity_of(nullability: Nullability, len: usize, nulls: &Nulls) -> VortexResult<Validity>
+    ensures ok { IfOk result (λ v. validity_spelled nullability len nulls.now ≡ Some v) }
+    ensures err { IfErr result (IsRefused (validity_spelled nullability len nulls.now ≡ None)) }
+{
+    match nulls {
+        Nulls::Absent => Ok(Validity::from(nullability)),
+        _ if !nullability.is_nullable() => Err(BAD_VALUE),
+        Nulls::EveryRow => Ok(Validity::AllInvalid),
+        Nulls::Told(tree) => told_validity(tree, len),
+    }
+}
+
+/// Returns the validity that `tree` tells of `len` rows: it must have that many, of non-nullable booleans.
+fn told_validity(tree: &ArrayRef, len: usize) -> VortexResult<Validity>
+    ensures ok { IfOk result (λ v. validity_spelled Nullability.Nullable len (Nulls.Told tree.now) ≡ Some v) }
+    ensures err { IfErr result (IsRefused (validity_spelled Nullability.Nullable len (Nulls.Told tree.now) ≡ None)) }
+{
+    if *tree.dtype() != DType::Bool(Nullability::NonNullable) || tree.len() != len {
+        return Err(BAD_VALUE);
+    }
+    Ok(child_to_validity(Some(tree), Nullability::Nullable)?)
+}
