@@ -1,10 +1,11 @@
 -- Which types there are columns of, and which functions they are computed by.
-use Rattle.std.specs.Prelude.{Bool, true, false, ◌&&◌}
+use Rattle.std.specs.Prelude.{Bool, true, false, ◌&&◌, ◌||◌}
 use Rattle.std.proofs.Math.Bool.{not}
 use Rattle.vx_value.specs.Types.{DataType, nullability_of, is_nullable}
 use Rattle.vx_value.specs.Storage.{storage_of}
 use Rattle.vx_value.specs.declared.dtype.Storage.{Storage}
 use Rattle.vx_value.specs.declared.dtype.Storage.TheVariants.{Bits, Integers}
+use Rattle.vx_fn.specs.Binary.{is_logical}
 use Rattle.vx_fn.specs.declared.function.ScalarFnRef.{ScalarFnRef}
 use Rattle.vx_fn.specs.declared.function.ScalarFnRef.TheVariants as function
 
@@ -29,6 +30,12 @@ has_kernel function.IsNotNull = false
 has_kernel (function.Cast target) = false
 has_kernel _ = true
 
--- columns of the type are computed by the function: none with nulls yet
+-- a null argument makes the function's result null: a line for each function of which that holds
+abbrev pub passes_null : ScalarFnRef → Bool
+passes_null (function.Binary op) = not (is_logical op)
+passes_null function.Not = true
+passes_null _ = false
+
+-- columns of the type are computed by the function: with nulls only if a null passes through it
 abbrev pub is_computed : ScalarFnRef → DataType → Bool
-is_computed f ty = has_kernel f && (has_column ty && not (is_nullable (nullability_of ty)))
+is_computed f ty = has_kernel f && (has_column ty && (not (is_nullable (nullability_of ty)) || passes_null f))
