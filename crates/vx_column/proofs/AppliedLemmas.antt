@@ -2,24 +2,25 @@
 use Rattle.std.proofs.Common.{◌≡◌, inl, inr, ℕ, zero, suc, ◌<◌, ◌+◌, List, [], ◌∷◌, length, map, get_or, replicate, Bool, true, false, ◌&&◌, Some, refl, sym, ◌∙◌, ap, subst, arith}
 use Rattle.std.specs.Prelude.{is_some, IsSome, IfSome, nat_lt}
 use Rattle.std.specs.List.{AllZip, range_with_len}
-use Rattle.std.specs.Cmp.{first_so}
 use Rattle.std.proofs.lemmas.Bool.Decides.{nat_tests}
 use Rattle.vx_value.specs.Types.{DataType}
 use Rattle.vx_value.specs.Typed.{Typed}
 use Rattle.vx_value.specs.Cell.{Cell, value}
 use Rattle.vx_value.specs.declared.error.VortexError.{VortexError}
-use Rattle.vx_fn.specs.Apply.{apply}
+use Rattle.vx_fn.specs.Apply.{apply, value_of}
 use Rattle.vx_fn.specs.ReturnTypes.{return_type}
 use Rattle.vx_fn.specs.declared.function.ScalarFnRef.{ScalarFnRef}
-use Rattle.vx_tree.specs.ColumnTypes.{has_column, has_kernel}
-use Rattle.vx_tree.specs.Tree.{Tree, dtype, datum, is_constant, constant_of, call_of}
-use Rattle.vx_tree.specs.Cells.{rows, HasNoFault}
+use Rattle.vx_tree.specs.ColumnTypes.{has_column}
+use Rattle.vx_tree.specs.Tree.{Tree, filled_slots, dtype, datum, is_constant, constant_of, call_of}
+use Rattle.vx_tree.specs.Cells.{rows, row_at, slots_rows, HasNoFault}
 use Rattle.vx_tree.specs.Columns.{columnar_tree}
 use Rattle.vx_tree.proofs.ColumnTypesLemmas.{computed_type}
 use Rattle.vx_tree.specs.declared.columnar.Columnar.{Columnar}
 use Rattle.vx_column.specs.Applied.{IsCall, IsApplied, IsUnapplied, all_constant, gives_constant, Repeats}
-use Rattle.vx_column.specs.Computed.{IsResult, IsNoResult, cells_of}
-use Rattle.vx_column.proofs.ArgumentsLemmas.{AreRows, call_typed}
+use Rattle.vx_column.specs.Computed.{IsTaken, IsResult, IsNoResult, cells_of}
+use Rattle.vx_column.proofs.ArgumentsLemmas.{AreRows, call_typed, call_lengths, unread_row}
+use Rattle.vx_column.proofs.ComputedLemmas.{fault_among}
+use Rattle.vx_column.specs.Arguments.{AnyUnread}
 use Rattle.vx_mask.proofs.Lists.{same_below}
 use Rattle.vx_column.proofs.KeepsLemmas.{same_exactly}
 
@@ -33,8 +34,8 @@ pub column_given : (f : ScalarFnRef) {ts : List Tree} {n : ℕ} {tys : List Data
 column_given f {ts = ts} {n = n} same call =
     subst (λ o. IfSome o (λ ty. has_column ty ≡ true)) (sym (ap (return_type f) (sym same.types) ∙ call_typed f ts n call)) (computed_type f call.0 call.1.3)
 
-pub call_computed : (f : ScalarFnRef) (ts : List Tree) (n : ℕ) → IsCall f ts n → has_kernel f ≡ true
-call_computed f ts n call = first_so (has_kernel f) _ call.1.3
+pub call_taken : (f : ScalarFnRef) {ts : List Tree} {n : ℕ} {tys : List DataType} {row : ℕ → List Cell} → AreRows ts n tys row → IsCall f ts n → IsTaken f tys
+call_taken f {ts = ts} {n = n} same call = (call.0, ap (return_type f) (sym same.types) ∙ call_typed f ts n call, call.1.3)
 
 rows_are : (f : ScalarFnRef) (ts : List Tree) (n : ℕ) (tys : List DataType) (row : ℕ → List Cell) → AreRows ts n tys row → (ty : DataType)
     → rows (call_of f ty n ts) ≡ cells_of f ty row n
@@ -53,6 +54,16 @@ pub unapplied : (f : ScalarFnRef) {ts : List Tree} {n : ℕ} {tys : List DataTyp
 unapplied f same e (inl m) = inl m
 unapplied f {ts = ts} {n = n} {tys = tys} {row = row} same e (inr h) =
     inr (h.0, λ ty typed. λ k. h.1 ty (ap (return_type f) (sym same.types) ∙ typed) (subst HasNoFault (rows_are f ts n tys row same ty) k))
+
+-- a row of an argument that can't be read
+pub unread : (f : ScalarFnRef) (xs : List Columnar) (n : ℕ) (e : VortexError) → IsCall f (map columnar_tree xs) n → AnyUnread xs e
+    → IsUnapplied f (map columnar_tree xs) n e
+unread f xs n e call h =
+    elim (unread_row n xs e (call_lengths f (map columnar_tree xs) n call) h) [
+      | inl m ↦ inl m
+      | inr k ↦
+          inr (k.0, λ ty typed. fault_among (λ i. apply f ty (row_at (slots_rows (filled_slots (map columnar_tree xs))) i)) n k.1 k.2 (k.3 (value_of f ty)))
+    ]
 
 -- a constant has the cells of f on the values
 pub constant_result : (f : ScalarFnRef) (tys : List DataType) (cells : List Cell) (n : ℕ) (s : Typed) (u : Tree) →

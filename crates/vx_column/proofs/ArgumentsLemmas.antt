@@ -1,5 +1,5 @@
 -- The rows of columns, as arguments show them.
-use Rattle.std.proofs.Common.{◌≡◌, ℕ, ◌<◌, ◌+◌, List, [], ◌∷◌, length, map, take, get_or, ◌++◌, true, Some, refl, sym, ◌∙◌, ap, subst}
+use Rattle.std.proofs.Common.{◌≡◌, ◌⊎◌, inl, inr, arith, ℕ, zero, suc, ◌<◌, ◌+◌, List, [], ◌∷◌, length, map, take, get_or, ◌++◌, true, Some, refl, sym, ◌∙◌, ap, subst}
 use Rattle.std.specs.Cmp.{unsigned_Decides, first_so, second_so}
 use Rattle.std.specs.List.{AllZip, AllByRecursion}
 use Rattle.std.proofs.lemmas.List.{get_or-replicate, take_more}
@@ -17,7 +17,13 @@ use Rattle.vx_tree.specs.declared.columnar.Columnar.{Columnar}
 use Rattle.vx_tree.proofs.CallsLemmas.{filled_long, filled_types}
 use Rattle.vx_tree.proofs.RefusalsLemmas.{long_types, types_back}
 use Rattle.vx_column.specs.Applied.{IsCall, Repeats, types_of_scalars, cells_of_scalars}
-use Rattle.vx_column.specs.Arguments.{IsArgument, IsSized, type_of_argument, value_at, types_of, row_of}
+use Rattle.std.proofs.lemmas.Option.{get_or_from_slice_get}
+use Rattle.vx_value.specs.Values.{Value}
+use Rattle.vx_value.specs.declared.error.VortexError.{VortexError}
+use Rattle.vx_value.specs.declared.error.VortexError.TheVariants.{OutOfMemory, Fault}
+use Rattle.vx_fn.specs.Apply.{on_values}
+use Rattle.vx_column.proofs.CellsLemmas.{later_fault}
+use Rattle.vx_column.specs.Arguments.{IsUnread, AnyUnread, IsArgument, IsSized, type_of_argument, cell_at, types_of, row_of}
 use Rattle.vx_column.specs.declared.argument.Argument.{Argument}
 
 -- two lists that match, each with one more
@@ -74,7 +80,7 @@ module _ {A : Type 0} (type : A → DataType) (cell : A → ℕ → Cell) (R : C
 pub argument_rows : (f : ScalarFnRef) (n : ℕ) (xs : List Columnar) (args : List Argument) → IsCall f (map columnar_tree xs) n → AllZip IsArgument xs args →
     AreRows (map columnar_tree xs) n (types_of args) (row_of args)
 argument_rows =
-    are_rows type_of_argument (λ a i. value (value_at a i)) IsArgument (λ c a h. h.typed) (λ c a h. h.shown)
+    are_rows type_of_argument cell_at IsArgument (λ c a h. h.typed) (λ c a h. h.shown)
 
 pub scalar_rows : (f : ScalarFnRef) (n : ℕ) (xs : List Columnar) (ss : List Typed) → IsCall f (map columnar_tree xs) n → AllZip Repeats xs ss →
     AreRows (map columnar_tree xs) n (types_of_scalars ss) (λ _. cells_of_scalars ss)
@@ -93,3 +99,40 @@ arguments_sized f n xs args call h = by_lengths xs args h (call_lengths f (map c
     by_lengths (x ∷ xs) [] h l = absurd h
     by_lengths (x ∷ xs) (a ∷ args) h l =
         (subst (λ m. IsSized m a) ((unsigned_Decides (len (columnar_tree x)) n).0 (first_so _ _ l)) h.0.sized, by_lengths xs args h.1 (second_so _ _ l))
+
+-- ---- a column that can't be read
+
+pub any_memory : (xs : List Columnar) → AnyUnread xs OutOfMemory
+any_memory [] = refl
+any_memory (x ∷ xs) = inr (any_memory xs)
+
+pub any_unread : (xs : List Columnar) (k : ℕ) (x : Columnar) (e : VortexError) → k < length xs → x ≡ get_or xs k x → IsUnread (columnar_tree x) e → AnyUnread xs e
+any_unread [] k x e lt is h = absurd (omega arith)
+any_unread (y ∷ xs) zero x e lt is h = inl (subst (λ z. IsUnread (columnar_tree z) e) is h)
+any_unread (y ∷ xs) (suc k) x e lt is h = inr (any_unread xs k x e (omega arith) is h)
+
+-- a fault in a row of an argument is one in that row of each function
+pub unread_row : (n : ℕ) (xs : List Columnar) (e : VortexError) → all_of_len n (map columnar_tree xs) ≡ true → AnyUnread xs e →
+    (e ≡ OutOfMemory) ⊎ ((e ≡ Fault) × (i : ℕ) × (i < n)
+    × ((g : List Value → Cell) → on_values g (row_at (slots_rows (filled_slots (map columnar_tree xs))) i) ≡ fault))
+unread_row n [] e l h = inl h
+unread_row n (x ∷ xs) e l (inl (inl m)) = inl m
+unread_row n (x ∷ xs) e l (inl (inr h)) =
+    let long : len (columnar_tree x) ≡ n = (unsigned_Decides (len (columnar_tree x)) n).0 (first_so _ _ l) in
+    inr (
+      h.0,
+      h.1,
+      subst (λ m. h.1 < m) long h.2,
+      λ g. ap (λ c. on_values g (c ∷ row_at (slots_rows (filled_slots (map columnar_tree xs))) h.1)) (get_or_from_slice_get (rows (columnar_tree x)) h.1 fault fault h.3),
+    )
+unread_row n (x ∷ xs) e l (inr h) =
+    elim (unread_row n xs e (second_so _ _ l) h) [
+      | inl m ↦ inl m
+      | inr k ↦
+          inr (
+            k.0,
+            k.1,
+            k.2,
+            λ g. later_fault g (get_or (rows (columnar_tree x)) k.1 fault) (row_at (slots_rows (filled_slots (map columnar_tree xs))) k.1) k.3,
+          )
+    ]

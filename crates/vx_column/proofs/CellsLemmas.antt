@@ -1,20 +1,21 @@
 -- One row of a node.
-use Rattle.std.proofs.Common.{◌≡◌, ℕ, zero, suc, ◌+◌, ◌-◌, ◌≤◌, ◌<◌, List, [], ◌∷◌, length, map, get_or, take, drop, Option, Some, None, refl, sym, ◌∙◌, ap, subst, arith}
+use Rattle.std.proofs.Common.{◌≡◌, ℕ, zero, suc, ◌+◌, ◌-◌, ◌≤◌, ◌<◌, List, [], ◌∷◌, length, map, get_or, take, drop, ◌++◌, Bool, Option, Some, None, refl, sym, ◌∙◌, ap, subst, arith}
 use Rattle.std.specs.Prelude.{slice_get, slice_index_or, is_some, IsSome}
 use Rattle.std.specs.List.{AllZip, range_with_len}
-use Rattle.std.proofs.lemmas.List.{take_all}
+use Rattle.std.proofs.lemmas.List.{take_all, take_more, map-append}
 use Rattle.std.proofs.lemmas.List.FromFn.{get_or-map-range_with_len, length-map-range_with_len}
 use Rattle.std.proofs.lemmas.Option.{slice_get-get_or, get_or_from_slice_get}
 use Rattle.vx_value.specs.Types.{DataType}
 use Rattle.vx_value.specs.Typed.{Typed}
-use Rattle.vx_value.specs.Values.{Value}
+use Rattle.vx_value.specs.Values.{Value, boolean}
 use Rattle.vx_value.specs.Cell.{Cell, value, fault}
 use Rattle.vx_fn.specs.Apply.{apply, on_values, value_of}
 use Rattle.vx_fn.specs.ReturnTypes.{return_type}
 use Rattle.vx_fn.specs.declared.function.ScalarFnRef.{ScalarFnRef}
 use Rattle.vx_tree.specs.Tree.{Tree, node, function, slots_of, dtype, len, height, slots_height, slice_of}
 use Rattle.vx_tree.specs.Cells.{row_at, rows, slots_rows, valid_cell, valid_cells}
-use Rattle.vx_tree.specs.Well.{shape, shapes, IsNode}
+use Rattle.vx_tree.specs.Well.{shape, shapes, IsNode, IsWell}
+use Rattle.vx_tree.proofs.CellsLemmas.{rows_counted}
 use Rattle.vx_tree.specs.Refusals.{types_in}
 use Rattle.vx_tree.proofs.RefusalsLemmas.{types_back}
 use Rattle.vx_column.specs.Applied.{types_of_scalars, cells_of_scalars}
@@ -55,6 +56,15 @@ pub row_told : (validity : Option Tree) (t : Tree) (i : ℕ) (v stored : Cell) �
     → IsRowBy validity i stored (valid_cell v stored)
 row_told validity t i v stored is told =
     subst (λ w. IsRowBy w i stored (valid_cell v stored)) (sym is) (λ cs there. valid_get (rows t) cs i v stored told there)
+
+-- ---- of a column of booleans, read up to a row
+pub truths_more : (t : Tree) (i : ℕ) (v : Value) (bits : List Bool) (b : Bool) → IsWell t → i < len t → slice_get (rows t) i ≡ Some (value v) → v ≡ boolean b
+    → take i (rows t) ≡ map (λ b. value (boolean b)) bits → take (i + 1) (rows t) ≡ map (λ b. value (boolean b)) (bits ++ b ∷ [])
+truths_more t i v bits b well lt there is h =
+    take_more (rows t) i fault (omega (arith, rows_counted t well))
+    ∙ ap (λ cs. cs ++ get_or (rows t) i fault ∷ []) h
+    ∙ ap (λ c. map (λ b. value (boolean b)) bits ++ c ∷ []) (get_or_from_slice_get (rows t) i (value v) fault there ∙ ap value is)
+    ∙ sym (map-append (λ b. value (boolean b)) bits (b ∷ []))
 
 -- ---- of a function
 
@@ -97,7 +107,7 @@ read_cells i (None ∷ xs) (s ∷ ss) h = absurd h.0
 read_cells i (Some t ∷ xs) (s ∷ ss) h = λ j. get_or_from_slice_get (rows t) i (value s.value) fault h.0.0 j ∷ read_cells i xs ss h.1 j
 
 -- a fault in any argument is a fault
-later_fault : (g : List Value → Cell) (c : Cell) (cs : List Cell) → ((g : List Value → Cell) → on_values g cs ≡ fault) → on_values g (c ∷ cs) ≡ fault
+pub later_fault : (g : List Value → Cell) (c : Cell) (cs : List Cell) → ((g : List Value → Cell) → on_values g cs ≡ fault) → on_values g (c ∷ cs) ≡ fault
 later_fault g (value v) cs h = h (λ vs. g (v ∷ vs))
 later_fault g fault cs h = refl
 

@@ -1,33 +1,38 @@
 -- The column of a function, row by row.
-use Rattle.std.proofs.Common.{◌≡◌, ◌<◌, ◌+◌, ℕ, zero, suc, ℤ, Bool, true, false, List, [], ◌∷◌, ◌++◌, length, map, get_or, Some}
+use Rattle.std.proofs.Common.{◌≡◌, ◌<◌, ◌+◌, ℕ, zero, suc, ℤ, Bool, true, false, List, [], ◌∷◌, ◌++◌, length, map, get_or, Option, Some, None}
 use Rattle.std.proofs.Common.{Result, IfOk, refl, sym, ap, ◌∙◌, subst, arith}
 use Rattle.std.proofs.lemmas.Result.{IfOk-weaker}
+use Rattle.std.specs.Prelude.{◌&&◌, slice_get}
+use Rattle.std.specs.Ordering.{int_cmp}
+use Rattle.std.proofs.lemmas.Option.{get_or_from_slice_get}
+use Rattle.vx_fn.specs.Comparisons.{holds}
+use Rattle.vx_fn.specs.declared.function.Operator.{Operator}
+use Rattle.vx_column.specs.Operands.{calculated_cell, calculated_rows, compared_rows}
 use Rattle.std.specs.List.{range_with_len}
 use Rattle.std.proofs.lemmas.List.{length-map, map-append}
 use Rattle.std.proofs.lemmas.List.FromFn.{length-map-range_with_len, map-range_with_len_more, get_or-map-range_with_len}
 use Rattle.vx_value.specs.Types.{DataType, bool, primitive}
-use Rattle.vx_value.specs.Values.{null, boolean, integer}
+use Rattle.vx_value.specs.Values.{Value, null, boolean, integer}
 use Rattle.vx_value.specs.Cell.{Cell, value, fault}
-use Rattle.vx_value.specs.declared.dtype.Nullability.TheVariants.{NonNullable}
 use Rattle.vx_value.specs.declared.dtype.PType.{PType}
 use Rattle.vx_value.specs.declared.error.VortexError.{VortexError}
 use Rattle.vx_fn.specs.Apply.{apply}
 use Rattle.vx_fn.specs.ReturnTypes.{return_type}
-use Rattle.vx_fn.specs.Binary.{is_logical}
-use Rattle.vx_fn.specs.Arithmetic.{calculated}
-use Rattle.vx_fn.specs.declared.function.Operator.{Operator}
 use Rattle.vx_fn.specs.declared.function.ScalarFnRef.{ScalarFnRef}
-use Rattle.vx_fn.specs.declared.function.ScalarFnRef.TheVariants.{Binary}
-use Rattle.vx_tree.specs.Tree.{Tree, dtype, len, datum, slots, booleans, integers, is_canonical}
-use Rattle.vx_tree.specs.Cells.{rows, HasNoFault, AreClean}
+use Rattle.vx_tree.specs.Tree as enc
+use Rattle.vx_tree.specs.Tree.{Tree, Data, slots_of, column, is_canonical}
+use Rattle.vx_tree.specs.Cells.{slots_rows, node_cells, cells_at, valid_cells, HasNoFault}
+use Rattle.vx_tree.specs.Validities.{child_of}
+use Rattle.vx_tree.specs.declared.validity.Validity.{Validity}
 use Rattle.vx_tree.specs.Columns.{canonical_tree}
 use Rattle.vx_tree.specs.declared.canonical.Canonical.{Canonical}
-use Rattle.vx_column.proofs.OperatorLemmas.{calculated_value}
-use Rattle.vx_column.specs.Arguments.{types_of, row_of, integer_in}
-use Rattle.vx_column.specs.Computed.{IsComputed, cells_of}
-use Rattle.vx_column.specs.declared.argument.Argument.{Argument}
-use Rattle.vx_column.specs.declared.argument.Argument.TheVariants as argument
-use Rattle.vx_column.specs.declared.argument.IntegerOperand.{IntegerOperand}
+use Rattle.vx_column.proofs.ValidRowsLemmas.{filled_rows, filled_clean}
+use Rattle.vx_column.specs.Computed.{IsFilled, cells_of, filled_cells, filled_type}
+use Rattle.vx_mask.specs.Logic.{bit_row}
+use Rattle.vx_column.specs.Expanded.{boolean_column, integer_column}
+use Rattle.vx_column.specs.Nulls.{validity_cells}
+use Rattle.vx_column.specs.ValidRows.{is_valid, HasValidity, nullability_in, child_in, IsValidityOf, null_unless}
+use Rattle.vx_column.specs.declared.valid.ValidRows.{ValidRows}
 
 -- one more row that is made by f
 pub rows_more : {T C : Type 0} (read : T → C) (f : ℕ → C) (out : List T) (i : ℕ) (r : T)
@@ -40,6 +45,22 @@ rows_more read f out i r h e =
 pub bits_more : (f : ℕ → Bool) (out : List Bool) (i : ℕ) (r : Bool) → out ≡ map f (range_with_len 0 i) → r ≡ f i
     → out ++ r ∷ [] ≡ map f (range_with_len 0 (i + 1))
 bits_more f out i r h e = rw (map-range_with_len_more f 0 i i (omega arith), h, e) refl
+
+-- of the rows at the true bits
+pub calculated_more : {T : Type 0} (read : T → ℤ) (op : Operator) (p : PType) (bits : List Bool) (l r : ℕ → ℤ) (out : List T) (i : ℕ) (x : T) (b : Bool) →
+    slice_get bits i ≡ Some b → calculated_cell op p b (l i) (r i) ≡ value (integer (read x)) →
+    map (λ y. value (integer (read y))) out ≡ calculated_rows op p (bit_row bits) l r i →
+    map (λ y. value (integer (read y))) (out ++ x ∷ []) ≡ calculated_rows op p (bit_row bits) l r (i + 1)
+calculated_more read op p bits l r out i x b here e h =
+    rows_more (λ y. value (integer (read y))) (λ j. calculated_cell op p (bit_row bits j) (l j) (r j)) out i x h
+    (ap (λ c. calculated_cell op p c (l i) (r i)) (get_or_from_slice_get bits i b false here) ∙ e)
+
+pub compared_more : (op : Operator) (bits : List Bool) (l r : ℕ → ℤ) (out : List Bool) (i : ℕ) (x b : Bool) →
+    slice_get bits i ≡ Some b → x ≡ b && holds op (int_cmp (l i) (r i)) → out ≡ compared_rows op (bit_row bits) l r i →
+    out ++ x ∷ [] ≡ compared_rows op (bit_row bits) l r (i + 1)
+compared_more op bits l r out i x b here e h =
+    bits_more (λ j. bit_row bits j && holds op (int_cmp (l j) (r j))) out i x h
+    (e ∙ ap (λ c. c && holds op (int_cmp (l i) (r i))) (sym (get_or_from_slice_get bits i b false here)))
 
 clean_at : (cs : List Cell) (i : ℕ) → HasNoFault cs → get_or cs i (value null) ≡ fault → ⊥
 clean_at [] i h e = absurd (cc)
@@ -62,46 +83,77 @@ pub fault_at_row : (f : ScalarFnRef) (tys : List DataType) (row : ℕ → List C
     → ¬ (HasNoFault (cells_of f ty row n))
 fault_at_row f tys row n i lt h ty typed = fault_among (λ j. apply f ty (row j)) n i lt (h ty typed)
 
--- a fault in row i of a calculation
-pub calculation_fault : (op : Operator) (p : PType) (l r : IntegerOperand) (n i : ℕ) (x y : ℤ) → is_logical op ≡ false → x ≡ integer_in l i → y ≡ integer_in r i → i < n →
-    return_type (Binary op) (types_of (argument.Integers l ∷ argument.Integers r ∷ [])) ≡ Some (primitive p NonNullable) → calculated op p x y ≡ fault →
-    (ty : DataType) → return_type (Binary op) (types_of (argument.Integers l ∷ argument.Integers r ∷ [])) ≡ Some ty
-    → ¬ (HasNoFault (cells_of (Binary op) ty (row_of (argument.Integers l ∷ argument.Integers r ∷ [])) n))
-calculation_fault op p l r n i x y plain a b lt known none =
-    fault_at_row (Binary op) (types_of (argument.Integers l ∷ argument.Integers r ∷ [])) (row_of (argument.Integers l ∷ argument.Integers r ∷ [])) n i lt here
-  where
-    here : (ty : DataType) → return_type (Binary op) (types_of (argument.Integers l ∷ argument.Integers r ∷ [])) ≡ Some ty
-        → apply (Binary op) ty (row_of (argument.Integers l ∷ argument.Integers r ∷ []) i) ≡ fault
-    here ty typed =
-        let same : ty ≡ primitive p NonNullable = cc (typed, known) in
-        ap (λ t. apply (Binary op) t (row_of (argument.Integers l ∷ argument.Integers r ∷ []) i)) same
-        ∙ calculated_value op p (integer_in l i) (integer_in r i) plain
-        ∙ (λ j. calculated op p (sym a j) (sym b j))
-        ∙ none
+-- a column whose valid rows are f on `row`
+module _ (f : ScalarFnRef) (of_type : Option DataType) (row : ℕ → List Cell) (valid : ValidRows) (n : ℕ) where
+  -- a fault in one of them
+  pub filled_fault : (ty : DataType) (i : ℕ) → filled_type valid of_type ≡ Some ty → i < n → is_valid valid i ≡ true → apply f ty (row i) ≡ fault → (s : DataType) →
+      filled_type valid of_type ≡ Some s → ¬ (HasNoFault (filled_cells f s row valid n))
+  filled_fault ty i known lt here none s typed =
+      let same : s ≡ ty = cc (typed, known) in
+      fault_among (λ j. null_unless (is_valid valid j) (apply f s (row j))) n i lt
+      (ap (λ b. null_unless b (apply f s (row i))) here ∙ ap (λ t. apply f t (row i)) same ∙ none)
 
--- a column whose cells are those of f
-module _ (f : ScalarFnRef) (args : List Argument) (n : ℕ) (r : Result Canonical VortexError) where
-  computed : (u : Tree) → return_type f (types_of args) ≡ Some (dtype u) → len u ≡ length (rows u) → rows u ≡ cells_of f (dtype u) (row_of args) n
-      → AreClean (slots u) →
-      is_canonical (datum u) ≡ true → IfOk r (λ c. canonical_tree c ≡ u) → IfOk r (λ c. IsComputed f args n (canonical_tree c))
-  computed u typed counted shown clean canonical column =
-      let long = counted ∙ ap length shown ∙ length-map-range_with_len _ 0 n in
-      let whole : IsComputed f args n u =
-      record { result = record { typed = typed; counted = long; shown = shown; clean = clean }; canonical = canonical } in
-      IfOk-weaker r _ _ (λ c new. subst (IsComputed f args n) (sym new) whole) column
+  module _ (sized : HasValidity valid n) (v : Validity) (told : IsValidityOf valid n v) where
+    module _ {X : Type 0} (read : X → Value) (of_items : List X → Data)
+        (cells : (ty : DataType) (k : ℕ) (xs : List X) (css : List (List Cell)) → node_cells ty k (of_items xs) css ≡ valid_cells (cells_at css 0) (map (λ x. value (read x)) xs))
+        (canonical : (xs : List X) → is_canonical (of_items xs) ≡ true) where
+      filled : (ty : DataType) (xs : List X) (g : ℕ → Cell) → filled_type valid of_type ≡ Some ty →
+          map (λ x. value (read x)) xs ≡ map g (range_with_len 0 n) → ((i : ℕ) → i < n → is_valid valid i ≡ true → g i ≡ apply f ty (row i)) →
+          ((i : ℕ) → is_valid valid i ≡ false → (w : Value) × (g i ≡ value w)) →
+          IsFilled f of_type row valid n (column ty (length xs) (of_items xs) (child_of v (length xs)))
+      filled ty xs g typed made same stored =
+          let long : length xs ≡ n = sym (length-map xs (λ x. value (read x))) ∙ ap length made ∙ length-map-range_with_len g 0 n in
+          let child : child_of v (length xs) ≡ child_in valid = ap (child_of v) long ∙ told.1 in
+          let whole : IsFilled f of_type row valid n (column ty (length xs) (of_items xs) (child_in valid)) =
+          record {
+            typed = typed;
+            counted = long;
+            shown = cells ty (length xs) xs (slots_rows (slots_of (child_in valid ∷ [])))
+                ∙ ap (λ css. valid_cells (cells_at css 0) (map (λ x. value (read x)) xs)) (one_slot (child_in valid))
+                ∙ ap (valid_cells (validity_cells (child_in valid))) made
+                ∙ filled_rows valid n g (λ i. apply f ty (row i)) sized same stored;
+            clean = filled_clean valid;
+            canonical = canonical xs;
+          } in
+          subst (λ c. IsFilled f of_type row valid n (column ty (length xs) (of_items xs) c)) (sym child) whole
+        where
+          one_slot : (c : Option Tree) → slots_rows (slots_of (c ∷ [])) ≡ validity_cells c ∷ []
+          one_slot None = refl
+          one_slot (Some t) = refl
 
-  pub bools_computed : (test : ℕ → Bool) (bits : List Bool) → return_type f (types_of args) ≡ Some (bool NonNullable) →
-      ((i : ℕ) → value (boolean (test i)) ≡ apply f (bool NonNullable) (row_of args i)) → bits ≡ map test (range_with_len 0 n) →
-      IfOk r (λ c. canonical_tree c ≡ booleans bits) → IfOk r (λ c. IsComputed f args n (canonical_tree c))
-  bools_computed test bits typed given made =
-      computed (booleans bits) typed (sym (length-map bits (λ b. value (boolean b))))
-      (ap (map (λ b. value (boolean b))) made ∙ twice (range_with_len 0 n)) tt refl
-    where
-      twice : (is : List ℕ) → map (λ b. value (boolean b)) (map test is) ≡ map (λ i. apply f (bool NonNullable) (row_of args i)) is
-      twice [] = refl
-      twice (i ∷ is) = λ j. given i j ∷ twice is j
+    module _ (r : Result Canonical VortexError) where
+      pub bools_filled : (test : ℕ → Bool) (bits : List Bool) → filled_type valid of_type ≡ Some (bool (nullability_in valid)) →
+          ((i : ℕ) → i < n → is_valid valid i ≡ true → value (boolean (test i)) ≡ apply f (bool (nullability_in valid)) (row i)) → bits ≡ map test (range_with_len 0 n) →
+          IfOk r (λ c. canonical_tree c ≡ boolean_column bits v) → IfOk r (λ c. IsFilled f of_type row valid n (canonical_tree c))
+      bools_filled test bits typed same made =
+          let cells_made = ap (map (λ b. value (boolean b))) made ∙ twice (range_with_len 0 n) in
+          let whole = filled boolean enc.bool (λ ty k xs css. refl) (λ xs. refl) (bool (nullability_in valid)) bits (λ i. value (boolean (test i))) typed cells_made same
+          (λ i h. (boolean (test i), refl)) in
+          let typed_column : IsFilled f of_type row valid n (boolean_column bits v) =
+          subst (λ m. IsFilled f of_type row valid n (column (bool m) (length bits) (enc.bool bits) (child_of v (length bits)))) (sym told.0) whole in
+          IfOk-weaker r _ _ (λ c new. subst (IsFilled f of_type row valid n) (sym new) typed_column)
+        where
+          twice : (is : List ℕ) → map (λ b. value (boolean b)) (map test is) ≡ map (λ i. value (boolean (test i))) is
+          twice [] = refl
+          twice (i ∷ is) = ap (λ l. value (boolean (test i)) ∷ l) (twice is)
 
-  pub integers_computed : (p : PType) (zs : List ℤ) → return_type f (types_of args) ≡ Some (primitive p NonNullable) →
-      map (λ z. value (integer z)) zs ≡ cells_of f (primitive p NonNullable) (row_of args) n →
-      IfOk r (λ c. canonical_tree c ≡ integers p zs) → IfOk r (λ c. IsComputed f args n (canonical_tree c))
-  integers_computed p zs typed made = computed (integers p zs) typed (sym (length-map zs (λ z. value (integer z)))) made tt refl
+      pub integers_filled : (p : PType) (zs : List ℤ) (g : ℕ → Cell) → filled_type valid of_type ≡ Some (primitive p (nullability_in valid)) →
+          map (λ z. value (integer z)) zs ≡ map g (range_with_len 0 n) →
+          ((i : ℕ) → i < n → is_valid valid i ≡ true → g i ≡ apply f (primitive p (nullability_in valid)) (row i)) →
+          ((i : ℕ) → is_valid valid i ≡ false → (w : Value) × (g i ≡ value w)) →
+          IfOk r (λ c. canonical_tree c ≡ integer_column p zs v) → IfOk r (λ c. IsFilled f of_type row valid n (canonical_tree c))
+      integers_filled p zs g typed made same stored =
+          let whole = filled integer (enc.primitive p) (λ ty k xs css. refl) (λ xs. refl) (primitive p (nullability_in valid)) zs g typed made same stored in
+          let typed_column : IsFilled f of_type row valid n (integer_column p zs v) =
+          subst (λ m. IsFilled f of_type row valid n (column (primitive p m) (length zs) (enc.primitive p zs) (child_of v (length zs)))) (sym told.0) whole in
+          IfOk-weaker r _ _ (λ c new. subst (IsFilled f of_type row valid n) (sym new) typed_column)
+
+      -- booleans that are kept of the valid rows
+      pub kept_filled : (test : ℕ → Bool) (bits kept : List Bool) → filled_type valid of_type ≡ Some (bool (nullability_in valid)) →
+          ((i : ℕ) → value (boolean (test i)) ≡ apply f (bool (nullability_in valid)) (row i)) → bits ≡ map test (range_with_len 0 n) →
+          kept ≡ map (λ i. is_valid valid i && bit_row bits i) (range_with_len 0 n) →
+          IfOk r (λ c. canonical_tree c ≡ boolean_column kept v) → IfOk r (λ c. IsFilled f of_type row valid n (canonical_tree c))
+      kept_filled test bits kept typed given made =
+          bools_filled (λ i. is_valid valid i && bit_row bits i) kept typed
+          (λ i lt here. ap (λ b. value (boolean (b && bit_row bits i))) here
+          ∙ ap (λ b. value (boolean b)) (ap (λ bs. bit_row bs i) made ∙ get_or-map-range_with_len test 0 n i i false lt (omega arith)) ∙ given i)

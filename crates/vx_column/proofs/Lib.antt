@@ -6,3 +6,5 @@ pub mod OperatorLemmas
 pub mod ComputedLemmas
 pub mod KeepsLemmas
 pub mod NullsLemmas
+pub mod ValidRowsLemmas
+pub mod PassingLemmas

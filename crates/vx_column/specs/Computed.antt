@@ -1,17 +1,21 @@
 -- What a function gives, row by row.
-use Rattle.std.specs.Prelude.{◌≡◌, ◌⊎◌, ℕ, List, map, Some, true}
+use Rattle.std.specs.Prelude.{◌≡◌, ◌⊎◌, ℕ, List, map, Option, Some, true, option_map}
 use Rattle.std.specs.List.{range_with_len}
 use Rattle.vx_value.specs.Types.{DataType}
+use Rattle.vx_value.specs.Nullabilities.{with_nullability}
 use Rattle.vx_value.specs.Cell.{Cell}
 use Rattle.vx_value.specs.declared.error.VortexError.{VortexError}
 use Rattle.vx_value.specs.declared.error.VortexError.TheVariants.{OutOfMemory, Fault}
 use Rattle.vx_fn.specs.Apply.{apply}
 use Rattle.vx_fn.specs.ReturnTypes.{return_type}
 use Rattle.vx_fn.specs.declared.function.ScalarFnRef.{ScalarFnRef}
+use Rattle.vx_tree.specs.ColumnTypes.{is_computed}
 use Rattle.vx_tree.specs.Tree.{Tree, dtype, len, datum, slots, is_canonical}
 use Rattle.vx_tree.specs.Cells.{rows, HasNoFault, AreClean}
 use Rattle.vx_column.specs.Arguments.{types_of, row_of}
+use Rattle.vx_column.specs.ValidRows.{is_valid, nullability_in, null_unless}
 use Rattle.vx_column.specs.declared.argument.Argument.{Argument}
+use Rattle.vx_column.specs.declared.valid.ValidRows.{ValidRows}
 
 -- f on n rows, of which row i is `row i`, with a result of type ty
 abbrev pub cells_of : ScalarFnRef → DataType → (ℕ → List Cell) → ℕ → List Cell
@@ -36,3 +40,28 @@ pub record IsComputed (f : ScalarFnRef) (args : List Argument) (n : ℕ) (u : Tr
 
 abbrev pub IsNotComputed : ScalarFnRef → List Argument → ℕ → VortexError → Type 0
 IsNotComputed f args n e = IsNoResult f (types_of args) (row_of args) n e
+
+-- f computes columns of arguments of these types
+abbrev pub IsTaken : ScalarFnRef → List DataType → Type 0
+IsTaken f tys = (ty : DataType) × (return_type f tys ≡ Some ty) × (is_computed f ty ≡ true)
+
+-- f on n rows, of which row i is `row i`, with a result of type ty: null in those that aren't valid
+abbrev pub filled_cells : ScalarFnRef → DataType → (ℕ → List Cell) → ValidRows → ℕ → List Cell
+filled_cells f ty row valid n = map (λ i. null_unless (is_valid valid i) (apply f ty (row i))) (range_with_len 0 n)
+
+-- the type of the result, if its values have the type `of_type`
+abbrev pub filled_type : ValidRows → Option DataType → Option DataType
+filled_type valid of_type = option_map (with_nullability (nullability_in valid)) of_type
+
+-- u is the canonical column of these cells
+pub record IsFilled (f : ScalarFnRef) (of_type : Option DataType) (row : ℕ → List Cell) (valid : ValidRows) (n : ℕ) (u : Tree) : Type 0 where
+  pub typed : filled_type valid of_type ≡ Some (dtype u)
+  pub counted : len u ≡ n
+  pub shown : rows u ≡ filled_cells f (dtype u) row valid n
+  pub clean : AreClean (slots u)
+  pub canonical : is_canonical (datum u) ≡ true
+
+-- why there is none: out of memory, or one of the cells is a fault
+abbrev pub IsNotFilled : ScalarFnRef → Option DataType → (ℕ → List Cell) → ValidRows → ℕ → VortexError → Type 0
+IsNotFilled f of_type row valid n e =
+    (e ≡ OutOfMemory) ⊎ ((e ≡ Fault) × ((ty : DataType) → filled_type valid of_type ≡ Some ty → ¬ (HasNoFault (filled_cells f ty row valid n))))

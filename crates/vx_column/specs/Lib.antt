@@ -11,3 +11,4 @@ pub mod Operands
 pub mod Bits
 pub mod Expanded
 pub mod Nulls
+pub mod ValidRows

@@ -1,13 +1,11 @@
 //! Functions applied to whole columns.
 
-ghost use Rattle.std.specs.Prelude.{◌≡◌, map, IfOk, IfErr, IsSome, true};
+ghost use Rattle.std.specs.Prelude.{map, IfOk, IfErr};
 ghost use Rattle.std.specs.List.{AllByRecursion};
-ghost use Rattle.vx_fn.specs.ReturnTypes.{return_type};
-ghost use Rattle.vx_tree.specs.ColumnTypes.{has_kernel};
 ghost use Rattle.vx_tree.specs.Columns.{columnar_tree, canonical_tree};
 ghost use Rattle.vx_column.specs.Applied.{IsCall, IsApplied, IsUnapplied};
 ghost use Rattle.vx_column.specs.Arguments.{types_of, IsSized};
-ghost use Rattle.vx_column.specs.Computed.{IsComputed, IsNotComputed};
+ghost use Rattle.vx_column.specs.Computed.{IsTaken, IsComputed, IsNotComputed};
 
 use crate::argument::{Argument, arguments_of};
 use crate::boolean::negate;
@@ -39,33 +37,31 @@ pub fn apply_fn(
             Ok(column) => Ok(column),
             Err(e) => Err(e),
         },
-        None => {
-            let rows = arguments_of(alloc, arguments)?;
-            match apply_to_columns(alloc, function, rows.as_slice(), len) {
+        None => match arguments_of(alloc, arguments) {
+            Ok(rows) => match apply_to_columns(alloc, function, rows.as_slice(), len) {
                 Ok(column) => Ok(Columnar::Canonical(column)),
                 Err(e) => Err(e),
-            }
-        }
+            },
+            Err(e) => Err(e),
+        },
     }
 }
 
-/// Applies `function`, which must have a kernel, to `arguments`, `len` rows each, whose types it must accept. `Fault`
-/// if a row has no value.
+/// Applies `function` to `arguments`, `len` rows each, of which it must compute columns. `Fault` if a row has no value.
 fn apply_to_columns(
     alloc: Global,
     function: &ScalarFnRef,
     arguments: &[Argument<'_>],
     len: usize,
 ) -> VortexResult<Canonical>
-    requires kernel { has_kernel function.now ≡ true }
     requires sized { AllByRecursion (IsSized len) arguments.now }
-    requires taken { IsSome (return_type function.now (types_of arguments.now)) }
+    requires taken { IsTaken function.now (types_of arguments.now) }
     ensures ok { IfOk result (λ c. IsComputed function.now arguments.now len (canonical_tree c)) }
     ensures err { IfErr result (IsNotComputed function.now arguments.now len) }
 {
     match (function, arguments) {
-        (ScalarFnRef::Binary(operator), [lhs, rhs]) => operate(alloc, *operator, *lhs, *rhs, len),
-        (ScalarFnRef::Not, [input]) => negate(alloc, *input, len),
+        (ScalarFnRef::Binary(operator), [lhs, rhs]) => operate(alloc, *operator, lhs, rhs, len),
+        (ScalarFnRef::Not, [input]) => negate(alloc, input, len),
         _ => unreachable!(),
     }
 }

@@ -1,19 +1,36 @@
 //! Columns as the arguments of a function.
 
-ghost use Rattle.std.specs.Prelude.{◌≡◌, IfOk};
+ghost use Rattle.std.specs.Prelude.{◌≡◌, ◌⊎◌, ◌≤◌, ◌<◌, IfOk, IfErr, true, Some, slice_get, length};
 ghost use Rattle.std.specs.List.{AllZip, AllByRecursion};
-ghost use Rattle.vx_column.specs.Arguments.{IsArgument, HasNoNulls, ptype_in};
-ghost use Rattle.vx_column.specs.declared.argument.Argument.TheVariants.{Integers};
+ghost use Rattle.vx_value.specs.Types.{nullability_of};
+ghost use Rattle.vx_value.specs.IsOf.{is_of};
+ghost use Rattle.vx_value.specs.View.{type_of};
+ghost use Rattle.vx_tree.specs.ColumnTypes.{has_column};
+ghost use Rattle.vx_tree.specs.Columns.{columnar_tree};
+ghost use Rattle.vx_tree.specs.Tree.{constant_of};
+ghost use Rattle.vx_tree.specs.Cells.{rows};
+ghost use Rattle.vx_column.specs.Arguments.{IsArgument, IsUnread, IsRepeated, AreUnread, AnyUnread, ptype_in};
+ghost use Rattle.vx_column.specs.ValidRows.{HasValidity, AreTold, TellsRows, IsRepeatedValidity, nullability_in};
+ghost use Rattle.vx_column.specs.declared.argument.ArgumentRows.TheVariants.{Integers};
 
+use crate::probe::truths_in;
+use crate::valid::ValidRows;
 use std::alloc::{AllocError, Global};
-use vx_mask::BitOperand;
+use vx_mask::{BitBuffer, BitOperand};
 use vx_native::PrimitiveValues;
-use vx_tree::{ArrayKind, Columnar};
-use vx_value::{DType, PType, ScalarKind};
+use vx_tree::{ArrayKind, ArrayRef, Columnar};
+use vx_value::{DType, Nullability, PType, Scalar, Storage, VortexError, VortexResult};
 
-/// The rows of an argument, by how they are stored: a column, or one value for every row.
+/// An argument: its rows, and which of them aren't null.
+#[derive(Drop)]
+pub(crate) struct Argument<'a> {
+    pub(crate) rows: ArgumentRows<'a>,
+    pub(crate) valid: ValidRows,
+}
+
+/// The rows of an argument, by how they are stored: a column, or one value for every row. Null rows store a value too.
 #[derive(Clone, Copy)]
-pub(crate) enum Argument<'a> {
+pub(crate) enum ArgumentRows<'a> {
     Bits(BitOperand<'a>),
     Integers(IntegerOperand<'a>),
 }
@@ -46,45 +63,109 @@ impl IntegerOperand<'_> {
     }
 }
 
-/// Returns the rows of `column`, whose type must be non-nullable.
-#[tactic(auto, using(vx_tree::proofs::ColumnTypesLemmas::column_of_bits, crate::proofs::NullsLemmas::plain_booleans, crate::proofs::NullsLemmas::plain_integers))]
-fn argument_of(column: &Columnar) -> Argument<'_>
-    requires { HasNoNulls column.now }
-    ensures { IsArgument column.now result }
+/// Returns the rows of `column`. `Fault` if a row has no value.
+fn argument_of(alloc: Global, column: &Columnar) -> VortexResult<Argument<'_>>
+    ensures ok { IfOk result (IsArgument column.now) }
+    ensures err { IfErr result (IsUnread (columnar_tree column.now)) }
 {
     let dtype = column.dtype();
+    let len = column.len();
     match column.as_array().kind() {
-        ArrayKind::Bool(bits, _) => Argument::Bits(BitOperand::Bits(bits)),
-        ArrayKind::Primitive(values, _) => integer_argument(dtype, IntegerRows::Rows(values)),
-        ArrayKind::Constant(scalar) => match scalar.kind() {
-            ScalarKind::Bool(bit, _) => Argument::Bits(BitOperand::Bit(bit)),
-            ScalarKind::Integer(wide, ptype, _) => {
-                integer_argument(dtype, IntegerRows::Value(ptype, wide))
+        ArrayKind::Bool(bits, validity) => {
+            match valid_rows(alloc, validity, dtype.nullability(), len) {
+                Ok(valid) => Ok(Argument {
+                    rows: ArgumentRows::Bits(BitOperand::Bits(bits)),
+                    valid,
+                }),
+                Err(e) => Err(e),
             }
-            _ => unreachable!(),
-        },
+        }
+        ArrayKind::Primitive(values, validity) => {
+            match valid_rows(alloc, validity, dtype.nullability(), len) {
+                Ok(valid) => Ok(Argument {
+                    rows: integers_of(dtype, IntegerRows::Rows(values)),
+                    valid,
+                }),
+                Err(e) => Err(e),
+            }
+        }
+        ArrayKind::Constant(scalar) => Ok(Argument {
+            rows: repeated_rows(scalar),
+            valid: repeated_valid_rows(alloc, scalar, len)?,
+        }),
         _ => unreachable!(),
     }
 }
 
-/// Returns `rows`, the values of type `dtype`, as an argument.
-fn integer_argument<'a>(dtype: &'a DType, rows: IntegerRows<'a>) -> Argument<'a>
+/// Returns `rows`, the values of type `dtype`, as those of an argument.
+fn integers_of<'a>(dtype: &'a DType, rows: IntegerRows<'a>) -> ArgumentRows<'a>
     ensures { result ≡ Integers (record { dtype = dtype.entry; rows = rows.entry }) }
 {
-    Argument::Integers(IntegerOperand { dtype, rows })
+    ArgumentRows::Integers(IntegerOperand { dtype, rows })
 }
 
-/// Returns the rows of each of `columns`, whose types must be non-nullable.
-pub(crate) fn arguments_of(
+/// Returns the rows of a constant, each `scalar`; `false` or 0 stands under a null.
+#[tactic(auto, using(crate::proofs::KeepsLemmas::stored_integer))]
+fn repeated_rows(scalar: &Scalar) -> ArgumentRows<'_>
+    requires { has_column scalar.now.of_type ≡ true }
+    ensures { IsRepeated scalar.now result }
+{
+    let dtype = scalar.dtype();
+    match dtype.storage() {
+        Storage::Bits => ArgumentRows::Bits(BitOperand::Bit(scalar.as_bool().unwrap_or(false))),
+        Storage::Integers(ptype) => {
+            let wide = scalar.as_integer().unwrap_or(0);
+            integers_of(dtype, IntegerRows::Value(ptype, wide))
+        }
+        _ => unreachable!(),
+    }
+}
+
+/// Returns the valid rows of a constant of `len` rows, each `scalar`.
+fn repeated_valid_rows(alloc: Global, scalar: &Scalar, len: usize) -> Result<ValidRows, AllocError>
+    ensures { IfOk result (IsRepeatedValidity scalar.now len) }
+{
+    let dtype = scalar.dtype();
+    if scalar.is_null() {
+        Ok(ValidRows::Bits(BitBuffer::repeat(alloc, false, len)?))
+    } else {
+        Ok(ValidRows::All(dtype.nullability()))
+    }
+}
+
+/// Returns the valid rows of a column of `len` rows from its validity. `Fault` if that has no value in a row.
+fn valid_rows(
     alloc: Global,
-    columns: &[Columnar],
-) -> Result<Vec<Argument<'_>>, AllocError>
-    requires { AllByRecursion HasNoNulls columns.now }
-    ensures { IfOk result (λ v. AllZip IsArgument columns.now v.items) }
+    validity: &Option<ArrayRef>,
+    nullability: Nullability,
+    len: usize,
+) -> VortexResult<ValidRows>
+    requires { TellsRows nullability len validity.now }
+    ensures told { IfOk result (AreTold validity.now) }
+    ensures nullability { IfOk result (λ v. nullability_in v ≡ nullability) }
+    ensures sized { IfOk result (λ v. HasValidity v len) }
+    ensures err { IfErr result (AreUnread len validity.now) }
+{
+    let Some(child) = validity else {
+        return Ok(ValidRows::All(nullability));
+    };
+    match truths_in(alloc, child) {
+        Ok(bits) => Ok(ValidRows::Bits(bits)),
+        Err(e) => Err(e),
+    }
+}
+
+/// Returns the rows of each of `columns`. `Fault` if a row of one has no value.
+pub(crate) fn arguments_of(alloc: Global, columns: &[Columnar]) -> VortexResult<Vec<Argument<'_>>>
+    ensures ok { IfOk result (λ v. AllZip IsArgument columns.now v.items) }
+    ensures err { IfErr result (AnyUnread columns.now) }
 {
     let mut arguments = Vec::with_capacity(alloc, columns.len())?;
     for column in columns {
-        arguments.push(argument_of(column))?;
+        match argument_of(alloc, column) {
+            Ok(argument) => arguments.push(argument)?,
+            Err(e) => return Err(e),
+        }
     }
     Ok(arguments)
 }

@@ -1,21 +1,24 @@
 //! Functions of booleans.
 
-ghost use Rattle.std.specs.Prelude.{◌≡◌, ◌∷◌, [], map, length, IfOk, IfErr, IsSome};
+ghost use Rattle.std.specs.Prelude.{◌≡◌, ◌∷◌, [], ◌&&◌, map, length, Some, IfOk, IfErr, IsSome};
 ghost use Rattle.std.specs.List.{range_with_len};
+ghost use Rattle.vx_mask.specs.Logic.{bit_row};
 ghost use Rattle.vx_mask.specs.Operands.{bit_in, HasBits};
 ghost use Rattle.vx_value.specs.Types.{bool};
 ghost use Rattle.vx_fn.specs.Binary.{operator_type};
 ghost use Rattle.vx_column.specs.Bits.{bit_by};
-ghost use Rattle.vx_fn.specs.ReturnTypes.{return_type};
+ghost use Rattle.vx_value.specs.Cell.{value};
 ghost use Rattle.vx_fn.specs.declared.function.ScalarFnRef.TheVariants.{Binary, Not};
 ghost use Rattle.vx_tree.specs.Validities.{HasRows};
 ghost use Rattle.vx_tree.specs.Columns.{canonical_tree};
-ghost use Rattle.vx_column.specs.Arguments.{types_of, IsSized};
-ghost use Rattle.vx_column.specs.Computed.{IsComputed};
+ghost use Rattle.vx_column.specs.Arguments.{types_of, value_at, pair_at, IsSized};
+ghost use Rattle.vx_column.specs.Computed.{IsTaken, IsComputed, IsFilled};
+ghost use Rattle.vx_column.specs.ValidRows.{is_valid, HasValidity};
 ghost use Rattle.vx_column.specs.Expanded.{boolean_column};
-ghost use Rattle.vx_column.specs.declared.argument.Argument.TheVariants.{Bits};
+ghost use Rattle.vx_column.specs.declared.argument.ArgumentRows.TheVariants.{Bits};
 
-use crate::argument::Argument;
+use crate::argument::{Argument, ArgumentRows};
+use crate::valid::ValidRows;
 use std::alloc::{AllocError, Global};
 use vx_fn::Operator;
 use vx_mask::{
@@ -66,35 +69,78 @@ fn operate_bits(
     }
 }
 
-/// Applies `operator`, which must take booleans, and returns a column. The only error is `OutOfMemory`.
-#[tactic(auto, using(crate::proofs::OperatorLemmas::bools_taken))]
+/// Returns `bits`, `len` rows, with `false` in each row that isn't valid.
+fn keep_valid(
+    alloc: Global,
+    bits: BitBuffer,
+    valid: &ValidRows,
+    len: usize,
+) -> Result<BitBuffer, AllocError>
+    requires bits { length bits ≡ len }
+    requires valid { HasValidity valid.now len }
+    ensures { IfOk result (λ b. b ≡ map (λ i. is_valid valid.now i && bit_row bits i) (range_with_len 0 len)) }
+{
+    match valid {
+        ValidRows::All(_) => Ok(bits),
+        ValidRows::Bits(valid) => {
+            let valid = BitOperand::Bits(valid);
+            BitBuffer::zip::<BitAnd>(alloc, valid, BitOperand::Bits(&bits), len)
+        }
+    }
+}
+
+/// Applies `operator`, which must take booleans, to the `valid` rows, and returns a column in which the others are null. The
+/// only error is `OutOfMemory`.
 pub(crate) fn operate_bools(
     alloc: Global,
     operator: Operator,
     lhs: BitOperand<'_>,
     rhs: BitOperand<'_>,
+    valid: &ValidRows,
     len: usize,
 ) -> VortexResult<Canonical>
     requires lhs { HasBits lhs len }
     requires rhs { HasBits rhs len }
-    requires taken { IsSome (return_type (Binary operator) (types_of (Bits lhs ∷ Bits rhs ∷ []))) }
-    ensures ok { IfOk result (λ c. IsComputed (Binary operator) (Bits lhs.entry ∷ Bits rhs.entry ∷ []) len (canonical_tree c)) }
+    requires valid { HasValidity valid.now len }
+    requires taken { IsSome (operator_type operator (bool Nullability.NonNullable)) }
+    ensures ok { IfOk result (λ c. IsFilled (Binary operator) (operator_type operator (bool Nullability.NonNullable))
+        (pair_at (Bits lhs.entry) (Bits rhs.entry)) valid.now len (canonical_tree c)) }
     ensures err { IfErr result (λ e. e ≡ VortexError.OutOfMemory) }
 {
     let bits = operate_bits(alloc, operator, lhs, rhs, len)?;
-    bool_column(alloc, bits, &Validity::NonNullable)
+    let kept = keep_valid(alloc, bits, valid, len)?;
+    let validity = valid.validity(alloc, len)?;
+    bool_column(alloc, kept, &validity)
 }
 
-/// Negates each row of `input`, `len` booleans. The only error is `OutOfMemory`.
-pub(crate) fn negate(alloc: Global, input: Argument<'_>, len: usize) -> VortexResult<Canonical>
-    requires input { IsSized len input }
-    requires taken { IsSome (return_type Not (types_of (input ∷ []))) }
-    ensures ok { IfOk result (λ c. IsComputed Not (input.entry ∷ []) len (canonical_tree c)) }
+/// Negates each row of `input`, `len` booleans; null stays null. The only error is `OutOfMemory`.
+pub(crate) fn negate(alloc: Global, input: &Argument<'_>, len: usize) -> VortexResult<Canonical>
+    requires input { IsSized len input.now }
+    requires taken { IsTaken Not (types_of (input.now ∷ [])) }
+    ensures ok { IfOk result (λ c. IsComputed Not (input.now ∷ []) len (canonical_tree c)) }
     ensures err { IfErr result (λ e. e ≡ VortexError.OutOfMemory) }
 {
-    let Argument::Bits(input) = input else {
+    let ArgumentRows::Bits(bits) = input.rows else {
         unreachable!()
     };
+    negate_bits(alloc, bits, &input.valid, len)
+}
+
+/// Negates the `valid` rows of `input`, `len` booleans, and returns a column in which the others are null. The only error is
+/// `OutOfMemory`.
+fn negate_bits(
+    alloc: Global,
+    input: BitOperand<'_>,
+    valid: &ValidRows,
+    len: usize,
+) -> VortexResult<Canonical>
+    requires input { HasBits input len }
+    requires valid { HasValidity valid.now len }
+    ensures ok { IfOk result (λ c. IsFilled Not (Some (bool Nullability.NonNullable)) (λ i. value (value_at (Bits input.entry) i) ∷ []) valid.now len (canonical_tree c)) }
+    ensures err { IfErr result (λ e. e ≡ VortexError.OutOfMemory) }
+{
     let bits = BitBuffer::zip::<BitNotEq>(alloc, input, BitOperand::Bit(true), len)?;
-    bool_column(alloc, bits, &Validity::NonNullable)
+    let kept = keep_valid(alloc, bits, valid, len)?;
+    let validity = valid.validity(alloc, len)?;
+    bool_column(alloc, kept, &validity)
 }

@@ -1,25 +1,28 @@
 //! Comparisons of integers.
 
-ghost use Rattle.std.specs.Prelude.{◌≡◌, ◌∷◌, [], true, IfOk, IfErr, IsSome};
+ghost use Rattle.std.specs.Prelude.{◌≡◌, ◌&&◌, true, length, IfOk, IfErr};
 ghost use Rattle.std.specs.Ordering.{int_cmp};
-ghost use Rattle.vx_fn.specs.Binary.{is_comparison};
+ghost use Rattle.vx_mask.specs.Logic.{bit_row};
+ghost use Rattle.vx_fn.specs.Binary.{is_comparison, operator_type};
 ghost use Rattle.vx_fn.specs.Comparisons.{holds};
-ghost use Rattle.vx_fn.specs.ReturnTypes.{return_type};
 ghost use Rattle.vx_fn.specs.declared.function.Operator.{Operator as OperatorOf};
 ghost use Rattle.vx_fn.specs.declared.function.Operator.TheVariants.{Eq, NotEq, Gt, Gte, Lt, Lte};
 ghost use Rattle.vx_fn.specs.declared.function.ScalarFnRef.TheVariants.{Binary};
 ghost use Rattle.vx_tree.specs.Columns.{canonical_tree};
-ghost use Rattle.vx_column.specs.Arguments.{AreIntegers, types_of};
-ghost use Rattle.vx_column.specs.Computed.{IsComputed};
-ghost use Rattle.vx_column.specs.declared.argument.Argument.TheVariants.{Integers};
+ghost use Rattle.vx_column.specs.Arguments.{AreIntegers, plain_type, pair_at};
+ghost use Rattle.vx_column.specs.Computed.{IsFilled};
+ghost use Rattle.vx_column.specs.Operands.{number_in, HasRow, HasRows, compared_rows};
+ghost use Rattle.vx_column.specs.ValidRows.{is_valid, HasValidity};
+ghost use Rattle.vx_column.specs.declared.argument.ArgumentRows.TheVariants.{Integers};
 
 use crate::argument::IntegerOperand;
 use crate::boolean::bool_column;
 use crate::operand::{Operand, operand_of};
-use std::alloc::Global;
-use vx_mask::BitBuilder;
+use crate::valid::ValidRows;
+use std::alloc::{AllocError, Global};
+use vx_mask::{BitBuffer, BitBuilder};
 use vx_native::NativeInteger;
-use vx_tree::{Canonical, Validity};
+use vx_tree::Canonical;
 use vx_value::{VortexError, VortexResult};
 
 /// A comparison operator.
@@ -104,26 +107,101 @@ impl Comparison for NotAbove {
     }
 }
 
-/// Applies `C` to `lhs` and `rhs`, `len` rows each, which must be of the type `T`. The only error is `OutOfMemory`.
-#[tactic(auto, using(crate::proofs::ComputedLemmas::bits_more))]
+/// Applies `C` to the `valid` rows of `lhs` and `rhs`, `len` rows each, which must be of the type `T`; the other rows are null.
+/// The only error is `OutOfMemory`.
 pub(crate) fn compare<T: NativeInteger, C: Comparison>(
     alloc: Global,
     lhs: IntegerOperand<'_>,
     rhs: IntegerOperand<'_>,
+    valid: &ValidRows,
     len: usize,
 ) -> VortexResult<Canonical>
     requires operator { is_comparison C.operator ≡ true }
     requires lhs { AreIntegers T.kind lhs len }
     requires rhs { AreIntegers T.kind rhs len }
-    requires taken { IsSome (return_type (Binary C.operator) (types_of (Integers lhs ∷ Integers rhs ∷ []))) }
-    ensures ok { IfOk result (λ c. IsComputed (Binary C.operator) (Integers lhs.entry ∷ Integers rhs.entry ∷ []) len (canonical_tree c)) }
+    requires valid { HasValidity valid.now len }
+    ensures ok { IfOk result (λ c. IsFilled (Binary C.operator) (operator_type C.operator (plain_type (Integers lhs.entry)))
+        (pair_at (Integers lhs.entry) (Integers rhs.entry)) valid.now len (canonical_tree c)) }
     ensures err { IfErr result (λ e. e ≡ VortexError.OutOfMemory) }
 {
     let left: Operand<'_, T> = operand_of(lhs);
     let right: Operand<'_, T> = operand_of(rhs);
+    let bits = compare_rows::<T, C>(alloc, left, right, valid, len)?;
+    let validity = valid.validity(alloc, len)?;
+    bool_column(alloc, bits, &validity)
+}
+
+/// Compares the `valid` rows of `left` and `right`, `len` rows each; `false` stands for the others.
+fn compare_rows<T: NativeInteger, C: Comparison>(
+    alloc: Global,
+    left: Operand<'_, T>,
+    right: Operand<'_, T>,
+    valid: &ValidRows,
+    len: usize,
+) -> Result<BitBuffer, AllocError>
+    requires left { HasRows left len }
+    requires right { HasRows right len }
+    requires valid { HasValidity valid.now len }
+    ensures { IfOk result (λ b. b ≡ compared_rows C.operator (is_valid valid.now) (number_in T.value left.entry) (number_in T.value right.entry) len) }
+{
+    match valid {
+        ValidRows::All(_) => compare_all::<T, C>(alloc, left, right, len),
+        ValidRows::Bits(valid) => compare_valid::<T, C>(alloc, left, right, valid, len),
+    }
+}
+
+/// Compares each of `len` rows of `left` and `right`.
+#[tactic(auto, using(crate::proofs::ComputedLemmas::bits_more))]
+fn compare_all<T: NativeInteger, C: Comparison>(
+    alloc: Global,
+    left: Operand<'_, T>,
+    right: Operand<'_, T>,
+    len: usize,
+) -> Result<BitBuffer, AllocError>
+    requires left { HasRows left len }
+    requires right { HasRows right len }
+    ensures { IfOk result (λ b. b ≡ compared_rows C.operator (λ i. true) (number_in T.value left.entry) (number_in T.value right.entry) len) }
+{
     let mut bits = BitBuilder::with_capacity(alloc, len)?;
     for index in 0..len {
         bits.push(C::compare_row(left.row(index), right.row(index)))?;
     }
-    bool_column(alloc, bits.finish(alloc)?, &Validity::NonNullable)
+    bits.finish(alloc)
+}
+
+/// Compares the rows of `left` and `right` at the true bits of `valid`, `len` rows each; `false` stands for the others.
+#[tactic(auto, using(crate::proofs::ComputedLemmas::compared_more))]
+fn compare_valid<T: NativeInteger, C: Comparison>(
+    alloc: Global,
+    left: Operand<'_, T>,
+    right: Operand<'_, T>,
+    valid: &BitBuffer,
+    len: usize,
+) -> Result<BitBuffer, AllocError>
+    requires left { HasRows left len }
+    requires right { HasRows right len }
+    requires valid { length valid.now ≡ len }
+    ensures { IfOk result (λ b. b ≡ compared_rows C.operator (bit_row valid.now) (number_in T.value left.entry) (number_in T.value right.entry) len) }
+{
+    let mut bits = BitBuilder::with_capacity(alloc, len)?;
+    for index in 0..len {
+        let is_valid = valid.value(index);
+        bits.push(compare_unless_null::<T, C>(&left, &right, index, is_valid))?;
+    }
+    bits.finish(alloc)
+}
+
+/// Compares row `index`, which must exist: `false` if it isn't valid, without calling `C`.
+#[inline]
+fn compare_unless_null<T: NativeInteger, C: Comparison>(
+    left: &Operand<'_, T>,
+    right: &Operand<'_, T>,
+    index: usize,
+    is_valid: bool,
+) -> bool
+    requires left { HasRow left.now index }
+    requires right { HasRow right.now index }
+    ensures { result ≡ is_valid && holds C.operator (int_cmp (number_in T.value left.now index) (number_in T.value right.now index)) }
+{
+    is_valid && C::compare_row(left.row(index), right.row(index))
 }

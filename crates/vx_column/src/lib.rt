@@ -11,6 +11,7 @@ mod constant;
 mod operand;
 mod operate;
 mod probe;
+mod valid;
 
 pub use apply::apply_fn;
 pub use canonicalize::constant_canonicalize;

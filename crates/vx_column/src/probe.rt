@@ -10,11 +10,12 @@ ghost use Rattle.vx_native.specs.Natives.{values_of, ptype_of};
 ghost use Rattle.vx_tree.specs.Tree.{node, function, dtype, len, slots_of};
 ghost use Rattle.vx_tree.specs.Cells.{rows};
 ghost use Rattle.vx_tree.specs.Well.{IsNode, shapes};
+ghost use Rattle.vx_column.specs.Arguments.{IsUnread};
 ghost use Rattle.vx_column.specs.Nulls.{TellsRow, IsRowBy};
 
 use std::alloc::Global;
 use vx_fn::{ScalarFnRef, apply_row};
-use vx_mask::BitBuffer;
+use vx_mask::{BitBuffer, BitBuilder};
 use vx_native::PrimitiveValues;
 use vx_tree::{ArrayKind, ArrayRef};
 use vx_value::{DType, Nullability, Scalar, ScalarKind, VortexError, VortexResult};
@@ -158,4 +159,38 @@ fn integer_at(values: &PrimitiveValues, index: usize, dtype: &DType) -> Scalar
     ensures typed { result.of_type ≡ type.primitive (ptype_of values.now) (nullability_of (type_of dtype.now)) }
 {
     Scalar::primitive(values.wide_at(index), values.ptype(), dtype.nullability())
+}
+
+/// Returns the rows of `array`, which must be non-nullable booleans. Shares those of a column without a validity. `Fault` if a
+/// row has no value.
+pub(crate) fn truths_in(alloc: Global, array: &ArrayRef) -> VortexResult<BitBuffer>
+    requires { dtype array.now ≡ type.bool Nullability.NonNullable }
+    ensures ok { IfOk result (λ bits. rows array.now ≡ map (λ b. value (boolean b)) bits) }
+    ensures sized { IfOk result (λ bits. length bits ≡ len array.now) }
+    ensures err { IfErr result (IsUnread array.now) }
+{
+    array.well();
+    match array.kind() {
+        ArrayKind::Bool(bits, None) => Ok(bits.clone()?),
+        _ => read_truths(alloc, array),
+    }
+}
+
+/// Reads the rows of `array`, which must be non-nullable booleans, one by one. `Fault` if a row has no value.
+#[tactic(auto, using(crate::proofs::CellsLemmas::truths_more))]
+fn read_truths(alloc: Global, array: &ArrayRef) -> VortexResult<BitBuffer>
+    requires { dtype array.now ≡ type.bool Nullability.NonNullable }
+    ensures ok { IfOk result (λ bits. rows array.now ≡ map (λ b. value (boolean b)) bits) }
+    ensures sized { IfOk result (λ bits. length bits ≡ len array.now) }
+    ensures err { IfErr result (IsUnread array.now) }
+{
+    array.well();
+    let mut bits = BitBuilder::with_capacity(alloc, array.len())?;
+    for index in 0..array.len() {
+        match scalar_at(alloc, array, index) {
+            Ok(scalar) => bits.push(is_true(&scalar))?,
+            Err(e) => return Err(e),
+        }
+    }
+    Ok(bits.finish(alloc)?)
 }

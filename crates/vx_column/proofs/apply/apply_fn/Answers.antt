@@ -1,10 +1,9 @@
-use Rattle.std.proofs.Common.{◌∙◌, map, sym}
+use Rattle.std.proofs.Common.{◌∙◌, sym}
 use Rattle.vx_tree.specs.Tree.{datum}
-use Rattle.vx_tree.specs.Columns.{canonical_tree, columnar_tree}
+use Rattle.vx_tree.specs.Columns.{canonical_tree}
 use Rattle.vx_tree.proofs.ColumnsLemmas.{canonical_open}
-use Rattle.vx_column.proofs.AppliedLemmas.{taken, column_given, call_computed, applied, unapplied, all_repeat}
+use Rattle.vx_column.proofs.AppliedLemmas.{taken, column_given, call_taken, applied, unapplied, unread, all_repeat}
 use Rattle.vx_column.proofs.ArgumentsLemmas.{argument_rows, scalar_rows, arguments_sized}
-use Rattle.vx_column.proofs.NullsLemmas.{call_without_nulls}
 use Rattle.vx_column.proofs.apply.apply_fn.Goals as goal
 
 pub apply_constants-requires-clause-taken : goal.apply_constants-requires-clause-taken
@@ -35,32 +34,28 @@ returns-in-Some-clause-err c =
     let rows = scalar_rows c.args.function.now c.args.len c.args.arguments.now c.in-Some.scalars.items c.requires all in
     unapplied c.args.function.now rows c.in-Err.e (rw c.as_slice.ensures.value at c.in-Err.ensures.err)
 
-pub arguments_of-requires : goal.arguments_of-requires
-arguments_of-requires c =
-    call_without_nulls c.args.function.now c.args.arguments.now c.args.len c.requires
-
-pub apply_to_columns-requires-clause-kernel : goal.apply_to_columns-requires-clause-kernel
-apply_to_columns-requires-clause-kernel c =
-    call_computed c.args.function.now (map columnar_tree c.args.arguments.now) c.args.len c.requires
-
 pub apply_to_columns-requires-clause-sized : goal.apply_to_columns-requires-clause-sized
 apply_to_columns-requires-clause-sized c =
-    rw c.as_slice-in-None.ensures.value
-    (arguments_sized c.args.function.now c.args.len c.args.arguments.now c.in_ok-rows-in-None.rows.items c.requires c.in_ok-rows-in-None.ensures)
+    rw c.as_slice-in-Ok-arguments_of.ensures.value
+    (arguments_sized c.args.function.now c.args.len c.args.arguments.now c.in-Ok-arguments_of.rows.items c.requires c.in-Ok-arguments_of.ensures.ok)
 
 pub apply_to_columns-requires-clause-taken : goal.apply_to_columns-requires-clause-taken
 apply_to_columns-requires-clause-taken c =
-    let rows = argument_rows c.args.function.now c.args.len c.args.arguments.now c.in_ok-rows-in-None.rows.items c.requires c.in_ok-rows-in-None.ensures in
-    rw c.as_slice-in-None.ensures.value (taken c.args.function.now rows c.requires)
+    let rows = argument_rows c.args.function.now c.args.len c.args.arguments.now c.in-Ok-arguments_of.rows.items c.requires c.in-Ok-arguments_of.ensures.ok in
+    rw c.as_slice-in-Ok-arguments_of.ensures.value (call_taken c.args.function.now rows c.requires)
 
 pub returns-in-Ok-apply_to_columns-clause-ok : goal.returns-in-Ok-apply_to_columns-clause-ok
 returns-in-Ok-apply_to_columns-clause-ok c =
-    let rows = argument_rows c.args.function.now c.args.len c.args.arguments.now c.in_ok-rows-in-None.rows.items c.requires c.in_ok-rows-in-None.ensures in
-    let made = rw c.as_slice-in-None.ensures.value at c.in-Ok-apply_to_columns.ensures.ok in
+    let rows = argument_rows c.args.function.now c.args.len c.args.arguments.now c.in-Ok-arguments_of.rows.items c.requires c.in-Ok-arguments_of.ensures.ok in
+    let made = rw c.as_slice-in-Ok-arguments_of.ensures.value at c.in-Ok-apply_to_columns.ensures.ok in
     let other = rw c.in-None.is at c.in_ok-scalars.ensures.not_all in
     applied rows made.result (canonical_open (datum (canonical_tree c.in-Ok-apply_to_columns.column)) made.canonical ∙ sym other)
 
+pub returns-in-Ok-arguments_of-clause-err : goal.returns-in-Ok-arguments_of-clause-err
+returns-in-Ok-arguments_of-clause-err c =
+    let rows = argument_rows c.args.function.now c.args.len c.args.arguments.now c.in-Ok-arguments_of.rows.items c.requires c.in-Ok-arguments_of.ensures.ok in
+    unapplied c.args.function.now rows c.in-Err-apply_to_columns.e (rw c.as_slice-in-Ok-arguments_of.ensures.value at c.in-Err-apply_to_columns.ensures.err)
+
 pub returns-clause-err : goal.returns-clause-err
 returns-clause-err c =
-    let rows = argument_rows c.args.function.now c.args.len c.args.arguments.now c.in_ok-rows-in-None.rows.items c.requires c.in_ok-rows-in-None.ensures in
-    unapplied c.args.function.now rows c.in-Err-apply_to_columns.e (rw c.as_slice-in-None.ensures.value at c.in-Err-apply_to_columns.ensures.err)
+    unread c.args.function.now c.args.arguments.now c.args.len c.in-Err-arguments_of.e c.requires c.in-Err-arguments_of.ensures.err
