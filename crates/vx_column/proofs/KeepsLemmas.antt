@@ -59,7 +59,7 @@ nullability_back : (ty : DataType) (v : Value) → is_of ty v ≡ true → nulla
 nullability_back ty of.null h = sym (nullable_null (nullability_of ty) h)
 nullability_back ty _ h = same_nullability (nullability_of ty)
 
-any_rows : (m : Nullability) (n : ℕ) → HasRows (without_nulls m) n
+pub any_rows : (m : Nullability) (n : ℕ) → HasRows (without_nulls m) n
 any_rows NonNullable n = tt
 any_rows Nullable n = tt
 
@@ -70,7 +70,7 @@ repeated_rows s n = by_value s.value
     by_value of.null = tt
     by_value _ = any_rows (nullability_of s.of_type) n
 
-copies_clean : (n : ℕ) (v : Value) → HasNoFault (replicate n (value v))
+pub copies_clean : (n : ℕ) (v : Value) → HasNoFault (replicate n (value v))
 copies_clean zero v = tt
 copies_clean (suc n) v = copies_clean n v
 

@@ -50,7 +50,6 @@ use Rattle.vx_column.specs.declared.argument.ArgumentRows.{ArgumentRows}
 use Rattle.vx_column.specs.declared.argument.ArgumentRows.TheVariants as stored
 use Rattle.vx_column.specs.declared.argument.IntegerOperand.{IntegerOperand}
 use Rattle.vx_column.specs.declared.valid.ValidRows.{ValidRows}
-use Rattle.vx_column.specs.declared.valid.ValidRows.TheVariants as rows_valid
 
 -- ---- a validity of as many rows is taken
 
@@ -93,14 +92,15 @@ told_row read d (true ∷ bits) (x ∷ xs) zero lt e = refl
 told_row read d (false ∷ bits) (x ∷ xs) zero lt e = refl
 told_row read d (b ∷ bits) (x ∷ xs) (suc i) lt e = told_row read d bits xs i (omega arith) (omega arith)
 
-column_row : {X : Type 0} (read : X → Value) (d : X) (v : Option Tree) (valid : ValidRows) (n : ℕ) (xs : List X) (i : ℕ) → AreTold v valid → HasValidity valid n
+column_row : {X : Type 0} (read : X → Value) (d : X) (v : Option Tree) (valid : ValidRows) (n : ℕ) (xs : List X) (i : ℕ) → AreTold n v valid
     → length xs ≡ n → i < n
     → get_or (valid_cells (validity_cells v) (map (λ x. value (read x)) xs)) i fault ≡ null_unless (is_valid valid i) (value (read (get_or xs i d)))
-column_row read d None (rows_valid.All m) n xs i told sized long lt = get_or-map (λ x. value (read x)) xs i d fault (omega arith)
-column_row read d None (rows_valid.Bits bits) n xs i told sized long lt = absurd told
-column_row read d (Some t) (rows_valid.All m) n xs i told sized long lt = absurd told
-column_row read d (Some t) (rows_valid.Bits bits) n xs i told sized long lt =
-    ap (λ cs. get_or (valid_cells cs (map (λ x. value (read x)) xs)) i fault) told ∙ told_row read d bits xs i (omega arith) (sized ∙ sym long)
+column_row read d None valid n xs i told long lt =
+    get_or-map (λ x. value (read x)) xs i d fault (omega arith) ∙ ap (λ b. null_unless b (value (read (get_or xs i d)))) (sym (told i))
+column_row read d (Some t) valid n xs i told long lt =
+    ap (λ cs. get_or (valid_cells cs (map (λ x. value (read x)) xs)) i fault) told.2
+    ∙ told_row read d told.0 xs i (omega arith) (told.1 ∙ sym long)
+    ∙ ap (λ b. null_unless b (value (read (get_or xs i d)))) (sym (told.3 i lt))
 
 one_slot : (v : Option Tree) → slots_rows (slots_of (v ∷ [])) ≡ validity_cells v ∷ []
 one_slot None = refl
@@ -108,7 +108,7 @@ one_slot (Some t) = refl
 
 -- ---- columns and constants as arguments
 
-module _ (c : Columnar) (v : Option Tree) (valid : ValidRows) (told : AreTold v valid) (same : nullability_in valid ≡ nullability_of (dtype (columnar_tree c)))
+module _ (c : Columnar) (v : Option Tree) (valid : ValidRows) (told : AreTold (len (columnar_tree c)) v valid) (same : nullability_in valid ≡ nullability_of (dtype (columnar_tree c)))
     (sized : HasValidity valid (len (columnar_tree c))) (array : Tree) (is : array ≡ columnar_tree c) (well : IsNodeOf array) where
   pub booleans_argument : (bs : BitOperand) (bits : List Bool) → ((i : ℕ) → bit_in bs i ≡ bit_row bits i) → ((n : ℕ) → length bits ≡ n → HasBits bs n)
       → array ≡ column (dtype array) (len array) (enc.bool bits) v → IsArgument c (record { rows = stored.Bits bs; valid = valid })
@@ -120,7 +120,7 @@ module _ (c : Columnar) (v : Option Tree) (valid : ValidRows) (told : AreTold v 
         typed = flat.1 ∙ ap bool (sym same);
         shown = λ i lt. ap (λ u. get_or (rows u) i fault) shown
             ∙ ap (λ css. get_or (valid_cells (cells_at css 0) (map (λ b. value (boolean b)) bits)) i fault) (one_slot v)
-            ∙ column_row boolean false v valid (len t) bits i told sized (sym flat.2) lt
+            ∙ column_row boolean false v valid (len t) bits i told (sym flat.2) lt
             ∙ ap (λ b. null_unless (is_valid valid i) (value (boolean b))) (sym (read i));
         sized = (rows_of (len t) (sym flat.2), sized);
       }
@@ -137,7 +137,7 @@ module _ (c : Columnar) (v : Option Tree) (valid : ValidRows) (told : AreTold v 
         typed = sym typed;
         shown = λ i lt. ap (λ u. get_or (rows u) i fault) shown
             ∙ ap (λ css. get_or (valid_cells (cells_at css 0) (map (λ z. value (integer z)) ws)) i fault) (one_slot v)
-            ∙ column_row integer (pos 0) v valid (len t) ws i told sized (sym flat.2) lt
+            ∙ column_row integer (pos 0) v valid (len t) ws i told (sym flat.2) lt
             ∙ ap (λ z. null_unless (is_valid valid i) (value (integer z))) (sym (read i));
         sized = (((refl, there.0, there.1, ap storage_of (typed ∙ flat.1) ∙ ap storage.Integers (sym kind)), ap nullability_of typed ∙ sym same), sized);
       }

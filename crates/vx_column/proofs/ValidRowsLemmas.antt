@@ -6,16 +6,17 @@ use Rattle.std.proofs.lemmas.List.FromFn.{length-map-range_with_len}
 use Rattle.vx_value.specs.Values.{boolean}
 use Rattle.vx_value.specs.Values.{Value}
 use Rattle.vx_value.specs.Cell.{Cell, value}
-use Rattle.vx_value.specs.declared.dtype.Nullability.{Nullability}
-use Rattle.vx_value.specs.declared.dtype.Nullability.TheVariants.{NonNullable, Nullable}
 use Rattle.vx_mask.specs.Logic.{bit_row}
 use Rattle.vx_mask.specs.Masks.{is_all_true, is_all_false}
+use Rattle.vx_mask.specs.Places.{true_count}
+use Rattle.vx_mask.proofs.PlacesLemmas.{all_true_yes}
 use Rattle.vx_tree.specs.Tree.{Tree, booleans, slots_of}
 use Rattle.vx_tree.specs.Well.{IsWell}
 use Rattle.vx_tree.specs.Cells.{valid_cell, valid_cells, HasNoFault, AreClean}
-use Rattle.vx_tree.specs.Validities.{child_of, child_by, truths, without_nulls, HasRows}
+use Rattle.vx_tree.specs.Validities.{child_of, child_by, truths, HasRows}
 use Rattle.vx_tree.specs.declared.validity.Validity.{Validity}
 use Rattle.vx_tree.specs.declared.validity.Validity.TheVariants as validity
+use Rattle.vx_column.proofs.KeepsLemmas.{copies_clean}
 use Rattle.vx_column.specs.Nulls.{validity_cells}
 use Rattle.vx_column.specs.ValidRows.{is_valid, HasValidity, child_in, null_unless}
 use Rattle.vx_column.specs.declared.valid.ValidRows.{ValidRows}
@@ -45,14 +46,17 @@ bits_rows bits n (validity.Array t) long e = by_tests (is_all_true bits) (is_all
     by_tests false false e = of_tree (booleans bits) (booleans_well bits, refl, long) e
 bits_rows bits n _ long e = tt
 
-pub plain_rows : (m : Nullability) (n : ℕ) → HasRows (without_nulls m) n
-plain_rows NonNullable n = tt
-plain_rows Nullable n = tt
+-- bits that are all true
+all_true_row : (bits : List Bool) (i : ℕ) → is_all_true bits ≡ true → i < length bits → true ≡ bit_row bits i
+all_true_row [] i h lt = absurd (omega arith)
+all_true_row (true ∷ bits) zero h lt = refl
+all_true_row (true ∷ bits) (suc i) h lt = all_true_row bits i h (omega arith)
+all_true_row (false ∷ bits) i h lt = absurd (cc)
+
+pub counted_row : (bits : List Bool) (i : ℕ) → true_count bits ≡ length bits → i < length bits → true ≡ bit_row bits i
+counted_row bits i h lt = all_true_row bits i (all_true_yes bits h) lt
 
 -- ---- its cells
-
-cell_of_bit : Bool → Cell
-cell_of_bit b = value (boolean b)
 
 all_true_cells : (bits : List Bool) (cs : List Cell) → is_all_true bits ≡ true → length cs ≡ length bits → cs ≡ valid_cells (map (λ b. value (boolean b)) bits) cs
 all_true_cells [] [] h l = refl
@@ -121,10 +125,6 @@ filled_rows (rows_valid.Bits bits) n g d sized same stored =
 bits_clean : (bits : List Bool) → HasNoFault (map (λ b. value (boolean b)) bits)
 bits_clean [] = tt
 bits_clean (b ∷ bits) = bits_clean bits
-
-copies_clean : (n : ℕ) (w : Value) → HasNoFault (replicate n (value w))
-copies_clean zero w = tt
-copies_clean (suc n) w = copies_clean n w
 
 pub filled_clean : (valid : ValidRows) → AreClean (slots_of (child_in valid ∷ []))
 filled_clean (rows_valid.All m) = tt

@@ -1,6 +1,6 @@
 -- The rows that aren't null, told by bits.
 use Rattle.std.proofs.Math.Bool.{not}
-use Rattle.std.specs.Prelude.{◌≡◌, ℕ, Bool, true, false, length, map, Option, Some, None}
+use Rattle.std.specs.Prelude.{◌≡◌, ◌<◌, ℕ, Bool, true, false, List, length, map, Option, Some, None}
 use Rattle.vx_value.specs.Types.{bool, nullability_of}
 use Rattle.vx_value.specs.Typed.{Typed}
 use Rattle.vx_value.specs.IsOf.{is_null}
@@ -40,12 +40,11 @@ child_in (rows_valid.Bits bits) = child_by bits
 abbrev pub IsValidityOf : ValidRows → ℕ → Validity → Type 0
 IsValidityOf valid n v = (nullability_by v ≡ nullability_in valid) × (child_of v n ≡ child_in valid) × HasRows v n
 
--- they are those that the tree of a column's validity tells
-abbrev pub AreTold : Option Tree → ValidRows → Type 0
-AreTold None (rows_valid.All m) = Unit {0}
-AreTold None (rows_valid.Bits bits) = ⊥
-AreTold (Some t) (rows_valid.All m) = ⊥
-AreTold (Some t) (rows_valid.Bits bits) = rows t ≡ map (λ b. value (boolean b)) bits
+-- they are those of n rows that the tree of a column's validity tells
+abbrev pub AreTold : ℕ → Option Tree → ValidRows → Type 0
+AreTold n None valid = (i : ℕ) → is_valid valid i ≡ true
+AreTold n (Some t) valid =
+    (bits : List Bool) × (length bits ≡ n) × (rows t ≡ map (λ b. value (boolean b)) bits) × ((i : ℕ) → i < n → is_valid valid i ≡ bit_row bits i)
 
 -- the cell of a valid row, null of another
 abbrev pub null_unless : Bool → Cell → Cell

@@ -17,7 +17,8 @@ use vx_tree::{Canonical, Columnar};
 use vx_value::VortexResult;
 
 /// Applies `function` to `arguments`, each `len` rows long, in one pass and one allocation for the rows; constants
-/// aren't expanded. The result is a constant if `len > 0` and every argument is one, else canonical. (own)
+/// aren't expanded, and values under nulls aren't computed. The result is a constant if `len > 0` and every argument is
+/// one, else canonical. (own)
 ///
 /// # Errors
 ///

@@ -141,7 +141,7 @@ fn valid_rows(
     len: usize,
 ) -> VortexResult<ValidRows>
     requires { TellsRows nullability len validity.now }
-    ensures told { IfOk result (AreTold validity.now) }
+    ensures told { IfOk result (AreTold len validity.now) }
     ensures nullability { IfOk result (λ v. nullability_in v ≡ nullability) }
     ensures sized { IfOk result (λ v. HasValidity v len) }
     ensures err { IfErr result (AreUnread len validity.now) }
@@ -150,7 +150,7 @@ fn valid_rows(
         return Ok(ValidRows::All(nullability));
     };
     match truths_in(alloc, child) {
-        Ok(bits) => Ok(ValidRows::Bits(bits)),
+        Ok(bits) => Ok(ValidRows::from_bits(bits)),
         Err(e) => Err(e),
     }
 }

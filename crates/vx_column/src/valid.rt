@@ -1,7 +1,8 @@
 //! The rows of columns that aren't null.
 
-ghost use Rattle.std.specs.Prelude.{◌≡◌, ◌&&◌, ◌<◌, ℕ, IfOk, IfErr};
+ghost use Rattle.std.specs.Prelude.{◌≡◌, ◌&&◌, ◌<◌, ℕ, length, IfOk, IfErr};
 ghost use Rattle.vx_value.specs.Nullabilities.{union};
+ghost use Rattle.vx_mask.specs.Logic.{bit_row};
 ghost use Rattle.vx_column.specs.ValidRows.{is_valid, HasValidity, nullability_in, IsValidityOf};
 
 use std::alloc::{AllocError, Global};
@@ -19,6 +20,20 @@ pub(crate) enum ValidRows {
 }
 
 impl ValidRows {
+    /// Returns the rows of a nullable column that are at the true bits of `bits`: all if every bit is true.
+    #[tactic(auto, using(crate::proofs::ValidRowsLemmas::counted_row))]
+    pub(crate) fn from_bits(bits: BitBuffer) -> ValidRows
+        ensures rows { (i : ℕ) → i < length bits → is_valid result i ≡ bit_row bits i }
+        ensures sized { HasValidity result (length bits) }
+        ensures nullability { nullability_in result ≡ Nullability.Nullable }
+    {
+        if bits.true_count() == bits.len() {
+            ValidRows::All(Nullability::Nullable)
+        } else {
+            ValidRows::Bits(bits)
+        }
+    }
+
     /// Returns the rows that are valid in both of two columns, `len` rows each.
     pub(crate) fn and(
         &self,
@@ -48,6 +63,7 @@ impl ValidRows {
     }
 
     /// Returns the validity of a column of `len` rows of which these are valid. The only error is `OutOfMemory`.
+    #[tactic(auto, using(crate::proofs::KeepsLemmas::any_rows, crate::proofs::ValidRowsLemmas::bits_rows))]
     pub(crate) fn validity(&self, alloc: Global, len: usize) -> VortexResult<Validity>
         requires { HasValidity self.now len }
         ensures ok { IfOk result (IsValidityOf self.now len) }
