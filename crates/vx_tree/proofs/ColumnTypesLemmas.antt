@@ -1,16 +1,12 @@
 -- The types of trees: there are columns of each.
 use Rattle.std.proofs.Common.{◌≡◌, ◌⊎◌, inl, inr, ℕ, List, [], ◌∷◌, Option, Some, ap, subst, refl, true}
-use Rattle.std.proofs.Math.Bool.{not}
-use Rattle.std.specs.Prelude.{◌||◌}
-use Rattle.std.specs.Cmp.{first_so, second_so}
-use Rattle.vx_value.specs.Types.{DataType, primitive, bool, nullability_of, is_nullable}
+use Rattle.std.specs.Cmp.{second_so}
+use Rattle.vx_value.specs.Types.{DataType, primitive, bool, nullability_of}
 use Rattle.vx_value.specs.Storage.{storage_of}
-use Rattle.vx_value.specs.declared.dtype.Nullability.{Nullability}
-use Rattle.vx_value.specs.declared.dtype.Nullability.TheVariants.{NonNullable, Nullable}
 use Rattle.vx_value.specs.declared.dtype.PType.{PType}
 use Rattle.vx_value.specs.declared.dtype.Storage.TheVariants.{Bits, Integers}
 use Rattle.vx_fn.specs.declared.function.ScalarFnRef.{ScalarFnRef}
-use Rattle.vx_tree.specs.ColumnTypes.{has_column, has_kernel, is_computed, passes_null}
+use Rattle.vx_tree.specs.ColumnTypes.{has_column, has_kernel, is_computed}
 use Rattle.vx_tree.specs.Tree as enc
 use Rattle.vx_tree.specs.Tree.{Tree, Data, node, no_slots, absent, slot, dtype}
 use Rattle.vx_tree.specs.Well.{Shape, shape, shapes, IsNode, IsWell}
@@ -26,15 +22,7 @@ column_of_integers p _ h = absurd (cc)
 
 -- columns of the type are computed by a function, so there are columns of it
 pub computed_type : (f : ScalarFnRef) (ty : DataType) → is_computed f ty ≡ true → has_column ty ≡ true
-computed_type f ty h = first_so (has_column ty) _ (second_so (has_kernel f) _ h)
-
--- and a nullable one only if a null passes through
-pub computed_nulls : (f : ScalarFnRef) (ty : DataType) → is_computed f ty ≡ true → (nullability_of ty ≡ NonNullable) ⊎ (passes_null f ≡ true)
-computed_nulls f ty h = by_nullability (nullability_of ty) (second_so (has_column ty) _ (second_so (has_kernel f) _ h))
-  where
-    by_nullability : (n : Nullability) → (not (is_nullable n) || passes_null f) ≡ true → (n ≡ NonNullable) ⊎ (passes_null f ≡ true)
-    by_nullability NonNullable h = inl refl
-    by_nullability Nullable h = inr h
+computed_type f ty h = second_so (has_kernel f) _ h
 
 -- there are columns of a node's type, or it is that of the one tree in its slots: a line for each encoding
 node_typed : (ty : DataType) (n : ℕ) (d : Data) (ss : List (Option Shape)) → IsNode ty n d ss

@@ -2,7 +2,7 @@
 
 ghost use Rattle.std.specs.Prelude.{◌≡◌};
 ghost use Rattle.vx_value.specs.View.{type_of};
-ghost use Rattle.vx_tree.specs.ColumnTypes.{has_column, has_kernel, is_column_stored, is_computed, passes_null};
+ghost use Rattle.vx_tree.specs.ColumnTypes.{has_column, has_kernel, is_column_stored, is_computed};
 
 use vx_fn::ScalarFnRef;
 use vx_value::{DType, Storage};
@@ -21,37 +21,16 @@ fn is_column_stored(storage: Storage) -> bool
     matches!(storage, Storage::Bits | Storage::Integers(_))
 }
 
-/// Checks whether columns of type `dtype` are computed by `function`: nullable ones only if a null argument makes its result
-/// null. (own)
+/// Checks whether columns of type `dtype` are computed by `function`. (own)
 pub fn is_computed(function: &ScalarFnRef, dtype: &DType) -> bool
     ensures { result ≡ is_computed function.now (type_of dtype.now) }
 {
-    has_kernel(function) && has_column(dtype) && (!dtype.is_nullable() || passes_null(function))
+    has_kernel(function) && has_column(dtype)
 }
 
 /// Checks whether columns are computed by `function`.
 fn has_kernel(function: &ScalarFnRef) -> bool
     ensures { result ≡ has_kernel function.now }
 {
-    !matches!(
-        function,
-        ScalarFnRef::Between(_)
-            | ScalarFnRef::Mask
-            | ScalarFnRef::Zip
-            | ScalarFnRef::FillNull
-            | ScalarFnRef::IsNull
-            | ScalarFnRef::IsNotNull
-            | ScalarFnRef::Cast(_)
-    )
-}
-
-/// Checks whether a null argument makes the result of `function` null.
-fn passes_null(function: &ScalarFnRef) -> bool
-    ensures { result ≡ passes_null function.now }
-{
-    match function {
-        ScalarFnRef::Binary(operator) => !operator.is_logical(),
-        ScalarFnRef::Not => true,
-        _ => false,
-    }
+    !matches!(function, ScalarFnRef::Cast(_))
 }

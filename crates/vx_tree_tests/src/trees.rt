@@ -435,8 +435,8 @@ fn types_with_columns(rt: HostRuntime) {
     assert!(rt; !has_column(&UTF8) && !has_column(&DType::Null));
     assert!(rt; is_computed(&ADD, &I32) && is_computed(&AND, &BOOL) && is_computed(&NOT, &BOOL));
     assert!(rt; is_computed(&ADD, &NULLABLE) && !is_computed(&CAST, &I32));
-    assert!(rt; !is_computed(&AND, &DType::Bool(Nullability::Nullable)));
-    assert!(rt; !is_computed(&ScalarFnRef::IsNull, &BOOL));
+    assert!(rt; is_computed(&AND, &DType::Bool(Nullability::Nullable)));
+    assert!(rt; is_computed(&ScalarFnRef::IsNull, &BOOL));
 }
 
 #[test]
