@@ -1,5 +1,5 @@
 -- A well-formed tree has a cell for each row; and rows without a fault.
-use Rattle.std.proofs.Common.{◌≡◌, ℕ, zero, suc, ◌-◌, ◌≤◌, List, [], ◌∷◌, length, map, take, drop, slice_get, Option, Some, None}
+use Rattle.std.proofs.Common.{◌≡◌, ℕ, zero, suc, ◌-◌, ◌≤◌, Bool, List, [], ◌∷◌, length, map, take, drop, slice_get, Option, Some, None}
 use Rattle.std.proofs.Common.{refl, sym, ap, ◌∙◌, subst, arith, length-drop}
 use Rattle.std.proofs.lemmas.List.{length-take, length-map, length-replicate}
 use Rattle.std.proofs.lemmas.List.FromFn.{length-map-range_with_len}
@@ -10,8 +10,10 @@ use Rattle.vx_value.specs.Values.{boolean, integer}
 use Rattle.vx_tree.specs.Tree as enc
 use Rattle.vx_tree.specs.Tree.{Tree, Data, Slots, node, no_slots, absent, slot, len}
 use Rattle.vx_value.specs.Cell.{Cell, value, fault}
+use Rattle.vx_mask.specs.Places.{true_count, chosen}
+use Rattle.vx_mask.proofs.PlacesLemmas.{length-chosen}
 use Rattle.vx_fn.specs.Apply.{apply}
-use Rattle.vx_tree.specs.Cells.{row_at, rows, slots_rows, node_cells, cells_at, valid_cells, HasNoFault}
+use Rattle.vx_tree.specs.Cells.{row_at, rows, slots_rows, node_cells, cells_at, shown_cell, valid_cells, HasNoFault}
 use Rattle.vx_tree.specs.Well.{Shape, shape, shapes, IsValidity, IsFlat, IsNode, IsWell, AreWell}
 
 -- of each slot that holds a tree, as many cells as it has rows; of one that doesn't, none
@@ -57,11 +59,27 @@ flat_counted : (of_type : DataType) (k : ℕ) (ty : DataType) (n : ℕ) (css : L
     IsFlat of_type k ty n ss → AreCounted css ss → length cs ≡ k → length (valid_cells (cells_at css 0) cs) ≡ n
 flat_counted of_type k ty n css ss cs h c e = by_validity (nullability_of ty) n h.0 css cs h.4 (subst (AreCounted css) h.3 c) (e ∙ sym h.2)
 
+-- the chosen rows of the one slot
+choice_counted : (ty : DataType) (n : ℕ) (bits : List Bool) (css : List (List Cell)) (ss : List (Option Shape)) →
+    (ss ≡ Some (shape ty (length bits)) ∷ []) × (n ≡ true_count bits) → AreCounted css ss → length (chosen bits (cells_at css 0)) ≡ n
+choice_counted ty n bits css ss h k =
+    let counted : length (cells_at css 0) ≡ length bits = one_counted css ty (length bits) (subst (AreCounted css) h.0 k) in
+    length-chosen bits (cells_at css 0) (omega (arith, counted)) ∙ sym h.1
+
+-- the rows of the first slot, by the validity in the second
+mask_counted : (s : DataType) (n : ℕ) (v : Option Shape) (css : List (List Cell)) → IsValidity Nullable n v → AreCounted css (Some (shape s n) ∷ v ∷ [])
+    → length (valid_cells (cells_at css 1) (cells_at css 0)) ≡ n
+mask_counted s n v [] h k = absurd k
+mask_counted s n v (cs ∷ vss) h k = by_validity Nullable n v vss cs h k.1 k.0
+
 -- a line for each encoding
 node_counted : (ty : DataType) (n : ℕ) (d : Data) (css : List (List Cell)) (ss : List (Option Shape)) →
     IsNode ty n d ss → AreCounted css ss → length (node_cells ty n d css) ≡ n
 node_counted ty n (enc.constant v) css ss h k = length-replicate n (value v.value)
 node_counted ty n (enc.slice a b) css ss h k = part_counted ty n a b css ss h k
+node_counted ty n (enc.filter bits) css ss h k = choice_counted ty n bits css ss h k
+node_counted ty n enc.masked css ss h k = mask_counted h.0 n h.1 css h.4 (subst (AreCounted css) h.2 k)
+node_counted ty n enc.is_valid css ss h k = length-map (cells_at css 0) shown_cell ∙ one_counted css h.0 n (subst (AreCounted css) h.1 k)
 node_counted ty n (enc.function f) css ss h k = length-map-range_with_len (λ i. apply f ty (row_at css i)) 0 n
 node_counted ty n (enc.bool bs) css ss h k = flat_counted (bool NonNullable) _ ty n css ss (map (λ b. value (boolean b)) bs) h k (length-map bs (λ b. value (boolean b)))
 node_counted ty n (enc.primitive p zs) css ss h k = flat_counted (primitive p NonNullable) _ ty n css ss (map (λ z. value (integer z)) zs) h k (length-map zs (λ z. value (integer z)))

@@ -1,8 +1,11 @@
 -- The types of trees: there are columns of each.
-use Rattle.std.proofs.Common.{◌≡◌, ◌⊎◌, inl, inr, ℕ, List, [], ◌∷◌, Option, Some, ap, subst, refl, true}
+use Rattle.std.proofs.Common.{◌≡◌, ◌⊎◌, inl, inr, ℕ, List, [], ◌∷◌, Option, Some, length, ap, subst, sym, refl, true}
 use Rattle.std.specs.Cmp.{second_so}
 use Rattle.vx_value.specs.Types.{DataType, primitive, bool, nullability_of}
+use Rattle.vx_value.specs.Nullabilities.{with_nullability}
 use Rattle.vx_value.specs.Storage.{storage_of}
+use Rattle.vx_value.specs.declared.dtype.Nullability.{Nullability}
+use Rattle.vx_value.specs.declared.dtype.Nullability.TheVariants.{Nullable}
 use Rattle.vx_value.specs.declared.dtype.PType.{PType}
 use Rattle.vx_value.specs.declared.dtype.Storage.TheVariants.{Bits, Integers}
 use Rattle.vx_fn.specs.declared.function.ScalarFnRef.{ScalarFnRef}
@@ -24,11 +27,21 @@ column_of_integers p _ h = absurd (cc)
 pub computed_type : (f : ScalarFnRef) (ty : DataType) → is_computed f ty ≡ true → has_column ty ≡ true
 computed_type f ty h = second_so (has_kernel f) _ h
 
--- there are columns of a node's type, or it is that of the one tree in its slots: a line for each encoding
+-- a type with another nullability has columns too
+other_nullability : (m : Nullability) (ty : DataType) → has_column ty ≡ true → has_column (with_nullability m ty) ≡ true
+other_nullability m (bool n) h = refl
+other_nullability m (primitive p n) h = refl
+other_nullability m _ h = absurd (cc)
+
+-- there are columns of a node's type, or there are if there are of the first slot's: a line for each encoding
 node_typed : (ty : DataType) (n : ℕ) (d : Data) (ss : List (Option Shape)) → IsNode ty n d ss
-    → (has_column ty ≡ true) ⊎ ((m : ℕ) × (ss ≡ Some (shape ty m) ∷ []))
+    → (has_column ty ≡ true) ⊎ ((s : DataType) × (m : ℕ) × (rest : List (Option Shape)) × (ss ≡ Some (shape s m) ∷ rest) × (has_column s ≡ true → has_column ty ≡ true))
 node_typed ty n (enc.constant v) ss w = inl w.1
-node_typed ty n (enc.slice a b) ss w = inr (w.0, w.1)
+node_typed ty n (enc.slice a b) ss w = inr (ty, w.0, [], w.1, λ h. h)
+node_typed ty n (enc.filter bits) ss w = inr (ty, length bits, [], w.0, λ h. h)
+node_typed ty n enc.masked ss w =
+    inr (w.0, n, w.1 ∷ [], w.2, λ h. subst (λ x. has_column x ≡ true) (sym w.3) (other_nullability Nullable w.0 h))
+node_typed ty n enc.is_valid ss w = inl (ap has_column w.2)
 node_typed ty n (enc.function f) ss w = inl (computed_type f ty w.3)
 node_typed ty n (enc.bool bs) ss w = inl (ap has_column w.1)
 node_typed ty n (enc.primitive p zs) ss w = inl (ap has_column w.1)
@@ -39,16 +52,16 @@ well_typed (node ty n d (slot c ss)) w =
     elim (node_typed ty n d (shapes (slot c ss)) w.0) [
       | inl h ↦ h
       | inr h ↦
-          let same : dtype c ≡ ty = cc (h.1) in
-          subst (λ x. has_column x ≡ true) same (well_typed c w.1.0)
+          let same : dtype c ≡ h.0 = cc (h.3) in
+          h.4 (subst (λ x. has_column x ≡ true) same (well_typed c w.1.0))
     ]
 well_typed (node ty n d no_slots) w =
     elim (node_typed ty n d [] w.0) [
       | inl h ↦ h
-      | inr h ↦ absurd (cc (h.1))
+      | inr h ↦ absurd (cc (h.3))
     ]
 well_typed (node ty n d (absent ss)) w =
     elim (node_typed ty n d (shapes (absent ss)) w.0) [
       | inl h ↦ h
-      | inr h ↦ absurd (cc (h.1))
+      | inr h ↦ absurd (cc (h.3))
     ]

@@ -1,13 +1,14 @@
 -- `Keeps` is a preorder that is kept in a slot; `KeepsExactly` as well.
-use Rattle.std.proofs.Common.{◌≡◌, ℕ, zero, suc, ◌-◌, List, [], ◌∷◌, take, drop, map, replicate, get_or, refl, ◌∙◌, ap, subst}
+use Rattle.std.proofs.Common.{◌≡◌, ℕ, zero, suc, ◌-◌, Bool, true, false, List, [], ◌∷◌, take, drop, map, replicate, get_or, refl, ◌∙◌, ap, subst}
 use Rattle.std.specs.List.{range_with_len}
 use Rattle.vx_value.specs.Types.{DataType}
 use Rattle.vx_value.specs.Values.{Value, boolean, integer}
 use Rattle.vx_tree.specs.Tree as enc
 use Rattle.vx_tree.specs.Tree.{Tree, Data, Slots, node, no_slots, absent, slot, dtype, len}
 use Rattle.vx_value.specs.Cell.{Cell, value, fault}
+use Rattle.vx_mask.specs.Places.{chosen}
 use Rattle.vx_fn.specs.Apply.{on_values, value_of}
-use Rattle.vx_tree.specs.Cells.{row_at, rows, slots_rows, node_cells, cells_at, valid_cell, valid_cells, IsClean, AreClean, HasNoFault}
+use Rattle.vx_tree.specs.Cells.{row_at, rows, slots_rows, node_cells, cells_at, valid_cell, valid_cells, shown_cell, IsClean, AreClean, HasNoFault}
 use Rattle.vx_tree.specs.Slots.{set_slot, put}
 use Rattle.vx_tree.specs.Keeps.{CellKeeps, RowsKeep, Keeps, KeepsExactly}
 
@@ -95,26 +96,62 @@ map_keep : (f g : ℕ → Cell) (is : List ℕ) → ((i : ℕ) → CellKeeps (f 
 map_keep f g [] h = tt
 map_keep f g (i ∷ is) h = (h i, map_keep f g is h)
 
--- of a validity
-valid_cell_keep : (v w c : Cell) → CellKeeps v w → CellKeeps (valid_cell v c) (valid_cell w c)
-valid_cell_keep (value v) w c h = rw h (cell_refl (valid_cell (value v) c))
-valid_cell_keep fault w c h = tt
+-- of a mask
+chosen_keep : (bits : List Bool) (cs ds : List Cell) → RowsKeep cs ds → RowsKeep (chosen bits cs) (chosen bits ds)
+unfolding chosen
+chosen_keep [] cs ds h = tt
+chosen_keep (b ∷ bits) [] [] h = tt
+chosen_keep (b ∷ bits) [] (d ∷ ds) h = absurd h
+chosen_keep (b ∷ bits) (c ∷ cs) [] h = absurd h
+chosen_keep (true ∷ bits) (c ∷ cs) (d ∷ ds) h = (h.0, chosen_keep bits cs ds h.1)
+chosen_keep (false ∷ bits) (c ∷ cs) (d ∷ ds) h = chosen_keep bits cs ds h.1
 
-valid_keep : (vs ws cs : List Cell) → RowsKeep vs ws → RowsKeep (valid_cells vs cs) (valid_cells ws cs)
-valid_keep [] [] cs h = rows_refl cs
-valid_keep [] (w ∷ ws) cs h = absurd h
-valid_keep (v ∷ vs) [] cs h = absurd h
-valid_keep (v ∷ vs) (w ∷ ws) [] h = tt
-valid_keep (v ∷ vs) (w ∷ ws) (c ∷ cs) h = (valid_cell_keep v w c h.0, valid_keep vs ws cs h.1)
+-- of a validity
+masked_cell_keep : (v c d : Cell) → CellKeeps c d → CellKeeps (valid_cell v c) (valid_cell v d)
+masked_cell_keep (value (boolean true)) c d h = h
+masked_cell_keep (value (boolean false)) (value x) d h = rw h refl
+masked_cell_keep (value (boolean false)) fault d h = tt
+masked_cell_keep _ c d h = tt
+
+valid_cell_keep : (v w c d : Cell) → CellKeeps v w → CellKeeps c d → CellKeeps (valid_cell v c) (valid_cell w d)
+valid_cell_keep (value v) w c d h k = rw h (masked_cell_keep (value v) c d k)
+valid_cell_keep fault w c d h k = tt
+
+valid_keep : (vs ws cs ds : List Cell) → RowsKeep vs ws → RowsKeep cs ds → RowsKeep (valid_cells vs cs) (valid_cells ws ds)
+valid_keep [] [] cs ds h k = k
+valid_keep [] (w ∷ ws) cs ds h k = absurd h
+valid_keep (v ∷ vs) [] cs ds h k = absurd h
+valid_keep (v ∷ vs) (w ∷ ws) [] [] h k = tt
+valid_keep (v ∷ vs) (w ∷ ws) [] (d ∷ ds) h k = absurd k
+valid_keep (v ∷ vs) (w ∷ ws) (c ∷ cs) [] h k = absurd k
+valid_keep (v ∷ vs) (w ∷ ws) (c ∷ cs) (d ∷ ds) h k = (valid_cell_keep v w c d h.0 k.0, valid_keep vs ws cs ds h.1 k.1)
+
+-- of a column's
+column_keep : (css dss : List (List Cell)) (cs : List Cell) → AllKeep css dss → RowsKeep (valid_cells (cells_at css 0) cs) (valid_cells (cells_at dss 0) cs)
+column_keep css dss cs h = valid_keep _ _ cs cs (at_keep css dss 0 h) (rows_refl cs)
+
+-- of a test for null
+shown_cell_keep : (c d : Cell) → CellKeeps c d → CellKeeps (shown_cell c) (shown_cell d)
+shown_cell_keep (value v) d h = rw h (cell_refl (shown_cell (value v)))
+shown_cell_keep fault d h = tt
+
+shown_keep : (cs ds : List Cell) → RowsKeep cs ds → RowsKeep (map shown_cell cs) (map shown_cell ds)
+shown_keep [] [] h = tt
+shown_keep [] (d ∷ ds) h = absurd h
+shown_keep (c ∷ cs) [] h = absurd h
+shown_keep (c ∷ cs) (d ∷ ds) h = (shown_cell_keep c d h.0, shown_keep cs ds h.1)
 
 -- a node keeps what its slots keep: a line for each encoding
 pub node_mono : (ty : DataType) (n : ℕ) (d : Data) (css dss : List (List Cell)) → AllKeep css dss → RowsKeep (node_cells ty n d css) (node_cells ty n d dss)
 node_mono ty n (enc.constant v) css dss h = rows_refl (replicate n (value v.value))
 node_mono ty n (enc.slice a b) css dss h = take_keep (b - a) _ _ (drop_keep a _ _ (at_keep css dss 0 h))
+node_mono ty n (enc.filter bits) css dss h = chosen_keep bits _ _ (at_keep css dss 0 h)
+node_mono ty n enc.masked css dss h = valid_keep _ _ _ _ (at_keep css dss 1 h) (at_keep css dss 0 h)
+node_mono ty n enc.is_valid css dss h = shown_keep _ _ (at_keep css dss 0 h)
 node_mono ty n (enc.function f) css dss h =
     map_keep _ _ (range_with_len 0 n) (λ i. values_keep (value_of f ty) _ _ (row_keep i css dss h))
-node_mono ty n (enc.bool bs) css dss h = valid_keep _ _ (map (λ b. value (boolean b)) bs) (at_keep css dss 0 h)
-node_mono ty n (enc.primitive p zs) css dss h = valid_keep _ _ (map (λ z. value (integer z)) zs) (at_keep css dss 0 h)
+node_mono ty n (enc.bool bs) css dss h = column_keep css dss (map (λ b. value (boolean b)) bs) h
+node_mono ty n (enc.primitive p zs) css dss h = column_keep css dss (map (λ z. value (integer z)) zs) h
 
 -- the laws, whatever the encodings
 

@@ -1,6 +1,8 @@
 -- A node, opened.
-use Rattle.std.proofs.Common.{◌≡◌, ℕ, ℤ, Bool, true, ◌≤◌, List, [], ◌∷◌, get_or, Option, Some, sym, ◌∙◌, ap, subst}
+use Rattle.std.proofs.Common.{◌≡◌, ℕ, ℤ, Bool, true, ◌≤◌, List, [], ◌∷◌, length, get_or, Option, Some, sym, ◌∙◌, ap, subst}
 use Rattle.vx_value.specs.Types.{DataType}
+use Rattle.vx_value.specs.Nullabilities.{with_nullability}
+use Rattle.vx_value.specs.declared.dtype.Nullability.TheVariants.{Nullable}
 use Rattle.vx_value.specs.Typed.{Typed}
 use Rattle.vx_value.specs.View.{type_of}
 use Rattle.vx_value.specs.IsOf.{is_of}
@@ -8,11 +10,11 @@ use Rattle.vx_value.specs.declared.dtype.PType.{PType}
 use Rattle.vx_fn.specs.declared.function.ScalarFnRef.{ScalarFnRef}
 use Rattle.vx_tree.specs.ColumnTypes.{has_column}
 use Rattle.vx_tree.specs.Tree as enc
-use Rattle.vx_tree.specs.Tree.{Tree, Data, node, slots_of, dtype, len, column, constant_of, slice_of}
+use Rattle.vx_tree.specs.Tree.{Tree, Data, node, slots_of, dtype, len, column, constant_of, slice_of, filter_of, masked_of, validity_in}
 use Rattle.vx_tree.specs.Well.{Shape, shape, shapes, IsNode, IsNodeOf}
 use Rattle.vx_tree.specs.TreeView.{data_of, tree_of}
 use Rattle.vx_tree.specs.declared.array.node.Node.{Node}
-use Rattle.vx_tree.proofs.SlotsLemmas.{one_slot, only_slot, none_there}
+use Rattle.vx_tree.proofs.SlotsLemmas.{one_slot, only_slot, two_slots, none_there}
 
 abbrev pub type_in : Shape → DataType
 type_in (shape ty n) = ty
@@ -33,16 +35,47 @@ module _ (n : Node) (well : IsNodeOf (tree_of n)) where
       let column = subst (λ x. has_column x ≡ true) h.0 h.1 in
       ((λ j. node (h.0 j) n.len (e j) (slots_of (i j))), column, subst (λ x. is_of x v.value ≡ true) h.0 h.2)
 
+  -- a node with one child, of type s and m rows
+  child_is : (s : DataType) (m : ℕ) (z : Option Tree) (c : Tree) → shapes (slots_of n.slots.items) ≡ Some (shape s m) ∷ [] → z ≡ get_or n.slots.items 0 z → z ≡ Some c
+      → (n.slots.items ≡ Some c ∷ []) × (dtype c ≡ s) × (len c ≡ m)
+  child_is s m z c h g e =
+      let o = one_slot n.slots.items s m h in
+      let y : z ≡ Some o.0 = g ∙ ap (λ l. get_or l 0 z) o.1 in
+      let f : o.0 ≡ c = cc in
+      (o.1 ∙ ap (λ x. Some x ∷ []) f, ap dtype (sym f) ∙ ap type_in o.2, ap len (sym f) ∙ ap len_in o.2)
+
   pub kind_slice : (a b : ℕ) (z : Option Tree) (c : Tree) → data_of n.encoding ≡ enc.slice a b → z ≡ get_or n.slots.items 0 z → z ≡ Some c →
       (tree_of n ≡ slice_of a b c) × (a ≤ b) × (b ≤ len c)
   kind_slice a b z c e g s =
       let v = of_data (enc.slice a b) e in
-      let o = one_slot n.slots.items (type_of n.dtype) v.0 v.1 in
-      let y : z ≡ Some o.0 = g ∙ ap (λ l. get_or l 0 z) o.1 in
+      let o = child_is (type_of n.dtype) v.0 z c v.1 g s in
+      ((λ j. node (sym o.1 j) (v.4 j) (e j) (slots_of (o.0 j))), v.2, subst (λ m. b ≤ m) (sym o.2) v.3)
+
+  pub kind_filter : (bits : List Bool) (z : Option Tree) (c : Tree) → data_of n.encoding ≡ enc.filter bits → z ≡ get_or n.slots.items 0 z → z ≡ Some c →
+      (tree_of n ≡ filter_of bits c) × (length bits ≡ len c)
+  kind_filter bits z c e g s =
+      let v = of_data (enc.filter bits) e in
+      let o = child_is (type_of n.dtype) (length bits) z c v.0 g s in
+      ((λ j. node (sym o.1 j) (v.1 j) (e j) (slots_of (o.0 j))), sym o.2)
+
+  pub kind_validity : (z : Option Tree) (c : Tree) → data_of n.encoding ≡ enc.is_valid → z ≡ get_or n.slots.items 0 z → z ≡ Some c → tree_of n ≡ validity_in c
+  kind_validity z c e g s =
+      let v = of_data enc.is_valid e in
+      let o = child_is v.0 n.len z c v.1 g s in
+      λ j. node (v.2 j) (sym o.2 j) (e j) (slots_of (o.0 j))
+
+  pub kind_masked : (z w v : Option Tree) (c : Tree) → data_of n.encoding ≡ enc.masked → z ≡ get_or n.slots.items 0 z → z ≡ Some c → v ≡ get_or n.slots.items 1 w →
+      (tree_of n ≡ masked_of c v) × IsNodeOf (tree_of n)
+  kind_masked z w v c e g s i =
+      let h = of_data enc.masked e in
+      let o = two_slots n.slots.items h.0 n.len h.1 h.2 in
+      let y : z ≡ Some o.0 = g ∙ ap (λ l. get_or l 0 z) o.2 in
       let f : o.0 ≡ c = cc in
-      let whole : tree_of n ≡ slice_of a b o.0 = λ j. node (ap type_in (sym o.2) j) (v.4 j) (e j) (slots_of (o.1 j)) in
-      let within = subst (λ m. b ≤ m) (sym (ap len_in o.2)) v.3 in
-      subst (λ x. (tree_of n ≡ slice_of a b x) × (a ≤ b) × (b ≤ len x)) f (whole, v.2, within)
+      let same : o.1 ≡ v = sym (i ∙ ap (λ l. get_or l 1 w) o.2) in
+      let typed : dtype c ≡ h.0 = ap dtype (sym f) ∙ ap type_in o.3 in
+      let counted : len c ≡ n.len = ap len (sym f) ∙ ap len_in o.3 in
+      let slots_are = o.2 ∙ (λ j. Some (f j) ∷ same j ∷ []) in
+      ((λ j. node ((h.3 ∙ ap (with_nullability Nullable) (sym typed)) j) (sym counted j) (e j) (slots_of (slots_are j))), well)
 
   -- a column has one slot, for its validity
   column_is : (d : Data) (s v : Option Tree) (x : Option Shape) → data_of n.encoding ≡ d → shapes (slots_of n.slots.items) ≡ x ∷ []

@@ -12,10 +12,12 @@ use Rattle.vx_value.specs.declared.dtype.Nullability.{Nullability}
 use Rattle.vx_value.specs.declared.dtype.Nullability.TheVariants.{NonNullable, Nullable}
 use Rattle.vx_value.proofs.NullabilitiesLemmas.{alike_but_nullability, same_but_set}
 use Rattle.vx_value.specs.Typed.{Typed}
+use Rattle.vx_value.specs.declared.error.VortexError.{VortexError}
 use Rattle.vx_value.specs.declared.error.VortexError.TheVariants.{InvalidArgument}
 use Rattle.vx_value.specs.declared.error.ArgKind.TheVariants.{SlotCount, SlotType, SlotLen, FnSlotMissing, NodeType}
 use Rattle.vx_value.specs.declared.id.Id.{Id}
 use Rattle.vx_value.specs.Ids.{same_id, same_id_Decides}
+use Rattle.vx_mask.specs.Places.{true_count}
 use Rattle.vx_fn.specs.Functions.{arity, function_id}
 use Rattle.vx_fn.specs.ReturnTypes.{return_type}
 use Rattle.vx_fn.specs.declared.function.ScalarFnRef.{ScalarFnRef}
@@ -24,29 +26,29 @@ use Rattle.vx_tree.specs.ColumnTypes.{is_computed}
 use Rattle.vx_tree.specs.Tree as enc
 use Rattle.vx_tree.specs.Tree.{Tree, Data, id_of, slots_of, dtype, len}
 use Rattle.vx_tree.specs.Well.{Shape, shape, shape_of, shapes, IsValidity, IsFlat, IsNode}
-use Rattle.vx_tree.specs.Refusals.{refusal, column_refusal, constant_refusal, slice_refusal, function_refusal}
+use Rattle.vx_tree.specs.Refusals.{refusal, column_refusal, constant_refusal, of_child, slice_refusal, filter_refusal, validity_refusal, mask_refusal, masked_refusal, function_refusal}
 use Rattle.vx_tree.specs.Refusals.{slots_refusal, types_refusal, lengths_refusal, result_refusal, arity_refusal, column_type_refusal}
 use Rattle.vx_tree.specs.Conditions.{unless, first_of_both}
 use Rattle.vx_tree.specs.Refusals.{validity_type_refusal, validity_len_refusal, all_present, all_long, types_in, type_in, is_present, is_long}
 use Rattle.vx_tree.proofs.ConditionsLemmas.{none_refused, first_none, second_none, unless_none, none_unless}
-use Rattle.vx_tree.proofs.SlotsLemmas.{not_one, one_shape}
+use Rattle.vx_tree.proofs.SlotsLemmas.{not_one, one_shape, first_shape}
 
--- the tree in the slot of a validity
-validity_kept : (m : Nullability) (n : ℕ) (s : Option Shape) → validity_type_refusal m s ≡ None → validity_len_refusal n s ≡ None → IsValidity m n s
-validity_kept m n None h k = tt
-validity_kept NonNullable n (Some s) h k = absurd (cc)
-validity_kept Nullable n (Some (shape t m)) h k =
+-- the tree in slot i, that of a validity
+validity_kept : (i : ℕ) (m : Nullability) (n : ℕ) (s : Option Shape) → validity_type_refusal i m s ≡ None → validity_len_refusal i n s ≡ None → IsValidity m n s
+validity_kept i m n None h k = tt
+validity_kept i NonNullable n (Some s) h k = absurd (cc)
+validity_kept i Nullable n (Some (shape t m)) h k =
     let typed : t ≡ bool NonNullable = (same_type_Decides t (bool NonNullable)).0 (unless_none _ _ h) in
     let counted : m ≡ n = (unsigned_Decides m n).0 (unless_none _ _ k) in
-    λ i. shape (typed i) (counted i)
+    λ j. shape (typed j) (counted j)
 
-validity_taken : (m : Nullability) (n : ℕ) (s : Option Shape) → IsValidity m n s → (validity_type_refusal m s ≡ None) × (validity_len_refusal n s ≡ None)
-validity_taken m n None h = (refl, refl)
-validity_taken NonNullable n (Some s) h = absurd h
-validity_taken Nullable n (Some s) h =
-    subst (λ x. (validity_type_refusal Nullable (Some x) ≡ None) × (validity_len_refusal n (Some x) ≡ None)) (sym h) (
-      none_unless _ (InvalidArgument (SlotType 0)) ((same_type_Decides (bool NonNullable) (bool NonNullable)).1 refl),
-      none_unless _ (InvalidArgument (SlotLen 0)) ((unsigned_Decides n n).1 refl),
+validity_taken : (i : ℕ) (m : Nullability) (n : ℕ) (s : Option Shape) → IsValidity m n s → (validity_type_refusal i m s ≡ None) × (validity_len_refusal i n s ≡ None)
+validity_taken i m n None h = (refl, refl)
+validity_taken i NonNullable n (Some s) h = absurd h
+validity_taken i Nullable n (Some s) h =
+    subst (λ x. (validity_type_refusal i Nullable (Some x) ≡ None) × (validity_len_refusal i n (Some x) ≡ None)) (sym h) (
+      none_unless _ (InvalidArgument (SlotType i)) ((same_type_Decides (bool NonNullable) (bool NonNullable)).1 refl),
+      none_unless _ (InvalidArgument (SlotLen i)) ((unsigned_Decides n n).1 refl),
     )
 
 -- ---- the slots of a function's node
@@ -136,7 +138,7 @@ column_kept ty n of_type k (s ∷ []) h =
     let lengths = second_none _ _ later in
     let typed : ty ≡ with_nullability (nullability_of ty) of_type = alike_but_nullability ty of_type (unless_none _ _ (first_none _ _ h)) in
     let counted : n ≡ k = (unsigned_Decides n k).0 (unless_none _ _ (first_none _ _ lengths)) in
-    (s, typed, counted, refl, validity_kept (nullability_of ty) n s (first_none _ _ later) (second_none _ _ lengths))
+    (s, typed, counted, refl, validity_kept 0 (nullability_of ty) n s (first_none _ _ later) (second_none _ _ lengths))
 column_kept ty n of_type k (s ∷ r ∷ ss) h = absurd (cc)
 
 constant_kept : (ty : DataType) (n : ℕ) (v : Typed) (ss : List (Option Shape)) →
@@ -147,17 +149,52 @@ constant_kept ty n v [] h =
     (typed, unless_none _ _ (first_none _ _ later), unless_none _ _ (second_none _ _ later), refl)
 constant_kept ty n v (s ∷ ss) h = absurd (cc)
 
-slice_kept : (ty : DataType) (n a b : ℕ) (ss : List (Option Shape)) → slice_refusal ty n a b ss ≡ None → IsNode ty n (enc.slice a b) ss
-slice_kept ty n a b [] h = absurd (cc)
-slice_kept ty n a b (None ∷ []) h = absurd (cc)
-slice_kept ty n a b (Some (shape s m) ∷ []) h =
-    let later = second_none _ _ h in
+-- the child of a node that has one
+child_kept : (later : DataType → ℕ → Option VortexError) (ss : List (Option Shape)) → of_child later ss ≡ None
+    → (s : DataType) × (m : ℕ) × (ss ≡ Some (shape s m) ∷ []) × (later s m ≡ None)
+child_kept later [] h = absurd (cc)
+child_kept later (None ∷ []) h = absurd (cc)
+child_kept later (Some (shape s m) ∷ []) h = (s, m, refl, h)
+child_kept later (None ∷ r ∷ ss) h = absurd (cc)
+child_kept later (Some s ∷ r ∷ ss) h = absurd (cc)
+
+slice_kept : (ty : DataType) (n a b : ℕ) (ss : List (Option Shape)) → of_child (slice_refusal ty n a b) ss ≡ None → IsNode ty n (enc.slice a b) ss
+slice_kept ty n a b ss h =
+    let k = child_kept (slice_refusal ty n a b) ss h in
+    let later = second_none _ _ k.3 in
     let range = unless_none _ _ (second_none _ _ later) in
-    let same : ty ≡ s = (same_type_Decides ty s).0 (unless_none _ _ (first_none _ _ h)) in
+    let same : ty ≡ k.0 = (same_type_Decides ty k.0).0 (unless_none _ _ (first_none _ _ k.3)) in
     let counted : n ≡ b - a = (unsigned_Decides n (b - a)).0 (unless_none _ _ (first_none _ _ later)) in
-    (m, ap (λ z. Some (shape z m) ∷ []) (sym same), leb-true a b (first_so _ _ range), leb-true b m (second_so _ _ range), counted)
-slice_kept ty n a b (None ∷ r ∷ ss) h = absurd (cc)
-slice_kept ty n a b (Some s ∷ r ∷ ss) h = absurd (cc)
+    (k.1, k.2 ∙ ap (λ z. Some (shape z k.1) ∷ []) (sym same), leb-true a b (first_so _ _ range), leb-true b k.1 (second_so _ _ range), counted)
+
+filter_kept : (ty : DataType) (n : ℕ) (bits : List Bool) (ss : List (Option Shape)) → of_child (filter_refusal ty n bits) ss ≡ None → IsNode ty n (enc.filter bits) ss
+filter_kept ty n bits ss h =
+    let k = child_kept (filter_refusal ty n bits) ss h in
+    let later = second_none _ _ k.3 in
+    let same : ty ≡ k.0 = (same_type_Decides ty k.0).0 (unless_none _ _ (first_none _ _ k.3)) in
+    let counted : k.1 ≡ length bits = (unsigned_Decides k.1 (length bits)).0 (unless_none _ _ (first_none _ _ later)) in
+    let count : n ≡ true_count bits = (unsigned_Decides n (true_count bits)).0 (unless_none _ _ (second_none _ _ later)) in
+    (k.2 ∙ (λ j. Some (shape (sym same j) (counted j)) ∷ []), count)
+
+test_kept : (ty : DataType) (n : ℕ) (ss : List (Option Shape)) → of_child (validity_refusal ty n) ss ≡ None → IsNode ty n enc.is_valid ss
+test_kept ty n ss h =
+    let k = child_kept (validity_refusal ty n) ss h in
+    let typed : ty ≡ bool NonNullable = (same_type_Decides ty (bool NonNullable)).0 (unless_none _ _ (first_none _ _ k.3)) in
+    let counted : n ≡ k.1 = (unsigned_Decides n k.1).0 (unless_none _ _ (second_none _ _ k.3)) in
+    (k.0, k.2 ∙ ap (λ z. Some (shape k.0 z) ∷ []) (sym counted), typed)
+
+masked_kept : (ty : DataType) (n : ℕ) (ss : List (Option Shape)) → masked_refusal ty n ss ≡ None → IsNode ty n enc.masked ss
+masked_kept ty n [] h = absurd (cc)
+masked_kept ty n (c ∷ []) h = absurd (cc)
+masked_kept ty n (None ∷ v ∷ []) h = absurd (cc)
+masked_kept ty n (Some (shape s m) ∷ v ∷ []) h =
+    let later = second_none _ _ h in
+    let lengths = second_none _ _ later in
+    let typed : ty ≡ with_nullability Nullable s = (same_type_Decides ty (with_nullability Nullable s)).0 (unless_none _ _ (first_none _ _ h)) in
+    let counted : n ≡ m = (unsigned_Decides n m).0 (unless_none _ _ (first_none _ _ lengths)) in
+    let valid = validity_kept 1 Nullable n v (first_none _ _ later) (second_none _ _ lengths) in
+    (s, v, ap (λ z. Some (shape s z) ∷ v ∷ []) (sym counted), typed, valid)
+masked_kept ty n (c ∷ v ∷ r ∷ ss) h = absurd (cc)
 
 function_kept : (i : Id) (ty : DataType) (n : ℕ) (f : ScalarFnRef) (ss : List (Option Shape)) →
     function_refusal i ty n f ss ≡ None → IsNode ty n (enc.function f) ss
@@ -179,7 +216,7 @@ column_taken : (ty : DataType) (n : ℕ) (of_type : DataType) (k : ℕ) (ss : Li
 column_taken ty n of_type k ss h =
     let typed = none_unless _ _ (same_but_set (nullability_of ty) ty of_type h.1) in
     let counted = none_unless _ _ ((unsigned_Decides n k).1 h.2) in
-    let valid = validity_taken (nullability_of ty) n h.0 h.4 in
+    let valid = validity_taken 0 (nullability_of ty) n h.0 h.4 in
     let e : column_refusal ty n of_type k (h.0 ∷ []) ≡ None = none_refused _ _ typed (none_refused _ _ valid.0 (none_refused _ _ counted valid.1)) in
     subst (λ l. column_refusal ty n of_type k l ≡ None) (sym h.3) e
 
@@ -190,13 +227,35 @@ constant_taken ty n v ss h =
     let e : constant_refusal ty v [] ≡ None = none_refused _ _ typed (none_refused _ _ (none_unless _ _ h.1) (none_unless _ _ h.2)) in
     subst (λ l. constant_refusal ty v l ≡ None) (sym h.3) e
 
-slice_taken : (ty : DataType) (n a b : ℕ) (ss : List (Option Shape)) → IsNode ty n (enc.slice a b) ss → slice_refusal ty n a b ss ≡ None
+slice_taken : (ty : DataType) (n a b : ℕ) (ss : List (Option Shape)) → IsNode ty n (enc.slice a b) ss → of_child (slice_refusal ty n a b) ss ≡ None
 slice_taken ty n a b ss h =
     let typed = none_unless _ _ ((same_type_Decides ty ty).1 refl) in
     let counted = none_unless _ _ ((unsigned_Decides n (b - a)).1 h.4) in
     let range : (nat_le a b && nat_le b h.0) ≡ true = and_from (nat_le a b) (nat_le b h.0) (le-leb a b h.2) (le-leb b h.0 h.3) in
-    let e : slice_refusal ty n a b (Some (shape ty h.0) ∷ []) ≡ None = none_refused _ _ typed (none_refused _ _ counted (none_unless _ _ range)) in
-    subst (λ l. slice_refusal ty n a b l ≡ None) (sym h.1) e
+    let e : slice_refusal ty n a b ty h.0 ≡ None = none_refused _ _ typed (none_refused _ _ counted (none_unless _ _ range)) in
+    subst (λ l. of_child (slice_refusal ty n a b) l ≡ None) (sym h.1) e
+
+filter_taken : (ty : DataType) (n : ℕ) (bits : List Bool) (ss : List (Option Shape)) → IsNode ty n (enc.filter bits) ss → of_child (filter_refusal ty n bits) ss ≡ None
+filter_taken ty n bits ss h =
+    let typed = none_unless _ _ ((same_type_Decides ty ty).1 refl) in
+    let counted = none_unless _ _ ((unsigned_Decides (length bits) (length bits)).1 refl) in
+    let count = none_unless _ _ ((unsigned_Decides n (true_count bits)).1 h.1) in
+    let e : filter_refusal ty n bits ty (length bits) ≡ None = none_refused _ _ typed (none_refused _ _ counted count) in
+    subst (λ l. of_child (filter_refusal ty n bits) l ≡ None) (sym h.0) e
+
+test_taken : (ty : DataType) (n : ℕ) (ss : List (Option Shape)) → IsNode ty n enc.is_valid ss → of_child (validity_refusal ty n) ss ≡ None
+test_taken ty n ss h =
+    let typed = none_unless _ _ ((same_type_Decides ty (bool NonNullable)).1 h.2) in
+    let e : validity_refusal ty n h.0 n ≡ None = none_refused _ _ typed (none_unless _ _ ((unsigned_Decides n n).1 refl)) in
+    subst (λ l. of_child (validity_refusal ty n) l ≡ None) (sym h.1) e
+
+masked_taken : (ty : DataType) (n : ℕ) (ss : List (Option Shape)) → IsNode ty n enc.masked ss → masked_refusal ty n ss ≡ None
+masked_taken ty n ss h =
+    let typed = none_unless _ _ ((same_type_Decides ty (with_nullability Nullable h.0)).1 h.3) in
+    let counted = none_unless _ _ ((unsigned_Decides n n).1 refl) in
+    let valid = validity_taken 1 Nullable n h.1 h.4 in
+    let e : mask_refusal ty n (Some (shape h.0 n)) h.1 ≡ None = none_refused _ _ typed (none_refused _ _ valid.0 (none_refused _ _ counted valid.1)) in
+    subst (λ l. masked_refusal ty n l ≡ None) (sym h.2) e
 
 function_taken : (ty : DataType) (n : ℕ) (f : ScalarFnRef) (ss : List (Option Shape)) →
     IsNode ty n (enc.function f) ss → function_refusal (function_id f) ty n f ss ≡ None
@@ -224,6 +283,9 @@ decided : (ty : DataType) (n : ℕ) (d : Data) (ss : List (Option Shape)) →
     ((i : Id) → refusal i ty n d ss ≡ None → IsNode ty n d ss) × (IsNode ty n d ss → refusal (id_of d) ty n d ss ≡ None)
 decided ty n (enc.constant v) ss = (λ i. constant_kept ty n v ss, constant_taken ty n v ss)
 decided ty n (enc.slice a b) ss = (λ i. slice_kept ty n a b ss, slice_taken ty n a b ss)
+decided ty n (enc.filter bits) ss = (λ i. filter_kept ty n bits ss, filter_taken ty n bits ss)
+decided ty n enc.masked ss = (λ i. masked_kept ty n ss, masked_taken ty n ss)
+decided ty n enc.is_valid ss = (λ i. test_kept ty n ss, test_taken ty n ss)
 decided ty n (enc.function f) ss = (λ i. function_kept i ty n f ss, function_taken ty n f ss)
 decided ty n (enc.bool bs) ss = (λ i. column_kept ty n (bool NonNullable) _ ss, column_taken ty n (bool NonNullable) _ ss)
 decided ty n (enc.primitive p zs) ss = (λ i. column_kept ty n (primitive p NonNullable) _ ss, column_taken ty n (primitive p NonNullable) _ ss)
@@ -237,13 +299,30 @@ refused_unless_node ty n d ss = (decided ty n d ss).1
 
 -- ---- what is asked of the slots, as the code asks
 
-pub slice_slot_count : (ty : DataType) (n a b : ℕ) (xs : List (Option Tree)) →
-    length xs ≢ 1 → slice_refusal ty n a b (shapes (slots_of xs)) ≡ Some (InvalidArgument SlotCount)
-slice_slot_count ty n a b = not_one (slice_refusal ty n a b) _ refl two
+pub child_slot_count : (later : DataType → ℕ → Option VortexError) (xs : List (Option Tree)) → length xs ≢ 1
+    → of_child later (shapes (slots_of xs)) ≡ Some (InvalidArgument SlotCount)
+child_slot_count later = not_one (of_child later) _ refl two
   where
-    two : (s r : Option Shape) (ss : List (Option Shape)) → slice_refusal ty n a b (s ∷ r ∷ ss) ≡ Some (InvalidArgument SlotCount)
+    two : (s r : Option Shape) (ss : List (Option Shape)) → of_child later (s ∷ r ∷ ss) ≡ Some (InvalidArgument SlotCount)
     two None r ss = refl
     two (Some (shape t m)) r ss = refl
+
+pub by_child : (later : DataType → ℕ → Option VortexError) (ss : List (Option Shape)) (c : Tree) → ss ≡ Some (shape_of c) ∷ []
+    → of_child later ss ≡ later (dtype c) (len c)
+by_child later ss c h = ap (of_child later) h
+
+pub masked_slot_count : (ty : DataType) (n : ℕ) (xs : List (Option Tree)) → length xs ≢ 2
+    → masked_refusal ty n (shapes (slots_of xs)) ≡ Some (InvalidArgument SlotCount)
+masked_slot_count ty n [] h = refl
+masked_slot_count ty n (None ∷ []) h = refl
+masked_slot_count ty n (Some t ∷ []) h = refl
+masked_slot_count ty n (x ∷ y ∷ []) h = absurd (h refl)
+masked_slot_count ty n (x ∷ y ∷ z ∷ xs) h =
+    ap (masked_refusal ty n) (first_shape x (y ∷ z ∷ xs) ∙ ap (λ l. option_map shape_of x ∷ l) (first_shape y (z ∷ xs) ∙ ap (λ l. option_map shape_of y ∷ l) (first_shape z xs)))
+
+pub masked_by_slots : (ty : DataType) (n : ℕ) (ss : List (Option Shape)) (c : Tree) (v : Option Tree) → ss ≡ Some (shape_of c) ∷ option_map shape_of v ∷ []
+    → masked_refusal ty n ss ≡ mask_refusal ty n (Some (shape_of c)) (option_map shape_of v)
+masked_by_slots ty n ss c v h = ap (masked_refusal ty n) h
 
 pub column_slot_count : (ty : DataType) (n : ℕ) (of_type : DataType) (k : ℕ) (xs : List (Option Tree)) →
     length xs ≢ 1 → column_refusal ty n of_type k (shapes (slots_of xs)) ≡ Some (InvalidArgument SlotCount)
@@ -264,7 +343,18 @@ the_slot [] s h e = absurd (omega arith)
 the_slot (r ∷ []) s h e = ap (λ z. z ∷ []) (cc)
 the_slot (r ∷ q ∷ xs) s h e = absurd (omega arith)
 
+pub the_slots : (xs : List (Option Tree)) (s r : Option Tree) → length xs ≡ 2 → s ≡ get_or xs 0 s → r ≡ get_or xs 1 r
+    → shapes (slots_of xs) ≡ option_map shape_of s ∷ option_map shape_of r ∷ []
+the_slots [] s r h e f = absurd (omega arith)
+the_slots (x ∷ []) s r h e f = absurd (omega arith)
+the_slots (x ∷ y ∷ []) s r h e f =
+    first_shape x (y ∷ []) ∙ ap (λ l. option_map shape_of x ∷ l) (first_shape y []) ∙ (λ j. option_map shape_of (sym e j) ∷ option_map shape_of (sym f j) ∷ [])
+the_slots (x ∷ y ∷ z ∷ xs) s r h e f = absurd (omega arith)
+
 -- ---- the parts that the constructors make
 
 pub slice_is_node : (t : Tree) (a b : ℕ) → a ≤ b → b ≤ len t → IsNode (dtype t) (b - a) (enc.slice a b) (Some (shape_of t) ∷ [])
 slice_is_node t a b h k = (len t, refl, h, k, refl)
+
+pub filter_is_node : (t : Tree) (bits : List Bool) → length bits ≡ len t → IsNode (dtype t) (true_count bits) (enc.filter bits) (Some (shape_of t) ∷ [])
+filter_is_node t bits h = (ap (λ z. Some (shape (dtype t) z) ∷ []) (sym h), refl)

@@ -79,10 +79,31 @@ only_slot (None ∷ Some t ∷ xs) s h = absurd (cc)
 only_slot (Some t ∷ None ∷ xs) s h = absurd (cc)
 only_slot (Some t ∷ Some u ∷ xs) s h = absurd (cc)
 
+-- the two slots of a masked node
+pub two_slots : (xs : List (Option Tree)) (ty : DataType) (m : ℕ) (s : Option Shape) →
+    shapes (slots_of xs) ≡ Some (shape ty m) ∷ s ∷ [] → (t : Tree) × (v : Option Tree) × (xs ≡ Some t ∷ v ∷ []) × (shape_of t ≡ shape ty m)
+two_slots [] ty m s h = absurd (cc)
+two_slots (None ∷ xs) ty m s h = absurd (cc)
+two_slots (Some t ∷ []) ty m s h = absurd (cc)
+two_slots (Some t ∷ v ∷ []) ty m s h = (t, v, refl, of_first v h)
+  where
+    of_first : (v : Option Tree) → shapes (slots_of (Some t ∷ v ∷ [])) ≡ Some (shape ty m) ∷ s ∷ [] → shape_of t ≡ shape ty m
+    of_first None h = cc
+    of_first (Some u) h = cc
+two_slots (Some t ∷ None ∷ None ∷ xs) ty m s h = absurd (cc)
+two_slots (Some t ∷ None ∷ Some u ∷ xs) ty m s h = absurd (cc)
+two_slots (Some t ∷ Some r ∷ None ∷ xs) ty m s h = absurd (cc)
+two_slots (Some t ∷ Some r ∷ Some u ∷ xs) ty m s h = absurd (cc)
+
 pub none_there : (xs : List (Option Tree)) → shapes (slots_of xs) ≡ [] → xs ≡ []
 none_there [] h = refl
 none_there (None ∷ xs) h = absurd (cc)
 none_there (Some t ∷ xs) h = absurd (cc)
+
+-- the first of some slots
+pub first_shape : (x : Option Tree) (xs : List (Option Tree)) → shapes (slots_of (x ∷ xs)) ≡ option_map shape_of x ∷ shapes (slots_of xs)
+first_shape None xs = refl
+first_shape (Some t) xs = refl
 
 -- what is given to no slot, and to two or more, is given unless there is one
 pub not_one : {A : Type 0} (answer : List (Option Shape) → A) (e : A) → answer [] ≡ e →

@@ -4,6 +4,7 @@ use Rattle.std.specs.List.{range_with_len}
 use Rattle.vx_value.specs.Types.{DataType}
 use Rattle.vx_value.specs.Values.{null, boolean, integer}
 use Rattle.vx_value.specs.Cell.{Cell, value, fault}
+use Rattle.vx_mask.specs.Places.{chosen}
 use Rattle.vx_fn.specs.Apply.{apply}
 use Rattle.vx_tree.specs.Tree as enc
 use Rattle.vx_tree.specs.Tree.{Tree, Data, Slots, node, no_slots, absent, slot}
@@ -30,10 +31,19 @@ valid_cells [] cs = cs
 valid_cells (v ∷ vs) [] = []
 valid_cells (v ∷ vs) (c ∷ cs) = valid_cell v c ∷ valid_cells vs cs
 
+-- whether a cell isn't null; a fault is one here too
+abbrev pub shown_cell : Cell → Cell
+shown_cell (value null) = value (boolean false)
+shown_cell (value v) = value (boolean true)
+shown_cell fault = fault
+
 -- the cells of a node, from those of its slots: a line for each encoding
 abbrev pub node_cells : DataType → ℕ → Data → List (List Cell) → List Cell
 node_cells ty n (enc.constant v) css = replicate n (value v.value)
 node_cells ty n (enc.slice a b) css = take (b - a) (drop a (cells_at css 0))
+node_cells ty n (enc.filter bits) css = chosen bits (cells_at css 0)
+node_cells ty n enc.masked css = valid_cells (cells_at css 1) (cells_at css 0)
+node_cells ty n enc.is_valid css = map shown_cell (cells_at css 0)
 node_cells ty n (enc.function f) css = map (λ i. apply f ty (row_at css i)) (range_with_len 0 n)
 node_cells ty n (enc.bool bs) css = valid_cells (cells_at css 0) (map (λ b. value (boolean b)) bs)
 node_cells ty n (enc.primitive p zs) css = valid_cells (cells_at css 0) (map (λ z. value (integer z)) zs)

@@ -1,5 +1,5 @@
 -- What bounds the turns of an execution.
-use Rattle.std.specs.Prelude.{ℕ, ◌+◌, ◌*◌, if◌then◌else◌, List, [], ◌∷◌, sum}
+use Rattle.std.specs.Prelude.{ℕ, zero, suc, ◌+◌, ◌*◌, Bool, true, false, if◌then◌else◌, List, [], ◌∷◌, sum}
 use Rattle.vx_tree.specs.Tree as enc
 use Rattle.vx_tree.specs.Tree.{Tree, Data, Slots, node, no_slots, absent, slot, is_columnar}
 
@@ -8,6 +8,30 @@ abbrev pub all_reached : List ℕ → ℕ
 all_reached [] = 0
 all_reached (e ∷ es) = 1 + e + all_reached es
 
+-- which slots of a node are executed: those of a column aren't, and of a masked node the child alone is
+pub data Executed : Type 0 where
+  none : Executed
+  first : Executed
+  all : Executed
+
+abbrev pub executed : Data → Executed
+executed enc.masked = first
+executed d = if is_columnar d then none else all
+
+-- whether the first of the slots is, and which of those after it
+abbrev pub is_next : Executed → Bool
+is_next none = false
+is_next _ = true
+
+abbrev pub after : Executed → Executed
+after all = all
+after _ = none
+
+-- whether slot i is
+abbrev pub is_executed : Executed → ℕ → Bool
+is_executed e zero = is_next e
+is_executed e (suc i) = is_executed (after e) i
+
 -- what an encoding adds to the bounds: the turns that a node takes itself, those for a slot by its reach, less one, and how far a
 -- slice may have to be pushed down, less one, by the same of its slots
 pub record Charge : Type 0 where
@@ -15,26 +39,38 @@ pub record Charge : Type 0 where
   pub by_reach : ℕ
   pub extra : List ℕ → ℕ
 
--- of an encoding without children
-abbrev pub leaf_charge : ℕ → Charge
-leaf_charge own = record { own = own; by_reach = 0; extra = λ es. 0 }
+-- of an encoding whose reach is 1
+abbrev pub flat_charge : ℕ → ℕ → Charge
+flat_charge own by_reach = record { own = own; by_reach = by_reach; extra = λ es. 0 }
 
 -- a line for each encoding
 abbrev pub charge : Data → Charge
-charge (enc.constant v) = leaf_charge 2
+charge (enc.constant v) = flat_charge 2 0
 charge (enc.slice a b) = record { own = 2; by_reach = 3; extra = sum }
+charge (enc.filter bits) = flat_charge 3 3
+charge enc.masked = record { own = 3; by_reach = 0; extra = all_reached }
+charge enc.is_valid = flat_charge 2 0
 charge (enc.function f) = record { own = 3; by_reach = 0; extra = all_reached }
-charge (enc.bool bs) = leaf_charge 1
-charge (enc.primitive p zs) = leaf_charge 1
+charge (enc.bool bs) = flat_charge 1 0
+charge (enc.primitive p zs) = flat_charge 1 0
+
+-- a number of a slot, where it counts
+abbrev pub counted : Bool → ℕ → ℕ
+counted true n = n
+counted false n = 0
+
+abbrev pub listed : Bool → ℕ → List ℕ → List ℕ
+listed true n ns = n ∷ ns
+listed false n ns = ns
 
 abbrev mutual
   pub extra : Tree → ℕ
-  extra (node ty n d ss) = (charge d).extra (slots_extra ss)
+  extra (node ty n d ss) = (charge d).extra (slots_extra (executed d) ss)
 
-  pub slots_extra : Slots → List ℕ
-  slots_extra no_slots = []
-  slots_extra (absent ss) = slots_extra ss
-  slots_extra (slot t ss) = extra t ∷ slots_extra ss
+  pub slots_extra : Executed → Slots → List ℕ
+  slots_extra e no_slots = []
+  slots_extra e (absent ss) = slots_extra (after e) ss
+  slots_extra e (slot t ss) = listed (is_next e) (extra t) (slots_extra (after e) ss)
 
 abbrev pub reach : Tree → ℕ
 reach t = 1 + extra t
@@ -46,15 +82,15 @@ base_cost d = (charge d).own
 abbrev pub slot_cost : Data → ℕ → ℕ → ℕ
 slot_cost d c e = c + 1 + (charge d).by_reach * e
 
--- at most so many turns are taken for the tree; none for the validity of a column
+-- at most so many turns are taken for the tree
 abbrev mutual
   pub cost : Tree → ℕ
-  cost (node ty n d ss) = base_cost d + (if is_columnar d then 0 else slots_cost d ss)
+  cost (node ty n d ss) = base_cost d + slots_cost d (executed d) ss
 
-  pub slots_cost : Data → Slots → ℕ
-  slots_cost d no_slots = 0
-  slots_cost d (absent ss) = slots_cost d ss
-  slots_cost d (slot t ss) = slot_cost d (cost t) (extra t) + slots_cost d ss
+  pub slots_cost : Data → Executed → Slots → ℕ
+  slots_cost d e no_slots = 0
+  slots_cost d e (absent ss) = slots_cost d (after e) ss
+  slots_cost d e (slot t ss) = counted (is_next e) (slot_cost d (cost t) (extra t)) + slots_cost d (after e) ss
 
 -- a number for each tree in the slots, added up
 abbrev pub slots_sum : (Tree → ℕ) → Slots → ℕ

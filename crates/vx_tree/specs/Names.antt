@@ -7,6 +7,9 @@ use Rattle.vx_tree.specs.Tree.{Data}
 -- in their order: a line for each encoding
 abbrev pub slot_names : Data → List (List ℕ)
 slot_names (enc.slice a b) = codes "child" ∷ []
+slot_names (enc.filter bits) = codes "child" ∷ []
+slot_names enc.masked = codes "child" ∷ codes "validity" ∷ []
+slot_names enc.is_valid = codes "child" ∷ []
 slot_names (enc.function f) = argument_names f
 slot_names (enc.bool bs) = codes "validity" ∷ []
 slot_names (enc.primitive p zs) = codes "validity" ∷ []

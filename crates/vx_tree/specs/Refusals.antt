@@ -2,7 +2,7 @@
 use Rattle.std.specs.Prelude.{ℕ, ◌-◌, List, [], ◌∷◌, length, Bool, true, false, ◌==◌, ◌&&◌, nat_le, Option, Some, None}
 use Rattle.vx_value.specs.Types as type
 use Rattle.vx_value.specs.Types.{DataType, same_type, nullability_of}
-use Rattle.vx_value.specs.Nullabilities.{same_but_nullability}
+use Rattle.vx_value.specs.Nullabilities.{same_but_nullability, with_nullability}
 use Rattle.vx_value.specs.IsOf.{is_of}
 use Rattle.vx_value.specs.Typed.{Typed}
 use Rattle.vx_value.specs.declared.dtype.Nullability.{Nullability}
@@ -10,9 +10,10 @@ use Rattle.vx_value.specs.declared.dtype.Nullability.TheVariants.{NonNullable, N
 use Rattle.vx_value.specs.declared.error.VortexError.{VortexError}
 use Rattle.vx_value.specs.declared.error.VortexError.TheVariants.{InvalidArgument, OutOfBounds}
 use Rattle.vx_value.specs.declared.error.ArgKind.TheVariants.{SlotCount, SlotMissing, SlotType, SlotLen, FnSlotMissing, Arity, ChildLen, NoRow}
-use Rattle.vx_value.specs.declared.error.ArgKind.TheVariants.{NodeType, NodeLen, BadType, BadValue}
+use Rattle.vx_value.specs.declared.error.ArgKind.TheVariants.{NodeType, NodeLen, MaskLen, BadType, BadValue}
 use Rattle.vx_value.specs.Ids.{same_id}
 use Rattle.vx_value.specs.declared.id.Id.{Id}
+use Rattle.vx_mask.specs.Places.{true_count}
 use Rattle.vx_fn.specs.Functions.{arity, function_id}
 use Rattle.vx_fn.specs.ReturnTypes.{return_type}
 use Rattle.vx_fn.specs.declared.function.ScalarFnRef.{ScalarFnRef}
@@ -22,23 +23,23 @@ use Rattle.vx_tree.specs.Tree.{Tree, Data, dtype, len}
 use Rattle.vx_tree.specs.Well.{Shape, shape}
 use Rattle.vx_tree.specs.Conditions.{first_of_both, unless}
 
--- of the tree in the slot of a validity: its type, and its length
-abbrev pub validity_type_refusal : Nullability → Option Shape → Option VortexError
-validity_type_refusal m None = None
-validity_type_refusal NonNullable (Some s) = Some (InvalidArgument (SlotType 0))
-validity_type_refusal Nullable (Some (shape s m)) = unless (same_type s (type.bool NonNullable)) (InvalidArgument (SlotType 0))
+-- of the tree in slot i, that of a validity: its type, and its length
+abbrev pub validity_type_refusal : ℕ → Nullability → Option Shape → Option VortexError
+validity_type_refusal i m None = None
+validity_type_refusal i NonNullable (Some s) = Some (InvalidArgument (SlotType i))
+validity_type_refusal i Nullable (Some (shape s m)) = unless (same_type s (type.bool NonNullable)) (InvalidArgument (SlotType i))
 
-abbrev pub validity_len_refusal : ℕ → Option Shape → Option VortexError
-validity_len_refusal n None = None
-validity_len_refusal n (Some (shape s m)) = unless (m == n) (InvalidArgument (SlotLen 0))
+abbrev pub validity_len_refusal : ℕ → ℕ → Option Shape → Option VortexError
+validity_len_refusal i n None = None
+validity_len_refusal i n (Some (shape s m)) = unless (m == n) (InvalidArgument (SlotLen i))
 
 -- of a column of k values of the type, which may be null where the column's type is nullable
 abbrev pub column_refusal : DataType → ℕ → DataType → ℕ → List (Option Shape) → Option VortexError
 column_refusal ty n of_type k [] = Some (InvalidArgument SlotCount)
 column_refusal ty n of_type k (s ∷ []) =
     first_of_both (unless (same_but_nullability ty of_type) (InvalidArgument BadType))
-    (first_of_both (validity_type_refusal (nullability_of ty) s)
-    (first_of_both (unless (n == k) (InvalidArgument NodeLen)) (validity_len_refusal n s)))
+    (first_of_both (validity_type_refusal 0 (nullability_of ty) s)
+    (first_of_both (unless (n == k) (InvalidArgument NodeLen)) (validity_len_refusal 0 n s)))
 column_refusal ty n of_type k (s ∷ r ∷ ss) = Some (InvalidArgument SlotCount)
 
 abbrev pub constant_refusal : DataType → Typed → List (Option Shape) → Option VortexError
@@ -48,13 +49,38 @@ constant_refusal ty v [] =
     (unless (is_of ty v.value) (InvalidArgument BadValue)))
 constant_refusal ty v (s ∷ ss) = Some (InvalidArgument SlotCount)
 
-abbrev pub slice_refusal : DataType → ℕ → ℕ → ℕ → List (Option Shape) → Option VortexError
-slice_refusal ty n a b [] = Some (InvalidArgument SlotCount)
-slice_refusal ty n a b (None ∷ []) = Some (InvalidArgument (SlotMissing 0))
-slice_refusal ty n a b (Some (shape s m) ∷ []) =
+-- of a node with one child, by the child's type and length
+abbrev pub of_child : (DataType → ℕ → Option VortexError) → List (Option Shape) → Option VortexError
+of_child later [] = Some (InvalidArgument SlotCount)
+of_child later (None ∷ []) = Some (InvalidArgument (SlotMissing 0))
+of_child later (Some (shape s m) ∷ []) = later s m
+of_child later (s ∷ r ∷ ss) = Some (InvalidArgument SlotCount)
+
+abbrev pub slice_refusal : DataType → ℕ → ℕ → ℕ → DataType → ℕ → Option VortexError
+slice_refusal ty n a b s m =
     first_of_both (unless (same_type ty s) (InvalidArgument NodeType))
     (first_of_both (unless (n == b - a) (InvalidArgument NodeLen)) (unless (nat_le a b && nat_le b m) (OutOfBounds a b m)))
-slice_refusal ty n a b (s ∷ r ∷ ss) = Some (InvalidArgument SlotCount)
+
+abbrev pub filter_refusal : DataType → ℕ → List Bool → DataType → ℕ → Option VortexError
+filter_refusal ty n bits s m =
+    first_of_both (unless (same_type ty s) (InvalidArgument NodeType))
+    (first_of_both (unless (m == length bits) (InvalidArgument (MaskLen m (length bits)))) (unless (n == true_count bits) (InvalidArgument NodeLen)))
+
+abbrev pub validity_refusal : DataType → ℕ → DataType → ℕ → Option VortexError
+validity_refusal ty n s m =
+    first_of_both (unless (same_type ty (type.bool NonNullable)) (InvalidArgument NodeType)) (unless (n == m) (InvalidArgument NodeLen))
+
+-- of a masked node: its child, and its validity in slot 1
+abbrev pub mask_refusal : DataType → ℕ → Option Shape → Option Shape → Option VortexError
+mask_refusal ty n None v = Some (InvalidArgument (SlotMissing 0))
+mask_refusal ty n (Some (shape s m)) v =
+    first_of_both (unless (same_type ty (with_nullability Nullable s)) (InvalidArgument NodeType))
+    (first_of_both (validity_type_refusal 1 Nullable v)
+    (first_of_both (unless (n == m) (InvalidArgument NodeLen)) (validity_len_refusal 1 n v)))
+
+abbrev pub masked_refusal : DataType → ℕ → List (Option Shape) → Option VortexError
+masked_refusal ty n (c ∷ v ∷ []) = mask_refusal ty n c v
+masked_refusal ty n _ = Some (InvalidArgument SlotCount)
 
 -- each slot holds a tree; the types of those that do; and whether these have so many rows
 abbrev pub all_present : List (Option Shape) → Bool
@@ -117,7 +143,10 @@ function_refusal i ty n f ss =
 -- why no node of these parts is made under the id of its tag, None where one is: a line for each encoding
 abbrev pub refusal : Id → DataType → ℕ → Data → List (Option Shape) → Option VortexError
 refusal i ty n (enc.constant v) ss = constant_refusal ty v ss
-refusal i ty n (enc.slice a b) ss = slice_refusal ty n a b ss
+refusal i ty n (enc.slice a b) ss = of_child (slice_refusal ty n a b) ss
+refusal i ty n (enc.filter bits) ss = of_child (filter_refusal ty n bits) ss
+refusal i ty n enc.masked ss = masked_refusal ty n ss
+refusal i ty n enc.is_valid ss = of_child (validity_refusal ty n) ss
 refusal i ty n (enc.function f) ss = function_refusal i ty n f ss
 refusal i ty n (enc.bool bs) ss = column_refusal ty n (type.bool NonNullable) (length bs) ss
 refusal i ty n (enc.primitive p zs) ss = column_refusal ty n (type.primitive p NonNullable) (length zs) ss

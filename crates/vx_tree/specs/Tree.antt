@@ -2,15 +2,17 @@
 use Rattle.std.specs.Prelude.{◌≡◌, ℕ, ℤ, ◌+◌, ◌-◌, List, [], ◌∷◌, length, max, Option, Some, None, Bool, true, false, ◌||◌, refl}
 use Rattle.std.specs.Coded.{Coded, coded_ℕ, coded_ℤ, coded_bool, coded_list, coded×}
 use Rattle.std.proofs.Common.{ap, inl, inr}
-use base.Stored.{Gv, gnil, gnum, gcons}
+use base.Stored.{Gv, gnil, gnum, gcons, coded_unit}
 use Rattle.vx_value.specs.Codes.{Part, part, ◌or◌, no_part, coded_by}
 use Rattle.vx_value.specs.Types as type
 use Rattle.vx_value.specs.Types.{DataType, coded_type, coded_ptype}
 use Rattle.vx_value.specs.Typed.{Typed, coded_typed}
-use Rattle.vx_value.specs.declared.dtype.Nullability.TheVariants.{NonNullable}
+use Rattle.vx_value.specs.Nullabilities.{with_nullability}
+use Rattle.vx_value.specs.declared.dtype.Nullability.TheVariants.{NonNullable, Nullable}
 use Rattle.vx_value.specs.declared.dtype.PType.{PType}
 use Rattle.vx_value.specs.declared.id.Id.{Id}
 use Rattle.vx_value.specs.declared.id.Id.TheVariants as id
+use Rattle.vx_mask.specs.Places.{true_count}
 use Rattle.vx_fn.specs.Functions.{function_id, coded_function}
 use Rattle.vx_fn.specs.declared.function.ScalarFnRef.{ScalarFnRef}
 
@@ -18,6 +20,9 @@ use Rattle.vx_fn.specs.declared.function.ScalarFnRef.{ScalarFnRef}
 pub data Data : Type 0 where
   constant : Typed → Data
   slice : ℕ → ℕ → Data
+  filter : List Bool → Data
+  masked : Data
+  is_valid : Data
   function : ScalarFnRef → Data
   bool : List Bool → Data
   primitive : PType → List ℤ → Data
@@ -85,6 +90,18 @@ constant_of v n = node v.of_type n (constant v) no_slots
 abbrev pub slice_of : ℕ → ℕ → Tree → Tree
 slice_of a b t = node (dtype t) (b - a) (slice a b) (slot t no_slots)
 
+-- the rows of t at the true bits
+abbrev pub filter_of : List Bool → Tree → Tree
+filter_of bits t = node (dtype t) (true_count bits) (filter bits) (slot t no_slots)
+
+-- the rows of t, null where the validity says so; none is if it is absent
+abbrev pub masked_of : Tree → Option Tree → Tree
+masked_of t validity = node (with_nullability Nullable (dtype t)) (len t) masked (slots_of (Some t ∷ validity ∷ []))
+
+-- whether each row of t isn't null
+abbrev pub validity_in : Tree → Tree
+validity_in t = node (type.bool NonNullable) (len t) is_valid (slot t no_slots)
+
 -- f on the rows of the trees, n of each
 abbrev pub call_of : ScalarFnRef → DataType → ℕ → List Tree → Tree
 call_of f ty n ts = node ty n (function f) (filled_slots ts)
@@ -93,6 +110,9 @@ call_of f ty n ts = node ty n (function f) (filled_slots ts)
 abbrev pub id_of : Data → Id
 id_of (constant v) = id.Constant
 id_of (slice a b) = id.Slice
+id_of (filter bits) = id.Filter
+id_of masked = id.Masked
+id_of is_valid = id.ScalarFnValidity
 id_of (function f) = function_id f
 id_of (bool bs) = id.Bool
 id_of (primitive p zs) = id.Primitive
@@ -105,6 +125,18 @@ is_constant _ = false
 abbrev pub is_slice : Data → Bool
 is_slice (slice a b) = true
 is_slice _ = false
+
+abbrev pub is_filter : Data → Bool
+is_filter (filter bits) = true
+is_filter _ = false
+
+abbrev pub is_masked : Data → Bool
+is_masked masked = true
+is_masked _ = false
+
+abbrev pub is_validity : Data → Bool
+is_validity is_valid = true
+is_validity _ = false
 
 abbrev pub is_function : Data → Bool
 is_function (function f) = true
@@ -135,6 +167,9 @@ data_parts =
     or part coded_function function
     or part (coded_list coded_bool) bool
     or part (coded× coded_ptype (coded_list coded_ℤ)) (λ p. primitive p.0 p.1)
+    or part (coded_list coded_bool) filter
+    or part coded_unit (λ u. masked)
+    or part coded_unit (λ u. is_valid)
     or no_part
 
 abbrev pub data_split : Data → data_parts.holds
@@ -143,6 +178,9 @@ data_split (slice a b) = inr (inl (a, b))
 data_split (function f) = inr (inr (inl f))
 data_split (bool bs) = inr (inr (inr (inl bs)))
 data_split (primitive p zs) = inr (inr (inr (inr (inl (p, zs)))))
+data_split (filter bits) = inr (inr (inr (inr (inr (inl bits)))))
+data_split masked = inr (inr (inr (inr (inr (inr (inl tt))))))
+data_split is_valid = inr (inr (inr (inr (inr (inr (inr (inl tt)))))))
 
 pub data_back : (d : Data) → data_parts.make (data_split d) ≡ d
 data_back (constant v) = refl

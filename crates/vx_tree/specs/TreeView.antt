@@ -1,5 +1,6 @@
 -- The tree that a node of the program stands for.
 use Rattle.vx_value.specs.View.{type_of}
+use Rattle.vx_mask.specs.Masks.{bits_in}
 use Rattle.vx_native.specs.Natives.{values_of, ptype_of}
 use Rattle.vx_tree.specs.Tree as enc
 use Rattle.vx_tree.specs.Tree.{Tree, node, Data, slots_of}
@@ -10,6 +11,9 @@ use Rattle.vx_tree.specs.declared.array.node.Encoding.TheVariants as encoding
 abbrev pub data_of : Encoding → Data
 data_of (encoding.Constant c) = enc.constant c.scalar
 data_of (encoding.Slice s) = enc.slice s.range.start s.range.end
+data_of (encoding.Filter f) = enc.filter (bits_in f.mask)
+data_of (encoding.Masked m) = enc.masked
+data_of (encoding.ScalarFnValidity v) = enc.is_valid
 data_of (encoding.ScalarFn f) = enc.function f.scalar_fn
 data_of (encoding.Bool b) = enc.bool b.bits
 data_of (encoding.Primitive p) = enc.primitive (ptype_of p.values) (values_of p.values)

@@ -6,6 +6,7 @@ use Rattle.vx_value.specs.Nullabilities.{with_nullability}
 use Rattle.vx_value.specs.IsOf.{is_of}
 use Rattle.vx_value.specs.declared.dtype.Nullability.{Nullability}
 use Rattle.vx_value.specs.declared.dtype.Nullability.TheVariants.{NonNullable, Nullable}
+use Rattle.vx_mask.specs.Places.{true_count}
 use Rattle.vx_fn.specs.ReturnTypes.{return_type}
 use Rattle.vx_tree.specs.ColumnTypes.{has_column, is_computed}
 use Rattle.vx_tree.specs.Tree as enc
@@ -34,10 +35,17 @@ abbrev pub IsFlat : DataType → ℕ → DataType → ℕ → List (Option Shape
 IsFlat of_type k ty n ss =
     (v : Option Shape) × (ty ≡ with_nullability (nullability_of ty) of_type) × (n ≡ k) × (ss ≡ v ∷ []) × IsValidity (nullability_of ty) n v
 
+-- the slots of a masked node: n rows of a type, and their validity
+abbrev pub IsMasked : DataType → ℕ → List (Option Shape) → Type 0
+IsMasked ty n ss = (s : DataType) × (v : Option Shape) × (ss ≡ Some (shape s n) ∷ v ∷ []) × (ty ≡ with_nullability Nullable s) × IsValidity Nullable n v
+
 -- the conditions on a node, its slots' own apart: a line for each encoding
 abbrev pub IsNode : DataType → ℕ → Data → List (Option Shape) → Type 0
 IsNode ty n (enc.constant v) ss = (ty ≡ v.of_type) × (has_column ty ≡ true) × (is_of ty v.value ≡ true) × (ss ≡ [])
 IsNode ty n (enc.slice a b) ss = (m : ℕ) × (ss ≡ Some (shape ty m) ∷ []) × (a ≤ b) × (b ≤ m) × (n ≡ b - a)
+IsNode ty n (enc.filter bits) ss = (ss ≡ Some (shape ty (length bits)) ∷ []) × (n ≡ true_count bits)
+IsNode ty n enc.masked ss = IsMasked ty n ss
+IsNode ty n enc.is_valid ss = (s : DataType) × (ss ≡ Some (shape s n) ∷ []) × (ty ≡ type.bool NonNullable)
 IsNode ty n (enc.function f) ss =
     (tys : List DataType) × (ss ≡ map (λ s. Some (shape s n)) tys) × (return_type f tys ≡ Some ty) × (is_computed f ty ≡ true)
 IsNode ty n (enc.bool bs) ss = IsFlat (type.bool NonNullable) (length bs) ty n ss

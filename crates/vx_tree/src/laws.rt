@@ -1,9 +1,9 @@
 //! Laws of trees. Each is a function with an empty body, whose contract is the law.
 
-ghost use Rattle.std.specs.Prelude.{◌≡◌, ◌↔◌, ◌+◌, ◌*◌, ◌<◌, ◌≤◌, ℕ, List, Option, None, true, false};
+ghost use Rattle.std.specs.Prelude.{◌≡◌, ◌↔◌, ◌+◌, ◌*◌, ◌<◌, ◌≤◌, ℕ, Bool, List, Option, None, true, false};
 ghost use Rattle.vx_value.specs.Types.{DataType};
 ghost use Rattle.vx_value.specs.Typed.{Typed};
-ghost use Rattle.vx_tree.specs.Tree.{Tree, Slots, Data, id_of, node, constant, slice, function, slot, no_slots, datum, is_constant, is_canonical, is_columnar};
+ghost use Rattle.vx_tree.specs.Tree.{Tree, Slots, Data, id_of, node, constant, slice, filter, masked, is_valid, function, slot, no_slots, datum, is_constant, is_canonical, is_columnar};
 ghost use Rattle.vx_tree.specs.Well.{Shape, IsNode, IsWell};
 ghost use Rattle.vx_tree.specs.Refusals.{refusal};
 ghost use Rattle.vx_tree.specs.Slots.{put};
@@ -36,6 +36,12 @@ pub fn execution_bounds()
     ensures column_reach { (ty : DataType) (n : ℕ) (d : Data) (ss : Slots) → is_canonical d ≡ true → reach (node ty n d ss) ≡ 1 }
     ensures slices { (ty : DataType) (n a b : ℕ) (c : Tree) → cost (node ty n (slice a b) (slot c no_slots)) ≡ cost c + 3 * reach c }
     ensures slice_reach { (ty : DataType) (n a b : ℕ) (c : Tree) → reach (node ty n (slice a b) (slot c no_slots)) ≡ reach c }
+    ensures filters { (ty : DataType) (n : ℕ) (bits : List Bool) (c : Tree) → cost (node ty n (filter bits) (slot c no_slots)) ≡ cost c + 3 * reach c + 1 }
+    ensures filter_reach { (ty : DataType) (n : ℕ) (bits : List Bool) (c : Tree) → reach (node ty n (filter bits) (slot c no_slots)) ≡ 1 }
+    ensures masks { (ty : DataType) (n : ℕ) (c : Tree) (ss : Slots) → cost (node ty n masked (slot c ss)) ≡ cost c + 4 }
+    ensures mask_reach { (ty : DataType) (n : ℕ) (c : Tree) (ss : Slots) → reach (node ty n masked (slot c ss)) ≡ 1 + reach c }
+    ensures validities { (ty : DataType) (n : ℕ) (c : Tree) → cost (node ty n is_valid (slot c no_slots)) ≡ cost c + 3 }
+    ensures validity_reach { (ty : DataType) (n : ℕ) (c : Tree) → reach (node ty n is_valid (slot c no_slots)) ≡ 1 }
     ensures functions { (ty : DataType) (n : ℕ) (f : ScalarFnOf) (ss : Slots) → cost (node ty n (function f) ss) ≡ 3 + slots_sum (λ c. 1 + cost c) ss }
     ensures function_reach { (ty : DataType) (n : ℕ) (f : ScalarFnOf) (ss : Slots) → reach (node ty n (function f) ss) ≡ 1 + slots_sum reach ss }
     ensures positive { (t : Tree) → 0 < cost t }

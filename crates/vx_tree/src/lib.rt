@@ -17,8 +17,11 @@ pub use array::{
 };
 pub use arrays::boolean::{Bool, BoolArray, BoolData};
 pub use arrays::constant::{Constant, ConstantArray, ConstantData};
+pub use arrays::filter::{Filter, FilterArray, FilterData, FilterDataParts};
+pub use arrays::masked::{Masked, MaskedArray, MaskedData};
 pub use arrays::primitive::{Primitive, PrimitiveArray, PrimitiveData};
 pub use arrays::scalar_fn::{ScalarFn, ScalarFnArray, ScalarFnData};
+pub use arrays::scalar_fn_validity::{EmptyArrayData, ScalarFnValidity, ScalarFnValidityArray};
 pub use arrays::slice::{Slice, SliceArray, SliceData, SliceDataParts};
 pub use canonical::Canonical;
 pub use column_types::{has_column, is_computed};

@@ -10,6 +10,9 @@ use Rattle.vx_value.specs.contracts.id.Id.{the_type as the_id}
 abbrev pub id_text : Id → List ℕ
 id_text id.Constant = codes "vortex.constant"
 id_text id.Slice = codes "vortex.slice"
+id_text id.Filter = codes "vortex.filter"
+id_text id.Masked = codes "vortex.masked"
+id_text id.ScalarFnValidity = codes "vortex.scalar_fn_validity"
 id_text id.Binary = codes "vortex.binary"
 id_text id.Between = codes "vortex.between"
 id_text id.Not = codes "vortex.not"

@@ -33,6 +33,9 @@ pub enum ArgKind {
     /// A function's node has no arguments to take its length from.
     #[error("ScalarFnArray length cannot be inferred without children")]
     NoChildren,
+    /// The mask of a filter chooses among `mask` rows, and its child has `child`.
+    #[error("FilterArray array and mask lengths must match")]
+    MaskLen { child: usize, mask: usize },
     /// The function doesn't accept arguments of these types.
     #[error("no row")]
     NoRow,

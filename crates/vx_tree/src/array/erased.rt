@@ -49,6 +49,9 @@ impl ArrayRef {
         match &self.node.encoding {
             Encoding::Constant(_) => Id::Constant,
             Encoding::Slice(_) => Id::Slice,
+            Encoding::Filter(_) => Id::Filter,
+            Encoding::Masked(_) => Id::Masked,
+            Encoding::ScalarFnValidity(_) => Id::ScalarFnValidity,
             Encoding::ScalarFn(data) => data.scalar_fn.id(),
             Encoding::Bool(_) => Id::Bool,
             Encoding::Primitive(_) => Id::Primitive,
@@ -62,13 +65,18 @@ impl ArrayRef {
         &self.node.slots
     }
 
-    /// Returns the name of the root's slot `index`, counted from 0. A slice has `child`, a column has `validity`, and a
-    /// function node has the names of its arguments. `None` if there is no such slot.
+    /// Returns the name of the root's slot `index`, counted from 0. A slice, a filter and a test for null have
+    /// `child`, a masked array has `child` and `validity`, a column has `validity`, and a function node has the names of its
+    /// arguments. `None` if there is no such slot.
     pub fn slot_name(&self, index: usize) -> Option<&'static str>
         ensures { option_map (λ s. s.now) result ≡ slice_get (slot_names (datum self.now)) index }
     {
         match (&self.node.encoding, index) {
             (Encoding::Slice(_), 0) => Some("child"),
+            (Encoding::Filter(_), 0) => Some("child"),
+            (Encoding::Masked(_), 0) => Some("child"),
+            (Encoding::Masked(_), 1) => Some("validity"),
+            (Encoding::ScalarFnValidity(_), 0) => Some("child"),
             (Encoding::Bool(_), 0) => Some("validity"),
             (Encoding::Primitive(_), 0) => Some("validity"),
             (Encoding::ScalarFn(data), _) => data.scalar_fn.child_name(index),

@@ -7,7 +7,7 @@ ghost use Rattle.vx_tree.specs.Kinds.{IsKindOf};
 
 use crate::array::{ArrayRef, Encoding, Node};
 use vx_fn::ScalarFnRef;
-use vx_mask::BitBuffer;
+use vx_mask::{BitBuffer, Mask};
 use vx_native::PrimitiveValues;
 use vx_value::Scalar;
 
@@ -18,6 +18,12 @@ pub enum ArrayKind<'a> {
     Constant(&'a Scalar),
     /// The child, and the range of its rows: the start, inclusive, and the stop, exclusive.
     Slice(&'a ArrayRef, usize, usize),
+    /// The child, and the mask that chooses among its rows.
+    Filter(&'a ArrayRef, &'a Mask),
+    /// The child, and the slot of the validity that makes rows of it null.
+    Masked(&'a ArrayRef, &'a Option<ArrayRef>),
+    /// The child whose validity is told.
+    ScalarFnValidity(&'a ArrayRef),
     /// The function, and the slots of its arguments. Each slot has a tree.
     ScalarFn(&'a ScalarFnRef, &'a [Option<ArrayRef>]),
     /// The rows of a column of booleans, and the slot of its validity.
@@ -43,6 +49,9 @@ fn kind_of(node: &Node) -> ArrayKind<'_>
     match &node.encoding {
         Encoding::Constant(data) => data.kind_of(node),
         Encoding::Slice(data) => data.kind_of(node),
+        Encoding::Filter(data) => data.kind_of(node),
+        Encoding::Masked(data) => data.kind_of(node),
+        Encoding::ScalarFnValidity(data) => data.kind_of(node),
         Encoding::ScalarFn(data) => data.kind_of(node),
         Encoding::Bool(data) => data.kind_of(node),
         Encoding::Primitive(data) => data.kind_of(node),

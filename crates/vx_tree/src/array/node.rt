@@ -7,8 +7,11 @@ ghost use Rattle.vx_tree.specs.Well.{IsNodeOf, IsWell, AreWell};
 
 use crate::arrays::boolean::BoolData;
 use crate::arrays::constant::ConstantData;
+use crate::arrays::filter::FilterData;
+use crate::arrays::masked::MaskedData;
 use crate::arrays::primitive::PrimitiveData;
 use crate::arrays::scalar_fn::ScalarFnData;
+use crate::arrays::scalar_fn_validity::EmptyArrayData;
 use crate::arrays::slice::SliceData;
 use std::alloc::{AllocError, Global};
 use std::marker::Model;
@@ -23,6 +26,9 @@ pub type ArraySlots = Vec<Option<ArrayRef>>;
 pub enum Encoding {
     Constant(ConstantData),
     Slice(SliceData),
+    Filter(FilterData),
+    Masked(MaskedData),
+    ScalarFnValidity(EmptyArrayData),
     ScalarFn(ScalarFnData),
     Bool(BoolData),
     Primitive(PrimitiveData),
@@ -85,6 +91,9 @@ impl Clone for Encoding {
         match self {
             Encoding::Constant(data) => Ok(Encoding::Constant(data.clone()?)),
             Encoding::Slice(data) => Ok(Encoding::Slice(data.clone()?)),
+            Encoding::Filter(data) => Ok(Encoding::Filter(data.clone()?)),
+            Encoding::Masked(data) => Ok(Encoding::Masked(*data)),
+            Encoding::ScalarFnValidity(data) => Ok(Encoding::ScalarFnValidity(*data)),
             Encoding::ScalarFn(data) => Ok(Encoding::ScalarFn(data.clone()?)),
             Encoding::Bool(data) => Ok(Encoding::Bool(data.clone()?)),
             Encoding::Primitive(data) => Ok(Encoding::Primitive(data.clone()?)),

@@ -9,7 +9,7 @@ ghost use Rattle.vx_tree.specs.Refusals.{column_refusal, validity_type_refusal, 
 ghost use Rattle.vx_tree.specs.Validities.{child_of, flat_refusal, IsValidityPart};
 
 use crate::array::{Array, ArrayParts, ArrayRef, Encoded, VTable};
-use crate::arrays::types::is_same_type;
+use crate::arrays::types::{BOOLEANS, is_same_type};
 use crate::validity::{Validity, check_validity, slice_validity, validity_to_child};
 use std::alloc::{AllocError, Global};
 use std::ops::Range;
@@ -49,40 +49,45 @@ fn check_flat(
     if !dtype.eq_ignore_nullability(of_type) {
         return Err(VortexError::InvalidArgument(ArgKind::BadType));
     }
-    check_validity_type(dtype, validity)?;
+    check_validity_type(dtype.nullability(), validity, 0)?;
     if len != values {
         return Err(VortexError::InvalidArgument(ArgKind::NodeLen));
     }
-    check_validity_len(len, validity)
+    check_validity_len(len, validity, 0)
 }
 
-/// Checks that a column of type `dtype` may have a tree of this type in the slot of its validity.
-fn check_validity_type(dtype: &DType, validity: &Option<ArrayRef>) -> VortexResult<()>
+/// Checks that a node of this nullability may have a tree of this type in `slot`, the slot of its validity.
+pub(crate) fn check_validity_type(
+    nullability: Nullability,
+    validity: &Option<ArrayRef>,
+    slot: usize,
+) -> VortexResult<()>
     ensures { MatchResult result
-        (λ _. validity_type_refusal (nullability_of (type_of dtype.now)) (option_map shape_of validity.now) ≡ None)
-        (λ e. validity_type_refusal (nullability_of (type_of dtype.now)) (option_map shape_of validity.now) ≡ Some e) }
+        (λ _. validity_type_refusal slot nullability (option_map shape_of validity.now) ≡ None)
+        (λ e. validity_type_refusal slot nullability (option_map shape_of validity.now) ≡ Some e) }
 {
     let Some(child) = validity else {
         return Ok(());
     };
-    match dtype.nullability() {
+    match nullability {
         Nullability::Nullable if is_same_type(child.dtype(), &BOOLEANS) => Ok(()),
-        _ => Err(VortexError::InvalidArgument(ArgKind::SlotType { slot: 0 })),
+        _ => Err(VortexError::InvalidArgument(ArgKind::SlotType { slot })),
     }
 }
 
-/// The type of a validity's rows.
-const BOOLEANS: DType = DType::Bool(Nullability::NonNullable);
-
-/// Checks that the tree in the slot of a validity has `len` rows.
-fn check_validity_len(len: usize, validity: &Option<ArrayRef>) -> VortexResult<()>
+/// Checks that the tree in `slot`, the slot of a validity, has `len` rows.
+pub(crate) fn check_validity_len(
+    len: usize,
+    validity: &Option<ArrayRef>,
+    slot: usize,
+) -> VortexResult<()>
     ensures { MatchResult result
-        (λ _. validity_len_refusal len (option_map shape_of validity.now) ≡ None)
-        (λ e. validity_len_refusal len (option_map shape_of validity.now) ≡ Some e) }
+        (λ _. validity_len_refusal slot len (option_map shape_of validity.now) ≡ None)
+        (λ e. validity_len_refusal slot len (option_map shape_of validity.now) ≡ Some e) }
 {
     match validity {
         Some(child) if child.len() != len => {
-            Err(VortexError::InvalidArgument(ArgKind::SlotLen { slot: 0 }))
+            Err(VortexError::InvalidArgument(ArgKind::SlotLen { slot }))
         }
         _ => Ok(()),
     }

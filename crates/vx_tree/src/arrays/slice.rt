@@ -10,6 +10,7 @@ ghost use Rattle.vx_tree.specs.Kinds.{IsKindOf};
 use crate::array::{
     Array, ArrayId, ArrayKind, ArrayParts, ArrayRef, Encoded, Encoding, Node, VTable,
 };
+use crate::arrays::child::only_child;
 use crate::arrays::types::is_same_type;
 use std::alloc::Global;
 use std::ops::Range;
@@ -122,14 +123,9 @@ impl VTable for Slice {
         Encoding::Slice(payload)
     }
 
-    #[tactic(auto, using(crate::proofs::RefusalsLemmas::slice_slot_count, crate::proofs::RefusalsLemmas::the_slot))]
+    #[tactic(auto, using(crate::proofs::RefusalsLemmas::by_child))]
     fn validate(_alloc: Global, parts: &ArrayParts<Slice>) -> VortexResult<()> {
-        if parts.slots.len() != 1 {
-            return Err(VortexError::InvalidArgument(ArgKind::SlotCount));
-        }
-        let Some(child) = &parts.slots[0] else {
-            return Err(VortexError::InvalidArgument(ArgKind::SlotMissing { slot: 0 }));
-        };
+        let child = only_child(&parts.slots)?;
         if !is_same_type(&parts.dtype, child.dtype()) {
             return Err(VortexError::InvalidArgument(ArgKind::NodeType));
         }

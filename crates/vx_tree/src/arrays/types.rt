@@ -4,7 +4,10 @@ ghost use Rattle.std.specs.Prelude.{◌≡◌};
 ghost use Rattle.vx_value.specs.Types.{same_type};
 ghost use Rattle.vx_value.specs.View.{type_of};
 
-use vx_value::DType;
+use vx_value::{DType, Nullability};
+
+/// The type of a validity's rows.
+pub(crate) const BOOLEANS: DType = DType::Bool(Nullability::NonNullable);
 
 /// Returns whether two types are the same.
 pub(crate) fn is_same_type(dtype: &DType, other: &DType) -> bool

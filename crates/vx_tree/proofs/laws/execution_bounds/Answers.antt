@@ -1,4 +1,4 @@
-use Rattle.vx_tree.proofs.CostLemmas.{cost_positive, function_cost, function_reach, column_cost, column_reach}
+use Rattle.vx_tree.proofs.CostLemmas.{cost_positive, function_cost, function_reach, column_cost, column_reach, masked_cost, masked_reach}
 use Rattle.vx_tree.proofs.laws.execution_bounds.Goals as goal
 
 pub returns-clause-positive : goal.returns-clause-positive
@@ -15,3 +15,9 @@ returns-clause-functions c = function_cost
 
 pub returns-clause-function_reach : goal.returns-clause-function_reach
 returns-clause-function_reach c = function_reach
+
+pub returns-clause-masks : goal.returns-clause-masks
+returns-clause-masks c = masked_cost
+
+pub returns-clause-mask_reach : goal.returns-clause-mask_reach
+returns-clause-mask_reach c = masked_reach

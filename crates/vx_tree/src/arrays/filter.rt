@@ -1,0 +1,191 @@
+//! Lazy filters of other arrays.
+
+ghost use Rattle.std.specs.Prelude.{◌≡◌, ◌⊎◌, ◌≢◌, ◌==◌, IfOk, IfErr, OnOk, Some, None, true, refl, length};
+ghost use Rattle.vx_value.specs.declared.id.Id.TheVariants as id;
+ghost use Rattle.vx_mask.specs.Masks.{bits_in};
+ghost use Rattle.vx_mask.specs.Places.{true_count};
+ghost use Rattle.vx_tree.specs.Tree.{len, filter, is_filter, filter_of};
+ghost use Rattle.vx_tree.specs.TreeView.{tree_of};
+ghost use Rattle.vx_tree.specs.Well.{IsNodeOf};
+ghost use Rattle.vx_tree.specs.Kinds.{IsKindOf};
+
+use crate::array::{
+    Array, ArrayId, ArrayKind, ArrayParts, ArrayRef, Encoded, Encoding, Node, VTable,
+};
+use crate::arrays::child::only_child;
+use crate::arrays::types::is_same_type;
+use std::alloc::Global;
+use vx_mask::Mask;
+use vx_value::{ArgKind, Id, VortexError, VortexResult};
+
+/// The tag of the filter encoding.
+#[derive(Clone, Copy, Debug)]
+pub struct Filter;
+
+/// A lazy choice of its child's rows.
+pub type FilterArray = Array<Filter>;
+
+/// The data of a filter: the mask that chooses among the child's rows.
+#[derive(Clone, Debug, Drop)]
+pub struct FilterData {
+    pub mask: Mask,
+}
+
+/// The parts of `FilterData`.
+#[derive(Debug, Drop)]
+pub struct FilterDataParts {
+    /// The mask that chooses among the child's rows.
+    pub mask: Mask,
+}
+
+impl FilterData {
+    /// Returns the data of a filter by `mask`.
+    pub fn new(mask: Mask) -> FilterData
+        ensures { result ≡ record { mask = mask } }
+    {
+        FilterData { mask }
+    }
+
+    /// Returns the number of rows that the mask chooses.
+    pub fn len(&self) -> usize
+        ensures { result ≡ true_count (bits_in self.now.mask) }
+    {
+        self.mask.true_count()
+    }
+
+    /// Returns whether the mask chooses no row.
+    pub fn is_empty(&self) -> bool
+        ensures { result ≡ (true_count (bits_in self.now.mask) == 0) }
+    {
+        self.len() == 0
+    }
+
+    /// Returns the mask that chooses among the child's rows.
+    pub fn filter_mask(&self) -> &Mask
+        ensures { result.now ≡ self.now.mask }
+    {
+        &self.mask
+    }
+
+    /// Returns the parts of the data.
+    pub fn into_parts(self) -> FilterDataParts
+        ensures { result ≡ record { mask = self.mask } }
+    {
+        FilterDataParts { mask: self.mask }
+    }
+
+    /// Returns the data and children of `node`, whose data this is. (own)
+    pub(crate) fn kind_of<'a>(&'a self, node: &'a Node) -> ArrayKind<'a>
+        requires well { IsNodeOf (tree_of node.now) }
+        requires own { node.now.encoding ≡ Encoding.Filter self.now }
+        ensures { IsKindOf result (tree_of node.now) }
+    {
+        let Some(child) = &node.slots[0] else {
+            unreachable!()
+        };
+        ArrayKind::Filter(child, &self.mask)
+    }
+}
+
+impl Encoded for Filter {
+    type TypedArrayData = FilterData;
+}
+
+impl VTable for Filter {
+    ghost is_kind = { is_filter };
+
+    ghost named = { λ _. id.Filter };
+
+    ghost stands_for = { λ d. filter (bits_in d.mask) };
+
+    fn id(&self) -> ArrayId {
+        Id::Filter
+    }
+
+    fn tag(_payload: &FilterData) -> Filter {
+        Filter
+    }
+
+    fn project(encoding: &Encoding) -> Option<&FilterData> {
+        if let Encoding::Filter(data) = encoding {
+            Some(data)
+        } else {
+            None
+        }
+    }
+
+    fn into_data(encoding: Encoding) -> Option<FilterData> {
+        let Encoding::Filter(data) = encoding else {
+            return None;
+        };
+        Some(data)
+    }
+
+    fn wrap(payload: FilterData) -> Encoding {
+        Encoding::Filter(payload)
+    }
+
+    #[tactic(auto, using(crate::proofs::RefusalsLemmas::by_child))]
+    fn validate(_alloc: Global, parts: &ArrayParts<Filter>) -> VortexResult<()> {
+        let child = only_child(&parts.slots)?;
+        if !is_same_type(&parts.dtype, child.dtype()) {
+            return Err(VortexError::InvalidArgument(ArgKind::NodeType));
+        }
+        check_mask(child.len(), &parts.payload.mask)?;
+        if parts.len != parts.payload.mask.true_count() {
+            return Err(VortexError::InvalidArgument(ArgKind::NodeLen));
+        }
+        Ok(())
+    }
+
+    ghost kind_of = { λ d. refl };
+}
+
+/// Checks that `mask` chooses among `len` rows.
+fn check_mask(len: usize, mask: &Mask) -> VortexResult<()>
+    ensures ok { OnOk result (length (bits_in mask.now) ≡ len) }
+    ensures refused { IfErr result (λ e. (e ≡ VortexError.InvalidArgument (ArgKind.MaskLen len (length (bits_in mask.now)))) × (length (bits_in mask.now) ≢ len)) }
+{
+    if mask.len() == len {
+        Ok(())
+    } else {
+        Err(VortexError::InvalidArgument(ArgKind::MaskLen {
+            child: len,
+            mask: mask.len(),
+        }))
+    }
+}
+
+impl FilterArray {
+    /// Makes the lazy filter of `child` by `mask`, which must have as many rows.
+    #[tactic(auto, using(crate::proofs::RefusalsLemmas::filter_is_node))]
+    pub fn new(alloc: Global, child: ArrayRef, mask: Mask) -> VortexResult<FilterArray>
+        requires { length (bits_in mask) ≡ len child }
+        ensures ok { IfOk result (λ a. a ≡ filter_of (bits_in mask) child) }
+        ensures err { IfErr result (λ e. e ≡ VortexError.OutOfMemory) }
+    {
+        let dtype = child.dtype().clone()?;
+        let len = mask.true_count();
+        let mut slots = Vec::with_capacity(alloc, 1)?;
+        slots.push(Some(child))?;
+        let parts = ArrayParts {
+            vtable: Filter,
+            dtype,
+            len,
+            payload: FilterData { mask },
+            slots,
+        };
+        Ok(Array::from_parts_unchecked(alloc, parts)?)
+    }
+
+    /// Makes the lazy filter of `child` by `mask`. `InvalidArgument` with `MaskLen` exactly if their lengths differ.
+    pub fn try_new(alloc: Global, child: ArrayRef, mask: Mask) -> VortexResult<FilterArray>
+        ensures ok { IfOk result (λ a. a ≡ filter_of (bits_in mask) child) }
+        ensures valid { OnOk result (length (bits_in mask) ≡ len child) }
+        ensures refused { IfErr result (λ e. (e ≡ VortexError.OutOfMemory)
+            ⊎ ((e ≡ VortexError.InvalidArgument (ArgKind.MaskLen (len child) (length (bits_in mask)))) × (length (bits_in mask) ≢ len child))) }
+    {
+        check_mask(child.len(), &mask)?;
+        FilterArray::new(alloc, child, mask)
+    }
+}

@@ -1,0 +1,117 @@
+//! Lazy tests for null.
+
+ghost use Rattle.std.specs.Prelude.{◌≡◌, IfOk, IfErr, Some, None, true, refl};
+ghost use Rattle.vx_value.specs.declared.id.Id.TheVariants as id;
+ghost use Rattle.vx_tree.specs.Tree.{is_valid, is_validity, validity_in};
+ghost use Rattle.vx_tree.specs.TreeView.{tree_of};
+ghost use Rattle.vx_tree.specs.Well.{IsNodeOf};
+ghost use Rattle.vx_tree.specs.Kinds.{IsKindOf};
+
+use crate::array::{
+    Array, ArrayId, ArrayKind, ArrayParts, ArrayRef, Encoded, Encoding, Node, VTable,
+};
+use crate::arrays::child::only_child;
+use crate::arrays::types::{BOOLEANS, is_same_type};
+use std::alloc::Global;
+use std::fmt;
+use vx_value::{ArgKind, DType, Id, Nullability, VortexError, VortexResult};
+
+/// The tag of the encoding that tells the validity of its child.
+#[derive(Clone, Copy, Debug)]
+pub struct ScalarFnValidity;
+
+/// Whether each row of its child is valid, that is, not null.
+pub type ScalarFnValidityArray = Array<ScalarFnValidity>;
+
+/// The data of such a node: none.
+#[derive(Clone, Copy, Debug, Default)]
+pub struct EmptyArrayData;
+
+/// Prints nothing.
+impl fmt::Display for EmptyArrayData {
+    fn fmt<W: fmt::Write>(&self, _f: &mut fmt::Formatter<W>) -> fmt::Result {
+        Ok(())
+    }
+}
+
+impl EmptyArrayData {
+    /// Returns the child of `node`, which tells its validity. (own)
+    pub(crate) fn kind_of<'a>(&'a self, node: &'a Node) -> ArrayKind<'a>
+        requires well { IsNodeOf (tree_of node.now) }
+        requires own { node.now.encoding ≡ Encoding.ScalarFnValidity self.now }
+        ensures { IsKindOf result (tree_of node.now) }
+    {
+        let Some(child) = &node.slots[0] else {
+            unreachable!()
+        };
+        ArrayKind::ScalarFnValidity(child)
+    }
+}
+
+impl Encoded for ScalarFnValidity {
+    type TypedArrayData = EmptyArrayData;
+}
+
+impl VTable for ScalarFnValidity {
+    ghost is_kind = { is_validity };
+
+    ghost named = { λ _. id.ScalarFnValidity };
+
+    ghost stands_for = { λ _. is_valid };
+
+    fn id(&self) -> ArrayId {
+        Id::ScalarFnValidity
+    }
+
+    fn tag(_payload: &EmptyArrayData) -> ScalarFnValidity {
+        ScalarFnValidity
+    }
+
+    fn project(encoding: &Encoding) -> Option<&EmptyArrayData> {
+        if let Encoding::ScalarFnValidity(data) = encoding {
+            Some(data)
+        } else {
+            None
+        }
+    }
+
+    fn into_data(encoding: Encoding) -> Option<EmptyArrayData> {
+        let Encoding::ScalarFnValidity(data) = encoding else {
+            return None;
+        };
+        Some(data)
+    }
+
+    fn wrap(payload: EmptyArrayData) -> Encoding {
+        Encoding::ScalarFnValidity(payload)
+    }
+
+    #[tactic(auto, using(crate::proofs::RefusalsLemmas::by_child))]
+    fn validate(_alloc: Global, parts: &ArrayParts<ScalarFnValidity>) -> VortexResult<()> {
+        let child = only_child(&parts.slots)?;
+        if !is_same_type(&parts.dtype, &BOOLEANS) {
+            return Err(VortexError::InvalidArgument(ArgKind::NodeType));
+        }
+        if parts.len != child.len() {
+            return Err(VortexError::InvalidArgument(ArgKind::NodeLen));
+        }
+        Ok(())
+    }
+
+    ghost kind_of = { λ d. refl };
+}
+
+impl ScalarFnValidityArray {
+    /// Makes the node that tells which rows of `child` are valid. The only error is `OutOfMemory`. (own)
+    pub fn new(alloc: Global, child: ArrayRef) -> VortexResult<ScalarFnValidityArray>
+        ensures ok { IfOk result (λ a. a ≡ validity_in child) }
+        ensures err { IfErr result (λ e. e ≡ VortexError.OutOfMemory) }
+    {
+        let len = child.len();
+        let mut slots = Vec::with_capacity(alloc, 1)?;
+        slots.push(Some(child))?;
+        let dtype = DType::Bool(Nullability::NonNullable);
+        let parts = ArrayParts::new(ScalarFnValidity, dtype, len, EmptyArrayData, slots);
+        Ok(Array::from_parts_unchecked(alloc, parts)?)
+    }
+}
