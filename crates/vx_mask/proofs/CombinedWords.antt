@@ -31,13 +31,13 @@ over_all bits index w is within =
     ∙ over_word bits index (2 ^ 64 - 1) w is within
 
 -- ---- all words
-length-bits_of : (words : List ℕ) → length (bits_of words) ≡ 64 * length words
+pub length-bits_of : (words : List ℕ) → length (bits_of words) ≡ 64 * length words
 length-bits_of words = length-map-range_with_len (bit_of words) 0 (64 * length words)
 
 get_or-bits_of : (words : List ℕ) (i : ℕ) → i < 64 * length words → get_or (bits_of words) i false ≡ bit_of words i
 get_or-bits_of words i h = get_or-map-range_with_len (bit_of words) 0 (64 * length words) i i false h (omega arith)
 
-bits_of_push : (words : List ℕ) (w : ℕ) → bits_of (words ++ w ∷ []) ≡ bits_of words ++ low_bits 64 w
+pub bits_of_push : (words : List ℕ) (w : ℕ) → bits_of (words ++ w ∷ []) ≡ bits_of words ++ low_bits 64 w
 bits_of_push words w =
     let new = words ++ w ∷ [] in
     let one_more : length new ≡ length words + 1 = length_push words w in

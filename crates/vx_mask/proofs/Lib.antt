@@ -1,14 +1,17 @@
 pub mod Lists
 pub mod BitsLemmas
 pub mod PlacesLemmas
+pub mod ChosenLemmas
 pub mod Words
 pub mod WordBits
 pub mod Parts
 pub mod PartPlaces
 pub mod Runs
 pub mod MasksLemmas
+pub mod ChosenWords
 pub mod CombinedWords
 pub mod Spread
+pub mod Gather
 pub mod Pushes
 pub mod Operations
 pub mod OperandsLemmas

@@ -1,7 +1,9 @@
 -- Parts of parts of lists, and lists that are made row by row.
-use Rattle.std.proofs.Common.{◌≡◌, ◌<◌, ◌≤◌, ◌+◌, ◌-◌, ℕ, zero, suc, List, ◌∷◌, length, take, drop, slice_range, map, replicate, arith, refl, ◌∙◌, ap}
+use Rattle.std.specs.Prelude.{slice_get}
+use Rattle.std.proofs.Common.{◌≡◌, ◌<◌, ◌≤◌, ◌+◌, ◌-◌, ℕ, zero, suc, List, [], ◌∷◌, length, take, drop, slice_range, map, replicate, arith, refl, sym, ◌∙◌, ap, ap₂}
 use Rattle.std.specs.List.{range_with_len}
 use Rattle.std.proofs.lemmas.List.{drop-take, drop-drop, take-take, length-take}
+use Rattle.std.proofs.lemmas.Option.{none-some}
 
 -- the items from s + a to s + b are those from a to b of the n items from s on
 pub part_of_part : {X : Type 0} (xs : List X) (s n a b : ℕ) → a ≤ b → b ≤ length (take n (drop s xs))
@@ -28,3 +30,13 @@ copies_from s (suc n) x = ap (λ l. x ∷ l) (copies_from (s + 1) n x)
 -- a function that gives the same in each of the first n rows gives copies of it
 pub all_below : {X : Type 0} (n : ℕ) (f : ℕ → X) (x : X) → ((i : ℕ) → i < n → f i ≡ x) → map f (range_with_len 0 n) ≡ replicate n x
 all_below n f x h = same_below n f (λ i. x) h ∙ copies_from 0 n x
+
+-- lists with the same item at each place are the same
+pub same_items : {X : Type 0} (xs ys : List X) → ((k : ℕ) → slice_get xs k ≡ slice_get ys k) → xs ≡ ys
+same_items [] [] h = refl
+same_items [] (y ∷ ys) h = absurd (none-some y (h 0))
+same_items (x ∷ xs) [] h = absurd (none-some x (sym (h 0)))
+same_items (x ∷ xs) (y ∷ ys) h =
+    let first = h 0 in
+    let same : x ≡ y = cc in
+    ap₂ (λ z l. z ∷ l) same (same_items xs ys (λ k. h (suc k)))

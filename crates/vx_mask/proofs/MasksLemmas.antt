@@ -7,8 +7,10 @@ use Rattle.std.proofs.Math.Dec.{ltb}
 use Rattle.std.proofs.lemmas.Bool.{cases_lt, cases_Bool, lt-ltb, le-ltb, eq-eqb, ne_eqb}
 use Rattle.std.proofs.lemmas.List.{length-replicate, take-replicate, drop-replicate}
 use Rattle.vx_mask.specs.Masks.{bits_in, mask_of, is_all_true, is_all_false}
-use Rattle.vx_mask.specs.Places.{true_count, true_place}
+use Rattle.vx_mask.specs.Places.{true_count, true_place, chosen}
+use Rattle.vx_mask.specs.declared.mask.Mask.{Mask}
 use Rattle.vx_mask.specs.declared.mask.Mask.TheVariants.{AllTrue, AllFalse, Values}
+use Rattle.vx_mask.proofs.ChosenLemmas.{chosen-trues, chosen-none}
 use Rattle.vx_mask.proofs.PlacesLemmas.{true_count-le-length, all_true_yes, all_true_no, all_false_yes, all_false_no, true_count-trues, true_count-falses, true_place-trues, true_place-past}
 
 -- ---- by the count
@@ -83,3 +85,11 @@ all_false_is bits count count_is = elim (cases_lt 0 (true_count bits)) [
   | inl lt ↦ ne_eqb count 0 (λ e. omega arith) ∙ sym (all_false_no bits lt)
   | inr ge ↦ eq-eqb count 0 (omega arith) ∙ sym (all_false_yes bits (omega arith))
 ]
+
+-- ---- what a mask of one bit chooses
+pub chosen_by_all : {A : Type 0} (mask : Mask) (n : ℕ) (items : List A) → mask ≡ AllTrue n → length (bits_in mask) ≡ length items → chosen (bits_in mask) items ≡ items
+chosen_by_all mask n items is size =
+    ap (λ m. chosen (bits_in m) items) is ∙ chosen-trues n items (sym size ∙ ap (λ m. length (bits_in m)) is ∙ length-replicate n true)
+
+pub chosen_by_none : {A : Type 0} (mask : Mask) (n : ℕ) (items : List A) → mask ≡ AllFalse n → chosen (bits_in mask) items ≡ []
+chosen_by_none mask n items is = ap (λ m. chosen (bits_in m) items) is ∙ chosen-none (replicate n false) items (true_count-falses n)

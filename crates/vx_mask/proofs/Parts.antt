@@ -47,7 +47,7 @@ low_bits-trues (suc n) =
     let half : (2 ^ suc n - 1) / 2 ≡ 2 ^ n - 1 = omega (arith, pow-suc 2 n, pow_pos n) in
     ap₂ (λ d h. (d == 1) ∷ low_bits n h) digit half ∙ ap (λ l. true ∷ l) (low_bits-trues n)
 
-low_bits-rest : (m k w : ℕ) → low_bits (m + k) (w % 2 ^ m) ≡ low_bits m w ++ replicate k false
+pub low_bits-rest : (m k w : ℕ) → low_bits (m + k) (w % 2 ^ m) ≡ low_bits m w ++ replicate k false
 unfolding low_bits
 low_bits-rest zero k w =
     let none : w % 1 ≡ 0 = omega arith in

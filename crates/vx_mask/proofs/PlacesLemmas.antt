@@ -163,7 +163,7 @@ true_count-combined (true ∷ xs) (true ∷ ys) h = ap suc (true_count-combined 
 true_count-combined (true ∷ xs) (false ∷ ys) h = true_count-combined xs ys (omega arith)
 
 -- ---- chosen
-chosen-nil : {A : Type 0} (bits : List Bool) → chosen {A = A} bits [] ≡ []
+pub chosen-nil : {A : Type 0} (bits : List Bool) → chosen {A = A} bits [] ≡ []
 unfolding chosen
 chosen-nil [] = refl
 chosen-nil (true ∷ bits) = refl
@@ -178,7 +178,7 @@ chosen-combined (true ∷ outer) [] (x ∷ items) = chosen-combined outer [] ite
 chosen-combined (true ∷ outer) (true ∷ inner) (x ∷ items) = ap (λ l. x ∷ l) (chosen-combined outer inner items)
 chosen-combined (true ∷ outer) (false ∷ inner) (x ∷ items) = chosen-combined outer inner items
 
-pub length-chosen : {A : Type 0} (bits : List Bool) (items : List A) → length items ≡ length bits → length (chosen bits items) ≡ true_count bits
+pub length-chosen : {A : Type 0} (bits : List Bool) (items : List A) → length bits ≤ length items → length (chosen bits items) ≡ true_count bits
 unfolding true_count chosen
 length-chosen [] items h = refl
 length-chosen (b ∷ bits) [] h = absurd (omega arith)

@@ -1,97 +1,141 @@
--- One more bit above the bits that a builder has.
+-- More bits above the bits that a builder has.
 use Rattle.std.specs.Prelude.{◌==◌}
-use Rattle.std.proofs.Common.{◌≡◌, ◌<◌, ◌≤◌, ◌+◌, ◌-◌, ◌*◌, ◌/◌, ◌%◌, ◌^◌, ℕ, Bool, true, false, List, [], ◌∷◌, ◌++◌, length, take}
-use Rattle.std.proofs.Common.{arith, sym, ◌∙◌, ap, refl, inl, inr, mul-le-mul_left}
-use Rattle.std.specs.Int.{bit_at}
-use Rattle.std.proofs.Math.Nat.{mod-eq_of_lt}
-use Rattle.std.proofs.lemmas.Bool.{cases_lt}
-use Rattle.std.proofs.lemmas.List.{length_push}
-use Rattle.std.proofs.lemmas.List.FromFn.{map-range_with_len_more}
-use Rattle.std.proofs.lemmas.Nat.{pow_pos, pow-add}
-use Rattle.std.proofs.lemmas.Nat.Bits.{bit_at_cat_low, bit_at_cat_high}
+use Rattle.std.proofs.Common.{◌≡◌, ◌<◌, ◌≤◌, ◌+◌, ◌-◌, ◌*◌, ◌/◌, ◌%◌, ◌^◌, ℕ, zero, suc, Bool, true, false, List, [], ◌∷◌, ◌++◌, length, take}
+use Rattle.std.proofs.Common.{arith, sym, ◌∙◌, ap, ap₂, refl, pow-suc, add-zero}
+use Rattle.std.proofs.Math.Nat.{div-div-eq-div-mul, zero-div}
+use Rattle.std.proofs.Math.Seq.{take-append-add}
+use Rattle.std.proofs.lemmas.List.{append_assoc, append-nil}
+use Rattle.std.proofs.lemmas.Nat.{pow_pos, pow-add, mod-pow-add, div-mul-add, mod-mul-add, mul-add-lt}
 use mir.Val.{bool_byte}
-use Rattle.vx_mask.specs.Bits.{bit_of, bits_of}
-use Rattle.vx_mask.proofs.BitsLemmas.{before, in_last, first_bits}
+use Rattle.vx_mask.specs.Bits.{bits_of}
+use Rattle.vx_mask.specs.Words.{low_bits}
+use Rattle.vx_mask.proofs.CombinedWords.{length-bits_of, bits_of_push}
+use Rattle.vx_mask.proofs.Parts.{take-low_bits, low_bits-rest}
 
--- a bit below place 64 is at most half of 2 ^ 64
-half : (fill : ℕ) → fill < 64 → 2 * 2 ^ fill ≤ 2 ^ 64
-half fill h =
-    let places : 64 ≡ fill + (63 - fill) + 1 = omega arith in
-    let parts : 2 ^ (fill + (63 - fill) + 1) ≡ 2 ^ fill * 2 ^ (63 - fill) * 2 =
-    pow-add 2 (fill + (63 - fill)) 1 ∙ ap (λ x. x * 2) (pow-add 2 fill (63 - fill)) in
-    let whole : 2 ^ 64 ≡ 2 ^ fill * 2 ^ (63 - fill) * 2 = ap (λ x. 2 ^ x) places ∙ parts in
-    let least : 2 ^ fill * 1 ≤ 2 ^ fill * 2 ^ (63 - fill) = mul-le-mul_left (2 ^ fill) (pow_pos (63 - fill)) in
-    omega arith
+-- ---- a number with `last` below place `fill`, and w from there on
+-- what a word keeps of it
+kept : (w last fill : ℕ) → last < 2 ^ fill → fill < 64 → (w * 2 ^ fill + last) % 2 ^ 64 ≡ (w % 2 ^ (64 - fill)) * 2 ^ fill + last
+kept w last fill small h =
+    let places : 64 ≡ 64 - fill + fill = omega arith in
+    ap (λ n. (w * 2 ^ fill + last) % 2 ^ n) places ∙ mod-pow-add (w * 2 ^ fill + last) (64 - fill) fill
+    ∙ ap₂ (λ x y. (x % 2 ^ (64 - fill)) * 2 ^ fill + y) (div-mul-add w (2 ^ fill) last small) (mod-mul-add w (2 ^ fill) last small)
 
--- a bit that is shifted to place `fill` loses nothing
-shifted : (b : Bool) (fill : ℕ) → fill < 64 → bool_byte b * 2 ^ fill % 2 ^ 64 ≡ bool_byte b * 2 ^ fill
-shifted true fill h = mod-eq_of_lt (omega (arith, half fill h))
-shifted false fill h = mod-eq_of_lt (omega arith)
+joined_is : (w last fill : ℕ) → last < 2 ^ fill → fill < 64 → w * 2 ^ fill % 2 ^ 64 + last ≡ (w * 2 ^ fill + last) % 2 ^ 64
+joined_is w last fill small h =
+    let alone = ap (λ n. n % 2 ^ 64) (sym (add-zero (w * 2 ^ fill))) ∙ kept w 0 fill (pow_pos fill) h in
+    omega (arith, alone, kept w last fill small h)
 
--- with the bits below it, it fits a word
-pub next_fits : (b : Bool) (last fill : ℕ) → last < 2 ^ fill → fill < 64 → bool_byte b * 2 ^ fill % 2 ^ 64 + last < 2 ^ 64
-next_fits true last fill small h = omega (arith, half fill h, shifted true fill h)
-next_fits false last fill small h = omega (arith, half fill h, shifted false fill h)
+pub next_fits : (w last fill : ℕ) → last < 2 ^ fill → fill < 64 → w * 2 ^ fill % 2 ^ 64 + last < 2 ^ 64
+next_fits w last fill small h = omega (arith, joined_is w last fill small h)
 
--- the lowest bit of a `bool` as a number
-flag_bit : (b : Bool) → (bit_at (bool_byte b) 0 == 1) ≡ b
-flag_bit true = refl
-flag_bit false = refl
+-- and what it loses
+rest_is : (w last fill : ℕ) → last < 2 ^ fill → fill < 64 → (w * 2 ^ fill + last) / 2 ^ 64 ≡ w / 2 / 2 ^ (63 - fill)
+rest_is w last fill small h =
+    let places : 64 ≡ fill + suc (63 - fill) = omega arith in
+    let twice : 2 ^ suc (63 - fill) ≡ 2 * 2 ^ (63 - fill) = omega (arith, pow-suc 2 (63 - fill)) in
+    ap (λ n. (w * 2 ^ fill + last) / 2 ^ n) places ∙ ap (λ n. (w * 2 ^ fill + last) / n) (pow-add 2 fill (suc (63 - fill)))
+    ∙ sym (div-div-eq-div-mul (w * 2 ^ fill + last) (2 ^ fill) (2 ^ suc (63 - fill)))
+    ∙ ap₂ (λ x y. x / y) (div-mul-add w (2 ^ fill) last small) twice ∙ sym (div-div-eq-div-mul w 2 (2 ^ (63 - fill)))
 
--- the bits below the new one stay
-kept : (ws : List ℕ) (b : Bool) (last fill p : ℕ) → fill < 64 → p < 64 * length ws + fill
-    → bit_of (ws ++ (bool_byte b * 2 ^ fill + last) ∷ []) p ≡ bit_of (ws ++ last ∷ []) p
-kept ws b last fill p h q =
-    let word = bool_byte b * 2 ^ fill + last in
-    elim (cases_lt (p / 64) (length ws)) [
-      | inl lt ↦ before ws (word ∷ []) p lt ∙ sym (before ws (last ∷ []) p lt)
-      | inr ge ↦
-          let here : p / 64 ≡ length ws = omega arith in
-          let low : p % 64 < fill = omega arith in
-          in_last ws word p here ∙ ap (λ x. x == 1) (bit_at_cat_low (bool_byte b) fill last (p % 64) low)
-          ∙ sym (in_last ws last p here)
-    ]
+whole_fits : (w last fill count : ℕ) → last < 2 ^ fill → w < 2 ^ count → w * 2 ^ fill + last < 2 ^ (fill + count)
+whole_fits w last fill count small above = omega (arith, mul-add-lt w (2 ^ fill) last (2 ^ count) above small, pow-add 2 fill count)
 
--- and the new one stands above them
-added : (ws : List ℕ) (b : Bool) (last fill : ℕ) → last < 2 ^ fill → fill < 64
-    → bit_of (ws ++ (bool_byte b * 2 ^ fill + last) ∷ []) (64 * length ws + fill) ≡ b
-added ws b last fill small h =
-    let word = bool_byte b * 2 ^ fill + last in
-    let n = 64 * length ws + fill in
-    let here : n / 64 ≡ length ws = omega arith in
-    let rest : n % 64 ≡ fill = omega arith in
-    let lowest : fill - fill ≡ 0 = omega arith in
-    in_last ws word n here ∙ ap (λ x. bit_at word x == 1) rest
-    ∙ ap (λ x. x == 1) (bit_at_cat_high (bool_byte b) fill last fill small (omega arith) ∙ ap (bit_at (bool_byte b)) lowest)
-    ∙ flag_bit b
+pub joined_fits : (w last fill count : ℕ) → last < 2 ^ fill → w < 2 ^ count → fill < 64 → w * 2 ^ fill % 2 ^ 64 + last < 2 ^ (fill + count)
+joined_fits w last fill count small above h = omega (arith, joined_is w last fill small h, whole_fits w last fill count small above)
 
--- the last word with the new bit
-pub push_in : (ws : List ℕ) (last fill : ℕ) (b : Bool) → last < 2 ^ fill → fill < 64
+pub rest_fits : (w last fill count : ℕ) → last < 2 ^ fill → w < 2 ^ count → fill < 64 → 64 ≤ fill + count → w / 2 / 2 ^ (63 - fill) < 2 ^ (fill + count - 64)
+rest_fits w last fill count small above h many =
+    let places : fill + count ≡ 64 + (fill + count - 64) = omega arith in
+    let size = ap (λ n. 2 ^ n) places ∙ pow-add 2 64 (fill + count - 64) in
+    omega (arith, rest_is w last fill small h, whole_fits w last fill count small above, size)
+
+-- ---- its bits
+low_bits-split : (m n w : ℕ) → low_bits (m + n) w ≡ low_bits m w ++ low_bits n (w / 2 ^ m)
+unfolding low_bits
+low_bits-split zero n w =
+    let all : 0 + n ≡ n = omega arith in
+    let same : w ≡ w / 2 ^ 0 = omega arith in
+    ap₂ low_bits all same
+low_bits-split (suc m) n w =
+    let more : suc m + n ≡ suc (m + n) = omega arith in
+    let twice : 2 * 2 ^ m ≡ 2 ^ suc m = omega (arith, pow-suc 2 m) in
+    let half : w / 2 / 2 ^ m ≡ w / 2 ^ suc m = div-div-eq-div-mul w 2 (2 ^ m) ∙ ap (λ x. w / x) twice in
+    ap (λ j. low_bits j w) more ∙ ap (λ l. (w % 2 == 1) ∷ l) (low_bits-split m n (w / 2))
+    ∙ ap (λ x. (w % 2 == 1) ∷ low_bits m (w / 2) ++ low_bits n x) half
+
+low_bits-mod : (m w : ℕ) → low_bits m (w % 2 ^ m) ≡ low_bits m w
+low_bits-mod m w = ap (λ n. low_bits n (w % 2 ^ m)) (sym (add-zero m)) ∙ low_bits-rest m 0 w ∙ append-nil (low_bits m w)
+
+low_bits-whole : (w last fill count : ℕ) → last < 2 ^ fill → low_bits (fill + count) (w * 2 ^ fill + last) ≡ low_bits fill last ++ low_bits count w
+low_bits-whole w last fill count small =
+    low_bits-split fill count (w * 2 ^ fill + last)
+    ∙ ap₂ (λ l r. l ++ r)
+    (sym (low_bits-mod fill (w * 2 ^ fill + last)) ∙ ap (low_bits fill) (mod-mul-add w (2 ^ fill) last small))
+    (ap (low_bits count) (div-mul-add w (2 ^ fill) last small))
+
+low_bits-joined : (n w last fill : ℕ) → n ≤ 64 → last < 2 ^ fill → fill < 64 → low_bits n (w * 2 ^ fill % 2 ^ 64 + last) ≡ low_bits n (w * 2 ^ fill + last)
+low_bits-joined n w last fill few small h =
+    let whole = w * 2 ^ fill + last in
+    ap (low_bits n) (joined_is w last fill small h) ∙ sym (take-low_bits n 64 (whole % 2 ^ 64) few) ∙ ap (take n) (low_bits-mod 64 whole)
+    ∙ take-low_bits n 64 whole few
+
+-- ---- a builder's bits are those of its full words and the lowest of the last one
+held : (ws : List ℕ) (last fill : ℕ) → fill ≤ 64 → take (64 * length ws + fill) (bits_of (ws ++ last ∷ [])) ≡ bits_of ws ++ low_bits fill last
+held ws last fill few =
+    ap₂ take (ap (λ n. n + fill) (sym (length-bits_of ws))) (bits_of_push ws last) ∙ take-append-add (bits_of ws) (low_bits 64 last) fill
+    ∙ ap (λ l. bits_of ws ++ l) (take-low_bits fill 64 last few)
+
+-- with more bits, if they fit the last word
+pub push_in : (ws : List ℕ) (last fill w count : ℕ) → last < 2 ^ fill → fill < 64 → fill + count < 64
+    → take (64 * length ws + (fill + count)) (bits_of (ws ++ (w * 2 ^ fill % 2 ^ 64 + last) ∷ []))
+    ≡ take (64 * length ws + fill) (bits_of (ws ++ last ∷ [])) ++ low_bits count w
+push_in ws last fill w count small h fits =
+    held ws (w * 2 ^ fill % 2 ^ 64 + last) (fill + count) (omega arith)
+    ∙ ap (λ l. bits_of ws ++ l) (low_bits-joined (fill + count) w last fill (omega arith) small h ∙ low_bits-whole w last fill count small)
+    ∙ sym (append_assoc (bits_of ws) (low_bits fill last) (low_bits count w))
+    ∙ ap (λ l. l ++ low_bits count w) (sym (held ws last fill (omega arith)))
+
+-- and if they fill it
+pub push_full : (ws : List ℕ) (last fill w count : ℕ) → last < 2 ^ fill → fill < 64 → count ≤ 64 → 64 ≤ fill + count
+    → take (64 * length (ws ++ (w * 2 ^ fill % 2 ^ 64 + last) ∷ []) + (fill + count - 64)) (bits_of ((ws ++ (w * 2 ^ fill % 2 ^ 64 + last) ∷ []) ++ (w / 2 / 2 ^ (63 - fill)) ∷ []))
+    ≡ take (64 * length ws + fill) (bits_of (ws ++ last ∷ [])) ++ low_bits count w
+push_full ws last fill w count small h few many =
+    let word = w * 2 ^ fill % 2 ^ 64 + last in
+    let whole = w * 2 ^ fill + last in
+    let left = fill + count - 64 in
+    let places : 64 + left ≡ fill + count = omega arith in
+    let last_left = low_bits left (w / 2 / 2 ^ (63 - fill)) in
+    held (ws ++ word ∷ []) (w / 2 / 2 ^ (63 - fill)) left (omega arith) ∙ ap (λ l. l ++ last_left) (bits_of_push ws word)
+    ∙ append_assoc (bits_of ws) (low_bits 64 word) last_left
+    ∙ ap₂ (λ l x. bits_of ws ++ (l ++ low_bits left x)) (low_bits-joined 64 w last fill (omega arith) small h) (sym (rest_is w last fill small h))
+    ∙ ap (λ l. bits_of ws ++ l)
+    (sym (low_bits-split 64 left whole) ∙ ap (λ n. low_bits n whole) places ∙ low_bits-whole w last fill count small)
+    ∙ sym (append_assoc (bits_of ws) (low_bits fill last) (low_bits count w))
+    ∙ ap (λ l. l ++ low_bits count w) (sym (held ws last fill (omega arith)))
+
+-- ---- one bit
+flag_bits : (b : Bool) → low_bits 1 (bool_byte b) ≡ b ∷ []
+unfolding low_bits
+flag_bits true = refl
+flag_bits false = refl
+
+flag_half : (b : Bool) → bool_byte b / 2 ≡ 0
+flag_half true = refl
+flag_half false = refl
+
+pub flag_in : (ws : List ℕ) (last fill : ℕ) (b : Bool) → last < 2 ^ fill → fill < 63
     → take (64 * length ws + (fill + 1)) (bits_of (ws ++ (bool_byte b * 2 ^ fill % 2 ^ 64 + last) ∷ []))
     ≡ take (64 * length ws + fill) (bits_of (ws ++ last ∷ [])) ++ b ∷ []
-push_in ws last fill b small h =
-    let n = 64 * length ws + fill in
-    let word = bool_byte b * 2 ^ fill + last in
-    let new = bit_of (ws ++ word ∷ []) in
-    let m : 64 * length ws + (fill + 1) ≡ n + 1 = omega arith in
-    let long = length_push ws word in
-    let short = length_push ws last in
-    rw (shifted b fill h, m)
-    (first_bits (ws ++ word ∷ []) (n + 1) new (omega arith) (λ p q. refl) ∙ map-range_with_len_more new 0 n n (omega arith)
-    ∙ ap (λ xs. xs ++ new n ∷ []) (sym (first_bits (ws ++ last ∷ []) n new (omega arith) (λ p q. sym (kept ws b last fill p h q))))
-    ∙ ap (λ x. take n (bits_of (ws ++ last ∷ [])) ++ x ∷ []) (added ws b last fill small h))
+flag_in ws last fill b small h =
+    push_in ws last fill (bool_byte b) 1 small (omega arith) (omega arith) ∙ ap (λ l. take (64 * length ws + fill) (bits_of (ws ++ last ∷ [])) ++ l) (flag_bits b)
 
--- a last word that is full now, before an empty one
-pub push_full : (ws : List ℕ) (last fill : ℕ) (b : Bool) → last < 2 ^ fill → fill ≡ 63
+pub flag_full : (ws : List ℕ) (last fill : ℕ) (b : Bool) → last < 2 ^ fill → fill ≡ 63
     → take (64 * length (ws ++ (bool_byte b * 2 ^ fill % 2 ^ 64 + last) ∷ []) + 0) (bits_of ((ws ++ (bool_byte b * 2 ^ fill % 2 ^ 64 + last) ∷ []) ++ 0 ∷ []))
     ≡ take (64 * length ws + fill) (bits_of (ws ++ last ∷ [])) ++ b ∷ []
-push_full ws last fill b small full =
-    let word = bool_byte b * 2 ^ fill % 2 ^ 64 + last in
-    let new = ws ++ word ∷ [] in
-    let long = length_push ws word in
-    let longer = length_push new 0 in
-    let n : 64 * length new + 0 ≡ 64 * length ws + (fill + 1) = omega arith in
-    rw n
-    (first_bits (new ++ 0 ∷ []) (64 * length ws + (fill + 1)) (bit_of new) (omega arith) (λ p q. before new (0 ∷ []) p (omega arith))
-    ∙ sym (first_bits new (64 * length ws + (fill + 1)) (bit_of new) (omega arith) (λ p q. refl))
-    ∙ push_in ws last fill b small (omega arith))
+flag_full ws last fill b small full =
+    let new = ws ++ (bool_byte b * 2 ^ fill % 2 ^ 64 + last) ∷ [] in
+    let left : 0 ≡ fill + 1 - 64 = omega arith in
+    let rest : 0 ≡ bool_byte b / 2 / 2 ^ (63 - fill) = sym (ap (λ x. x / 2 ^ (63 - fill)) (flag_half b) ∙ zero-div (2 ^ (63 - fill))) in
+    ap₂ (λ n x. take (64 * length new + n) (bits_of (new ++ x ∷ []))) left rest
+    ∙ push_full ws last fill (bool_byte b) 1 small (omega arith) (omega arith) (omega arith)
+    ∙ ap (λ l. take (64 * length ws + fill) (bits_of (ws ++ last ∷ [])) ++ l) (flag_bits b)

@@ -83,7 +83,7 @@ spread_bits-step n outer inner some h =
     step ∙ ap (λ x. x + spread_bits n rest (inner / 2)) (taken ∙ sym (mod-eq_of_lt small))
 
 -- ---- as lists
-digit_of : (w : ℕ) → cond (w % 2 == 1) 1 0 ≡ w % 2
+pub digit_of : (w : ℕ) → cond (w % 2 == 1) 1 0 ≡ w % 2
 digit_of w = by_digit (λ d. cond (d == 1) 1 0 ≡ d) w (λ even. refl) (λ odd. refl)
 
 spread_list : (n outer m inner : ℕ) → inner < 2 ^ m → spread_bits n outer inner ≡ mask_l (combined (low_bits n outer) (low_bits m inner))
@@ -105,7 +105,7 @@ spread_list (suc n) outer (suc m) inner h =
     (λ odd. omega (arith, digit_of inner, spread_list n (outer / 2) m (inner / 2) (omega (arith, pow-suc 2 m))))
 
 -- the bits of the word that some bits make
-low_bits-mask_l : (n : ℕ) (xs : List Bool) → length xs ≡ n → low_bits n (mask_l xs) ≡ xs
+pub low_bits-mask_l : (n : ℕ) (xs : List Bool) → length xs ≡ n → low_bits n (mask_l xs) ≡ xs
 unfolding low_bits
 low_bits-mask_l zero [] h = refl
 low_bits-mask_l zero (x ∷ xs) h = absurd (omega arith)

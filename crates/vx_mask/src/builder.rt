@@ -1,6 +1,7 @@
 //! Building bit buffers bit by bit.
 
-ghost use Rattle.std.specs.Prelude.{◌≡◌, ◌∷◌, [], ◌++◌, IfOk, OnOk, OnErr};
+ghost use Rattle.std.specs.Prelude.{◌≡◌, ◌<◌, ◌≤◌, ◌^◌, ◌∷◌, [], ◌++◌, IfOk, OnOk, OnErr};
+ghost use Rattle.vx_mask.specs.Words.{low_bits};
 
 use crate::bits::BitBuffer;
 use std::alloc::{AllocError, Global};
@@ -54,6 +55,29 @@ impl BitBuilder {
         } else {
             self.last = word;
             self.fill += 1;
+        }
+        Ok(())
+    }
+
+    /// Appends the `count` lowest bits of `word`, from the lowest one on; those above must be 0. Fails only if there is no memory
+    /// for one more word.
+    #[inline]
+    #[tactic(auto, using(crate::proofs::Pushes::next_fits, crate::proofs::Pushes::joined_fits, crate::proofs::Pushes::rest_fits))]
+    pub(crate) fn push_bits(&mut self, word: u64, count: usize) -> Result<(), AllocError>
+        requires size { count ≤ 64 }
+        requires above { word < 2 ^ count }
+        ensures ok { OnOk result (self.new ≡ self.old ++ low_bits count word) }
+        ensures err { OnErr result (self.new ≡ self.old) }
+    {
+        let joined = (word << self.fill) + self.last;
+        let fill = self.fill + count;
+        if fill < 64 {
+            self.last = joined;
+            self.fill = fill;
+        } else {
+            self.words.push(joined)?;
+            self.last = (word >> 1) >> (63 - self.fill);
+            self.fill = fill - 64;
         }
         Ok(())
     }

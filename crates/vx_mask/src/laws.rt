@@ -1,6 +1,7 @@
 //! Laws of masks. Each is a function with an empty body, whose contract is the law.
 
 ghost use Rattle.std.specs.Prelude.{◌≡◌, ◌↔◌, ◌<◌, ◌≤◌, ℕ, true, Bool, List, Some, IsSome, length, slice_get, take};
+ghost use Rattle.std.specs.Option.{option_and_then};
 ghost use Rattle.vx_mask.specs.Logic.{bit_row};
 ghost use Rattle.vx_mask.specs.Masks.{bits_in, mask_of};
 ghost use Rattle.vx_mask.specs.Places.{true_count, true_place, combined, chosen};
@@ -19,10 +20,12 @@ pub fn place_laws()
         → (true_place bits k ≡ Some p) ↔ ((p < length bits) × (bit_row bits p ≡ true) × (true_count (take p bits) ≡ k)) }
 {}
 
-/// States that choosing by combined bits is choosing twice, and how many items are chosen. (own)
+/// States that choosing by combined bits is choosing twice, how many items are chosen, and which. (own)
 pub fn choice_laws<T>()
     ensures twice { (outer inner : List Bool) (xs : List T) → chosen (combined outer inner) xs ≡ chosen inner (chosen outer xs) }
     ensures count { (bits : List Bool) (xs : List T) → length xs ≡ length bits → length (chosen bits xs) ≡ true_count bits }
     ensures combined_count { (outer inner : List Bool) (xs : List T) → length inner ≡ true_count outer
         → length xs ≡ length outer → length (chosen (combined outer inner) xs) ≡ true_count inner }
+    ensures item { (bits : List Bool) (xs : List T) (k : ℕ)
+        → slice_get (chosen bits xs) k ≡ option_and_then (slice_get xs) (true_place bits k) }
 {}

@@ -8,6 +8,7 @@ mod buffer;
 mod builder;
 mod combine;
 mod count;
+mod filter;
 mod laws;
 mod mask;
 mod mask_values;

@@ -1,7 +1,7 @@
 //! The bits of one word, from the lowest one on.
 
-ghost use Rattle.std.specs.Prelude.{◌≡◌, ◌<◌, ◌-◌, Some};
-ghost use Rattle.vx_mask.specs.Places.{true_count, true_place, combined};
+ghost use Rattle.std.specs.Prelude.{◌≡◌, ◌<◌, ◌-◌, ◌^◌, Some};
+ghost use Rattle.vx_mask.specs.Places.{true_count, true_place, combined, chosen};
 ghost use Rattle.vx_mask.specs.Words.{low_bits};
 
 /// Returns the number of true bits.
@@ -56,4 +56,19 @@ pub(crate) fn spread(outer: u64, inner: u64) -> u64
         left &= left - 1;
     }
     word
+}
+
+/// Moves the bits of `word` that stand at the true bits of `places` to the lowest places, in order. The bits above them are 0.
+#[inline]
+pub(crate) fn gather(places: u64, word: u64) -> u64
+    ensures bits { low_bits (true_count (low_bits 64 places)) result ≡ chosen (low_bits 64 places) (low_bits 64 word) }
+    ensures above { result < 2 ^ true_count (low_bits 64 places) }
+{
+    let mut left = places;
+    let mut gathered = 0;
+    for count in 0..ones_in(places) {
+        gathered += ((word >> left.trailing_zeros()) & 1) << count;
+        left &= left - 1;
+    }
+    gathered
 }

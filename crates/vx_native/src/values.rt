@@ -2,12 +2,14 @@
 
 ghost use Rattle.std.specs.Prelude.{◌≡◌, ◌<◌, ◌≤◌, ℤ, map, length, IfOk, Some, true, slice_get, slice_range, replicate};
 ghost use Rattle.vx_value.specs.IsOf.{in_range};
+ghost use Rattle.vx_mask.specs.Masks.{bits_in};
+ghost use Rattle.vx_mask.specs.Places.{chosen};
 ghost use Rattle.vx_native.specs.Natives.{values_of, ptype_of};
 
 use crate::{NativeInteger, by_buffer, by_type, native_of};
 use std::alloc::{AllocError, Global};
 use std::ops::Range;
-use vx_mask::Buffer;
+use vx_mask::{Buffer, Mask};
 use vx_value::PType;
 
 /// Integers of one of the eight types, in shared storage.
@@ -57,6 +59,19 @@ fn part_of<T: NativeInteger>(
     Ok(T::wrap(buffer.slice(range)?))
 }
 
+#[tactic(auto, using(vx_mask::proofs::ChosenLemmas::chosen_map))]
+fn chosen_of<T: NativeInteger>(
+    buffer: &Buffer<T>,
+    alloc: Global,
+    mask: &Mask,
+) -> Result<PrimitiveValues, AllocError>
+    requires { length (bits_in mask.now) ≡ length buffer.now }
+    ensures kind { IfOk result (λ kept. ptype_of kept ≡ T.kind) }
+    ensures values { IfOk result (λ kept. values_of kept ≡ chosen (bits_in mask.now) (map T.value buffer.now)) }
+{
+    Ok(T::wrap(buffer.filter(alloc, mask)?))
+}
+
 fn copies_of<T: NativeInteger>(
     alloc: Global,
     wide: i128,
@@ -103,6 +118,16 @@ impl PrimitiveValues {
         ensures values { IfOk result (λ part. values_of part ≡ slice_range (values_of self.now) range.start range.end) }
     {
         by_buffer!(self, |buffer| part_of(buffer, range))
+    }
+
+    /// Returns the values at the true bits of `mask`, in order; it must have a bit for each value. They share their storage with
+    /// these if the true bits are consecutive.
+    pub fn filter(&self, alloc: Global, mask: &Mask) -> Result<PrimitiveValues, AllocError>
+        requires { length (bits_in mask.now) ≡ length (values_of self.now) }
+        ensures kind { IfOk result (λ kept. ptype_of kept ≡ ptype_of self.now) }
+        ensures values { IfOk result (λ kept. values_of kept ≡ chosen (bits_in mask.now) (values_of self.now)) }
+    {
+        by_buffer!(self, |buffer| chosen_of(buffer, alloc, mask))
     }
 
     /// Returns `len` times the number `wide`, which must be in the type's range. Takes one allocation. (own)
