@@ -14,7 +14,7 @@ use Rattle.vx_value.proofs.NullabilitiesLemmas.{alike_but_nullability, same_but_
 use Rattle.vx_value.specs.Typed.{Typed}
 use Rattle.vx_value.specs.declared.error.VortexError.{VortexError}
 use Rattle.vx_value.specs.declared.error.VortexError.TheVariants.{InvalidArgument}
-use Rattle.vx_value.specs.declared.error.ArgKind.TheVariants.{SlotCount, SlotType, SlotLen, FnSlotMissing, NodeType}
+use Rattle.vx_value.specs.declared.error.ArgKind.TheVariants.{SlotCount, SlotMissing, SlotType, SlotLen, FnSlotMissing, NodeType}
 use Rattle.vx_value.specs.declared.id.Id.{Id}
 use Rattle.vx_value.specs.Ids.{same_id, same_id_Decides}
 use Rattle.vx_mask.specs.Places.{true_count}
@@ -319,6 +319,15 @@ masked_slot_count ty n (Some t ∷ []) h = refl
 masked_slot_count ty n (x ∷ y ∷ []) h = absurd (h refl)
 masked_slot_count ty n (x ∷ y ∷ z ∷ xs) h =
     ap (masked_refusal ty n) (first_shape x (y ∷ z ∷ xs) ∙ ap (λ l. option_map shape_of x ∷ l) (first_shape y (z ∷ xs) ∙ ap (λ l. option_map shape_of y ∷ l) (first_shape z xs)))
+
+pub masked_slot_missing : (ty : DataType) (n : ℕ) (xs : List (Option Tree)) (s : Option Tree) → length xs ≡ 2 → s ≡ get_or xs 0 s → s ≡ None
+    → masked_refusal ty n (shapes (slots_of xs)) ≡ Some (InvalidArgument (SlotMissing 0))
+masked_slot_missing ty n [] s h e k = absurd (omega arith)
+masked_slot_missing ty n (x ∷ []) s h e k = absurd (omega arith)
+masked_slot_missing ty n (x ∷ y ∷ []) s h e k =
+    let none : x ≡ None = sym e ∙ k in
+    ap (masked_refusal ty n) (first_shape x (y ∷ []) ∙ ap (λ l. option_map shape_of x ∷ l) (first_shape y []) ∙ ap (λ z. option_map shape_of z ∷ option_map shape_of y ∷ []) none)
+masked_slot_missing ty n (x ∷ y ∷ z ∷ xs) s h e k = absurd (omega arith)
 
 pub masked_by_slots : (ty : DataType) (n : ℕ) (ss : List (Option Shape)) (c : Tree) (v : Option Tree) → ss ≡ Some (shape_of c) ∷ option_map shape_of v ∷ []
     → masked_refusal ty n ss ≡ mask_refusal ty n (Some (shape_of c)) (option_map shape_of v)

@@ -277,3 +277,17 @@ told_back (validity.Array t) n h = by_data (datum t) refl
     by_data : (d : Data) → datum t ≡ d → valid_rows (of_data d t) n ≡ rows t
     by_data (enc.constant s) e = by_value s s.value e refl
     by_data _ e = refl
+
+-- ---- a masked node
+
+masked_validity : (v : Validity) (n : ℕ) → HasRows v n → IsValidity Nullable n (option_map shape_of (child_of v n))
+masked_validity validity.NonNullable n h = tt
+masked_validity validity.AllValid n h = tt
+masked_validity validity.AllInvalid n h = refl
+masked_validity (validity.Array t) n h = λ i. shape (h.1 i) (h.2 i)
+
+pub masked_is_node : (t : Tree) (v : Validity) → HasRows v (len t)
+    → IsNode (with_nullability Nullable (dtype t)) (len t) enc.masked (shapes (slots_of (Some t ∷ child_of v (len t) ∷ [])))
+masked_is_node t v h =
+    let w = child_of v (len t) in
+    (dtype t, option_map shape_of w, ap (λ l. Some (shape_of t) ∷ l) (one_shape w), refl, masked_validity v (len t) h)

@@ -102,9 +102,7 @@ impl VTable for Masked {
 /// Returns the child of a masked array with these slots, and the slot of its validity. `InvalidArgument` with `SlotCount` or
 /// `SlotMissing` if they aren't two or the first is empty.
 #[tactic(auto, using(crate::proofs::RefusalsLemmas::masked_slot_count, crate::proofs::RefusalsLemmas::the_slots))]
-fn child_and_validity(
-    slots: &[Option<ArrayRef>],
-) -> VortexResult<(&ArrayRef, &Option<ArrayRef>)>
+fn child_and_validity(slots: &[Option<ArrayRef>]) -> VortexResult<(&ArrayRef, &Option<ArrayRef>)>
     ensures { MatchResult result
         (λ p. shapes (slots_of slots.now) ≡ Some (shape_of p.0.now) ∷ option_map shape_of p.1.now ∷ [])
         (λ e. (ty : DataType) (n : ℕ) → masked_refusal ty n (shapes (slots_of slots.now)) ≡ Some e) }
