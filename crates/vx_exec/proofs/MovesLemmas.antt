@@ -10,7 +10,7 @@ use Rattle.vx_tree.proofs.KeepsLemmas.{exactly_refl, exactly_trans}
 use Rattle.vx_tree.proofs.ColumnsLemmas.{canonical_columnar}
 use Rattle.vx_step.specs.Turns.{data_meets, meets, target_of, top}
 use Rattle.vx_exec.specs.Frames.{filled, IsFrame, AreFrames, frames_top}
-use Rattle.vx_step.specs.Steps.{Awaits, AwaitsAt, IsDone}
+use Rattle.vx_step.specs.Steps.{HasNoShortcut, Awaits, AwaitsAt, IsDone}
 use Rattle.vx_exec.specs.Moves.{IsOneMove, IsMove, is_awaited, is_reached, Reaches, GoesOn, IsExecuted}
 use Rattle.vx_step.specs.declared.steps.SlotTarget.{SlotTarget}
 use Rattle.vx_step.specs.declared.steps.SlotTarget.TheVariants.{Canonical, Columnar}
@@ -38,13 +38,13 @@ put_target i c (node ty n d ss) = refl
 
 -- a child is taken out of the node, and becomes the current one
 pub move_push : (fits : Tree → Bool) (fs gs : List Frame) (i : ℕ) (t p c : Tree) (g : SlotTarget) → is_reached fits fs t ≡ false → put i c p ≡ t → IsHole i p
-    → IsNodeOf t → Awaits i t → g ≡ target_of t → AreFrames fs t → gs ≡ fs ++ record { parent = p; slot = i; target = g } ∷ [] → IsMove fits fs t gs c
-move_push fits fs gs i t p c g going e hole formed w aim h join =
+    → IsNodeOf t → HasNoShortcut t → Awaits i t → g ≡ target_of t → AreFrames fs t → gs ≡ fs ++ record { parent = p; slot = i; target = g } ∷ [] → IsMove fits fs t gs c
+move_push fits fs gs i t p c g going e hole formed direct w aim h join =
     let f : Frame = record { parent = p; slot = i; target = g } in
     let frame : IsFrame f c = record { hole = hole; fits = subst IsNodeOf (sym e) formed; target = aim ∙ ap target_of (sym e) ∙ put_target i c p } in
     let falls : top p + top c < top (put i c p) = take_falls i c p hole (subst (λ x. Awaits i x) (sym e) w) in
     subst (λ x. IsMove fits fs t x c) (sym join) (record {
-      one = inr (inl (record { frame = f; going = going; pushed = refl; taken = e; hole = hole; awaited = w; target = aim }));
+      one = inr (inl (record { frame = f; going = going; pushed = refl; taken = e; hole = hole; direct = direct; awaited = w; target = aim }));
       exactly = exactly_equal _ _ (ap (filled fs) (sym e) ∙ sym (filled_append fs f c));
       frames = frames_push fs f c (subst (λ x. AreFrames fs x) (sym e) h) frame;
       falls = omega (arith, frames_top_append fs f, falls, ap top e);

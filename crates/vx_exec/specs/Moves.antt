@@ -4,7 +4,7 @@ use Rattle.vx_tree.specs.Tree.{Tree, datum, is_canonical}
 use Rattle.vx_tree.specs.Keeps.{KeepsExactly}
 use Rattle.vx_tree.specs.Slots.{put, IsHole}
 use Rattle.vx_step.specs.Turns.{meets, target_of, top}
-use Rattle.vx_step.specs.Steps.{Awaits, IsDone}
+use Rattle.vx_step.specs.Steps.{HasNoShortcut, Awaits, IsDone}
 use Rattle.vx_exec.specs.Frames.{filled, AreFrames, frames_top}
 use Rattle.vx_exec.specs.declared.turn.Frame.{Frame}
 use Rattle.vx_exec.specs.declared.turn.Turn.{Turn}
@@ -34,10 +34,11 @@ pub record IsPush (fits : Tree → Bool) (fs : List Frame) (t : Tree) (gs : List
   pub pushed : gs ≡ fs ++ frame ∷ []
   pub taken : put frame.slot u frame.parent ≡ t
   pub hole : IsHole frame.slot frame.parent
+  pub direct : HasNoShortcut t
   pub awaited : Awaits frame.slot t
   pub target : frame.target ≡ target_of t
 
--- the current node t, whose slots are ready, takes its step
+-- the current node t takes a step that needs no slot to be executed first
 pub record IsStepped (fits : Tree → Bool) (fs : List Frame) (t : Tree) (gs : List Frame) (u : Tree) : Type 0 where
   pub going : is_reached fits fs t ≡ false
   pub same : gs ≡ fs

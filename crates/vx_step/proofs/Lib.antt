@@ -1,4 +1,6 @@
 pub mod TurnsLemmas
 pub mod StepsLemmas
+pub mod FilterLemmas
+pub mod MaskedLemmas
 pub mod WaitingLemmas
 pub mod SlotsLemmas

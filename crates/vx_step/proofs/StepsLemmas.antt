@@ -1,12 +1,12 @@
 -- The column that a node steps to, and why a function has none.
-use Rattle.std.proofs.Common.{◌≡◌, inl, inr, ℕ, ◌<◌, ◌&&◌, nat_lt, List, [], ◌∷◌, map, true, false, Some, refl, sym, ◌∙◌, ap, subst, arith}
+use Rattle.std.proofs.Common.{◌≡◌, inl, inr, ℕ, zero, suc, Option, None, ◌<◌, ◌&&◌, nat_lt, List, [], ◌∷◌, map, true, false, Some, refl, sym, ◌∙◌, ap, subst, arith}
 use Rattle.vx_value.specs.Types.{DataType}
 use Rattle.vx_value.specs.declared.error.VortexError.{VortexError}
 use Rattle.vx_fn.specs.ReturnTypes.{return_type}
 use Rattle.vx_fn.specs.declared.function.ScalarFnRef.{ScalarFnRef}
 use Rattle.vx_value.specs.Typed.{Typed}
-use Rattle.vx_tree.specs.Tree.{Tree, Slots, node, function, no_slots, absent, slot, filled_slots, dtype, len, datum, is_canonical, is_columnar, is_constant, constant_of, slice_of, call_of}
-use Rattle.vx_tree.specs.Cost.{cost, base_cost}
+use Rattle.vx_tree.specs.Tree.{Tree, Slots, node, function, no_slots, absent, slot, filled_slots, dtype, len, datum, is_canonical, is_columnar, is_constant, is_filter, constant_of, slice_of, masked_of, validity_in, call_of}
+use Rattle.vx_tree.specs.Cost.{all, is_executed, cost, base_cost}
 use Rattle.vx_tree.specs.Columns.{IsColumn}
 use Rattle.vx_tree.proofs.ColumnsLemmas.{column_known, canonical_columnar, canonical_open}
 use Rattle.vx_step.proofs.TurnsLemmas.{top_paid, top_own}
@@ -16,22 +16,27 @@ use Rattle.vx_tree.specs.Refusals.{types_in, all_present}
 use Rattle.vx_tree.specs.Keeps.{KeepsExactly}
 use Rattle.vx_tree.proofs.CallsLemmas.{filled_types}
 use Rattle.vx_tree.proofs.RefusalsLemmas.{types_back, present_types}
-use Rattle.vx_step.specs.Steps.{IsDone, IsReady, IsStopped, AreReady, are_constant, gives_constant}
+use Rattle.vx_step.specs.Steps.{HasNoShortcut, IsStep, AwaitsAt, IsDone, IsReady, IsStopped, AreReady, are_constant, gives_constant}
 use Rattle.vx_step.specs.Waiting.{AreColumns}
-use Rattle.vx_step.specs.declared.steps.SlotTarget.TheVariants.{Columnar}
+use Rattle.vx_step.specs.declared.steps.ExecutionStep.TheVariants.{ExecuteSlot}
+use Rattle.vx_step.specs.declared.steps.SlotTarget.TheVariants.{Canonical, Columnar}
+use Rattle.vx_tree.proofs.CellsLemmas.{no_fault_at}
+use Rattle.vx_column.specs.Arguments.{IsUnread}
 use Rattle.vx_column.specs.Applied.{IsCall, IsApplied, IsUnapplied, all_constant}
 
 some_same : (s t : DataType) → Some s ≡ Some t → s ≡ t
 some_same s t h = cc
 
+-- only a filter has a shortcut
+pub unless_filter : (t : Tree) → is_filter (datum t) ≡ false → HasNoShortcut t
+unless_filter t h u k = absurd (cc (ap (λ x. is_filter (datum x)) k.2, h))
+
 -- a column that stands for a node whose slots are ready
-module _ (t u : Tree) (known : IsColumn u) (ready : IsReady t) (same : KeepsExactly t u) where
+module _ (t u : Tree) (known : IsColumn u) (direct : HasNoShortcut t) (ready : IsReady t) (same : KeepsExactly t u) where
   column_done : is_columnar (datum u) ≡ true → is_constant (datum u) ≡ gives_constant t → cost u < base_cost (datum t) → IsDone t u
   column_done column kept less = record {
-    ready = ready;
+    by = inr (record { direct = direct; ready = ready; column = column; constant_kept = kept });
     exactly = same;
-    column = column;
-    constant_kept = kept;
     falls = omega (arith, top_paid u, top_own t, less);
   }
 
@@ -43,23 +48,72 @@ module _ (t u : Tree) (known : IsColumn u) (ready : IsReady t) (same : KeepsExac
 pub constant_done : (v : Typed) (n : ℕ) (t u : Tree) → t ≡ constant_of v n → IsColumn u → is_canonical (datum u) ≡ true → KeepsExactly t u → IsDone t u
 constant_done v n t u shown known c same =
     subst (λ x. IsDone x u) (sym shown)
-    (canonical_done (constant_of v n) u known tt (subst (λ x. KeepsExactly x u) shown same) c refl (omega arith))
+    (canonical_done (constant_of v n) u known (unless_filter (constant_of v n) refl) tt (subst (λ x. KeepsExactly x u) shown same) c refl (omega arith))
 
 pub slice_done : (a b : ℕ) (s t u : Tree) → t ≡ slice_of a b s → is_canonical (datum s) ≡ true → IsColumn u → is_canonical (datum u) ≡ true → KeepsExactly t u
     → IsDone t u
 slice_done a b s t u shown whole known c same =
     subst (λ x. IsDone x u) (sym shown)
-    (canonical_done (slice_of a b s) u known (whole, tt) (subst (λ x. KeepsExactly x u) shown same) c refl (omega arith))
+    (canonical_done (slice_of a b s) u known (unless_filter (slice_of a b s) refl) ((λ h. whole), tt) (subst (λ x. KeepsExactly x u) shown same) c refl (omega arith))
+
+pub masked_done : (c t u : Tree) (v : Option Tree) → t ≡ masked_of c v → is_canonical (datum c) ≡ true → IsColumn u → is_canonical (datum u) ≡ true → KeepsExactly t u
+    → IsDone t u
+masked_done c t u None shown whole known canonical same =
+    subst (λ x. IsDone x u) (sym shown)
+    (canonical_done (masked_of c None) u known (unless_filter (masked_of c None) refl) ((λ h. whole), tt) (subst (λ x. KeepsExactly x u) shown same) canonical refl
+    (omega arith))
+masked_done c t u (Some v) shown whole known canonical same =
+    subst (λ x. IsDone x u) (sym shown)
+    (canonical_done (masked_of c (Some v)) u known (unless_filter (masked_of c (Some v)) refl) ((λ h. whole), ((λ h. absurd (cc)), tt))
+    (subst (λ x. KeepsExactly x u) shown same) canonical refl (omega arith))
+
+pub validity_done : (c t u : Tree) → t ≡ validity_in c → is_columnar (datum c) ≡ true → IsColumn u → is_canonical (datum u) ≡ true → KeepsExactly (validity_in c) u → IsDone t u
+validity_done c t u shown whole known canonical same =
+    subst (λ x. IsDone x u) (sym shown)
+    (canonical_done (validity_in c) u known (unless_filter (validity_in c) refl) ((λ h. whole), tt) same canonical refl (omega arith))
+
+-- ---- nodes whose child isn't ready
+
+pub slice_waits : (a b : ℕ) (c t : Tree) → t ≡ slice_of a b c → is_canonical (datum c) ≡ false → IsStep t (ExecuteSlot 0 Canonical)
+slice_waits a b c t shown unready =
+    subst (λ x. IsStep x (ExecuteSlot 0 Canonical)) (sym shown) (unless_filter (slice_of a b c) refl, (refl, unready), refl)
+
+pub masked_waits : (c t : Tree) (v : Option Tree) → t ≡ masked_of c v → is_canonical (datum c) ≡ false → IsStep t (ExecuteSlot 0 Canonical)
+masked_waits c t v shown unready =
+    subst (λ x. IsStep x (ExecuteSlot 0 Canonical)) (sym shown) (unless_filter (masked_of c v) refl, (refl, unready), refl)
+
+pub validity_waits : (c t : Tree) → t ≡ validity_in c → is_columnar (datum c) ≡ false → IsStep t (ExecuteSlot 0 Columnar)
+validity_waits c t shown unready =
+    subst (λ x. IsStep x (ExecuteSlot 0 Columnar)) (sym shown) (unless_filter (validity_in c) refl, (refl, unready), refl)
+
+-- a row of the child that is a fault is one of the node's
+pub unread_stopped : (c t : Tree) (e : VortexError) → t ≡ validity_in c → IsUnread c e → IsStopped t e
+unread_stopped c t e shown (inl m) = inl m
+unread_stopped c t e shown (inr h) = inr (h.0, λ clean. no_fault_at (rows c) h.1 (child_clean c (subst IsClean shown clean)) h.3)
+  where
+    child_clean : (c : Tree) → IsClean (validity_in c) → HasNoFault (rows c)
+    child_clean (node ty n d ss) k = k.1.0.0
 
 -- slots that are columns are ready for a function, and it gives a constant where each is one
-columns_ready : (ss : Slots) → AreColumns ss → AreReady Columnar ss
+columns_ready : (ss : Slots) → AreColumns ss → AreReady Columnar all ss
 columns_ready no_slots h = tt
 columns_ready (absent ss) h = absurd h
-columns_ready (slot t ss) h = (h.0, columns_ready ss h.1)
+columns_ready (slot t ss) h = ((λ e. h.0), columns_ready ss h.1)
 
 constants_filled : (ts : List Tree) → all_constant ts ≡ are_constant (filled_slots ts)
 constants_filled [] = refl
 constants_filled (t ∷ ts) = ap (λ b. is_constant (datum t) && b) (constants_filled ts)
+
+-- a slot of a function that isn't ready is executed first
+each_executed : (i : ℕ) → is_executed all i ≡ true
+each_executed zero = refl
+each_executed (suc i) = each_executed i
+
+pub function_waits : (f : ScalarFnRef) (t : Tree) (ss : Slots) (i : ℕ) → t ≡ node (dtype t) (len t) (function f) ss → AwaitsAt Columnar i ss
+    → IsStep t (ExecuteSlot i Columnar)
+function_waits f t ss i shown awaited =
+    subst (λ x. IsStep x (ExecuteSlot i Columnar)) (sym shown)
+    (unless_filter (node (dtype t) (len t) (function f) ss) refl, (each_executed i, awaited), refl)
 
 module _ (f : ScalarFnRef) (t : Tree) (ss : Slots) (ts : List Tree) (shown : t ≡ node (dtype t) (len t) (function f) ss)
     (well : IsNode (dtype t) (len t) (function f) (shapes ss)) (filled : filled_slots ts ≡ ss) where
@@ -91,7 +145,7 @@ module _ (f : ScalarFnRef) (t : Tree) (ss : Slots) (ts : List Tree) (shown : t �
       let type : dtype u ≡ dtype t = some_same (dtype u) (dtype t) (sym h.typed ∙ typed) in
       let same : call_of f (dtype u) (len t) ts ≡ t = ap (λ x. call_of f x (len t) ts) type ∙ whole in
       let own : base_cost (datum t) ≡ 3 = ap (λ x. base_cost (datum x)) shown in
-      column_done t u known (ready columns) (subst (λ x. KeepsExactly x u) same h.exactly) c (h.constant_kept ∙ sym gives) (omega (arith, known.settled, own))
+      column_done t u known (subst HasNoShortcut (sym shown) (unless_filter (node (dtype t) (len t) (function f) ss) refl)) (ready columns) (subst (λ x. KeepsExactly x u) same h.exactly) c (h.constant_kept ∙ sym gives) (omega (arith, known.settled, own))
 
   pub unapplied_stopped : (e : VortexError) → IsUnapplied f ts (len t) e → IsStopped t e
   unapplied_stopped e (inl m) = inl m

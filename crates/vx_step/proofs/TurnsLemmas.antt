@@ -1,9 +1,9 @@
 -- The turns that are left: they are at most the cost, and fall where a slot is taken out and where it is put back.
-use Rattle.std.proofs.Common.{◌≡◌, ℕ, zero, suc, ◌+◌, ◌<◌, ◌≤◌, Bool, true, false, if◌then◌else◌, refl, ap, arith}
+use Rattle.std.proofs.Common.{◌≡◌, ℕ, zero, suc, ◌+◌, ◌<◌, ◌≤◌, Bool, true, false, refl, ap, ◌∙◌, arith}
 use Rattle.vx_tree.specs.Tree.{Tree, Data, Slots, node, no_slots, absent, slot, datum, is_columnar}
 use Rattle.vx_tree.specs.Slots.{set_slot, put, IsAbsentAt, IsHole}
 use Rattle.vx_tree.proofs.CostLemmas.{base_positive}
-use Rattle.vx_tree.specs.Cost.{cost, base_cost, slot_cost, slots_cost, extra}
+use Rattle.vx_tree.specs.Cost.{Executed, executed, is_next, after, is_executed, counted, cost, base_cost, slot_cost, slots_cost, extra}
 use Rattle.vx_step.specs.Turns.{meets, slot_target, target_of, slot_top, slots_top, top}
 use Rattle.vx_step.specs.Steps.{Awaits, AwaitsAt}
 use Rattle.vx_step.specs.declared.steps.SlotTarget.{SlotTarget}
@@ -19,19 +19,20 @@ slot_bound : (done : Bool) (c : ℕ) → slot_top done c ≤ c + 1
 slot_bound true c = omega arith
 slot_bound false c = omega arith
 
-slots_paid : (d : Data) (ss : Slots) → slots_top d ss ≤ slots_cost d ss
-slots_paid d no_slots = omega arith
-slots_paid d (absent ss) = slots_paid d ss
-slots_paid d (slot t ss) =
-    omega (arith, slots_paid d ss, slot_bound (meets (slot_target d) t) (cost t), slot_paid d (cost t) (extra t))
+counted_less : (b : Bool) (m n : ℕ) → m ≤ n → counted b m ≤ counted b n
+counted_less true m n h = h
+counted_less false m n h = omega arith
 
--- where the slots count, and where they don't
-either_paid : (column : Bool) (m n : ℕ) → m ≤ n → (if column then 0 else m) ≤ (if column then 0 else n)
-either_paid true m n h = omega arith
-either_paid false m n h = h
+slots_paid : (d : Data) (e : Executed) (ss : Slots) → slots_top d e ss ≤ slots_cost d e ss
+slots_paid d e no_slots = omega arith
+slots_paid d e (absent ss) = slots_paid d (after e) ss
+slots_paid d e (slot t ss) =
+    let done = slot_top (meets (slot_target d) t) (cost t) in
+    let paid : done ≤ slot_cost d (cost t) (extra t) = omega (arith, slot_bound (meets (slot_target d) t) (cost t), slot_paid d (cost t) (extra t)) in
+    omega (arith, slots_paid d (after e) ss, counted_less (is_next e) done (slot_cost d (cost t) (extra t)) paid)
 
 pub top_paid : (t : Tree) → top t ≤ cost t
-top_paid (node ty n d ss) = omega (arith, either_paid (is_columnar d) _ _ (slots_paid d ss))
+top_paid (node ty n d ss) = omega (arith, slots_paid d (executed d) ss)
 
 pub top_positive : (t : Tree) → 0 < top t
 top_positive (node ty n d ss) = omega (arith, base_positive d)
@@ -42,13 +43,13 @@ top_own (node ty n d ss) = omega arith
 
 -- ---- a slot taken out, and put back
 
-put_top : (d : Data) (i : ℕ) (c : Tree) (ss : Slots) → IsAbsentAt i ss → slots_top d (set_slot i c ss) ≡ slot_top (meets (slot_target d) c)
-    (cost c) + slots_top d ss
-put_top d i c no_slots h = absurd h
-put_top d zero c (absent ss) h = refl
-put_top d zero c (slot s ss) h = absurd h
-put_top d (suc i) c (absent ss) h = put_top d i c ss h
-put_top d (suc i) c (slot s ss) h = omega (arith, put_top d i c ss h)
+put_top : (d : Data) (e : Executed) (i : ℕ) (c : Tree) (ss : Slots) → IsAbsentAt i ss
+    → slots_top d e (set_slot i c ss) ≡ counted (is_executed e i) (slot_top (meets (slot_target d) c) (cost c)) + slots_top d e ss
+put_top d e i c no_slots h = absurd h
+put_top d e zero c (absent ss) h = refl
+put_top d e zero c (slot s ss) h = absurd h
+put_top d e (suc i) c (absent ss) h = put_top d (after e) i c ss h
+put_top d e (suc i) c (slot s ss) h = omega (arith, put_top d (after e) i c ss h)
 
 awaited_put : (g : SlotTarget) (i : ℕ) (c : Tree) (ss : Slots) → IsAbsentAt i ss → AwaitsAt g i (set_slot i c ss) → meets g c ≡ false
 awaited_put g i c no_slots h w = absurd h
@@ -59,11 +60,18 @@ awaited_put g (suc i) c (slot s ss) h w = awaited_put g i c ss h w.1
 
 pub take_falls : (i : ℕ) (c p : Tree) → IsHole i p → Awaits i (put i c p) → top p + top c < top (put i c p)
 take_falls i c (node ty n d ss) h w =
-    let weighs : slot_top (meets (slot_target d) c) (cost c) ≡ cost c + 1 = ap (λ b. slot_top b (cost c)) (awaited_put (slot_target d) i c ss h w.1) in
-    rw w.0 (omega (arith, put_top d i c ss h, top_paid c, weighs))
+    let awaited = awaited_put (slot_target d) i c ss h w.1 in
+    let weighs : counted (is_executed (executed d) i) (slot_top (meets (slot_target d) c) (cost c)) ≡ cost c + 1 = λ j.
+    counted (w.0 j) (slot_top (awaited j) (cost c)) in
+    omega (arith, put_top d (executed d) i c ss h, top_paid c, weighs)
+
+counted_nothing : (b : Bool) → counted b 0 ≡ 0
+counted_nothing true = refl
+counted_nothing false = refl
 
 pub put_falls : (i : ℕ) (c p : Tree) → IsHole i p → meets (target_of p) c ≡ true → top (put i c p) < top p + top c
 put_falls i c (node ty n d ss) h m =
-    let done : slot_top (meets (slot_target d) c) (cost c) ≡ 0 = ap (λ b. slot_top b (cost c)) m in
-    let same : slots_top d (set_slot i c ss) ≡ slots_top d ss = omega (arith, put_top d i c ss h, done) in
-    omega (arith, ap (λ k. if is_columnar d then 0 else k) same, top_positive c)
+    let e = executed d in
+    let done : counted (is_executed e i) (slot_top (meets (slot_target d) c) (cost c)) ≡ 0 =
+    ap (λ b. counted (is_executed e i) (slot_top b (cost c))) m ∙ counted_nothing (is_executed e i) in
+    omega (arith, put_top d e i c ss h, done, top_positive c)

@@ -6,3 +6,4 @@ pub use Rattle.vx_tree.specs.Well
 pub mod Turns
 pub mod Steps
 pub mod Waiting
+pub mod Told

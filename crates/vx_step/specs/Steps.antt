@@ -1,6 +1,10 @@
 -- The result of a step.
-use Rattle.std.specs.Prelude.{◌≡◌, ◌⊎◌, ℕ, zero, suc, ◌<◌, Bool, true, false, ◌&&◌, nat_lt}
-use Rattle.vx_tree.specs.Tree.{Tree, Slots, node, no_slots, absent, slot, datum, is_constant, is_function, is_columnar}
+use Rattle.std.specs.Prelude.{◌≡◌, ◌⊎◌, ℕ, zero, suc, ◌<◌, List, Bool, true, false, ◌&&◌, nat_lt}
+use Rattle.vx_mask.specs.Masks.{is_all_true}
+use Rattle.vx_mask.specs.Places.{true_count, IsRun}
+use Rattle.vx_tree.specs.Tree.{Tree, Slots, node, no_slots, absent, slot, filter_of, slice_of, dtype, datum, is_constant, is_function, is_canonical, is_columnar}
+use Rattle.vx_tree.specs.Cost.{Executed, executed, is_next, after, is_executed}
+use Rattle.vx_tree.specs.Columns.{empty_of}
 use Rattle.vx_value.specs.declared.error.VortexError.{VortexError}
 use Rattle.vx_value.specs.declared.error.VortexError.TheVariants.{OutOfMemory, Fault}
 use Rattle.vx_tree.specs.Cells.{IsClean}
@@ -18,18 +22,18 @@ AwaitsAt g zero (slot t ss) = meets g t ≡ false
 AwaitsAt g (suc i) (absent ss) = AwaitsAt g i ss
 AwaitsAt g (suc i) (slot t ss) = (meets g t ≡ true) × AwaitsAt g i ss
 
--- the node isn't a column, and slot i is its first that isn't ready
+-- slot i is executed, and the first that isn't ready
 abbrev pub Awaits : ℕ → Tree → Type 0
-Awaits i (node ty n d ss) = (is_columnar d ≡ false) × AwaitsAt (slot_target d) i ss
+Awaits i (node ty n d ss) = (is_executed (executed d) i ≡ true) × AwaitsAt (slot_target d) i ss
 
--- the tree of each slot has reached the target g
-abbrev pub AreReady : SlotTarget → Slots → Type 0
-AreReady g no_slots = Unit {0}
-AreReady g (absent ss) = AreReady g ss
-AreReady g (slot t ss) = (meets g t ≡ true) × AreReady g ss
+-- the tree of each slot that is executed has reached the target g
+abbrev pub AreReady : SlotTarget → Executed → Slots → Type 0
+AreReady g e no_slots = Unit {0}
+AreReady g e (absent ss) = AreReady g (after e) ss
+AreReady g e (slot t ss) = (is_next e ≡ true → meets g t ≡ true) × AreReady g (after e) ss
 
 abbrev pub IsReady : Tree → Type 0
-IsReady (node ty n d ss) = AreReady (slot_target d) ss
+IsReady (node ty n d ss) = AreReady (slot_target d) (executed d) ss
 
 -- whether each slot holds a constant
 abbrev pub are_constant : Slots → Bool
@@ -45,14 +49,34 @@ gives_constant (node ty n d ss) = is_function d && (nat_lt 0 n && are_constant s
 abbrev pub IsStopped : Tree → VortexError → Type 0
 IsStopped t e = (e ≡ OutOfMemory) ⊎ ((e ≡ Fault) × (¬ (IsClean t)))
 
--- the slots of t are ready, and u is a column that stands for t exactly and has fewer turns left
-pub record IsDone (t u : Tree) : Type 0 where
+-- what the filter of c at the true bits steps to by its mask alone, c as it stands: the column without rows if it chooses none, c if it
+-- chooses all, and a slice of c, which isn't a column, if the rows that it chooses are consecutive
+abbrev pub IsShort : List Bool → Tree → Tree → Type 0
+IsShort bits c u =
+    ((true_count bits ≡ 0) × (u ≡ empty_of (dtype c)))
+    ⊎ ((0 < true_count bits) × (is_all_true bits ≡ true) × (u ≡ c))
+    ⊎ ((is_all_true bits ≡ false) × (is_canonical (datum c) ≡ false) × (a : ℕ) × (b : ℕ) × IsRun bits a b × (u ≡ slice_of a b c))
+
+-- only a filter does so
+abbrev pub IsShortcut : Tree → Tree → Type 0
+IsShortcut t u = (bits : List Bool) × (c : Tree) × (t ≡ filter_of bits c) × IsShort bits c u
+
+abbrev pub HasNoShortcut : Tree → Type 0
+HasNoShortcut t = (u : Tree) → ¬ (IsShortcut t u)
+
+-- the slots of t are ready, and u is its column
+pub record IsColumnOf (t u : Tree) : Type 0 where
+  pub direct : HasNoShortcut t
   pub ready : IsReady t
-  pub exactly : KeepsExactly t u
   pub column : is_columnar (datum u) ≡ true
   pub constant_kept : is_constant (datum u) ≡ gives_constant t
+
+-- u stands for t exactly and has fewer turns left
+pub record IsDone (t u : Tree) : Type 0 where
+  pub by : IsShortcut t u ⊎ IsColumnOf t u
+  pub exactly : KeepsExactly t u
   pub falls : top u < top t
 
 abbrev pub IsStep : Tree → ExecutionStep → Type 0
-IsStep t (ExecuteSlot i g) = Awaits i t × (g ≡ target_of t)
+IsStep t (ExecuteSlot i g) = HasNoShortcut t × Awaits i t × (g ≡ target_of t)
 IsStep t (Done u) = IsDone t u

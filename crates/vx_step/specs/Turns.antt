@@ -1,7 +1,7 @@
 -- The targets of slots, and the turns left at a node.
-use Rattle.std.specs.Prelude.{ℕ, ◌+◌, Bool, true, false, if◌then◌else◌}
-use Rattle.vx_tree.specs.Tree.{Tree, Data, Slots, node, function, no_slots, absent, slot, datum, is_canonical, is_columnar}
-use Rattle.vx_tree.specs.Cost.{cost, base_cost}
+use Rattle.std.specs.Prelude.{ℕ, ◌+◌, Bool, true, false}
+use Rattle.vx_tree.specs.Tree.{Tree, Data, Slots, node, function, is_valid, no_slots, absent, slot, datum, is_canonical, is_columnar}
+use Rattle.vx_tree.specs.Cost.{Executed, executed, is_next, after, counted, cost, base_cost}
 use Rattle.vx_step.specs.declared.steps.SlotTarget.{SlotTarget}
 use Rattle.vx_step.specs.declared.steps.SlotTarget.TheVariants.{Canonical, Columnar}
 
@@ -16,6 +16,7 @@ meets g t = data_meets g (datum t)
 -- the target of a node's slots: a line for each encoding
 abbrev pub slot_target : Data → SlotTarget
 slot_target (function f) = Columnar
+slot_target is_valid = Columnar
 slot_target _ = Canonical
 
 abbrev pub target_of : Tree → SlotTarget
@@ -30,11 +31,11 @@ abbrev pub slot_top : Bool → ℕ → ℕ
 slot_top true c = 0
 slot_top false c = c + 1
 
-abbrev pub slots_top : Data → Slots → ℕ
-slots_top d no_slots = 0
-slots_top d (absent ss) = slots_top d ss
-slots_top d (slot t ss) = slot_top (meets (slot_target d) t) (cost t) + slots_top d ss
+abbrev pub slots_top : Data → Executed → Slots → ℕ
+slots_top d e no_slots = 0
+slots_top d e (absent ss) = slots_top d (after e) ss
+slots_top d e (slot t ss) = counted (is_next e) (slot_top (meets (slot_target d) t) (cost t)) + slots_top d (after e) ss
 
--- the turns left at a node, current or suspended; none for the validity of a column
+-- the turns left at a node, current or suspended
 abbrev pub top : Tree → ℕ
-top (node ty n d ss) = base_top d + (if is_columnar d then 0 else slots_top d ss)
+top (node ty n d ss) = base_top d + slots_top d (executed d) ss

@@ -11,7 +11,7 @@ use vx_tree::{ArrayRef, Canonical, slice_canonical};
 use vx_value::VortexResult;
 
 /// Requests `child` as a canonical column; takes its range once it is one.
-#[tactic(auto, using(crate::proofs::StepsLemmas::slice_done))]
+#[tactic(auto, using(crate::proofs::StepsLemmas::slice_done, crate::proofs::StepsLemmas::slice_waits))]
 pub(crate) fn slice_or_wait(
     alloc: Global,
     array: &ArrayRef,

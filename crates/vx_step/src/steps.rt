@@ -6,8 +6,11 @@ ghost use Rattle.vx_tree.specs.Columns.{IsColumn, canonical_tree};
 ghost use Rattle.vx_step.specs.Turns.{meets};
 ghost use Rattle.vx_step.specs.Steps.{IsStep, IsStopped};
 
+use crate::filter::filter_or_wait;
 use crate::function::apply_or_wait;
+use crate::masked::mask_or_wait;
 use crate::slice::slice_or_wait;
+use crate::validity::validity_or_wait;
 use std::alloc::Global;
 use vx_column::constant_canonicalize;
 use vx_tree::{AnyCanonical, AnyColumnar, ArrayKind, ArrayRef, Canonical, Constant, IntoArray};
@@ -39,12 +42,12 @@ impl SlotTarget {
 pub enum ExecutionStep {
     /// Requests that the slot, counted from 0, be executed to the target first.
     ExecuteSlot(usize, SlotTarget),
-    /// The column that replaces the node.
+    /// The tree that replaces the node: a column, or what a filter comes to by its mask alone.
     Done(ArrayRef),
 }
 
-/// Takes one step of `array`, whose root isn't canonical: requests the first slot that isn't ready, or returns a
-/// column.
+/// Takes one step of `array`, whose root isn't canonical: requests the first slot that isn't ready, or returns the tree that
+/// replaces it. This is a column, or, of a filter that chooses all rows or consecutive ones, its child or a slice of it.
 ///
 /// # Errors
 ///
@@ -63,6 +66,9 @@ pub fn step(alloc: Global, array: &ArrayRef) -> VortexResult<ExecutionStep>
             Ok(done(constant_canonicalize(alloc, constant)?))
         }
         ArrayKind::Slice(child, start, stop) => slice_or_wait(alloc, array, child, start..stop),
+        ArrayKind::Filter(child, mask) => filter_or_wait(alloc, array, child, mask),
+        ArrayKind::Masked(child, validity) => mask_or_wait(alloc, array, child, validity),
+        ArrayKind::ScalarFnValidity(child) => validity_or_wait(alloc, array, child),
         ArrayKind::ScalarFn(function, slots) => apply_or_wait(alloc, array, function, slots),
         _ => unreachable!(),
     }

@@ -7,7 +7,7 @@ use Rattle.vx_exec.proofs.turn.advance.Goals as goal
 pub take_slot-requires : goal.take_slot-requires
 take_slot-requires g c =
     awaited_present c.in-Ok-ExecuteSlot.slot c.args.current
-    (subst (λ s. IsStep c.args.current s) c.in-Ok-ExecuteSlot.field-0-is c.in-Ok-ExecuteSlot.ensures.ok).0
+    (subst (λ s. IsStep c.args.current s) c.in-Ok-ExecuteSlot.field-0-is c.in-Ok-ExecuteSlot.ensures.ok).1
 
 pub returns-in-Ok-Done-clause-ok : goal.returns-in-Ok-Done-clause-ok
 returns-in-Ok-Done-clause-ok g c =
@@ -20,7 +20,7 @@ returns-in_ok-push-in-Ok-ExecuteSlot-clause-ok g c =
     let asked = c.in-Ok-ExecuteSlot in
     let answer = subst (λ s. IsStep c.args.current s) asked.field-0-is asked.ensures.ok in
     move_push g.M.Matcher.fits c.args.frames.now.items c.push.new.self.items asked.slot c.args.current taken.parent taken.child asked.target c.requires.open
-    taken.ensures.0 taken.ensures.1 taken.ensures.2 answer.0 answer.1 c.requires.frames c.in_ok-push-in-Ok-ExecuteSlot.ensures.items
+    taken.ensures.0 taken.ensures.1 taken.ensures.2 answer.0 answer.1 answer.2 c.requires.frames c.in_ok-push-in-Ok-ExecuteSlot.ensures.items
 
 pub returns-in-Err-clause-err : goal.returns-in-Err-clause-err
 returns-in-Err-clause-err g c =

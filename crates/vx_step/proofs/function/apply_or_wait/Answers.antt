@@ -6,7 +6,7 @@ use Rattle.vx_tree.specs.Well.{IsWell}
 use Rattle.vx_tree.specs.declared.columnar.Columnar.{Columnar}
 use Rattle.vx_step.specs.Steps.{IsDone, IsStopped}
 use Rattle.vx_column.specs.Applied.{IsCall, IsApplied, IsUnapplied}
-use Rattle.vx_step.proofs.StepsLemmas.{may_call, applied_done, unapplied_stopped}
+use Rattle.vx_step.proofs.StepsLemmas.{function_waits, may_call, applied_done, unapplied_stopped}
 use Rattle.vx_step.proofs.function.apply_or_wait.Goals as goal
 
 pub apply_fn-requires : goal.apply_fn-requires
@@ -40,3 +40,7 @@ returns-in_err-column-in-None-clause-err c =
     (subst (λ (xs : List Columnar). IsUnapplied f (map columnar_tree xs) c.len.result e) c.as_slice.ensures.value h)) in
     let here : IsStopped c.args.array.now c.in_err-column-in-None.field-0.0 = stopped _ c.in_err-column-in-None.ensures.err in
     search rules
+
+pub returns-in-Some-clause-ok : goal.returns-in-Some-clause-ok
+returns-in-Some-clause-ok c =
+    function_waits c.args.scalar_fn.now c.args.array.now (slots_of c.args.slots.now) c.in-Some.slot c.requires.shape c.in-Some.ensures

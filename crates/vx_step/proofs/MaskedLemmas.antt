@@ -1,0 +1,45 @@
+-- The step of a masked node whose child is a column.
+use Rattle.std.proofs.Common.{◌≡◌, ℕ, [], ◌∷◌, Option, Some, None, true, refl, sym, ap, subst}
+use Rattle.vx_value.specs.Types.{DataType, bool}
+use Rattle.vx_value.specs.declared.dtype.Nullability.TheVariants.{NonNullable, Nullable}
+use Rattle.vx_tree.specs.Tree.{Tree, datum, len, masked_of, is_canonical}
+use Rattle.vx_tree.specs.Well.{Shape, shape, shape_of, IsWell, IsMasked, IsValidity}
+use Rattle.vx_tree.specs.Columns.{IsColumn}
+use Rattle.vx_tree.specs.Keeps.{KeepsExactly}
+use Rattle.vx_tree.specs.Validities.{HasRows, nullability_by, child_of}
+use Rattle.vx_step.specs.Steps.{IsDone}
+use Rattle.vx_step.specs.Told.{told_by}
+use Rattle.vx_step.proofs.StepsLemmas.{masked_done}
+
+type_in : Shape → DataType
+type_in (shape ty n) = ty
+
+len_in : Shape → ℕ
+len_in (shape ty n) = n
+
+pub told_nullable : (v : Option Tree) → nullability_by (told_by v) ≡ Nullable
+told_nullable None = refl
+told_nullable (Some t) = refl
+
+told_child : (v : Option Tree) (n : ℕ) → child_of (told_by v) n ≡ v
+told_child None n = refl
+told_child (Some t) n = refl
+
+-- the tree in the slot tells of each row
+rows_told : (c v : Tree) → IsWell (masked_of c (Some v)) → HasRows (told_by (Some v)) (len c)
+unfolding type_in len_in
+rows_told c v w =
+    let h = w.0 in
+    let second : h.1 ≡ Some (shape_of v) = cc (h.2) in
+    let shaped : shape_of v ≡ shape (bool NonNullable) (len c) = subst (λ x. IsValidity Nullable (len c) x) second h.4 in
+    (w.1.1.0, ap type_in shaped, ap len_in shaped)
+
+pub told_rows : (c t s : Tree) (v : Option Tree) → t ≡ masked_of c v → IsWell t → s ≡ c → HasRows (told_by v) (len s)
+told_rows c t s None shown w same = tt
+told_rows c t s (Some v) shown w same = subst (λ x. HasRows (told_by (Some v)) (len x)) (sym same) (rows_told c v (subst IsWell shown w))
+
+pub told_done : (c t s u : Tree) (v : Option Tree) → t ≡ masked_of c v → s ≡ c → is_canonical (datum s) ≡ true → IsColumn u → is_canonical (datum u) ≡ true
+    → KeepsExactly (masked_of s (child_of (told_by v) (len s))) u → IsDone t u
+told_done c t s u v shown same whole known canonical exactly =
+    let child = subst (λ x. KeepsExactly (masked_of x v) u) same (subst (λ x. KeepsExactly (masked_of s x) u) (told_child v (len s)) exactly) in
+    masked_done c t u v shown (subst (λ x. is_canonical (datum x) ≡ true) same whole) known canonical (subst (λ x. KeepsExactly x u) (sym shown) child)

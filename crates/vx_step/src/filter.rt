@@ -1,0 +1,104 @@
+//! One step of a lazy filter.
+
+ghost use Rattle.std.specs.Prelude.{◌≡◌, ◌<◌, IfOk, IfErr, length, false};
+ghost use Rattle.vx_mask.specs.Masks.{bits_in, is_all_true};
+ghost use Rattle.vx_mask.specs.Places.{true_count};
+ghost use Rattle.vx_tree.specs.Tree.{len, datum, is_canonical, filter_of};
+ghost use Rattle.vx_tree.specs.Columns.{canonical_tree};
+ghost use Rattle.vx_tree.specs.Keeps.{KeepsExactly};
+ghost use Rattle.vx_step.specs.Steps.{IsStep, IsStopped};
+
+use crate::steps::{ExecutionStep, SlotTarget, done};
+use std::alloc::Global;
+use vx_column::filter_canonical;
+use vx_mask::Mask;
+use vx_tree::{ArrayRef, Canonical, IntoArray, SliceArray, slice_canonical};
+use vx_value::{VortexError, VortexResult};
+
+/// Replaces the filter of `child` by `mask`: by the column without rows if the mask chooses none, by `child` if it chooses all,
+/// and by a slice if the chosen rows are consecutive. Otherwise requests `child` as a canonical column, and filters it once it
+/// is one.
+#[tactic(auto, using(crate::proofs::FilterLemmas::nothing_done, crate::proofs::FilterLemmas::whole_done))]
+pub(crate) fn filter_or_wait(
+    alloc: Global,
+    array: &ArrayRef,
+    child: &ArrayRef,
+    mask: &Mask,
+) -> VortexResult<ExecutionStep>
+    requires shape { array.now ≡ filter_of (bits_in mask.now) child.now }
+    requires within { length (bits_in mask.now) ≡ len child.now }
+    ensures ok { IfOk result (λ s. IsStep array.now s) }
+    ensures err { IfErr result (IsStopped array.now) }
+{
+    child.well();
+    if mask.true_count() == 0 {
+        return Ok(done(Canonical::empty(alloc, child.dtype())?));
+    }
+    if mask.all_true() {
+        return Ok(ExecutionStep::Done(child.clone()?));
+    }
+    choose_or_wait(alloc, array, child, mask)
+}
+
+/// Takes the step of a filter whose mask chooses some rows of `child`, but not all.
+#[tactic(auto, using(crate::proofs::FilterLemmas::filter_done))]
+fn choose_or_wait(
+    alloc: Global,
+    array: &ArrayRef,
+    child: &ArrayRef,
+    mask: &Mask,
+) -> VortexResult<ExecutionStep>
+    requires shape { array.now ≡ filter_of (bits_in mask.now) child.now }
+    requires within { length (bits_in mask.now) ≡ len child.now }
+    requires some { 0 < true_count (bits_in mask.now) }
+    requires not_all { is_all_true (bits_in mask.now) ≡ false }
+    ensures ok { IfOk result (λ s. IsStep array.now s) }
+    ensures err { IfErr result (IsStopped array.now) }
+{
+    child.well();
+    match Canonical::try_from_array_ref(child.clone()?) {
+        Ok(column) => Ok(done(filter_column(alloc, &column, mask)?)),
+        Err(child) => slice_or_wait(alloc, array, child, mask),
+    }
+}
+
+/// Chooses rows of `column`, as a range of it if they are consecutive. The only error is `OutOfMemory`.
+#[tactic(auto, using(crate::proofs::FilterLemmas::run_range, crate::proofs::FilterLemmas::run_kept))]
+fn filter_column(alloc: Global, column: &Canonical, mask: &Mask) -> VortexResult<Canonical>
+    requires { length (bits_in mask.now) ≡ len (canonical_tree column.now) }
+    ensures ok { IfOk result (λ c. KeepsExactly (filter_of (bits_in mask.now) (canonical_tree column.now)) (canonical_tree c)) }
+    ensures err { IfErr result (λ e. e ≡ VortexError.OutOfMemory) }
+{
+    column.as_array().well();
+    match mask.contiguous_range() {
+        Some(range) => slice_canonical(alloc, column, range),
+        None => filter_canonical(alloc, column, mask),
+    }
+}
+
+/// Replaces the filter of `child`, which isn't a column yet, by a slice if the chosen rows are consecutive. Otherwise requests
+/// `child` as a canonical column.
+#[tactic(auto, using(crate::proofs::FilterLemmas::run_range, crate::proofs::FilterLemmas::run_done, crate::proofs::FilterLemmas::filter_waits))]
+fn slice_or_wait(
+    alloc: Global,
+    array: &ArrayRef,
+    child: ArrayRef,
+    mask: &Mask,
+) -> VortexResult<ExecutionStep>
+    requires shape { array.now ≡ filter_of (bits_in mask.now) child }
+    requires within { length (bits_in mask.now) ≡ len child }
+    requires some { 0 < true_count (bits_in mask.now) }
+    requires not_all { is_all_true (bits_in mask.now) ≡ false }
+    requires unready { is_canonical (datum child) ≡ false }
+    ensures ok { IfOk result (λ s. IsStep array.now s) }
+    ensures err { IfErr result (IsStopped array.now) }
+{
+    child.well();
+    match mask.contiguous_range() {
+        Some(range) => {
+            let slice = SliceArray::new(alloc, child, range)?;
+            Ok(ExecutionStep::Done(slice.into_array()))
+        }
+        None => Ok(ExecutionStep::ExecuteSlot(0, SlotTarget::Canonical)),
+    }
+}

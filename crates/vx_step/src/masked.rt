@@ -1,0 +1,44 @@
+//! One step of a masked array.
+
+ghost use Rattle.std.specs.Prelude.{◌≡◌, IfOk, IfErr};
+ghost use Rattle.vx_tree.specs.Tree.{masked_of};
+ghost use Rattle.vx_step.specs.Steps.{IsStep, IsStopped};
+ghost use Rattle.vx_step.specs.Told.{told_by};
+
+use crate::steps::{ExecutionStep, SlotTarget, done};
+use std::alloc::{AllocError, Global};
+use vx_column::mask_validity_canonical;
+use vx_tree::{ArrayRef, Canonical, Validity};
+use vx_value::VortexResult;
+
+/// Requests `child` as a canonical column; joins its validity with `validity` once it is one.
+#[tactic(auto, using(crate::proofs::MaskedLemmas::told_rows, crate::proofs::MaskedLemmas::told_nullable, crate::proofs::MaskedLemmas::told_done, crate::proofs::StepsLemmas::masked_waits))]
+pub(crate) fn mask_or_wait(
+    alloc: Global,
+    array: &ArrayRef,
+    child: &ArrayRef,
+    validity: &Option<ArrayRef>,
+) -> VortexResult<ExecutionStep>
+    requires { array.now ≡ masked_of child.now validity.now }
+    ensures ok { IfOk result (λ s. IsStep array.now s) }
+    ensures err { IfErr result (IsStopped array.now) }
+{
+    array.well();
+    match Canonical::try_from_array_ref(child.clone()?) {
+        Ok(column) => {
+            let validity = told_by(validity)?;
+            Ok(done(mask_validity_canonical(alloc, &column, &validity)?))
+        }
+        Err(_) => Ok(ExecutionStep::ExecuteSlot(0, SlotTarget::Canonical)),
+    }
+}
+
+/// Returns the validity that the tree in `slot` tells. A constant isn't read.
+fn told_by(slot: &Option<ArrayRef>) -> Result<Validity, AllocError>
+    ensures { IfOk result (λ v. v ≡ told_by slot.now) }
+{
+    match slot {
+        Some(tree) => Ok(Validity::Array(tree.clone()?)),
+        None => Ok(Validity::AllValid),
+    }
+}
