@@ -9,3 +9,4 @@ pub mod NullsLemmas
 pub mod ValidRowsLemmas
 pub mod MadeLemmas
 pub mod PassingLemmas
+pub mod LogicLemmas

@@ -8,6 +8,7 @@ mod boolean;
 mod canonicalize;
 mod comparison;
 mod constant;
+mod logic;
 mod operand;
 mod operate;
 mod probe;
