@@ -10,3 +10,4 @@ pub mod ValidRowsLemmas
 pub mod MadeLemmas
 pub mod PassingLemmas
 pub mod LogicLemmas
+pub mod NullFunctionsLemmas

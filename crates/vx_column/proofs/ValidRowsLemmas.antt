@@ -94,9 +94,9 @@ pub by_rows : {X : Type 0} (xs : List X) (d : X) (n : ℕ) → length xs ≡ n �
 by_rows xs d n long =
     from_row 0 xs d (λ i. get_or xs i d) (λ i. ap (λ k. get_or xs k d) (omega arith)) ∙ ap (λ k. map (λ i. get_or xs i d) (range_with_len 0 k)) long
 
--- bits that are made row by row
-pub counted : (f : ℕ → Bool) (bits : List Bool) (n : ℕ) → bits ≡ map f (range_with_len 0 n) → length bits ≡ n
-counted f bits n made = ap length made ∙ length-map-range_with_len f 0 n
+-- items that are made row by row
+pub counted : {X : Type 0} (f : ℕ → X) (xs : List X) (n : ℕ) → xs ≡ map f (range_with_len 0 n) → length xs ≡ n
+counted f xs n made = ap length made ∙ length-map-range_with_len f 0 n
 
 pub bit_made : (f : ℕ → Bool) (bits : List Bool) (n i : ℕ) → bits ≡ map f (range_with_len 0 n) → i < n → bit_row bits i ≡ f i
 bit_made f bits n i made lt = ap (λ bs. bit_row bs i) made ∙ get_or-map-range_with_len f 0 n i i false lt (omega arith)

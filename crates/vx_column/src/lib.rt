@@ -9,9 +9,11 @@ mod canonicalize;
 mod comparison;
 mod constant;
 mod logic;
+mod nulls;
 mod operand;
 mod operate;
 mod probe;
+mod stored;
 mod valid;
 
 pub use apply::apply_fn;
