@@ -25,7 +25,7 @@ use Rattle.vx_tree.specs.declared.validity.Validity.{Validity}
 use Rattle.vx_tree.specs.Columns.{canonical_tree}
 use Rattle.vx_tree.specs.declared.canonical.Canonical.{Canonical}
 use Rattle.vx_column.proofs.MadeLemmas.{made_by, bools_made, integers_made}
-use Rattle.vx_column.proofs.ValidRowsLemmas.{by_rows}
+use Rattle.vx_column.proofs.ValidRowsLemmas.{by_rows, bit_made}
 use Rattle.vx_column.specs.Computed.{IsMade, IsFilled, cells_of, filled_cells, filled_type}
 use Rattle.vx_mask.specs.Logic.{bit_row}
 use Rattle.vx_column.specs.Expanded.{boolean_column, integer_column}
@@ -99,15 +99,26 @@ module _ (f : ScalarFnRef) (of_type : Option DataType) (row : ℕ → List Cell)
     made = made_by valid stored _ n u (λ i lt here. same i lt here ∙ ap (λ t. apply f t (row i)) (sym made.0)) made.1;
   }
 
-  module _ (sized : HasValidity valid n) (v : Validity) (told : IsValidityOf valid n v) (r : Result Canonical VortexError) where
-    pub bools_filled : (test : ℕ → Bool) (bits : List Bool) → filled_type valid of_type ≡ Some (bool (nullability_in valid)) →
-        ((i : ℕ) → i < n → is_valid valid i ≡ true → value (boolean (test i)) ≡ apply f (bool (nullability_in valid)) (row i)) → bits ≡ map test (range_with_len 0 n) →
-        IfOk r (λ c. canonical_tree c ≡ boolean_column bits v) → IfOk r (λ c. IsFilled f of_type row valid n (canonical_tree c))
-    bools_filled test bits typed same are =
-        IfOk-weaker r _ _
-        (λ c new. filled (bool (nullability_in valid)) (λ i. value (boolean (test i))) (canonical_tree c) typed
-        (bools_made valid n sized v told bits test (canonical_tree c) are new) same)
+  pub bools_filled : (r : Result Canonical VortexError) (test : ℕ → Bool) (bits : List Bool) → filled_type valid of_type ≡ Some (bool (nullability_in valid)) →
+      ((i : ℕ) → i < n → is_valid valid i ≡ true → value (boolean (test i)) ≡ apply f (bool (nullability_in valid)) (row i)) → bits ≡ map test (range_with_len 0 n) →
+      IfOk r (λ c. (dtype (canonical_tree c) ≡ bool (nullability_in valid)) × IsMade valid (λ i. value (boolean (bit_row bits i))) n (canonical_tree c)) →
+      IfOk r (λ c. IsFilled f of_type row valid n (canonical_tree c))
+  bools_filled r test bits typed same are =
+      IfOk-weaker r _ _
+      (λ c made. filled (bool (nullability_in valid)) (λ i. value (boolean (bit_row bits i))) (canonical_tree c) typed made
+      (λ i lt here. ap (λ b. value (boolean b)) (bit_made test bits n i are lt) ∙ same i lt here))
 
+  -- booleans that are kept of the valid rows
+  pub kept_filled : (r : Result Canonical VortexError) (test : ℕ → Bool) (bits kept : List Bool) → filled_type valid of_type ≡ Some (bool (nullability_in valid)) →
+      ((i : ℕ) → value (boolean (test i)) ≡ apply f (bool (nullability_in valid)) (row i)) → bits ≡ map test (range_with_len 0 n) →
+      kept ≡ map (λ i. is_valid valid i && bit_row bits i) (range_with_len 0 n) →
+      IfOk r (λ c. (dtype (canonical_tree c) ≡ bool (nullability_in valid)) × IsMade valid (λ i. value (boolean (bit_row kept i))) n (canonical_tree c)) →
+      IfOk r (λ c. IsFilled f of_type row valid n (canonical_tree c))
+  kept_filled r test bits kept typed given are =
+      bools_filled r (λ i. is_valid valid i && bit_row bits i) kept typed
+      (λ i lt here. ap (λ b. value (boolean (b && bit_row bits i))) here ∙ ap (λ b. value (boolean b)) (bit_made test bits n i are lt) ∙ given i)
+
+  module _ (sized : HasValidity valid n) (v : Validity) (told : IsValidityOf valid n v) (r : Result Canonical VortexError) where
     pub integers_filled : (p : PType) (zs : List ℤ) (g : ℕ → Cell) → filled_type valid of_type ≡ Some (primitive p (nullability_in valid)) →
         map (λ z. value (integer z)) zs ≡ map g (range_with_len 0 n) →
         ((i : ℕ) → i < n → is_valid valid i ≡ true → g i ≡ apply f (primitive p (nullability_in valid)) (row i)) →
@@ -121,13 +132,3 @@ module _ (f : ScalarFnRef) (of_type : Option DataType) (row : ℕ → List Cell)
         (λ c new. filled (primitive p (nullability_in valid)) (λ i. value (integer (get_or zs i (pos 0)))) (canonical_tree c) typed
         (integers_made valid n sized v told p zs (λ i. get_or zs i (pos 0)) (canonical_tree c) (by_rows zs (pos 0) n long) new)
         (λ i lt here. at_row i lt ∙ same i lt here))
-
-    -- booleans that are kept of the valid rows
-    pub kept_filled : (test : ℕ → Bool) (bits kept : List Bool) → filled_type valid of_type ≡ Some (bool (nullability_in valid)) →
-        ((i : ℕ) → value (boolean (test i)) ≡ apply f (bool (nullability_in valid)) (row i)) → bits ≡ map test (range_with_len 0 n) →
-        kept ≡ map (λ i. is_valid valid i && bit_row bits i) (range_with_len 0 n) →
-        IfOk r (λ c. canonical_tree c ≡ boolean_column kept v) → IfOk r (λ c. IsFilled f of_type row valid n (canonical_tree c))
-    kept_filled test bits kept typed given made =
-        bools_filled (λ i. is_valid valid i && bit_row bits i) kept typed
-        (λ i lt here. ap (λ b. value (boolean (b && bit_row bits i))) here
-        ∙ ap (λ b. value (boolean b)) (ap (λ bs. bit_row bs i) made ∙ get_or-map-range_with_len test 0 n i i false lt (omega arith)) ∙ given i)

@@ -110,6 +110,7 @@ fn keep_valid(
 
 /// Applies `operator`, which must take booleans, to the `valid` rows, and returns a column in which the others are null. The
 /// only error is `OutOfMemory`.
+#[tactic(auto, using(crate::proofs::ValidRowsLemmas::counted))]
 pub(crate) fn operate_bools(
     alloc: Global,
     operator: Operator,
@@ -128,8 +129,7 @@ pub(crate) fn operate_bools(
 {
     let bits = operate_bits(alloc, operator, lhs, rhs, len)?;
     let kept = keep_valid(alloc, bits, valid, len)?;
-    let validity = valid.validity(alloc, len)?;
-    bool_column(alloc, kept, &validity)
+    valid_bools(alloc, kept, valid, len)
 }
 
 /// Negates each row of `input`, `len` booleans; null stays null. The only error is `OutOfMemory`.
@@ -147,6 +147,7 @@ pub(crate) fn negate(alloc: Global, input: &Argument<'_>, len: usize) -> VortexR
 
 /// Negates the `valid` rows of `input`, `len` booleans, and returns a column in which the others are null. The only error is
 /// `OutOfMemory`.
+#[tactic(auto, using(crate::proofs::ValidRowsLemmas::counted))]
 fn negate_bits(
     alloc: Global,
     input: BitOperand<'_>,
@@ -160,6 +161,5 @@ fn negate_bits(
 {
     let bits = BitBuffer::zip::<BitNotEq>(alloc, input, BitOperand::Bit(true), len)?;
     let kept = keep_valid(alloc, bits, valid, len)?;
-    let validity = valid.validity(alloc, len)?;
-    bool_column(alloc, kept, &validity)
+    valid_bools(alloc, kept, valid, len)
 }
