@@ -10,6 +10,7 @@ ghost use Rattle.vx_column.specs.Computed.{IsTaken, IsComputed, IsNotComputed};
 use crate::argument::{Argument, arguments_of};
 use crate::boolean::negate;
 use crate::constant::{apply_constants, constants};
+use crate::nulls::{is_not_null, is_null, mask};
 use crate::operate::operate;
 use std::alloc::Global;
 use vx_fn::ScalarFnRef;
@@ -63,6 +64,9 @@ fn apply_to_columns(
     match (function, arguments) {
         (ScalarFnRef::Binary(operator), [lhs, rhs]) => operate(alloc, *operator, lhs, rhs, len),
         (ScalarFnRef::Not, [input]) => negate(alloc, input, len),
+        (ScalarFnRef::Mask, [input, keep]) => mask(alloc, input, keep, len),
+        (ScalarFnRef::IsNull, [input]) => is_null(alloc, input, len),
+        (ScalarFnRef::IsNotNull, [input]) => is_not_null(alloc, input, len),
         _ => unreachable!(),
     }
 }

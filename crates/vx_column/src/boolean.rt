@@ -8,12 +8,14 @@ ghost use Rattle.vx_value.specs.Types.{bool};
 ghost use Rattle.vx_fn.specs.Binary.{operator_type};
 ghost use Rattle.vx_column.specs.Bits.{bit_by};
 ghost use Rattle.vx_value.specs.Cell.{value};
+ghost use Rattle.vx_value.specs.Values.{boolean};
 ghost use Rattle.vx_fn.specs.declared.function.ScalarFnRef.TheVariants.{Binary, Not};
 ghost use Rattle.vx_tree.specs.Validities.{HasRows};
 ghost use Rattle.vx_tree.specs.Columns.{canonical_tree};
+ghost use Rattle.vx_tree.specs.Tree.{dtype};
 ghost use Rattle.vx_column.specs.Arguments.{types_of, value_at, pair_at, IsSized};
-ghost use Rattle.vx_column.specs.Computed.{IsTaken, IsComputed, IsFilled};
-ghost use Rattle.vx_column.specs.ValidRows.{is_valid, HasValidity};
+ghost use Rattle.vx_column.specs.Computed.{IsTaken, IsMade, IsComputed, IsFilled};
+ghost use Rattle.vx_column.specs.ValidRows.{is_valid, HasValidity, nullability_in};
 ghost use Rattle.vx_column.specs.Expanded.{boolean_column};
 ghost use Rattle.vx_column.specs.declared.argument.ArgumentRows.TheVariants.{Bits};
 
@@ -43,8 +45,25 @@ pub(crate) fn bool_column(
     Ok(Canonical::Bool(column))
 }
 
+/// Makes the column of `bits`, `len` rows, that are null unless they are `valid`. The only error is `OutOfMemory`.
+pub(crate) fn valid_bools(
+    alloc: Global,
+    bits: BitBuffer,
+    valid: &ValidRows,
+    len: usize,
+) -> VortexResult<Canonical>
+    requires bits { length bits ≡ len }
+    requires valid { HasValidity valid.now len }
+    ensures ok { IfOk result (λ c. (dtype (canonical_tree c) ≡ bool (nullability_in valid.now))
+        × IsMade valid.now (λ i. value (boolean (bit_row bits i))) len (canonical_tree c)) }
+    ensures err { IfErr result (λ e. e ≡ VortexError.OutOfMemory) }
+{
+    let validity = valid.validity(alloc, len)?;
+    bool_column(alloc, bits, &validity)
+}
+
 /// Applies `operator`, which must take booleans, row by row.
-fn operate_bits(
+pub(crate) fn operate_bits(
     alloc: Global,
     operator: Operator,
     lhs: BitOperand<'_>,
@@ -91,6 +110,7 @@ fn keep_valid(
 
 /// Applies `operator`, which must take booleans, to the `valid` rows, and returns a column in which the others are null. The
 /// only error is `OutOfMemory`.
+#[tactic(auto, using(crate::proofs::ValidRowsLemmas::counted))]
 pub(crate) fn operate_bools(
     alloc: Global,
     operator: Operator,
@@ -109,8 +129,7 @@ pub(crate) fn operate_bools(
 {
     let bits = operate_bits(alloc, operator, lhs, rhs, len)?;
     let kept = keep_valid(alloc, bits, valid, len)?;
-    let validity = valid.validity(alloc, len)?;
-    bool_column(alloc, kept, &validity)
+    valid_bools(alloc, kept, valid, len)
 }
 
 /// Negates each row of `input`, `len` booleans; null stays null. The only error is `OutOfMemory`.
@@ -128,6 +147,7 @@ pub(crate) fn negate(alloc: Global, input: &Argument<'_>, len: usize) -> VortexR
 
 /// Negates the `valid` rows of `input`, `len` booleans, and returns a column in which the others are null. The only error is
 /// `OutOfMemory`.
+#[tactic(auto, using(crate::proofs::ValidRowsLemmas::counted))]
 fn negate_bits(
     alloc: Global,
     input: BitOperand<'_>,
@@ -141,6 +161,5 @@ fn negate_bits(
 {
     let bits = BitBuffer::zip::<BitNotEq>(alloc, input, BitOperand::Bit(true), len)?;
     let kept = keep_valid(alloc, bits, valid, len)?;
-    let validity = valid.validity(alloc, len)?;
-    bool_column(alloc, kept, &validity)
+    valid_bools(alloc, kept, valid, len)
 }

@@ -16,7 +16,7 @@ ghost use Rattle.vx_column.specs.ValidRows.{is_valid, HasValidity};
 ghost use Rattle.vx_column.specs.declared.argument.ArgumentRows.TheVariants.{Integers};
 
 use crate::argument::IntegerOperand;
-use crate::boolean::bool_column;
+use crate::boolean::valid_bools;
 use crate::operand::{Operand, operand_of};
 use crate::valid::ValidRows;
 use std::alloc::{AllocError, Global};
@@ -109,6 +109,7 @@ impl Comparison for NotAbove {
 
 /// Applies `C` to the `valid` rows of `lhs` and `rhs`, `len` rows each, which must be of the type `T`; the other rows are null.
 /// The only error is `OutOfMemory`.
+#[tactic(auto, using(crate::proofs::ValidRowsLemmas::counted))]
 pub(crate) fn compare<T: NativeInteger, C: Comparison>(
     alloc: Global,
     lhs: IntegerOperand<'_>,
@@ -127,8 +128,7 @@ pub(crate) fn compare<T: NativeInteger, C: Comparison>(
     let left: Operand<'_, T> = operand_of(lhs);
     let right: Operand<'_, T> = operand_of(rhs);
     let bits = compare_rows::<T, C>(alloc, left, right, valid, len)?;
-    let validity = valid.validity(alloc, len)?;
-    bool_column(alloc, bits, &validity)
+    valid_bools(alloc, bits, valid, len)
 }
 
 /// Compares the `valid` rows of `left` and `right`, `len` rows each; `false` stands for the others.

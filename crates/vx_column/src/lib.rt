@@ -8,9 +8,12 @@ mod boolean;
 mod canonicalize;
 mod comparison;
 mod constant;
+mod logic;
+mod nulls;
 mod operand;
 mod operate;
 mod probe;
+mod stored;
 mod valid;
 
 pub use apply::apply_fn;

@@ -3,6 +3,7 @@
 ghost use Rattle.std.specs.Prelude.{◌≡◌, ◌&&◌, ◌<◌, ℕ, length, IfOk, IfErr};
 ghost use Rattle.vx_value.specs.Nullabilities.{union};
 ghost use Rattle.vx_mask.specs.Logic.{bit_row};
+ghost use Rattle.vx_mask.specs.Operands.{bit_in, HasBits};
 ghost use Rattle.vx_column.specs.ValidRows.{is_valid, HasValidity, nullability_in, IsValidityOf};
 
 use std::alloc::{AllocError, Global};
@@ -31,6 +32,17 @@ impl ValidRows {
             ValidRows::All(Nullability::Nullable)
         } else {
             ValidRows::Bits(bits)
+        }
+    }
+
+    /// Returns a bit for each row, true if the row is valid.
+    pub(crate) fn as_operand(&self) -> BitOperand<'_>
+        ensures bits { (i : ℕ) → bit_in result i ≡ is_valid self.now i }
+        ensures sized { (n : ℕ) → HasValidity self.now n → HasBits result n }
+    {
+        match self {
+            ValidRows::All(_) => BitOperand::Bit(true),
+            ValidRows::Bits(bits) => BitOperand::Bits(bits),
         }
     }
 

@@ -1,12 +1,10 @@
-use Rattle.std.proofs.Common.{◌&&◌, length, sym, ap, subst, ◌∙◌}
+use Rattle.std.proofs.Common.{◌&&◌, sym, ap, ◌∙◌}
 use Rattle.std.specs.Ordering.{int_cmp}
-use Rattle.std.proofs.lemmas.List.FromFn.{length-map-range_with_len}
 use Rattle.vx_value.specs.Values.{boolean}
 use Rattle.vx_value.specs.Cell.{value}
 use Rattle.vx_fn.specs.Binary.{operator_type}
 use Rattle.vx_fn.specs.Comparisons.{holds}
 use Rattle.vx_fn.specs.declared.function.ScalarFnRef.TheVariants.{Binary}
-use Rattle.vx_tree.specs.Validities.{HasRows}
 use Rattle.vx_column.specs.Arguments.{integer_in, ptype_in, plain_type, pair_at}
 use Rattle.vx_column.specs.Operands.{compared_rows}
 use Rattle.vx_column.specs.ValidRows.{is_valid, nullability_in}
@@ -14,10 +12,6 @@ use Rattle.vx_column.specs.declared.argument.ArgumentRows.TheVariants.{Integers}
 use Rattle.vx_column.proofs.ComputedLemmas.{bools_filled}
 use Rattle.vx_column.proofs.OperatorLemmas.{integers_compared, compared_value}
 use Rattle.vx_column.proofs.comparison.compare.Goals as goal
-
-pub bool_column-requires : goal.bool_column-requires
-bool_column-requires g c =
-    subst (HasRows c.in_ok-validity.validity) (sym (ap length c.in_ok-bits.ensures ∙ length-map-range_with_len _ 0 c.args.len)) c.in_ok-validity.ensures.ok.2
 
 pub returns-clause-ok : goal.returns-clause-ok
 returns-clause-ok g c =
@@ -28,10 +22,8 @@ returns-clause-ok g c =
     let m = nullability_in valid in
     let left = c.operand_of-left.ensures.numbers in
     let right = c.operand_of-right.ensures.numbers in
-    bools_filled (Binary op) (operator_type op (plain_type (Integers l))) (pair_at (Integers l) (Integers r)) valid c.args.len c.requires.valid
-    c.in_ok-validity.validity c.in_ok-validity.ensures.ok c.bool_column.result
-    (λ i. is_valid valid i && holds op (int_cmp (integer_in l i) (integer_in r i))) c.in_ok-bits.bits
-    (integers_compared op (ptype_in l) m c.requires.operator)
+    bools_filled (Binary op) (operator_type op (plain_type (Integers l))) (pair_at (Integers l) (Integers r)) valid c.args.len c.valid_bools.result
+    (λ i. is_valid valid i && holds op (int_cmp (integer_in l i) (integer_in r i))) c.in_ok-bits.bits (integers_compared op (ptype_in l) m c.requires.operator)
     (λ i lt here. ap (λ b. value (boolean (b && holds op (int_cmp (integer_in l i) (integer_in r i))))) here
     ∙ sym (compared_value op m (integer_in l i) (integer_in r i) c.requires.operator))
-    (c.in_ok-bits.ensures ∙ (λ j. compared_rows op (is_valid valid) (left j) (right j) c.args.len)) c.bool_column.ensures.ok
+    (c.in_ok-bits.ensures ∙ (λ j. compared_rows op (is_valid valid) (left j) (right j) c.args.len)) c.valid_bools.ensures.ok
