@@ -1,7 +1,7 @@
 -- The values under the keys of an object.
-use Rattle.std.specs.Prelude.{ℕ, ◌+◌, ◌==◌, List, if◌then◌else◌, Option, None, option_and_then}
+use Rattle.std.specs.Prelude.{ℕ, ◌+◌, ◌==◌, List, Bool, if◌then◌else◌, Option, None, option_and_then}
 use Rattle.serde_json.specs.Data.{Data, object, Items, Members, no_members, member}
-use Rattle.serde_json.specs.Find.{get, as_number, as_str, as_array, as_u64}
+use Rattle.serde_json.specs.Find.{get, as_bool, as_number, as_str, as_array, as_u64}
 
 -- the number of keys of an object, or 0 for another value
 abbrev pub members_count : Members → ℕ
@@ -16,7 +16,10 @@ member_count _ = 0
 abbrev pub keyed : {A : Type 0} → ℕ → Data → Option A → Option A
 keyed n d answer = if member_count d == n then answer else None
 
--- the text, the unsigned whole number and the list under the key k
+-- the boolean, the text, the unsigned whole number and the list under the key k
+abbrev pub boolean_at : List ℕ → Data → Option Bool
+boolean_at k d = option_and_then as_bool (get k d)
+
 abbrev pub text_at : List ℕ → Data → Option (List ℕ)
 text_at k d = option_and_then as_str (get k d)
 

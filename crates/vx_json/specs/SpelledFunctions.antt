@@ -1,31 +1,66 @@
 -- The function that an object spells.
-use Rattle.std.specs.Prelude.{ℕ, List, [], ◌∷◌, Option, Some, option_and_then, codes, bytes_eq}
+use Rattle.std.specs.Prelude.{ℕ, List, [], ◌∷◌, Bool, true, false, Option, Some, option_map, option_and_then, codes, bytes_eq}
 use Rattle.std.specs.Map.{lookup}
 use Rattle.serde_json.specs.Data.{Data}
+use Rattle.vx_fn.specs.declared.function.Operator.{Operator}
+use Rattle.vx_fn.specs.declared.function.Operator.TheVariants as operator
 use Rattle.vx_fn.specs.declared.function.ScalarFnRef.{ScalarFnRef}
 use Rattle.vx_fn.specs.declared.function.ScalarFnRef.TheVariants as function
-use Rattle.vx_json.specs.Fields.{keyed, text_at}
-use Rattle.vx_fn.specs.declared.function.Operator.TheVariants as operator
+use Rattle.vx_fn.specs.declared.functions.between.BetweenOptions.{BetweenOptions}
+use Rattle.vx_fn.specs.declared.functions.between.StrictComparison.{StrictComparison}
+use Rattle.vx_fn.specs.declared.functions.between.StrictComparison.TheVariants.{Strict, NonStrict}
+use Rattle.vx_json.specs.Fields.{keyed, text_at, boolean_at}
 
--- the names of functions, and how many keys an object of each has, `enc`, `fn` and `args` among them: a line for each function
-abbrev pub named_functions : List (List ℕ × (ScalarFnRef × ℕ))
+-- a function without options: its object has exactly the keys `enc`, `fn` and `args`
+abbrev pub without_options : ScalarFnRef → Data → Option ScalarFnRef
+without_options f d = keyed 3 d (Some f)
+
+abbrev pub binary : Operator → Data → Option ScalarFnRef
+binary o = without_options (function.Binary o)
+
+-- `between` has two more: true for `<`, and false for `<=`
+abbrev pub strictness : Bool → StrictComparison
+strictness true = Strict
+strictness false = NonStrict
+
+abbrev pub strictness_at : List ℕ → Data → Option StrictComparison
+strictness_at k d = option_map strictness (boolean_at k d)
+
+abbrev pub between_options : Data → Option BetweenOptions
+between_options d =
+    option_and_then (λ lower. option_map (λ upper. record { lower_strict = lower; upper_strict = upper }) (strictness_at (codes "upper_strict") d))
+    (strictness_at (codes "lower_strict") d)
+
+abbrev pub between : Data → Option ScalarFnRef
+between d = keyed 5 d (option_map function.Between (between_options d))
+
+-- the names of functions, and how an object of each spells it, with its options: a line for each function
+abbrev pub named_functions : List (List ℕ × (Data → Option ScalarFnRef))
 named_functions =
-    (codes "add", (function.Binary operator.Add, 3))
-    ∷ (codes "sub", (function.Binary operator.Sub, 3))
-    ∷ (codes "mul", (function.Binary operator.Mul, 3))
-    ∷ (codes "div", (function.Binary operator.Div, 3))
-    ∷ (codes "eq", (function.Binary operator.Eq, 3))
-    ∷ (codes "not_eq", (function.Binary operator.NotEq, 3))
-    ∷ (codes "lt", (function.Binary operator.Lt, 3))
-    ∷ (codes "lte", (function.Binary operator.Lte, 3))
-    ∷ (codes "gt", (function.Binary operator.Gt, 3))
-    ∷ (codes "gte", (function.Binary operator.Gte, 3))
-    ∷ (codes "not", (function.Not, 3))
+    (codes "add", binary operator.Add)
+    ∷ (codes "sub", binary operator.Sub)
+    ∷ (codes "mul", binary operator.Mul)
+    ∷ (codes "div", binary operator.Div)
+    ∷ (codes "eq", binary operator.Eq)
+    ∷ (codes "not_eq", binary operator.NotEq)
+    ∷ (codes "lt", binary operator.Lt)
+    ∷ (codes "lte", binary operator.Lte)
+    ∷ (codes "gt", binary operator.Gt)
+    ∷ (codes "gte", binary operator.Gte)
+    ∷ (codes "and", binary operator.And)
+    ∷ (codes "or", binary operator.Or)
+    ∷ (codes "between", between)
+    ∷ (codes "not", without_options function.Not)
+    ∷ (codes "mask", without_options function.Mask)
+    ∷ (codes "zip", without_options function.Zip)
+    ∷ (codes "fill_null", without_options function.FillNull)
+    ∷ (codes "is_null", without_options function.IsNull)
+    ∷ (codes "is_not_null", without_options function.IsNotNull)
     ∷ []
 
-abbrev pub function_named : List ℕ → Option (ScalarFnRef × ℕ)
-function_named text = lookup (bytes_eq text) named_functions
+abbrev pub function_named : Data → List ℕ → Option ScalarFnRef
+function_named d name = option_and_then (λ read. read d) (lookup (bytes_eq name) named_functions)
 
 -- the one named under `fn`, if the object has exactly its keys
 abbrev pub function_at : Data → Option ScalarFnRef
-function_at d = option_and_then (λ f. keyed f.1 d (Some f.0)) (option_and_then function_named (text_at (codes "fn") d))
+function_at d = option_and_then (function_named d) (text_at (codes "fn") d)

@@ -2,7 +2,7 @@
 
 ghost use Rattle.std.specs.Prelude.{◌≡◌, ◌==◌, true, false, option_map, MatchResult};
 ghost use Rattle.serde_json.specs.View.{view, items_view};
-ghost use Rattle.vx_json.specs.Fields.{member_count, text_at, number_at, items_at};
+ghost use Rattle.vx_json.specs.Fields.{member_count, boolean_at, text_at, number_at, items_at};
 
 use crate::BAD_VALUE;
 use serde_json::Value;
@@ -29,6 +29,13 @@ pub(crate) fn check_keys(value: &Value, keys: usize) -> VortexResult<()>
     } else {
         Err(BAD_VALUE)
     }
+}
+
+/// Returns the boolean under `key`.
+pub(crate) fn boolean(value: &Value, key: &str) -> Option<bool>
+    ensures { result ≡ boolean_at key.now (view value.now) }
+{
+    value.get(key)?.as_bool()
 }
 
 /// Returns the text under `key`.

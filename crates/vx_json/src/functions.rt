@@ -2,41 +2,93 @@
 
 ghost use Rattle.std.specs.Prelude.{◌≡◌};
 ghost use Rattle.serde_json.specs.View.{view};
-ghost use Rattle.vx_json.specs.SpelledFunctions.{function_named, function_at};
+ghost use Rattle.vx_json.specs.SpelledFunctions.{without_options, binary, strictness_at, between_options, between, function_named, function_at};
 
-use crate::fields::{count, text};
+use crate::fields::{boolean, count, text};
 use serde_json::Value;
-use vx_fn::{Operator, ScalarFnRef};
+use vx_fn::{BetweenOptions, Operator, ScalarFnRef, StrictComparison};
 
-/// Returns the function named `text`, and the number of keys of its object, `enc`, `fn` and `args` among them.
-fn function_named(text: &str) -> Option<(ScalarFnRef, usize)>
-    ensures { result ≡ function_named text.now }
+/// Returns `function`, which has no options, if the object has exactly the keys `enc`, `fn` and `args`.
+fn without_options(value: &Value, function: ScalarFnRef) -> Option<ScalarFnRef>
+    ensures { result ≡ without_options function (view value.now) }
 {
-    let operator = match text {
-        "add" => Operator::Add,
-        "sub" => Operator::Sub,
-        "mul" => Operator::Mul,
-        "div" => Operator::Div,
-        "eq" => Operator::Eq,
-        "not_eq" => Operator::NotEq,
-        "lt" => Operator::Lt,
-        "lte" => Operator::Lte,
-        "gt" => Operator::Gt,
-        "gte" => Operator::Gte,
-        "not" => return Some((ScalarFnRef::Not, 3)),
-        _ => return None,
-    };
-    Some((ScalarFnRef::Binary(operator), 3))
+    if count(value) == 3 {
+        Some(function)
+    } else {
+        None
+    }
+}
+
+/// Returns the function of a binary operator, which has no options.
+fn binary(value: &Value, operator: Operator) -> Option<ScalarFnRef>
+    ensures { result ≡ binary operator (view value.now) }
+{
+    without_options(value, ScalarFnRef::Binary(operator))
+}
+
+/// Returns how a bound is compared: `true` under `key` for `<`, `false` for `<=`.
+fn strictness(value: &Value, key: &str) -> Option<StrictComparison>
+    ensures { result ≡ strictness_at key.now (view value.now) }
+{
+    if boolean(value, key)? {
+        Some(StrictComparison::Strict)
+    } else {
+        Some(StrictComparison::NonStrict)
+    }
+}
+
+/// Returns the options of `between`.
+fn between_options(value: &Value) -> Option<BetweenOptions>
+    ensures { result ≡ between_options (view value.now) }
+{
+    Some(BetweenOptions {
+        lower_strict: strictness(value, "lower_strict")?,
+        upper_strict: strictness(value, "upper_strict")?,
+    })
+}
+
+/// Returns `between`, if the object has exactly the keys `enc`, `fn`, `args` and its two options.
+fn between(value: &Value) -> Option<ScalarFnRef>
+    ensures { result ≡ between (view value.now) }
+{
+    if count(value) == 5 {
+        Some(ScalarFnRef::Between(between_options(value)?))
+    } else {
+        None
+    }
+}
+
+/// Returns the function named `name`, with the options that the object has for it.
+fn function_named(value: &Value, name: &str) -> Option<ScalarFnRef>
+    ensures { result ≡ function_named (view value.now) name.now }
+{
+    match name {
+        "add" => binary(value, Operator::Add),
+        "sub" => binary(value, Operator::Sub),
+        "mul" => binary(value, Operator::Mul),
+        "div" => binary(value, Operator::Div),
+        "eq" => binary(value, Operator::Eq),
+        "not_eq" => binary(value, Operator::NotEq),
+        "lt" => binary(value, Operator::Lt),
+        "lte" => binary(value, Operator::Lte),
+        "gt" => binary(value, Operator::Gt),
+        "gte" => binary(value, Operator::Gte),
+        "and" => binary(value, Operator::And),
+        "or" => binary(value, Operator::Or),
+        "between" => between(value),
+        "not" => without_options(value, ScalarFnRef::Not),
+        "mask" => without_options(value, ScalarFnRef::Mask),
+        "zip" => without_options(value, ScalarFnRef::Zip),
+        "fill_null" => without_options(value, ScalarFnRef::FillNull),
+        "is_null" => without_options(value, ScalarFnRef::IsNull),
+        "is_not_null" => without_options(value, ScalarFnRef::IsNotNull),
+        _ => None,
+    }
 }
 
 /// Returns the function named under `fn`, if the object has exactly its keys.
 pub(crate) fn function_at(value: &Value) -> Option<ScalarFnRef>
     ensures { result ≡ function_at (view value.now) }
 {
-    let (function, keys) = function_named(text(value, "fn")?)?;
-    if count(value) == keys {
-        Some(function)
-    } else {
-        None
-    }
+    function_named(value, text(value, "fn")?)
 }
