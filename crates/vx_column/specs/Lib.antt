@@ -12,3 +12,5 @@ pub mod Bits
 pub mod Expanded
 pub mod Nulls
 pub mod ValidRows
+pub mod Selected
+pub mod Bounds

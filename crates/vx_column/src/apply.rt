@@ -8,9 +8,11 @@ ghost use Rattle.vx_column.specs.Arguments.{types_of, IsSized};
 ghost use Rattle.vx_column.specs.Computed.{IsTaken, IsComputed, IsNotComputed};
 
 use crate::argument::{Argument, arguments_of};
+use crate::between::between;
 use crate::boolean::negate;
 use crate::constant::{apply_constants, constants};
 use crate::operate::operate;
+use crate::select::{fill_null, zip};
 use std::alloc::Global;
 use vx_fn::ScalarFnRef;
 use vx_tree::{Canonical, Columnar};
@@ -62,7 +64,12 @@ fn apply_to_columns(
 {
     match (function, arguments) {
         (ScalarFnRef::Binary(operator), [lhs, rhs]) => operate(alloc, *operator, lhs, rhs, len),
+        (ScalarFnRef::Between(options), [array, lower, upper]) => {
+            between(alloc, *options, array, lower, upper, len)
+        }
         (ScalarFnRef::Not, [input]) => negate(alloc, input, len),
+        (ScalarFnRef::Zip, [if_true, if_false, mask]) => zip(alloc, if_true, if_false, mask, len),
+        (ScalarFnRef::FillNull, [input, fill_value]) => fill_null(alloc, input, fill_value, len),
         _ => unreachable!(),
     }
 }

@@ -44,7 +44,7 @@ pub(crate) fn bool_column(
 }
 
 /// Applies `operator`, which must take booleans, row by row.
-fn operate_bits(
+pub(crate) fn operate_bits(
     alloc: Global,
     operator: Operator,
     lhs: BitOperand<'_>,
@@ -70,7 +70,7 @@ fn operate_bits(
 }
 
 /// Returns `bits`, `len` rows, with `false` in each row that isn't valid.
-fn keep_valid(
+pub(crate) fn keep_valid(
     alloc: Global,
     bits: BitBuffer,
     valid: &ValidRows,

@@ -4,6 +4,7 @@
 mod apply;
 mod argument;
 mod arithmetic;
+mod between;
 mod boolean;
 mod canonicalize;
 mod comparison;
@@ -11,6 +12,7 @@ mod constant;
 mod operand;
 mod operate;
 mod probe;
+mod select;
 mod valid;
 
 pub use apply::apply_fn;

@@ -3,6 +3,7 @@
 ghost use Rattle.std.specs.Prelude.{◌≡◌, ◌&&◌, ◌<◌, ℕ, length, IfOk, IfErr};
 ghost use Rattle.vx_value.specs.Nullabilities.{union};
 ghost use Rattle.vx_mask.specs.Logic.{bit_row};
+ghost use Rattle.vx_mask.specs.Operands.{bit_in, HasBits};
 ghost use Rattle.vx_column.specs.ValidRows.{is_valid, HasValidity, nullability_in, IsValidityOf};
 
 use std::alloc::{AllocError, Global};
@@ -31,6 +32,17 @@ impl ValidRows {
             ValidRows::All(Nullability::Nullable)
         } else {
             ValidRows::Bits(bits)
+        }
+    }
+
+    /// Returns the bits that are true in these rows.
+    pub(crate) fn as_bits(&self) -> BitOperand<'_>
+        ensures rows { (i : ℕ) → bit_in result i ≡ is_valid self.now i }
+        ensures sized { (n : ℕ) → HasValidity self.now n → HasBits result n }
+    {
+        match self {
+            ValidRows::All(_) => BitOperand::Bit(true),
+            ValidRows::Bits(bits) => BitOperand::Bits(bits),
         }
     }
 
