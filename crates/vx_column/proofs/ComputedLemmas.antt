@@ -1,5 +1,5 @@
 -- The column of a function, row by row.
-use Rattle.std.proofs.Common.{◌≡◌, ◌<◌, ◌+◌, ℕ, zero, suc, ℤ, Bool, true, false, List, [], ◌∷◌, ◌++◌, length, map, get_or, Option, Some, None}
+use Rattle.std.proofs.Common.{◌≡◌, ◌<◌, ◌+◌, ℕ, zero, suc, ℤ, pos, Bool, true, false, List, [], ◌∷◌, ◌++◌, length, map, get_or, Option, Some, None}
 use Rattle.std.proofs.Common.{Result, IfOk, refl, sym, ap, ◌∙◌, subst, arith}
 use Rattle.std.proofs.lemmas.Result.{IfOk-weaker}
 use Rattle.std.specs.Prelude.{◌&&◌, slice_get}
@@ -9,7 +9,7 @@ use Rattle.vx_fn.specs.Comparisons.{holds}
 use Rattle.vx_fn.specs.declared.function.Operator.{Operator}
 use Rattle.vx_column.specs.Operands.{calculated_cell, calculated_rows, compared_rows}
 use Rattle.std.specs.List.{range_with_len}
-use Rattle.std.proofs.lemmas.List.{length-map, map-append}
+use Rattle.std.proofs.lemmas.List.{length-map, map-append, get_or-map}
 use Rattle.std.proofs.lemmas.List.FromFn.{length-map-range_with_len, map-range_with_len_more, get_or-map-range_with_len}
 use Rattle.vx_value.specs.Types.{DataType, bool, primitive}
 use Rattle.vx_value.specs.Values.{Value, null, boolean, integer}
@@ -19,19 +19,17 @@ use Rattle.vx_value.specs.declared.error.VortexError.{VortexError}
 use Rattle.vx_fn.specs.Apply.{apply}
 use Rattle.vx_fn.specs.ReturnTypes.{return_type}
 use Rattle.vx_fn.specs.declared.function.ScalarFnRef.{ScalarFnRef}
-use Rattle.vx_tree.specs.Tree as enc
-use Rattle.vx_tree.specs.Tree.{Tree, Data, slots_of, column, is_canonical}
-use Rattle.vx_tree.specs.Cells.{slots_rows, node_cells, cells_at, valid_cells, HasNoFault}
-use Rattle.vx_tree.specs.Validities.{child_of}
+use Rattle.vx_tree.specs.Tree.{Tree, dtype}
+use Rattle.vx_tree.specs.Cells.{HasNoFault}
 use Rattle.vx_tree.specs.declared.validity.Validity.{Validity}
 use Rattle.vx_tree.specs.Columns.{canonical_tree}
 use Rattle.vx_tree.specs.declared.canonical.Canonical.{Canonical}
-use Rattle.vx_column.proofs.ValidRowsLemmas.{filled_rows, filled_clean}
-use Rattle.vx_column.specs.Computed.{IsFilled, cells_of, filled_cells, filled_type}
+use Rattle.vx_column.proofs.MadeLemmas.{made_by, bools_made, integers_made}
+use Rattle.vx_column.proofs.ValidRowsLemmas.{by_rows}
+use Rattle.vx_column.specs.Computed.{IsMade, IsFilled, cells_of, filled_cells, filled_type}
 use Rattle.vx_mask.specs.Logic.{bit_row}
 use Rattle.vx_column.specs.Expanded.{boolean_column, integer_column}
-use Rattle.vx_column.specs.Nulls.{validity_cells}
-use Rattle.vx_column.specs.ValidRows.{is_valid, HasValidity, nullability_in, child_in, IsValidityOf, null_unless}
+use Rattle.vx_column.specs.ValidRows.{is_valid, HasValidity, nullability_in, IsValidityOf, null_unless}
 use Rattle.vx_column.specs.declared.valid.ValidRows.{ValidRows}
 
 -- one more row that is made by f
@@ -93,67 +91,43 @@ module _ (f : ScalarFnRef) (of_type : Option DataType) (row : ℕ → List Cell)
       fault_among (λ j. null_unless (is_valid valid j) (apply f s (row j))) n i lt
       (ap (λ b. null_unless b (apply f s (row i))) here ∙ ap (λ t. apply f t (row i)) same ∙ none)
 
-  module _ (sized : HasValidity valid n) (v : Validity) (told : IsValidityOf valid n v) where
-    module _ {X : Type 0} (read : X → Value) (of_items : List X → Data)
-        (cells : (ty : DataType) (k : ℕ) (xs : List X) (css : List (List Cell)) → node_cells ty k (of_items xs) css ≡ valid_cells (cells_at css 0) (map (λ x. value (read x)) xs))
-        (canonical : (xs : List X) → is_canonical (of_items xs) ≡ true) where
-      filled : (ty : DataType) (xs : List X) (g : ℕ → Cell) → filled_type valid of_type ≡ Some ty →
-          map (λ x. value (read x)) xs ≡ map g (range_with_len 0 n) → ((i : ℕ) → i < n → is_valid valid i ≡ true → g i ≡ apply f ty (row i)) →
-          ((i : ℕ) → is_valid valid i ≡ false → (w : Value) × (g i ≡ value w)) →
-          IsFilled f of_type row valid n (column ty (length xs) (of_items xs) (child_of v (length xs)))
-      filled ty xs g typed made same stored =
-          let long : length xs ≡ n = sym (length-map xs (λ x. value (read x))) ∙ ap length made ∙ length-map-range_with_len g 0 n in
-          let child : child_of v (length xs) ≡ child_in valid = ap (child_of v) long ∙ told.1 in
-          let whole : IsFilled f of_type row valid n (column ty (length xs) (of_items xs) (child_in valid)) =
-          record {
-            typed = typed;
-            counted = long;
-            shown = cells ty (length xs) xs (slots_rows (slots_of (child_in valid ∷ [])))
-                ∙ ap (λ css. valid_cells (cells_at css 0) (map (λ x. value (read x)) xs)) (one_slot (child_in valid))
-                ∙ ap (valid_cells (validity_cells (child_in valid))) made
-                ∙ filled_rows valid n g (λ i. apply f ty (row i)) sized same stored;
-            clean = filled_clean valid;
-            canonical = canonical xs;
-          } in
-          subst (λ c. IsFilled f of_type row valid n (column ty (length xs) (of_items xs) c)) (sym child) whole
-        where
-          one_slot : (c : Option Tree) → slots_rows (slots_of (c ∷ [])) ≡ validity_cells c ∷ []
-          one_slot None = refl
-          one_slot (Some t) = refl
+  -- a column that stores them in the valid rows
+  filled : (ty : DataType) (stored : ℕ → Cell) (u : Tree) → filled_type valid of_type ≡ Some ty → (dtype u ≡ ty) × IsMade valid stored n u
+      → ((i : ℕ) → i < n → is_valid valid i ≡ true → stored i ≡ apply f ty (row i)) → IsFilled f of_type row valid n u
+  filled ty stored u typed made same = record {
+    typed = typed ∙ ap Some (sym made.0);
+    made = made_by valid stored _ n u (λ i lt here. same i lt here ∙ ap (λ t. apply f t (row i)) (sym made.0)) made.1;
+  }
 
-    module _ (r : Result Canonical VortexError) where
-      pub bools_filled : (test : ℕ → Bool) (bits : List Bool) → filled_type valid of_type ≡ Some (bool (nullability_in valid)) →
-          ((i : ℕ) → i < n → is_valid valid i ≡ true → value (boolean (test i)) ≡ apply f (bool (nullability_in valid)) (row i)) → bits ≡ map test (range_with_len 0 n) →
-          IfOk r (λ c. canonical_tree c ≡ boolean_column bits v) → IfOk r (λ c. IsFilled f of_type row valid n (canonical_tree c))
-      bools_filled test bits typed same made =
-          let cells_made = ap (map (λ b. value (boolean b))) made ∙ twice (range_with_len 0 n) in
-          let whole = filled boolean enc.bool (λ ty k xs css. refl) (λ xs. refl) (bool (nullability_in valid)) bits (λ i. value (boolean (test i))) typed cells_made same
-          (λ i h. (boolean (test i), refl)) in
-          let typed_column : IsFilled f of_type row valid n (boolean_column bits v) =
-          subst (λ m. IsFilled f of_type row valid n (column (bool m) (length bits) (enc.bool bits) (child_of v (length bits)))) (sym told.0) whole in
-          IfOk-weaker r _ _ (λ c new. subst (IsFilled f of_type row valid n) (sym new) typed_column)
-        where
-          twice : (is : List ℕ) → map (λ b. value (boolean b)) (map test is) ≡ map (λ i. value (boolean (test i))) is
-          twice [] = refl
-          twice (i ∷ is) = ap (λ l. value (boolean (test i)) ∷ l) (twice is)
+  module _ (sized : HasValidity valid n) (v : Validity) (told : IsValidityOf valid n v) (r : Result Canonical VortexError) where
+    pub bools_filled : (test : ℕ → Bool) (bits : List Bool) → filled_type valid of_type ≡ Some (bool (nullability_in valid)) →
+        ((i : ℕ) → i < n → is_valid valid i ≡ true → value (boolean (test i)) ≡ apply f (bool (nullability_in valid)) (row i)) → bits ≡ map test (range_with_len 0 n) →
+        IfOk r (λ c. canonical_tree c ≡ boolean_column bits v) → IfOk r (λ c. IsFilled f of_type row valid n (canonical_tree c))
+    bools_filled test bits typed same are =
+        IfOk-weaker r _ _
+        (λ c new. filled (bool (nullability_in valid)) (λ i. value (boolean (test i))) (canonical_tree c) typed
+        (bools_made valid n sized v told bits test (canonical_tree c) are new) same)
 
-      pub integers_filled : (p : PType) (zs : List ℤ) (g : ℕ → Cell) → filled_type valid of_type ≡ Some (primitive p (nullability_in valid)) →
-          map (λ z. value (integer z)) zs ≡ map g (range_with_len 0 n) →
-          ((i : ℕ) → i < n → is_valid valid i ≡ true → g i ≡ apply f (primitive p (nullability_in valid)) (row i)) →
-          ((i : ℕ) → is_valid valid i ≡ false → (w : Value) × (g i ≡ value w)) →
-          IfOk r (λ c. canonical_tree c ≡ integer_column p zs v) → IfOk r (λ c. IsFilled f of_type row valid n (canonical_tree c))
-      integers_filled p zs g typed made same stored =
-          let whole = filled integer (enc.primitive p) (λ ty k xs css. refl) (λ xs. refl) (primitive p (nullability_in valid)) zs g typed made same stored in
-          let typed_column : IsFilled f of_type row valid n (integer_column p zs v) =
-          subst (λ m. IsFilled f of_type row valid n (column (primitive p m) (length zs) (enc.primitive p zs) (child_of v (length zs)))) (sym told.0) whole in
-          IfOk-weaker r _ _ (λ c new. subst (IsFilled f of_type row valid n) (sym new) typed_column)
+    pub integers_filled : (p : PType) (zs : List ℤ) (g : ℕ → Cell) → filled_type valid of_type ≡ Some (primitive p (nullability_in valid)) →
+        map (λ z. value (integer z)) zs ≡ map g (range_with_len 0 n) →
+        ((i : ℕ) → i < n → is_valid valid i ≡ true → g i ≡ apply f (primitive p (nullability_in valid)) (row i)) →
+        IfOk r (λ c. canonical_tree c ≡ integer_column p zs v) → IfOk r (λ c. IsFilled f of_type row valid n (canonical_tree c))
+    integers_filled p zs g typed cells same =
+        let long : length zs ≡ n = sym (length-map zs (λ z. value (integer z))) ∙ ap length cells ∙ length-map-range_with_len g 0 n in
+        let at_row : (i : ℕ) → i < n → value (integer (get_or zs i (pos 0))) ≡ g i =
+        λ i lt. sym (get_or-map (λ z. value (integer z)) zs i (pos 0) fault (omega (arith, lt, long)))
+        ∙ ap (λ cs. get_or cs i fault) cells ∙ get_or-map-range_with_len g 0 n i i fault lt (omega arith) in
+        IfOk-weaker r _ _
+        (λ c new. filled (primitive p (nullability_in valid)) (λ i. value (integer (get_or zs i (pos 0)))) (canonical_tree c) typed
+        (integers_made valid n sized v told p zs (λ i. get_or zs i (pos 0)) (canonical_tree c) (by_rows zs (pos 0) n long) new)
+        (λ i lt here. at_row i lt ∙ same i lt here))
 
-      -- booleans that are kept of the valid rows
-      pub kept_filled : (test : ℕ → Bool) (bits kept : List Bool) → filled_type valid of_type ≡ Some (bool (nullability_in valid)) →
-          ((i : ℕ) → value (boolean (test i)) ≡ apply f (bool (nullability_in valid)) (row i)) → bits ≡ map test (range_with_len 0 n) →
-          kept ≡ map (λ i. is_valid valid i && bit_row bits i) (range_with_len 0 n) →
-          IfOk r (λ c. canonical_tree c ≡ boolean_column kept v) → IfOk r (λ c. IsFilled f of_type row valid n (canonical_tree c))
-      kept_filled test bits kept typed given made =
-          bools_filled (λ i. is_valid valid i && bit_row bits i) kept typed
-          (λ i lt here. ap (λ b. value (boolean (b && bit_row bits i))) here
-          ∙ ap (λ b. value (boolean b)) (ap (λ bs. bit_row bs i) made ∙ get_or-map-range_with_len test 0 n i i false lt (omega arith)) ∙ given i)
+    -- booleans that are kept of the valid rows
+    pub kept_filled : (test : ℕ → Bool) (bits kept : List Bool) → filled_type valid of_type ≡ Some (bool (nullability_in valid)) →
+        ((i : ℕ) → value (boolean (test i)) ≡ apply f (bool (nullability_in valid)) (row i)) → bits ≡ map test (range_with_len 0 n) →
+        kept ≡ map (λ i. is_valid valid i && bit_row bits i) (range_with_len 0 n) →
+        IfOk r (λ c. canonical_tree c ≡ boolean_column kept v) → IfOk r (λ c. IsFilled f of_type row valid n (canonical_tree c))
+    kept_filled test bits kept typed given made =
+        bools_filled (λ i. is_valid valid i && bit_row bits i) kept typed
+        (λ i lt here. ap (λ b. value (boolean (b && bit_row bits i))) here
+        ∙ ap (λ b. value (boolean b)) (ap (λ bs. bit_row bs i) made ∙ get_or-map-range_with_len test 0 n i i false lt (omega arith)) ∙ given i)

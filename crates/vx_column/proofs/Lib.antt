@@ -7,4 +7,5 @@ pub mod ComputedLemmas
 pub mod KeepsLemmas
 pub mod NullsLemmas
 pub mod ValidRowsLemmas
+pub mod MadeLemmas
 pub mod PassingLemmas

@@ -1,16 +1,16 @@
--- Columns with their validities as arguments, and the functions that take columns without nulls.
+-- Columns with their validities as arguments.
 use Rattle.std.specs.Prelude.{slice_get}
 use Rattle.std.proofs.lemmas.List.{length-map}
 use Rattle.std.proofs.lemmas.Option.{slice_get-get_or}
 use Rattle.vx_value.specs.declared.error.VortexError.{VortexError}
 use Rattle.vx_value.specs.declared.error.VortexError.TheVariants.{OutOfMemory, Fault}
 use Rattle.vx_column.proofs.CellsLemmas.{row_told}
+use Rattle.vx_column.proofs.ValidRowsLemmas.{one_slot}
 use Rattle.std.proofs.Common.{◌≡◌, ◌⊎◌, inl, inr, ◌<◌, ℕ, zero, suc, ℤ, pos, List, [], ◌∷◌, map, length, get_or, Bool, true, false, Option, Some, None, refl, sym, ap, subst, ◌∙◌, arith}
 use Rattle.std.proofs.Math.Bool.{not}
 use Rattle.std.proofs.lemmas.List.{get_or-map, get_or-replicate}
 use Rattle.std.specs.Cmp.{unsigned_Decides}
-use Rattle.std.specs.List.{AllByRecursion}
-use Rattle.vx_value.specs.Types.{DataType, bool, primitive, nullability_of, is_nullable, same_type_Decides}
+use Rattle.vx_value.specs.Types.{DataType, bool, primitive, nullability_of, same_type_Decides}
 use Rattle.vx_value.specs.Nullabilities.{with_nullability}
 use Rattle.vx_value.specs.View.{type_of}
 use Rattle.vx_value.specs.Typed.{Typed}
@@ -22,17 +22,9 @@ use Rattle.vx_value.specs.declared.dtype.Storage.TheVariants as storage
 use Rattle.vx_value.specs.declared.dtype.Nullability.{Nullability}
 use Rattle.vx_value.specs.declared.dtype.Nullability.TheVariants.{NonNullable, Nullable}
 use Rattle.vx_value.specs.declared.dtype.PType.{PType}
-use Rattle.vx_fn.specs.Binary.{binary_type}
-use Rattle.vx_fn.specs.Meanings.{widened}
-use Rattle.vx_fn.specs.Negation.{not_type}
-use Rattle.vx_fn.specs.ReturnTypes.{return_type}
-use Rattle.vx_fn.specs.declared.function.ScalarFnRef.{ScalarFnRef}
-use Rattle.vx_fn.specs.declared.function.ScalarFnRef.TheVariants as function
-use Rattle.vx_fn.proofs.MeaningsLemmas.{nullable_by_argument, nullable_before}
-use Rattle.vx_tree.specs.ColumnTypes.{has_kernel}
 use Rattle.vx_tree.specs.Tree as enc
 use Rattle.vx_tree.specs.Tree.{Tree, slots_of, dtype, len, column, constant_of}
-use Rattle.vx_tree.specs.Cells.{rows, slots_rows, cells_at, valid_cells}
+use Rattle.vx_tree.specs.Cells.{rows, cells_at, valid_cells}
 use Rattle.vx_tree.specs.Well.{Shape, shape, shape_of, shapes, IsValidity, IsFlat, IsNodeOf}
 use Rattle.vx_tree.specs.Validities.{nullability_by, array_refusal, flat_refusal, HasRows}
 use Rattle.vx_tree.specs.Columns.{columnar_tree}
@@ -101,10 +93,6 @@ column_row read d (Some t) valid n xs i told long lt =
     ap (λ cs. get_or (valid_cells cs (map (λ x. value (read x)) xs)) i fault) told.2
     ∙ told_row read d told.0 xs i (omega arith) (told.1 ∙ sym long)
     ∙ ap (λ b. null_unless b (value (read (get_or xs i d)))) (sym (told.3 i lt))
-
-one_slot : (v : Option Tree) → slots_rows (slots_of (v ∷ [])) ≡ validity_cells v ∷ []
-one_slot None = refl
-one_slot (Some t) = refl
 
 -- ---- columns and constants as arguments
 
@@ -194,33 +182,3 @@ constant_argument c s a valid is stored valids =
     one : (i : ℕ) (b : Bool) → is_null s.value ≡ b → value s.value ≡ null_unless (not (is_null s.value)) (value (value_at a i))
     one i true e = ap value (null_is s.value e) ∙ ap (λ b. null_unless (not b) (value (value_at a i))) (sym e)
     one i false e = ap value (sym (stored.shown i e)) ∙ ap (λ b. null_unless (not b) (value (value_at a i))) (sym e)
-
--- ---- a function with a kernel whose result is non-nullable has non-nullable arguments
-
-abbrev pub IsPlain : DataType → Type 0
-IsPlain s = nullability_of s ≡ NonNullable
-
-plain_unless : (s ty : DataType) → (is_nullable (nullability_of s) ≡ true → is_nullable (nullability_of ty) ≡ true) → IsPlain ty → IsPlain s
-plain_unless s ty h plain = by_nullability (nullability_of s) (λ n. ap is_nullable (sym plain) ∙ h n)
-  where
-    by_nullability : (m : Nullability) → (is_nullable m ≡ true → is_nullable NonNullable ≡ true) → m ≡ NonNullable
-    by_nullability NonNullable h = refl
-    by_nullability Nullable h = let same = h refl in absurd (cc)
-
-plain_argument : (s : DataType) (o : Option DataType) (ty : DataType) → IsPlain ty → widened s o ≡ Some ty → IsPlain s
-plain_argument s o ty plain e = plain_unless s ty (λ h. nullable_by_argument s o ty h e) plain
-
-plain_before : (s : DataType) (o : Option DataType) (ty : DataType) → IsPlain ty → widened s o ≡ Some ty → (r : DataType) × (o ≡ Some r) × IsPlain r
-plain_before s None ty plain e = absurd (cc)
-plain_before s (Some r) ty plain e = (r, refl, plain_unless r ty (λ h. nullable_before s r ty h e) plain)
-
--- a line for each function
-pub plain_arguments : (f : ScalarFnRef) (tys : List DataType) (ty : DataType) → has_kernel f ≡ true → IsPlain ty → return_type f tys ≡ Some ty
-    → AllByRecursion IsPlain tys
-plain_arguments (function.Binary op) (s ∷ t ∷ []) ty k plain e =
-    let before = plain_before s (widened t (binary_type op s t)) ty plain e in
-    (plain_argument s (widened t (binary_type op s t)) ty plain e, (plain_argument t (binary_type op s t) before.0 before.2 before.1, tt))
-plain_arguments (function.Binary op) _ ty k plain e = absurd (cc)
-plain_arguments function.Not (s ∷ []) ty k plain e = (plain_argument s (not_type s) ty plain e, tt)
-plain_arguments function.Not _ ty k plain e = absurd (cc)
-plain_arguments _ tys ty k plain e = absurd (cc)

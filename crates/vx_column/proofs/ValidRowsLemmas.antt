@@ -1,5 +1,5 @@
 -- The rows that aren't null: those of a result, and their column.
-use Rattle.std.proofs.Common.{◌≡◌, ℕ, zero, suc, ◌<◌, ◌+◌, Bool, true, false, if◌then◌else◌, List, [], ◌∷◌, length, map, replicate, Some, None}
+use Rattle.std.proofs.Common.{◌≡◌, ℕ, zero, suc, ◌<◌, ◌+◌, Bool, true, false, if◌then◌else◌, List, [], ◌∷◌, length, map, get_or, replicate, Option, Some, None}
 use Rattle.std.proofs.Common.{refl, sym, ap, ◌∙◌, subst, arith}
 use Rattle.std.specs.List.{range_with_len}
 use Rattle.std.proofs.lemmas.List.FromFn.{length-map-range_with_len}
@@ -12,7 +12,7 @@ use Rattle.vx_mask.specs.Places.{true_count}
 use Rattle.vx_mask.proofs.PlacesLemmas.{all_true_yes}
 use Rattle.vx_tree.specs.Tree.{Tree, booleans, slots_of}
 use Rattle.vx_tree.specs.Well.{IsWell}
-use Rattle.vx_tree.specs.Cells.{valid_cell, valid_cells, HasNoFault, AreClean}
+use Rattle.vx_tree.specs.Cells.{slots_rows, valid_cell, valid_cells, HasNoFault, AreClean}
 use Rattle.vx_tree.specs.Validities.{child_of, child_by, truths, HasRows}
 use Rattle.vx_tree.specs.declared.validity.Validity.{Validity}
 use Rattle.vx_tree.specs.declared.validity.Validity.TheVariants as validity
@@ -81,46 +81,43 @@ child_told bits cs l = by_tests (is_all_true bits) (is_all_false bits) refl refl
     by_tests false true h k = ap (λ vs. valid_cells vs cs) (all_false_cells bits k)
     by_tests false false h k = refl
 
--- bits by their rows
-from_row : (s : ℕ) (bits : List Bool) (f : ℕ → Bool) → ((i : ℕ) → f (s + i) ≡ bit_row bits i) → bits ≡ map f (range_with_len s (length bits))
-from_row s [] f h = refl
-from_row s (b ∷ bits) f h =
+-- a list by its rows
+from_row : {X : Type 0} (s : ℕ) (xs : List X) (d : X) (f : ℕ → X) → ((i : ℕ) → f (s + i) ≡ get_or xs i d) → xs ≡ map f (range_with_len s (length xs))
+from_row s [] d f h = refl
+from_row s (x ∷ xs) d f h =
     let here : s + 0 ≡ s = omega arith in
-    let first : b ≡ f s = sym (h 0) ∙ ap f here in
+    let first : x ≡ f s = sym (h 0) ∙ ap f here in
     let later : (i : ℕ) → s + suc i ≡ s + 1 + i = λ i. omega arith in
-    λ j. first j ∷ from_row (s + 1) bits f (λ i. ap f (sym (later i)) ∙ h (suc i)) j
+    λ j. first j ∷ from_row (s + 1) xs d f (λ i. ap f (sym (later i)) ∙ h (suc i)) j
 
-pub by_rows : (bits : List Bool) → bits ≡ map (bit_row bits) (range_with_len 0 (length bits))
-by_rows bits = from_row 0 bits (bit_row bits) (λ i. ap (bit_row bits) (omega arith))
+pub by_rows : {X : Type 0} (xs : List X) (d : X) (n : ℕ) → length xs ≡ n → xs ≡ map (λ i. get_or xs i d) (range_with_len 0 n)
+by_rows xs d n long =
+    from_row 0 xs d (λ i. get_or xs i d) (λ i. ap (λ k. get_or xs k d) (omega arith)) ∙ ap (λ k. map (λ i. get_or xs i d) (range_with_len 0 k)) long
 
 -- a value, or null
-filled_cell : (b : Bool) (c d : Cell) → (b ≡ true → c ≡ d) → (b ≡ false → (w : Value) × (c ≡ value w)) → valid_cell (value (boolean b)) c ≡ null_unless b d
-filled_cell true c d h k = h refl
-filled_cell false c d h k = ap (valid_cell (value (boolean false))) (k refl).1
+filled_cell : (b : Bool) (w : Value) → valid_cell (value (boolean b)) (value w) ≡ null_unless b (value w)
+filled_cell true w = refl
+filled_cell false w = refl
 
-module _ (v : ℕ → Bool) (g d : ℕ → Cell) (n : ℕ) (same : (i : ℕ) → i < n → v i ≡ true → g i ≡ d i) (stored : (i : ℕ) → v i ≡ false → (w : Value) × (g i ≡ value w)) where
-  filled_from : (s m : ℕ) → s + m ≡ n
-      → valid_cells (map (λ b. value (boolean b)) (map v (range_with_len s m))) (map g (range_with_len s m)) ≡ map (λ i. null_unless (v i) (d i)) (range_with_len s m)
-  filled_from s zero e = refl
-  filled_from s (suc m) e =
-      λ j. filled_cell (v s) (g s) (d s) (same s (omega arith)) (stored s) j ∷ filled_from (s + 1) m (omega arith) j
+filled_from : (v : ℕ → Bool) (g : ℕ → Value) (s m : ℕ) → valid_cells (map (λ b. value (boolean b)) (map v (range_with_len s m))) (map (λ i. value (g i)) (range_with_len s m))
+    ≡ map (λ i. null_unless (v i) (value (g i))) (range_with_len s m)
+filled_from v g s zero = refl
+filled_from v g s (suc m) = λ j. filled_cell (v s) (g s) j ∷ filled_from v g (s + 1) m j
 
-  pub plain_from : (s m : ℕ) → s + m ≡ n → ((i : ℕ) → v i ≡ true) → map g (range_with_len s m) ≡ map (λ i. null_unless (v i) (d i)) (range_with_len s m)
-  plain_from s zero e all = refl
-  plain_from s (suc m) e all =
-      λ j. (same s (omega arith) (all s) ∙ ap (λ b. null_unless b (d s)) (sym (all s))) j ∷ plain_from (s + 1) m (omega arith) all j
+-- the cells of a column that stores the values of `g`
+pub filled_rows : (valid : ValidRows) (n : ℕ) (g : ℕ → Value) → HasValidity valid n
+    → valid_cells (validity_cells (child_in valid)) (map (λ i. value (g i)) (range_with_len 0 n)) ≡ map (λ i. null_unless (is_valid valid i) (value (g i))) (range_with_len 0 n)
+filled_rows (rows_valid.All m) n g sized = refl
+filled_rows (rows_valid.Bits bits) n g sized =
+    let counted : length (map (λ i. value (g i)) (range_with_len 0 n)) ≡ length bits = length-map-range_with_len (λ i. value (g i)) 0 n ∙ sym sized in
+    child_told bits (map (λ i. value (g i)) (range_with_len 0 n)) counted
+    ∙ ap (λ bs. valid_cells (map (λ b. value (boolean b)) bs) (map (λ i. value (g i)) (range_with_len 0 n))) (by_rows bits false n sized)
+    ∙ filled_from (bit_row bits) g 0 n
 
--- the cells of a column, if `g` is what it stores, and `d` what its valid rows are
-pub filled_rows : (valid : ValidRows) (n : ℕ) (g d : ℕ → Cell) → HasValidity valid n → ((i : ℕ) → i < n → is_valid valid i ≡ true → g i ≡ d i)
-    → ((i : ℕ) → is_valid valid i ≡ false → (w : Value) × (g i ≡ value w))
-    → valid_cells (validity_cells (child_in valid)) (map g (range_with_len 0 n)) ≡ map (λ i. null_unless (is_valid valid i) (d i)) (range_with_len 0 n)
-filled_rows (rows_valid.All m) n g d sized same stored = plain_from (λ i. true) g d n same stored 0 n (omega arith) (λ i. refl)
-filled_rows (rows_valid.Bits bits) n g d sized same stored =
-    let counted : length (map g (range_with_len 0 n)) ≡ length bits = length-map-range_with_len g 0 n ∙ sym sized in
-    let bits_are : bits ≡ map (bit_row bits) (range_with_len 0 n) = by_rows bits ∙ ap (λ k. map (bit_row bits) (range_with_len 0 k)) sized in
-    child_told bits (map g (range_with_len 0 n)) counted
-    ∙ ap (λ bs. valid_cells (map (λ b. value (boolean b)) bs) (map g (range_with_len 0 n))) bits_are
-    ∙ filled_from (bit_row bits) g d n same stored 0 n (omega arith)
+-- a validity is the one slot of its column
+pub one_slot : (v : Option Tree) → slots_rows (slots_of (v ∷ [])) ≡ validity_cells v ∷ []
+one_slot None = refl
+one_slot (Some t) = refl
 
 bits_clean : (bits : List Bool) → HasNoFault (map (λ b. value (boolean b)) bits)
 bits_clean [] = tt

@@ -33,6 +33,13 @@ abbrev pub IsNoResult : ScalarFnRef → List DataType → (ℕ → List Cell) �
 IsNoResult f tys row n e =
     (e ≡ OutOfMemory) ⊎ ((e ≡ Fault) × ((ty : DataType) → return_type f tys ≡ Some ty → ¬ (HasNoFault (cells_of f ty row n))))
 
+-- u is the canonical column of n rows: row i is `stored i`, null unless it is valid
+pub record IsMade (valid : ValidRows) (stored : ℕ → Cell) (n : ℕ) (u : Tree) : Type 0 where
+  pub counted : len u ≡ n
+  pub shown : rows u ≡ map (λ i. null_unless (is_valid valid i) (stored i)) (range_with_len 0 n)
+  pub clean : AreClean (slots u)
+  pub canonical : is_canonical (datum u) ≡ true
+
 -- u is the canonical column of f on the arguments, n rows of each
 pub record IsComputed (f : ScalarFnRef) (args : List Argument) (n : ℕ) (u : Tree) : Type 0 where
   pub result : IsResult f (types_of args) (row_of args) n u
@@ -63,10 +70,7 @@ filled_type valid of_type = option_map (with_nullability (nullability_in valid))
 -- u is the canonical column of these cells
 pub record IsFilled (f : ScalarFnRef) (of_type : Option DataType) (row : ℕ → List Cell) (valid : ValidRows) (n : ℕ) (u : Tree) : Type 0 where
   pub typed : filled_type valid of_type ≡ Some (dtype u)
-  pub counted : len u ≡ n
-  pub shown : rows u ≡ filled_cells f (dtype u) row valid n
-  pub clean : AreClean (slots u)
-  pub canonical : is_canonical (datum u) ≡ true
+  pub made : IsMade valid (λ i. apply f (dtype u) (row i)) n u
 
 -- why there is none: out of memory, or one of the cells is a fault
 abbrev pub IsNotFilled : ScalarFnRef → Option DataType → (ℕ → List Cell) → ValidRows → ℕ → VortexError → Type 0

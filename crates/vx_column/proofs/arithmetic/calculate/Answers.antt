@@ -1,4 +1,4 @@
-use Rattle.std.proofs.Common.{◌≡◌, map, length, pos, Some, inl, inr, sym, ap, subst, ◌∙◌}
+use Rattle.std.proofs.Common.{◌≡◌, map, length, Some, inl, inr, sym, ap, subst, ◌∙◌}
 use Rattle.std.proofs.lemmas.List.{length-map}
 use Rattle.std.proofs.lemmas.List.FromFn.{length-map-range_with_len}
 use Rattle.vx_value.specs.Types.{primitive}
@@ -51,7 +51,6 @@ returns-in_ok-validity-in-Ok-clause-ok g c =
     (λ i lt here. ap (λ b. calculated_cell op kind b (integer_in l i) (integer_in r i)) here
     ∙ ap (λ p. calculated op p (integer_in l i) (integer_in r i)) same_kind
     ∙ sym (calculated_value op (ptype_of v) m (integer_in l i) (integer_in r i) plain))
-    (λ i no. (integer (pos 0), ap (λ b. calculated_cell op kind b (integer_in l i) (integer_in r i)) no))
     c.primitive_column.ensures.ok
 
 pub returns-in-Err-clause-err : goal.returns-in-Err-clause-err
