@@ -9,3 +9,5 @@ pub mod NullsLemmas
 pub mod ValidRowsLemmas
 pub mod MadeLemmas
 pub mod PassingLemmas
+pub mod SelectLemmas
+pub mod BetweenLemmas

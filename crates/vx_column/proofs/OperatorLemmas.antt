@@ -141,6 +141,16 @@ taken_before f (Some a) b e = refl
 pub argument_nullability : (n : ℕ) (a : Argument) → IsSized n a → nullability_of (type_of_argument a) ≡ nullability_in a.valid
 argument_nullability n a sized = ap nullability_of (argument_type n a sized) ∙ nullability_again (nullability_in a.valid) a.rows
 
+-- arguments whose types are the same but for nullability store values of one type
+pub plain_same : (n : ℕ) (a b : Argument) → IsSized n a → IsSized n b → same_but_nullability (type_of_argument a) (type_of_argument b) ≡ true
+    → plain_type a.rows ≡ plain_type b.rows
+plain_same n a b first second same =
+    sym (plain_again (nullability_in a.valid) a.rows)
+    ∙ ap (with_nullability NonNullable) (sym (argument_type n a first))
+    ∙ (same_but_nullability_Decides (type_of_argument a) (type_of_argument b)).0 same
+    ∙ ap (with_nullability NonNullable) (argument_type n b second)
+    ∙ plain_again (nullability_in b.valid) b.rows
+
 module _ (op : Operator) (n : ℕ) (a b : Argument) (first : IsSized n a) (second : IsSized n b) (taken : IsTaken (Binary op) (types_of (a ∷ b ∷ []))) where
   same_types : same_but_nullability (type_of_argument a) (type_of_argument b) ≡ true
   same_types = by_test (same_but_nullability (type_of_argument a) (type_of_argument b)) taken.1
@@ -151,12 +161,7 @@ module _ (op : Operator) (n : ℕ) (a b : Argument) (first : IsSized n a) (secon
       by_test false e = absurd (cc)
 
   pub operands_same : plain_type a.rows ≡ plain_type b.rows
-  operands_same =
-      sym (plain_again (nullability_in a.valid) a.rows)
-      ∙ ap (with_nullability NonNullable) (sym (argument_type n a first))
-      ∙ (same_but_nullability_Decides (type_of_argument a) (type_of_argument b)).0 same_types
-      ∙ ap (with_nullability NonNullable) (argument_type n b second)
-      ∙ plain_again (nullability_in b.valid) b.rows
+  operands_same = plain_same n a b first second same_types
 
   pub operands_typed : return_type (Binary op) (types_of (a ∷ b ∷ []))
       ≡ option_map (with_nullability (union (nullability_in a.valid) (nullability_in b.valid))) (operator_type op (plain_type a.rows))

@@ -52,13 +52,6 @@ IsNotComputed f args n e = IsNoResult f (types_of args) (row_of args) n e
 abbrev pub IsTaken : ScalarFnRef → List DataType → Type 0
 IsTaken f tys = (ty : DataType) × (return_type f tys ≡ Some ty) × (is_computed f ty ≡ true)
 
--- u is the canonical column of n rows: row i is `stored i`, null unless it is valid
-pub record IsMade (valid : ValidRows) (stored : ℕ → Cell) (n : ℕ) (u : Tree) : Type 0 where
-  pub counted : len u ≡ n
-  pub shown : rows u ≡ map (λ i. null_unless (is_valid valid i) (stored i)) (range_with_len 0 n)
-  pub clean : AreClean (slots u)
-  pub canonical : is_canonical (datum u) ≡ true
-
 -- f on n rows, of which row i is `row i`, with a result of type ty: null in those that aren't valid
 abbrev pub filled_cells : ScalarFnRef → DataType → (ℕ → List Cell) → ValidRows → ℕ → List Cell
 filled_cells f ty row valid n = map (λ i. null_unless (is_valid valid i) (apply f ty (row i))) (range_with_len 0 n)

@@ -14,7 +14,7 @@ ghost use Rattle.vx_column.specs.Operands.{number_in, HasRows};
 ghost use Rattle.vx_column.specs.declared.argument.ArgumentRows.TheVariants.{Bits, Integers};
 
 use crate::argument::{Argument, ArgumentRows, IntegerOperand};
-use crate::boolean::{bool_column, keep_valid, operate_bits};
+use crate::boolean::{keep_valid, operate_bits, valid_bools};
 use crate::comparison::{Below, Comparison, NotAbove};
 use crate::operand::{Operand, operand_of};
 use std::alloc::{AllocError, Global};
@@ -45,8 +45,7 @@ pub(crate) fn between(
     let valid = array.valid.and(alloc, &bounds_valid, len)?;
     let bits = between_rows(alloc, options, array.rows, lower.rows, upper.rows, len)?;
     let kept = keep_valid(alloc, bits, &valid, len)?;
-    let validity = valid.validity(alloc, len)?;
-    bool_column(alloc, kept, &validity)
+    valid_bools(alloc, kept, &valid, len)
 }
 
 /// Checks each of `len` rows, which must be of one type; null rows are compared by what they store.
@@ -177,10 +176,21 @@ fn between_natives<T: NativeInteger, L: Comparison, U: Comparison>(
 {
     let mut bits = BitBuilder::with_capacity(alloc, len)?;
     for index in 0..len {
-        let number = array.row(index);
-        let above = L::compare_row(lower.row(index), number);
-        let below = U::compare_row(number, upper.row(index));
-        bits.push(above & below)?;
+        bits.push(between_row::<T, L, U>(array.row(index), lower.row(index), upper.row(index)))?;
     }
     bits.finish(alloc)
+}
+
+/// Compares `lower` with `number` by `L`, and `number` with `upper` by `U`.
+#[inline]
+fn between_row<T: NativeInteger, L: Comparison, U: Comparison>(
+    number: T,
+    lower: T,
+    upper: T,
+) -> bool
+    ensures { result ≡ holds L.operator (int_cmp (T.value lower) (T.value number)) && holds U.operator (int_cmp (T.value number) (T.value upper)) }
+{
+    let above = L::compare_row(lower, number);
+    let below = U::compare_row(number, upper);
+    above & below
 }

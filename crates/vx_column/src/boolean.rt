@@ -8,12 +8,14 @@ ghost use Rattle.vx_value.specs.Types.{bool};
 ghost use Rattle.vx_fn.specs.Binary.{operator_type};
 ghost use Rattle.vx_column.specs.Bits.{bit_by};
 ghost use Rattle.vx_value.specs.Cell.{value};
+ghost use Rattle.vx_value.specs.Values.{boolean};
 ghost use Rattle.vx_fn.specs.declared.function.ScalarFnRef.TheVariants.{Binary, Not};
 ghost use Rattle.vx_tree.specs.Validities.{HasRows};
 ghost use Rattle.vx_tree.specs.Columns.{canonical_tree};
+ghost use Rattle.vx_tree.specs.Tree.{dtype};
 ghost use Rattle.vx_column.specs.Arguments.{types_of, value_at, pair_at, IsSized};
-ghost use Rattle.vx_column.specs.Computed.{IsTaken, IsComputed, IsFilled};
-ghost use Rattle.vx_column.specs.ValidRows.{is_valid, HasValidity};
+ghost use Rattle.vx_column.specs.Computed.{IsTaken, IsMade, IsComputed, IsFilled};
+ghost use Rattle.vx_column.specs.ValidRows.{is_valid, HasValidity, nullability_in};
 ghost use Rattle.vx_column.specs.Expanded.{boolean_column};
 ghost use Rattle.vx_column.specs.declared.argument.ArgumentRows.TheVariants.{Bits};
 
@@ -41,6 +43,23 @@ pub(crate) fn bool_column(
     let dtype = DType::Bool(validity.nullability());
     let column = BoolArray::try_new(alloc, dtype, bits, validity)?;
     Ok(Canonical::Bool(column))
+}
+
+/// Makes the column of `bits`, `len` rows, that are null unless they are `valid`. The only error is `OutOfMemory`.
+pub(crate) fn valid_bools(
+    alloc: Global,
+    bits: BitBuffer,
+    valid: &ValidRows,
+    len: usize,
+) -> VortexResult<Canonical>
+    requires bits { length bits ≡ len }
+    requires valid { HasValidity valid.now len }
+    ensures ok { IfOk result (λ c. (dtype (canonical_tree c) ≡ bool (nullability_in valid.now))
+        × IsMade valid.now (λ i. value (boolean (bit_row bits i))) len (canonical_tree c)) }
+    ensures err { IfErr result (λ e. e ≡ VortexError.OutOfMemory) }
+{
+    let validity = valid.validity(alloc, len)?;
+    bool_column(alloc, bits, &validity)
 }
 
 /// Applies `operator`, which must take booleans, row by row.

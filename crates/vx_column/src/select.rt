@@ -1,6 +1,6 @@
 //! Rows chosen between two arguments by bits.
 
-ghost use Rattle.std.specs.Prelude.{◌≡◌, ◌∷◌, [], map, length, IfOk, IfErr, if◌then◌else◌};
+ghost use Rattle.std.specs.Prelude.{◌≡◌, ◌<◌, ◌∷◌, [], ℕ, map, length, IfOk, IfErr, if◌then◌else◌};
 ghost use Rattle.std.specs.List.{range_with_len};
 ghost use Rattle.vx_mask.specs.Logic.{bit_row};
 ghost use Rattle.vx_mask.specs.Operands.{bit_in, HasBits};
@@ -17,8 +17,8 @@ ghost use Rattle.vx_column.specs.Selected.{selected, IsSelected};
 ghost use Rattle.vx_column.specs.ValidRows.{is_valid, HasValidity, nullability_in};
 
 use crate::argument::{Argument, ArgumentRows, IntegerOperand, IntegerRows};
-use crate::arithmetic::primitive_column;
-use crate::boolean::bool_column;
+use crate::arithmetic::valid_integers;
+use crate::boolean::valid_bools;
 use crate::operand::{Operand, operand_of};
 use crate::valid::ValidRows;
 use std::alloc::{AllocError, Global};
@@ -72,7 +72,7 @@ pub(crate) fn fill_null(
         rows: input.rows,
         valid: ValidRows::All(Nullability::NonNullable),
     };
-    select(alloc, input.valid.as_bits(), &values, fill_value, len)
+    select(alloc, input.valid.as_operand(), &values, fill_value, len)
 }
 
 /// Chooses `if_true` where `choice` is true, else `if_false`, `len` rows each, whose values must be of one type. The only
@@ -115,7 +115,13 @@ fn select_valid(
     match (if_true, if_false) {
         (ValidRows::All(first), ValidRows::All(second)) => Ok(ValidRows::All(first.union(*second))),
         _ => {
-            let bits = select_bits(alloc, choice, if_true.as_bits(), if_false.as_bits(), len)?;
+            let bits = select_bits(
+                alloc,
+                choice,
+                if_true.as_operand(),
+                if_false.as_operand(),
+                len,
+            )?;
             Ok(ValidRows::Bits(bits))
         }
     }
@@ -135,20 +141,18 @@ fn select_rows(
     requires if_false { HasStored if_false len }
     requires valid { HasValidity valid.now len }
     requires same { plain_type if_true ≡ plain_type if_false }
-    ensures typed { IfOk result (λ c. dtype (canonical_tree c) ≡ with_nullability (nullability_in valid.now) (plain_type if_true.entry)) }
-    ensures ok { IfOk result (λ c.
-        IsMade valid.now (λ i. value (selected choice.entry (value_at if_true.entry) (value_at if_false.entry) i)) len (canonical_tree c)) }
+    ensures ok { IfOk result (λ c. (dtype (canonical_tree c) ≡ with_nullability (nullability_in valid.now) (plain_type if_true.entry))
+        × IsMade valid.now (λ i. value (selected choice.entry (value_at if_true.entry) (value_at if_false.entry) i)) len (canonical_tree c)) }
     ensures err { IfErr result (λ e. e ≡ VortexError.OutOfMemory) }
 {
-    let validity = valid.validity(alloc, len)?;
     match (if_true, if_false) {
         (ArgumentRows::Bits(if_true), ArgumentRows::Bits(if_false)) => {
             let bits = select_bits(alloc, choice, if_true, if_false, len)?;
-            bool_column(alloc, bits, &validity)
+            valid_bools(alloc, bits, valid, len)
         }
         (ArgumentRows::Integers(if_true), ArgumentRows::Integers(if_false)) => {
             let values = select_integers(alloc, choice, if_true, if_false, len)?;
-            primitive_column(alloc, values, &validity)
+            valid_integers(alloc, values, valid, len)
         }
         _ => unreachable!(),
     }
@@ -167,10 +171,11 @@ fn select_bits(
     requires if_false { HasBits if_false len }
     ensures { IfOk result (λ b. b ≡ map (selected choice.entry (bit_in if_true.entry) (bit_in if_false.entry)) (range_with_len 0 len)) }
 {
-    match choice {
-        BitOperand::Bit(true) => owned_bits(alloc, if_true, len),
-        BitOperand::Bit(false) => owned_bits(alloc, if_false, len),
-        BitOperand::Bits(_) => select_words(alloc, choice, if_true, if_false, len),
+    match (choice, if_true) {
+        (BitOperand::Bit(true), _) => owned_bits(alloc, if_true, len),
+        (BitOperand::Bit(false), _) => owned_bits(alloc, if_false, len),
+        (_, BitOperand::Bit(true)) => BitBuffer::zip::<BitOr>(alloc, choice, if_false, len),
+        _ => select_words(alloc, choice, if_true, if_false, len),
     }
 }
 
@@ -187,13 +192,10 @@ fn select_words(
     requires if_false { HasBits if_false len }
     ensures { IfOk result (λ b. b ≡ map (selected choice.entry (bit_in if_true.entry) (bit_in if_false.entry)) (range_with_len 0 len)) }
 {
-    if let BitOperand::Bit(true) = if_true {
-        return BitBuffer::zip::<BitOr>(alloc, choice, if_false, len);
-    }
-    let first = BitBuffer::zip::<BitAnd>(alloc, choice, if_true, len)?;
-    let second = BitBuffer::zip::<BitLt>(alloc, choice, if_false, len)?;
-    let first = BitOperand::Bits(&first);
-    BitBuffer::zip::<BitOr>(alloc, first, BitOperand::Bits(&second), len)
+    let chosen = BitBuffer::zip::<BitAnd>(alloc, choice, if_true, len)?;
+    let others = BitBuffer::zip::<BitLt>(alloc, choice, if_false, len)?;
+    let chosen = BitOperand::Bits(&chosen);
+    BitBuffer::zip::<BitOr>(alloc, chosen, BitOperand::Bits(&others), len)
 }
 
 /// Returns `bits`, `len` rows, in a buffer; a column is shared.
@@ -202,7 +204,7 @@ fn owned_bits(alloc: Global, bits: BitOperand<'_>, len: usize) -> Result<BitBuff
     ensures { IfOk result (λ b. b ≡ map (bit_in bits.entry) (range_with_len 0 len)) }
 {
     match bits {
-        BitOperand::Bits(column) => column.clone(),
+        BitOperand::Bits(column) => Ok(column.clone()?),
         BitOperand::Bit(bit) => BitBuffer::repeat(alloc, bit, len),
     }
 }
@@ -244,7 +246,7 @@ fn owned_integers(
     ensures values { IfOk result (λ v. values_of v ≡ map (integer_in integers.entry) (range_with_len 0 len)) }
 {
     match integers.rows {
-        IntegerRows::Rows(values) => values.clone(),
+        IntegerRows::Rows(values) => Ok(values.clone()?),
         IntegerRows::Value(ptype, wide) => PrimitiveValues::repeat(alloc, ptype, wide, len),
     }
 }

@@ -35,9 +35,9 @@ impl ValidRows {
         }
     }
 
-    /// Returns the bits that are true in these rows.
-    pub(crate) fn as_bits(&self) -> BitOperand<'_>
-        ensures rows { (i : ℕ) → bit_in result i ≡ is_valid self.now i }
+    /// Returns a bit for each row, true if the row is valid.
+    pub(crate) fn as_operand(&self) -> BitOperand<'_>
+        ensures bits { (i : ℕ) → bit_in result i ≡ is_valid self.now i }
         ensures sized { (n : ℕ) → HasValidity self.now n → HasBits result n }
     {
         match self {
