@@ -41,6 +41,7 @@ use Rattle.vx_column.specs.declared.valid.ValidRows.{ValidRows}
 use Rattle.vx_column.proofs.MadeLemmas.{computed_by}
 use Rattle.vx_column.proofs.OperatorLemmas.{argument_type, argument_nullability, plain_same}
 use Rattle.vx_column.proofs.SelectLemmas.{stored_cell}
+use Rattle.vx_column.proofs.ValidRowsLemmas.{bit_made}
 
 -- ---- a bound
 
@@ -64,9 +65,8 @@ pub words_between : (options : BetweenOptions) (x l u : BitOperand) (n : ℕ) (a
     ≡ map (is_between options (value_at (Bits x)) (value_at (Bits l)) (value_at (Bits u))) (range_with_len 0 n)
 words_between options x l u n above below first second =
     same_below n _ _
-    (λ i lt. (λ j. bit_row (first j) i && bit_row (second j) i)
-    ∙ (λ j. get_or-map-range_with_len (λ k. bit_by (bound_by options.lower_strict) (bit_in l k) (bit_in x k)) 0 n i i false lt (omega arith) j
-    && get_or-map-range_with_len (λ k. bit_by (bound_by options.upper_strict) (bit_in x k) (bit_in u k)) 0 n i i false lt (omega arith) j)
+    (λ i lt. (λ j. bit_made (λ k. bit_by (bound_by options.lower_strict) (bit_in l k) (bit_in x k)) above n i first lt j
+    && bit_made (λ k. bit_by (bound_by options.upper_strict) (bit_in x k) (bit_in u k)) below n i second lt j)
     ∙ (λ j. bound_bit options.lower_strict (bit_in l i) (bit_in x i) j && bound_bit options.upper_strict (bit_in x i) (bit_in u i) j))
 
 pub natives_between : (options : BetweenOptions) (s t : StrictComparison) (x l u : IntegerOperand) (p q r : ℕ → ℤ) (n : ℕ) (bits : List Bool)
@@ -158,8 +158,7 @@ module _ (options : BetweenOptions) (n : ℕ) (a l u : Argument) (first : IsSize
       (between_typed ∙ ap (λ m. Some (bool m)) (sym nullability) ∙ ap Some (sym h.0))
       h.1
       (λ i lt. ap (λ b. null_unless (is_valid valid i) (value (boolean b)))
-      (ap (λ bs. bit_row bs i) kept_are ∙ get_or-map-range_with_len (λ k. is_valid valid k && bit_row bits k) 0 n i i false lt (omega arith)
-      ∙ ap (λ b. is_valid valid i && b) (ap (λ bs. bit_row bs i) are ∙ get_or-map-range_with_len lies 0 n i i false lt (omega arith)))
+      (bit_made (λ k. is_valid valid k && bit_row bits k) kept n i kept_are lt ∙ ap (λ b. is_valid valid i && b) (bit_made lies bits n i are lt))
       ∙ kept_cell (is_valid valid i) (lies i)
       ∙ ap (λ b. null_unless b (value (boolean (lies i)))) (rows i lt)
       ∙ sym (lies_cell options (dtype t) (is_valid a.valid i) (is_valid l.valid i) (is_valid u.valid i) a.rows l.rows u.rows i))

@@ -9,5 +9,7 @@ pub mod NullsLemmas
 pub mod ValidRowsLemmas
 pub mod MadeLemmas
 pub mod PassingLemmas
+pub mod LogicLemmas
+pub mod NullFunctionsLemmas
 pub mod SelectLemmas
 pub mod BetweenLemmas

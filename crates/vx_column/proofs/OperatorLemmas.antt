@@ -1,5 +1,5 @@
 -- What an operator gives on columns: the type of its result and the value of a row, over booleans and over integers.
-use Rattle.std.proofs.Common.{◌≡◌, ℕ, Bool, true, false, if◌then◌else◌, refl, sym, ap, ◌∙◌, ◌∷◌, [], Some, None}
+use Rattle.std.proofs.Common.{◌≡◌, ℕ, Bool, true, false, if◌then◌else◌, refl, sym, ap, subst, ◌∙◌, ◌∷◌, [], Some, None}
 use Rattle.std.specs.Prelude.{ℤ, Option, IsSome, option_map}
 use Rattle.std.specs.Ordering.{int_cmp}
 use Rattle.vx_value.specs.Types.{bool, primitive, nullability_of}
@@ -27,6 +27,7 @@ use Rattle.vx_column.specs.Computed.{IsTaken}
 use Rattle.vx_column.specs.ValidRows.{nullability_in}
 use Rattle.vx_column.specs.declared.argument.Argument.{Argument}
 use Rattle.vx_column.specs.declared.argument.ArgumentRows.{ArgumentRows}
+use Rattle.vx_column.specs.declared.argument.IntegerOperand.{IntegerOperand}
 use Rattle.vx_column.specs.declared.argument.ArgumentRows.TheVariants as stored
 
 -- ---- booleans
@@ -126,6 +127,10 @@ plain_again : (m : Nullability) (r : ArgumentRows) → with_nullability NonNulla
 plain_again m (stored.Bits bs) = refl
 plain_again m (stored.Integers zs) = refl
 
+pub set_again : (k m : Nullability) (r : ArgumentRows) → with_nullability k (with_nullability m (plain_type r)) ≡ with_nullability k (plain_type r)
+set_again k m (stored.Bits bs) = refl
+set_again k m (stored.Integers zs) = refl
+
 nullability_again : (m : Nullability) (r : ArgumentRows) → nullability_of (with_nullability m (plain_type r)) ≡ m
 nullability_again m (stored.Bits bs) = refl
 nullability_again m (stored.Integers zs) = refl
@@ -175,3 +180,9 @@ module _ (op : Operator) (n : ℕ) (a b : Argument) (first : IsSized n a) (secon
 
   pub operands_taken : IsSome (operator_type op (plain_type a.rows))
   operands_taken = taken_before _ _ taken.0 (sym operands_typed ∙ taken.1)
+
+  -- logic takes no integers
+  pub no_integers : (zs : IntegerOperand) → is_logical op ≡ true → a.rows ≡ stored.Integers zs → ⊥
+  no_integers zs logical is =
+      let plain : is_logical op ≡ false = integers_plain op (ptype_in zs) (subst (λ r. IsSome (operator_type op (plain_type r))) is operands_taken) in
+      cc (logical, plain)

@@ -31,7 +31,8 @@ use Rattle.vx_column.specs.declared.argument.ArgumentRows.TheVariants.{Bits, Int
 use Rattle.vx_column.specs.declared.valid.ValidRows.{ValidRows}
 use Rattle.vx_column.specs.declared.valid.ValidRows.TheVariants as rows_valid
 use Rattle.vx_column.proofs.MadeLemmas.{made_by}
-use Rattle.vx_column.proofs.OperatorLemmas.{argument_type, argument_nullability, plain_same}
+use Rattle.vx_column.proofs.OperatorLemmas.{argument_type, argument_nullability, set_again, plain_same}
+use Rattle.vx_column.proofs.ValidRowsLemmas.{bit_made}
 
 -- ---- bits, by words
 
@@ -47,26 +48,11 @@ pub words_selected : (choice x y : BitOperand) (n : ℕ) (a b : List Bool) → a
     → map (λ i. bit_row a i || bit_row b i) (range_with_len 0 n) ≡ map (selected choice (bit_in x) (bit_in y)) (range_with_len 0 n)
 words_selected choice x y n a b first second =
     same_below n _ _
-    (λ i lt. (λ j. bit_row (first j) i || bit_row (second j) i)
-    ∙ (λ j. get_or-map-range_with_len (λ k. bit_in choice k && bit_in x k) 0 n i i false lt (omega arith) j
-    || get_or-map-range_with_len (λ k. is_lt (bool_cmp (bit_in choice k) (bit_in y k))) 0 n i i false lt (omega arith) j)
+    (λ i lt. (λ j. bit_made (λ k. bit_in choice k && bit_in x k) a n i first lt j
+    || bit_made (λ k. is_lt (bool_cmp (bit_in choice k) (bit_in y k))) b n i second lt j)
     ∙ bit_selected (bit_in choice i) (bit_in x i) (bit_in y i))
 
--- of a bit that is true in every row
-pub either_selected : (choice y : BitOperand) (n : ℕ)
-    → map (λ i. bit_in choice i || bit_in y i) (range_with_len 0 n) ≡ map (selected choice (λ i. true) (bit_in y)) (range_with_len 0 n)
-either_selected choice y n = same_below n _ _ (λ i lt. by_bit (bit_in choice i) (bit_in y i))
-  where
-    by_bit : (c b : Bool) → (c || b) ≡ (if c then true else b)
-    by_bit true b = refl
-    by_bit false b = refl
-
 -- ---- the column of what is chosen
-
--- of two that are the same
-pub same_selected : {A : Type 0} (c : Bool) (a : A) → a ≡ (if c then a else a)
-same_selected true a = refl
-same_selected false a = refl
 
 chosen_in : {A B : Type 0} (f : A → B) (c : Bool) (a b : A) → f (if c then a else b) ≡ (if c then f a else f b)
 chosen_in f true a b = refl
@@ -116,10 +102,6 @@ computed_selected f args choice x y n u typed cells h = record {
 pub stored_cell : (v : Bool) (x : Value) → null_unless v (value x) ≡ value (if v then x else null)
 stored_cell true x = refl
 stored_cell false x = refl
-
-set_again : (k m : Nullability) (r : ArgumentRows) → with_nullability k (with_nullability m (plain_type r)) ≡ with_nullability k (plain_type r)
-set_again k m (Bits bs) = refl
-set_again k m (Integers zs) = refl
 
 -- a mask that is null counts as false
 zipped_cell : (ty : DataType) (v w : Bool) (x y : Value) (k b : Bool)

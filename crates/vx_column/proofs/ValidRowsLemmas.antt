@@ -2,7 +2,7 @@
 use Rattle.std.proofs.Common.{◌≡◌, ℕ, zero, suc, ◌<◌, ◌+◌, Bool, true, false, if◌then◌else◌, List, [], ◌∷◌, length, map, get_or, replicate, Option, Some, None}
 use Rattle.std.proofs.Common.{refl, sym, ap, ◌∙◌, subst, arith}
 use Rattle.std.specs.List.{range_with_len}
-use Rattle.std.proofs.lemmas.List.FromFn.{length-map-range_with_len}
+use Rattle.std.proofs.lemmas.List.FromFn.{get_or-map-range_with_len, length-map-range_with_len}
 use Rattle.vx_value.specs.Values.{boolean}
 use Rattle.vx_value.specs.Values.{Value}
 use Rattle.vx_value.specs.Cell.{Cell, value}
@@ -93,6 +93,13 @@ from_row s (x ∷ xs) d f h =
 pub by_rows : {X : Type 0} (xs : List X) (d : X) (n : ℕ) → length xs ≡ n → xs ≡ map (λ i. get_or xs i d) (range_with_len 0 n)
 by_rows xs d n long =
     from_row 0 xs d (λ i. get_or xs i d) (λ i. ap (λ k. get_or xs k d) (omega arith)) ∙ ap (λ k. map (λ i. get_or xs i d) (range_with_len 0 k)) long
+
+-- items that are made row by row
+pub counted : {X : Type 0} (f : ℕ → X) (xs : List X) (n : ℕ) → xs ≡ map f (range_with_len 0 n) → length xs ≡ n
+counted f xs n made = ap length made ∙ length-map-range_with_len f 0 n
+
+pub bit_made : (f : ℕ → Bool) (bits : List Bool) (n i : ℕ) → bits ≡ map f (range_with_len 0 n) → i < n → bit_row bits i ≡ f i
+bit_made f bits n i made lt = ap (λ bs. bit_row bs i) made ∙ get_or-map-range_with_len f 0 n i i false lt (omega arith)
 
 -- a value, or null
 filled_cell : (b : Bool) (w : Value) → valid_cell (value (boolean b)) (value w) ≡ null_unless b (value w)

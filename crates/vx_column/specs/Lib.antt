@@ -12,5 +12,6 @@ pub mod Bits
 pub mod Expanded
 pub mod Nulls
 pub mod ValidRows
+pub mod Truths
 pub mod Selected
 pub mod Bounds

@@ -26,6 +26,7 @@ use vx_value::{VortexError, VortexResult};
 
 /// Checks whether each row of `array` lies between `lower` and `upper`, `len` rows each; a row is null if one of the three is.
 /// The only error is `OutOfMemory`.
+#[tactic(auto, using(crate::proofs::ValidRowsLemmas::counted))]
 pub(crate) fn between(
     alloc: Global,
     options: BetweenOptions,
@@ -93,6 +94,7 @@ fn bound_operator(comparison: StrictComparison) -> Operator
 }
 
 /// Checks each of `len` rows of booleans, by words.
+#[tactic(auto, using(crate::proofs::ValidRowsLemmas::counted))]
 fn between_bits(
     alloc: Global,
     options: BetweenOptions,

@@ -9,10 +9,13 @@ mod boolean;
 mod canonicalize;
 mod comparison;
 mod constant;
+mod logic;
+mod nulls;
 mod operand;
 mod operate;
 mod probe;
 mod select;
+mod stored;
 mod valid;
 
 pub use apply::apply_fn;

@@ -13,6 +13,7 @@ use crate::argument::{Argument, ArgumentRows, IntegerOperand};
 use crate::arithmetic::{Difference, Product, Quotient, Sum, calculate};
 use crate::boolean::operate_bools;
 use crate::comparison::{Above, Below, Different, Equal, NotAbove, NotBelow, compare};
+use crate::logic::join;
 use crate::valid::ValidRows;
 use std::alloc::Global;
 use vx_fn::Operator;
@@ -34,6 +35,9 @@ pub(crate) fn operate(
     ensures ok { IfOk result (λ c. IsComputed (Binary operator) (lhs.now ∷ rhs.now ∷ []) len (canonical_tree c)) }
     ensures err { IfErr result (IsNotComputed (Binary operator) (lhs.now ∷ rhs.now ∷ []) len) }
 {
+    if operator.is_logical() {
+        return join(alloc, operator, lhs, rhs, len);
+    }
     let valid = lhs.valid.and(alloc, &rhs.valid, len)?;
     match operate_rows(alloc, operator, lhs.rows, rhs.rows, &valid, len) {
         Ok(column) => Ok(column),

@@ -16,10 +16,11 @@ ghost use Rattle.vx_column.specs.Operands.{number_in, HasRow, HasRows};
 ghost use Rattle.vx_column.specs.Selected.{selected, IsSelected};
 ghost use Rattle.vx_column.specs.ValidRows.{is_valid, HasValidity, nullability_in};
 
-use crate::argument::{Argument, ArgumentRows, IntegerOperand, IntegerRows};
+use crate::argument::{Argument, ArgumentRows, IntegerOperand};
 use crate::arithmetic::valid_integers;
 use crate::boolean::valid_bools;
 use crate::operand::{Operand, operand_of};
+use crate::stored::{bit_rows, integer_rows};
 use crate::valid::ValidRows;
 use std::alloc::{AllocError, Global};
 use vx_mask::{BitAnd, BitBuffer, BitLt, BitOperand, BitOr, Buffer};
@@ -29,6 +30,7 @@ use vx_value::{Nullability, VortexError, VortexResult};
 
 /// Chooses `if_true` where `mask` is true, and `if_false` where it is false or null, `len` rows each. The only error is
 /// `OutOfMemory`.
+#[tactic(auto, using(crate::proofs::ValidRowsLemmas::counted))]
 pub(crate) fn zip(
     alloc: Global,
     if_true: &Argument<'_>,
@@ -98,6 +100,7 @@ fn select(
 }
 
 /// Chooses the valid rows of a column.
+#[tactic(auto, using(crate::proofs::ValidRowsLemmas::counted))]
 fn select_valid(
     alloc: Global,
     choice: BitOperand<'_>,
@@ -128,6 +131,7 @@ fn select_valid(
 }
 
 /// Makes the column of the rows that `choice` chooses, whose `valid` rows aren't null. The only error is `OutOfMemory`.
+#[tactic(auto, using(crate::proofs::ValidRowsLemmas::counted))]
 fn select_rows(
     alloc: Global,
     choice: BitOperand<'_>,
@@ -172,14 +176,15 @@ fn select_bits(
     ensures { IfOk result (λ b. b ≡ map (selected choice.entry (bit_in if_true.entry) (bit_in if_false.entry)) (range_with_len 0 len)) }
 {
     match (choice, if_true) {
-        (BitOperand::Bit(true), _) => owned_bits(alloc, if_true, len),
-        (BitOperand::Bit(false), _) => owned_bits(alloc, if_false, len),
+        (BitOperand::Bit(true), _) => bit_rows(alloc, if_true, len),
+        (BitOperand::Bit(false), _) => bit_rows(alloc, if_false, len),
         (_, BitOperand::Bit(true)) => BitBuffer::zip::<BitOr>(alloc, choice, if_false, len),
         _ => select_words(alloc, choice, if_true, if_false, len),
     }
 }
 
 /// Chooses among bits, by words.
+#[tactic(auto, using(crate::proofs::ValidRowsLemmas::counted))]
 fn select_words(
     alloc: Global,
     choice: BitOperand<'_>,
@@ -198,17 +203,6 @@ fn select_words(
     BitBuffer::zip::<BitOr>(alloc, chosen, BitOperand::Bits(&others), len)
 }
 
-/// Returns `bits`, `len` rows, in a buffer; a column is shared.
-fn owned_bits(alloc: Global, bits: BitOperand<'_>, len: usize) -> Result<BitBuffer, AllocError>
-    requires { HasBits bits len }
-    ensures { IfOk result (λ b. b ≡ map (bit_in bits.entry) (range_with_len 0 len)) }
-{
-    match bits {
-        BitOperand::Bits(column) => Ok(column.clone()?),
-        BitOperand::Bit(bit) => BitBuffer::repeat(alloc, bit, len),
-    }
-}
-
 /// Chooses among integers; if one side is chosen whole, its integers are shared.
 fn select_integers(
     alloc: Global,
@@ -224,30 +218,14 @@ fn select_integers(
     ensures values { IfOk result (λ v. values_of v ≡ map (selected choice.entry (integer_in if_true.entry) (integer_in if_false.entry)) (range_with_len 0 len)) }
 {
     match choice {
-        BitOperand::Bit(true) => owned_integers(alloc, if_true, len),
-        BitOperand::Bit(false) => owned_integers(alloc, if_false, len),
+        BitOperand::Bit(true) => integer_rows(alloc, if_true, len),
+        BitOperand::Bit(false) => integer_rows(alloc, if_false, len),
         BitOperand::Bits(bits) => {
             by_type!(
                 if_true.ptype(),
                 select_natives(alloc, bits, if_true, if_false, len)
             )
         }
-    }
-}
-
-/// Returns `integers`, `len` rows, as the values of a column; those of a column are shared.
-fn owned_integers(
-    alloc: Global,
-    integers: IntegerOperand<'_>,
-    len: usize,
-) -> Result<PrimitiveValues, AllocError>
-    requires { AreIntegers (ptype_in integers) integers len }
-    ensures kind { IfOk result (λ v. ptype_of v ≡ ptype_in integers.entry) }
-    ensures values { IfOk result (λ v. values_of v ≡ map (integer_in integers.entry) (range_with_len 0 len)) }
-{
-    match integers.rows {
-        IntegerRows::Rows(values) => Ok(values.clone()?),
-        IntegerRows::Value(ptype, wide) => PrimitiveValues::repeat(alloc, ptype, wide, len),
     }
 }
 

@@ -1,6 +1,5 @@
-use Rattle.std.proofs.Common.{◌&&◌, length, ap, ◌∙◌}
+use Rattle.std.proofs.Common.{◌&&◌, ap, ◌∙◌}
 use Rattle.std.proofs.lemmas.Result.{IfOk-weaker}
-use Rattle.std.proofs.lemmas.List.FromFn.{length-map-range_with_len}
 use Rattle.vx_value.specs.Nullabilities.{union}
 use Rattle.vx_tree.specs.Columns.{canonical_tree}
 use Rattle.vx_column.specs.ValidRows.{is_valid, nullability_in}
@@ -14,12 +13,6 @@ between_rows-requires-clause-same_lower c =
 pub between_rows-requires-clause-same_upper : goal.between_rows-requires-clause-same_upper
 between_rows-requires-clause-same_upper c =
     same_upper c.args.options c.args.len c.args.array.now c.args.lower.now c.args.upper.now c.requires.array c.requires.lower c.requires.upper c.requires.taken
-
-pub keep_valid-requires-clause-bits : goal.keep_valid-requires-clause-bits
-keep_valid-requires-clause-bits c = ap length c.in_ok-bits.ensures ∙ length-map-range_with_len _ 0 c.args.len
-
-pub valid_bools-requires-clause-bits : goal.valid_bools-requires-clause-bits
-valid_bools-requires-clause-bits c = ap length c.in_ok-kept.ensures ∙ length-map-range_with_len _ 0 c.args.len
 
 pub returns-clause-ok : goal.returns-clause-ok
 returns-clause-ok c =

@@ -1,17 +1,10 @@
-use Rattle.std.proofs.Common.{map, length, ap, ◌∙◌}
+use Rattle.std.proofs.Common.{map, ◌∙◌}
 use Rattle.std.proofs.lemmas.Result.{IfOk-weaker}
 use Rattle.std.specs.List.{range_with_len}
-use Rattle.std.proofs.lemmas.List.FromFn.{length-map-range_with_len}
 use Rattle.vx_mask.specs.Operands.{bit_in}
 use Rattle.vx_column.specs.Bits.{bit_by}
 use Rattle.vx_column.proofs.BetweenLemmas.{words_between}
 use Rattle.vx_column.proofs.between.between_bits.Goals as goal
-
-pub zip-requires-clause-lhs : goal.zip-requires-clause-lhs
-zip-requires-clause-lhs c = ap length c.in_ok-above.ensures ∙ length-map-range_with_len _ 0 c.args.len
-
-pub zip-requires-clause-rhs : goal.zip-requires-clause-rhs
-zip-requires-clause-rhs c = ap length c.in_ok-below.ensures ∙ length-map-range_with_len _ 0 c.args.len
 
 pub returns : goal.returns
 returns c =

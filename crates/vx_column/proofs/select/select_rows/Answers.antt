@@ -1,6 +1,5 @@
-use Rattle.std.proofs.Common.{length, pos, false, sym, ap, ◌∙◌}
+use Rattle.std.proofs.Common.{pos, false, sym, ap, ◌∙◌}
 use Rattle.std.proofs.lemmas.Result.{IfOk-weaker}
-use Rattle.std.proofs.lemmas.List.FromFn.{length-map-range_with_len}
 use Rattle.vx_value.specs.Types.{primitive}
 use Rattle.vx_value.specs.Nullabilities.{with_nullability}
 use Rattle.vx_value.specs.Values.{boolean, integer}
@@ -11,12 +10,6 @@ use Rattle.vx_column.specs.Arguments.{integer_in, plain_type, value_at}
 use Rattle.vx_column.specs.ValidRows.{nullability_in}
 use Rattle.vx_column.proofs.SelectLemmas.{made_selected}
 use Rattle.vx_column.proofs.select.select_rows.Goals as goal
-
-pub valid_bools-requires-clause-bits : goal.valid_bools-requires-clause-bits
-valid_bools-requires-clause-bits c = ap length c.in_ok-bits-in-Bits-Bits.ensures ∙ length-map-range_with_len _ 0 c.args.len
-
-pub valid_integers-requires-clause-values : goal.valid_integers-requires-clause-values
-valid_integers-requires-clause-values c = ap length c.in_ok-values-in-Integers-Integers.ensures.values ∙ length-map-range_with_len _ 0 c.args.len
 
 pub returns-in_ok-bits-in-Bits-Bits-clause-ok : goal.returns-in_ok-bits-in-Bits-Bits-clause-ok
 returns-in_ok-bits-in-Bits-Bits-clause-ok c =

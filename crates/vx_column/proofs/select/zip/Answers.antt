@@ -1,19 +1,15 @@
-use Rattle.std.proofs.Common.{◌&&◌, length, false, sym, ap, ◌∙◌, arith}
+use Rattle.std.proofs.Common.{◌&&◌, sym, ap, ◌∙◌}
 use Rattle.std.proofs.lemmas.Result.{IfOk-weaker}
-use Rattle.std.proofs.lemmas.List.FromFn.{get_or-map-range_with_len, length-map-range_with_len}
-use Rattle.vx_mask.specs.Logic.{bit_row}
 use Rattle.vx_mask.specs.Operands.{bit_in}
 use Rattle.vx_tree.specs.Columns.{canonical_tree}
 use Rattle.vx_column.specs.ValidRows.{is_valid}
 use Rattle.vx_column.proofs.SelectLemmas.{zip_same, zip_computed}
+use Rattle.vx_column.proofs.ValidRowsLemmas.{bit_made}
 use Rattle.vx_column.proofs.select.zip.Goals as goal
 
 pub select-requires-clause-same : goal.select-requires-clause-same
 select-requires-clause-same c =
     zip_same c.args.len c.args.if_true.now c.args.if_false.now c.args.mask.now c.requires.if_true c.requires.if_false c.requires.taken
-
-pub select-requires-in-Bits-valid-clause-choice : goal.select-requires-in-Bits-valid-clause-choice
-select-requires-in-Bits-valid-clause-choice c = ap length c.in_ok-choice-in-Bits-valid.ensures ∙ length-map-range_with_len _ 0 c.args.len
 
 pub select-requires-in-Bits-valid-clause-same : goal.select-requires-in-Bits-valid-clause-same
 select-requires-in-Bits-valid-clause-same c =
@@ -33,6 +29,6 @@ returns-in_ok-choice-in-Bits-valid-clause-ok c =
     IfOk-weaker c.select-in-Bits-valid.result _ _
     (λ u h. zip_computed c.args.len c.args.if_true.now c.args.if_false.now c.args.mask.now c.requires.if_true c.requires.if_false c.requires.taken _ bits
     (canonical_tree u) c.in-Bits.is
-    (λ i lt. ap (λ l. bit_row l i) c.in_ok-choice-in-Bits-valid.ensures ∙ get_or-map-range_with_len _ 0 c.args.len i i false lt (omega arith)
+    (λ i lt. bit_made _ c.in_ok-choice-in-Bits-valid.choice c.args.len i c.in_ok-choice-in-Bits-valid.ensures lt
     ∙ ap (λ v. is_valid v i && bit_in bits i) (sym c.in-Bits-valid.is)) h)
     c.select-in-Bits-valid.ensures.ok
