@@ -1,10 +1,10 @@
 -- One row of a node.
-use Rattle.std.proofs.Common.{◌≡◌, ℕ, zero, suc, ◌+◌, ◌-◌, ◌≤◌, ◌<◌, List, [], ◌∷◌, length, map, get_or, take, drop, ◌++◌, Bool, Option, Some, None, refl, sym, ◌∙◌, ap, subst, arith}
-use Rattle.std.specs.Prelude.{slice_get, slice_index_or, is_some, IsSome}
+use Rattle.std.proofs.Common.{◌≡◌, ℕ, zero, suc, ◌+◌, ◌-◌, ◌≤◌, ◌<◌, List, [], ◌∷◌, length, map, replicate, get_or, take, drop, ◌++◌, Bool, Option, Some, None, refl, sym, ◌∙◌, ap, subst, arith}
+use Rattle.std.specs.Prelude.{slice_get, slice_index_or, option_map, is_some, IsSome}
 use Rattle.std.specs.List.{AllZip, range_with_len}
 use Rattle.std.proofs.lemmas.List.{take_all, take_more, map-append}
 use Rattle.std.proofs.lemmas.List.FromFn.{get_or-map-range_with_len, length-map-range_with_len}
-use Rattle.std.proofs.lemmas.Option.{slice_get-get_or, get_or_from_slice_get}
+use Rattle.std.proofs.lemmas.Option.{slice_get-get_or, slice_get-map, get_or_from_slice_get}
 use Rattle.vx_value.specs.Types.{DataType}
 use Rattle.vx_value.specs.Typed.{Typed}
 use Rattle.vx_value.specs.Values.{Value, boolean}
@@ -12,7 +12,7 @@ use Rattle.vx_value.specs.Cell.{Cell, value, fault}
 use Rattle.vx_fn.specs.Apply.{apply, on_values, value_of}
 use Rattle.vx_fn.specs.ReturnTypes.{return_type}
 use Rattle.vx_fn.specs.declared.function.ScalarFnRef.{ScalarFnRef}
-use Rattle.vx_tree.specs.Tree.{Tree, node, function, slots_of, dtype, len, height, slots_height, slice_of}
+use Rattle.vx_tree.specs.Tree.{Tree, node, function, bool, column, constant_of, slots_of, dtype, len, height, slots_height, slice_of}
 use Rattle.vx_tree.specs.Cells.{row_at, rows, slots_rows, valid_cell, valid_cells}
 use Rattle.vx_tree.specs.Well.{shape, shapes, IsNode, IsWell}
 use Rattle.vx_tree.proofs.CellsLemmas.{rows_counted}
@@ -20,6 +20,9 @@ use Rattle.vx_tree.specs.Refusals.{types_in}
 use Rattle.vx_tree.proofs.RefusalsLemmas.{types_back}
 use Rattle.vx_column.specs.Applied.{types_of_scalars, cells_of_scalars}
 use Rattle.vx_column.specs.Nulls.{IsRowBy}
+use Rattle.vx_column.specs.ValidRows.{null_unless}
+use Rattle.vx_column.proofs.ValidRowsLemmas.{filled_cell}
+use Rattle.vx_native.proofs.NativesLemmas.{map_copies}
 
 -- ---- a row of a slice
 
@@ -57,7 +60,27 @@ pub row_told : (validity : Option Tree) (t : Tree) (i : ℕ) (v stored : Cell) �
 row_told validity t i v stored is told =
     subst (λ w. IsRowBy w i stored (valid_cell v stored)) (sym is) (λ cs there. valid_get (rows t) cs i v stored told there)
 
--- ---- of a column of booleans, read up to a row
+-- what a truth value in it makes of a stored value
+pub row_known : (validity : Option Tree) (t : Tree) (i : ℕ) (b : Bool) (stored : Value) → validity ≡ Some t → slice_get (rows t) i ≡ Some (value (boolean b))
+    → IsRowBy validity i (value stored) (null_unless b (value stored))
+row_known validity t i b stored is told =
+    subst (IsRowBy validity i (value stored)) (filled_cell b stored) (row_told validity t i (value (boolean b)) (value stored) is told)
+
+-- ---- of a column of booleans
+
+pub bits_row : (t : Tree) (v : Option Tree) (bits : List Bool) (i : ℕ) (b : Bool) → t ≡ column (dtype t) (len t) (bool bits) v → v ≡ None → slice_get bits i ≡ Some b
+    → slice_get (rows t) i ≡ Some (value (boolean b))
+bits_row t v bits i b is none there =
+    ap (λ u. slice_get (rows u) i) (is ∙ ap (column (dtype t) (len t) (bool bits)) none) ∙ slice_get-map (λ x. value (boolean x)) bits i ∙ ap (option_map (λ x. value (boolean x))) there
+
+-- a constant
+pub constant_truths : (t : Tree) (s : Typed) (b : Bool) (bits : List Bool) → t ≡ constant_of s (len t) → s.value ≡ boolean b → bits ≡ replicate (len t) b
+    → rows t ≡ map (λ x. value (boolean x)) bits
+constant_truths t s b bits is truth made =
+    ap rows is ∙ ap (λ v. replicate (len t) (value v)) truth ∙ sym (map_copies (λ x. value (boolean x)) (len t) b)
+    ∙ ap (map (λ x. value (boolean x))) (sym made)
+
+-- read up to a row
 pub truths_more : (t : Tree) (i : ℕ) (v : Value) (bits : List Bool) (b : Bool) → IsWell t → i < len t → slice_get (rows t) i ≡ Some (value v) → v ≡ boolean b
     → take i (rows t) ≡ map (λ b. value (boolean b)) bits → take (i + 1) (rows t) ≡ map (λ b. value (boolean b)) (bits ++ b ∷ [])
 truths_more t i v bits b well lt there is h =

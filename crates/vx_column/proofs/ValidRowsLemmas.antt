@@ -102,7 +102,7 @@ pub bit_made : (f : ℕ → Bool) (bits : List Bool) (n i : ℕ) → bits ≡ ma
 bit_made f bits n i made lt = ap (λ bs. bit_row bs i) made ∙ get_or-map-range_with_len f 0 n i i false lt (omega arith)
 
 -- a value, or null
-filled_cell : (b : Bool) (w : Value) → valid_cell (value (boolean b)) (value w) ≡ null_unless b (value w)
+pub filled_cell : (b : Bool) (w : Value) → valid_cell (value (boolean b)) (value w) ≡ null_unless b (value w)
 filled_cell true w = refl
 filled_cell false w = refl
 

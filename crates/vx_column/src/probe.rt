@@ -12,6 +12,7 @@ ghost use Rattle.vx_tree.specs.Cells.{rows};
 ghost use Rattle.vx_tree.specs.Well.{IsNode, shapes};
 ghost use Rattle.vx_column.specs.Arguments.{IsUnread};
 ghost use Rattle.vx_column.specs.Nulls.{TellsRow, IsRowBy};
+ghost use Rattle.vx_column.specs.ValidRows.{null_unless};
 
 use std::alloc::Global;
 use vx_fn::{ScalarFnRef, apply_row};
@@ -92,10 +93,27 @@ fn unless_null(
     let Some(child) = validity else {
         return Ok(stored);
     };
+    if let ArrayKind::Bool(bits, None) = child.kind() {
+        return kept_or_null(stored, bits.value(index));
+    }
     match scalar_at(alloc, child, index) {
-        Ok(valid) if is_true(&valid) => Ok(stored),
-        Ok(_) => Ok(Scalar::null(stored.dtype().clone()?)),
+        Ok(valid) => kept_or_null(stored, is_true(&valid)),
         Err(e) => Err(e),
+    }
+}
+
+/// Returns `stored` if its row is `valid`, else null of its type, which must be nullable. The only error is `OutOfMemory`.
+#[inline]
+fn kept_or_null(stored: Scalar, valid: bool) -> VortexResult<Scalar>
+    requires { nullability_of stored.of_type ≡ Nullability.Nullable }
+    ensures ok { IfOk result (λ s. value s.value ≡ null_unless valid (value stored.value)) }
+    ensures typed { IfOk result (λ s. s.of_type ≡ stored.of_type) }
+    ensures err { IfErr result (λ e. e ≡ VortexError.OutOfMemory) }
+{
+    if valid {
+        Ok(stored)
+    } else {
+        Ok(Scalar::null(stored.dtype().clone()?))
     }
 }
 
@@ -161,8 +179,8 @@ fn integer_at(values: &PrimitiveValues, index: usize, dtype: &DType) -> Scalar
     Scalar::primitive(values.wide_at(index), values.ptype(), dtype.nullability())
 }
 
-/// Returns the rows of `array`, which must be non-nullable booleans. Shares those of a column without a validity. `Fault` if a
-/// row has no value.
+/// Returns the rows of `array`, which must be non-nullable booleans. Shares those of a column without a validity, and repeats a
+/// constant. `Fault` if a row has no value.
 pub(crate) fn truths_in(alloc: Global, array: &ArrayRef) -> VortexResult<BitBuffer>
     requires { dtype array.now ≡ type.bool Nullability.NonNullable }
     ensures ok { IfOk result (λ bits. rows array.now ≡ map (λ b. value (boolean b)) bits) }
@@ -172,6 +190,9 @@ pub(crate) fn truths_in(alloc: Global, array: &ArrayRef) -> VortexResult<BitBuff
     array.well();
     match array.kind() {
         ArrayKind::Bool(bits, None) => Ok(bits.clone()?),
+        ArrayKind::Constant(scalar) => {
+            Ok(BitBuffer::repeat(alloc, is_true(scalar), array.len())?)
+        }
         _ => read_truths(alloc, array),
     }
 }

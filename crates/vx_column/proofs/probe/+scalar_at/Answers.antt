@@ -1,9 +1,10 @@
-use Rattle.std.proofs.Common.{get_or, inl, inr, arith, true, false, Some, sym, ap, subst, ◌∙◌}
-use Rattle.vx_value.specs.Values.{boolean}
+use Rattle.std.proofs.Common.{get_or, inl, inr, arith, Some, sym, ap, subst, ◌∙◌}
+use Rattle.std.proofs.lemmas.Result.{IfOk-weaker}
+use Rattle.vx_column.specs.Nulls.{IsRowBy}
 use Rattle.vx_value.specs.Cell.{value, fault}
 use Rattle.vx_tree.specs.Tree.{slots_of, slots_height, dtype, len}
 use Rattle.vx_column.proofs.ArgumentsLemmas.{zipped_more}
-use Rattle.vx_column.proofs.CellsLemmas.{IsRead, IsBelow, all_read, slice_row, child_below, child_faulted, function_taken, function_row, function_faulted, row_told}
+use Rattle.vx_column.proofs.CellsLemmas.{IsRead, IsBelow, all_read, slice_row, child_below, child_faulted, function_taken, function_row, function_faulted, row_told, row_known, bits_row}
 use Rattle.vx_column.proofs.probe.+scalar_at.Goals as goal
 
 pub scalar_at-returns-in-Slice-clause-ok : goal.scalar_at-returns-in-Slice-clause-ok
@@ -80,16 +81,20 @@ function_at-returns-clause-err t c =
           inr (m.0, function_faulted c.args.array.now c.args.scalar_fn.now xs c.args.index c.requires.shape c.requires.well ss read c.requires.index m.1)
     ]
 
+pub unless_null-returns-in-Bool-default-None-clause-ok : goal.unless_null-returns-in-Bool-default-None-clause-ok
+unless_null-returns-in-Bool-default-None-clause-ok t c =
+    let plain = c.in-Bool-default-None in
+    let told = bits_row c.in-Some.child plain.field-1.now plain.bits.now c.args.index c.value.result plain.ensures.0 plain.field-1-is c.value.ensures in
+    let known = row_known c.args.validity.now c.in-Some.child c.args.index c.value.result c.args.stored.value c.in-Some.is told in
+    IfOk-weaker c.kept_or_null.result _ _ (λ s e. subst (IsRowBy c.args.validity.now c.args.index (value c.args.stored.value)) (sym e) known)
+    c.kept_or_null.ensures.ok
+
 pub unless_null-returns-in-Ok-clause-ok : goal.unless_null-returns-in-Ok-clause-ok
 unless_null-returns-in-Ok-clause-ok t c =
-    let told = c.in-Ok.ensures.ok.0 ∙ ap (λ v. Some (value v)) (c.is_true.ensures ∙ ap boolean c.if-is_true.true) in
-    row_told c.args.validity.now c.in-Some.child c.args.index (value (boolean true)) (value c.args.stored.value) c.in-Some.is told
-
-pub unless_null-returns-in_ok-clone-in-Ok-2-clause-ok : goal.unless_null-returns-in_ok-clone-in-Ok-2-clause-ok
-unless_null-returns-in_ok-clone-in-Ok-2-clause-ok t c =
-    let told = c.in-Ok.ensures.ok.0 ∙ ap (λ v. Some (value v)) (c.is_true.ensures ∙ ap boolean c.if-is_true.false) in
-    rw c.null.ensures
-    (row_told c.args.validity.now c.in-Some.child c.args.index (value (boolean false)) (value c.args.stored.value) c.in-Some.is told)
+    let told = c.in-Ok.ensures.ok.0 ∙ ap (λ v. Some (value v)) c.is_true.ensures in
+    let known = row_known c.args.validity.now c.in-Some.child c.args.index c.is_true.result c.args.stored.value c.in-Some.is told in
+    IfOk-weaker c.kept_or_null-in-Ok.result _ _ (λ s e. subst (IsRowBy c.args.validity.now c.args.index (value c.args.stored.value)) (sym e) known)
+    c.kept_or_null-in-Ok.ensures.ok
 
 pub unless_null-returns-in-Err-clause-err : goal.unless_null-returns-in-Err-clause-err
 unless_null-returns-in-Err-clause-err t c =

@@ -1,4 +1,4 @@
-use Rattle.std.proofs.Common.{◌≡◌, FitsSigned, length, pos, sym, ap, subst, ◌∙◌, map, replicate, rules}
+use Rattle.std.proofs.Common.{◌≡◌, FitsSigned, pos, sym, ap, subst, ◌∙◌, map, replicate, rules}
 use Rattle.std.proofs.Math.Facts.{to_z-of_z}
 use Rattle.std.specs.Int.{w128}
 use Rattle.std.specs.List.{range_with_len}

@@ -1,19 +1,16 @@
 use Rattle.std.proofs.Common.{◌≡◌, sym, ap, subst, ◌∙◌}
-use Rattle.std.proofs.lemmas.List.FromFn.{length-map-range_with_len}
 use Rattle.std.proofs.lemmas.Result.{IfOk-weaker}
 use Rattle.vx_value.specs.Types.{primitive}
 use Rattle.vx_value.specs.Nullabilities.{with_nullability}
 use Rattle.vx_value.specs.Cell.{value}
 use Rattle.vx_mask.specs.Operands.{bit_in}
 use Rattle.vx_native.specs.Natives.{values_of, ptype_of}
-use Rattle.vx_tree.specs.Tree.{Tree, dtype}
+use Rattle.vx_tree.specs.Tree.{dtype}
 use Rattle.vx_tree.specs.Columns.{canonical_tree}
 use Rattle.vx_tree.specs.Validities.{HasRows}
 use Rattle.vx_column.specs.Arguments.{plain_type, value_at, integer_in}
 use Rattle.vx_column.specs.Computed.{IsMade}
 use Rattle.vx_column.specs.ValidRows.{nullability_in}
-use Rattle.vx_column.specs.declared.argument.ArgumentRows.{ArgumentRows}
-use Rattle.vx_column.specs.declared.valid.ValidRows.{ValidRows}
 use Rattle.vx_column.proofs.MadeLemmas.{bools_made, integers_made}
 use Rattle.vx_column.proofs.ValidRowsLemmas.{counted}
 use Rattle.vx_column.proofs.stored.stored_column.Goals as goal
