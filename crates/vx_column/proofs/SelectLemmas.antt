@@ -30,7 +30,7 @@ use Rattle.vx_column.specs.declared.argument.ArgumentRows.{ArgumentRows}
 use Rattle.vx_column.specs.declared.argument.ArgumentRows.TheVariants.{Bits, Integers}
 use Rattle.vx_column.specs.declared.valid.ValidRows.{ValidRows}
 use Rattle.vx_column.specs.declared.valid.ValidRows.TheVariants as rows_valid
-use Rattle.vx_column.proofs.MadeLemmas.{made_by}
+use Rattle.vx_column.proofs.MadeLemmas.{made_stored}
 use Rattle.vx_column.proofs.OperatorLemmas.{argument_type, argument_nullability, set_again, plain_same}
 use Rattle.vx_column.proofs.ValidRowsLemmas.{bit_made}
 
@@ -62,11 +62,8 @@ pub made_selected : {X : Type 0} (read : X → Value) (d : X) (choice : BitOpera
     → l ≡ (λ j. read (x j)) → r ≡ (λ j. read (y j)) → xs ≡ map (selected choice x y) (range_with_len 0 n)
     → IsMade valid (λ i. value (read (get_or xs i d))) n u → IsMade valid (λ i. value (selected choice l r i)) n u
 made_selected read d choice x y l r valid n xs u left right are h =
-    made_by valid _ _ n u
-    (λ i lt here. ap (λ zs. value (read (get_or zs i d))) are
-    ∙ ap (λ z. value (read z)) (get_or-map-range_with_len (selected choice x y) 0 n i i d lt (omega arith))
-    ∙ ap value (chosen_in read (bit_in choice i) (x i) (y i))
-    ∙ (λ j. value (selected choice (sym left j) (sym right j) i))) h
+    made_stored read d (selected choice x y) (selected choice l r) valid n xs u are
+    (λ i. chosen_in read (bit_in choice i) (x i) (y i) ∙ (λ j. if bit_in choice i then sym left j i else sym right j i)) h
 
 cell_selected : (c v w : Bool) (p q : Value)
     → null_unless (if c then v else w) (value (if c then p else q)) ≡ (if c then null_unless v (value p) else null_unless w (value q))
