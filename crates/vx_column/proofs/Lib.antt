@@ -11,3 +11,5 @@ pub mod MadeLemmas
 pub mod PassingLemmas
 pub mod LogicLemmas
 pub mod NullFunctionsLemmas
+pub mod SelectLemmas
+pub mod BetweenLemmas

@@ -1,7 +1,7 @@
 -- A column by what it stores and by its valid rows.
-use Rattle.std.proofs.Common.{◌≡◌, ◌<◌, ℕ, ℤ, Bool, true, false, List, [], ◌∷◌, length, map, Some, refl, sym, ap, ◌∙◌, subst}
+use Rattle.std.proofs.Common.{◌≡◌, ◌<◌, ℕ, ℤ, Bool, true, false, List, [], ◌∷◌, length, map, get_or, Some, refl, sym, ap, ◌∙◌, subst, arith}
 use Rattle.std.specs.List.{range_with_len}
-use Rattle.std.proofs.lemmas.List.FromFn.{length-map-range_with_len}
+use Rattle.std.proofs.lemmas.List.FromFn.{get_or-map-range_with_len, length-map-range_with_len}
 use Rattle.std.proofs.lemmas.Simd.{map-map}
 use Rattle.vx_value.specs.Types.{DataType, bool, primitive}
 use Rattle.vx_value.specs.Values.{Value, boolean, integer}
@@ -38,6 +38,15 @@ made_by valid stored other n u same h = record {
   clean = h.clean;
   canonical = h.canonical;
 }
+
+-- items that stand for the values of `f`
+pub made_stored : {X : Type 0} (read : X → Value) (d : X) (g : ℕ → X) (f : ℕ → Value) (valid : ValidRows) (n : ℕ) (xs : List X) (u : Tree)
+    → xs ≡ map g (range_with_len 0 n) → ((i : ℕ) → read (g i) ≡ f i) → IsMade valid (λ i. value (read (get_or xs i d))) n u → IsMade valid (λ i. value (f i)) n u
+made_stored read d g f valid n xs u are same h =
+    made_by valid (λ i. value (read (get_or xs i d))) (λ i. value (f i)) n u
+    (λ i lt here. ap (λ zs. value (read (get_or zs i d))) are
+    ∙ ap (λ z. value (read z)) (get_or-map-range_with_len g 0 n i i d lt (omega arith))
+    ∙ ap value (same i)) h
 
 -- the column of a function, by what it stores
 pub computed_by : (f : ScalarFnRef) (args : List Argument) (valid : ValidRows) (stored : ℕ → Cell) (n : ℕ) (u : Tree)

@@ -28,7 +28,7 @@ use Rattle.vx_column.specs.declared.argument.IntegerOperand.{IntegerOperand}
 use Rattle.vx_column.specs.declared.valid.ValidRows.{ValidRows}
 use Rattle.vx_column.specs.declared.valid.ValidRows.TheVariants as rows_valid
 use Rattle.vx_column.proofs.MadeLemmas.{computed_by}
-use Rattle.vx_column.proofs.OperatorLemmas.{argument_type}
+use Rattle.vx_column.proofs.OperatorLemmas.{argument_type, set_again}
 use Rattle.vx_column.proofs.ValidRowsLemmas.{bit_made}
 
 -- ---- tests of a value, by what they say of null, and of any other
@@ -62,10 +62,6 @@ all_valid : (valid : ValidRows) (i : ℕ) → nullability_in valid ≡ NonNullab
 all_valid (rows_valid.All m) i h = refl
 all_valid (rows_valid.Bits bits) i h = absurd (cc)
 
-nullable_again : (m : Nullability) (r : ArgumentRows) → with_nullability Nullable (with_nullability m (plain_type r)) ≡ with_nullability Nullable (plain_type r)
-nullable_again m (stored.Bits bs) = refl
-nullable_again m (stored.Integers zs) = refl
-
 -- it is non-nullable
 plain_mask : (s ty : DataType) (m : Nullability) → mask_type s (bool m) ≡ Some ty → m ≡ NonNullable
 plain_mask s ty NonNullable e = refl
@@ -88,7 +84,7 @@ module _ (n : ℕ) (a k : Argument) (first : IsSized n a) (second : IsSized n k)
       argument_type n k second ∙ (λ j. with_nullability (plain j) (plain_type (is j))) in
       let typed : return_type Mask (types_of (a ∷ k ∷ [])) ≡ Some (with_nullability Nullable (plain_type a.rows)) =
       ap (mask_type (type_of_argument a)) of_mask ∙ ap (λ s. Some (with_nullability Nullable s)) (argument_type n a first)
-      ∙ ap Some (nullable_again (nullability_in a.valid) a.rows) in
+      ∙ ap Some (set_again Nullable (nullability_in a.valid) a.rows) in
       computed_by Mask (a ∷ k ∷ []) (rows_valid.Bits bits) (λ i. value (value_at a.rows i)) n u (typed ∙ ap Some (sym h.0)) h.1
       (λ i lt. ap (λ b. null_unless b (value (value_at a.rows i))) (bit_made (λ j. is_valid a.valid j && bit_in keep j) bits n i made lt)
       ∙ mask_cell (dtype u) (is_valid a.valid i) (bit_in keep i) (value_at a.rows i)

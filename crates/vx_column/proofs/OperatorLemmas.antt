@@ -127,6 +127,10 @@ plain_again : (m : Nullability) (r : ArgumentRows) → with_nullability NonNulla
 plain_again m (stored.Bits bs) = refl
 plain_again m (stored.Integers zs) = refl
 
+pub set_again : (k m : Nullability) (r : ArgumentRows) → with_nullability k (with_nullability m (plain_type r)) ≡ with_nullability k (plain_type r)
+set_again k m (stored.Bits bs) = refl
+set_again k m (stored.Integers zs) = refl
+
 nullability_again : (m : Nullability) (r : ArgumentRows) → nullability_of (with_nullability m (plain_type r)) ≡ m
 nullability_again m (stored.Bits bs) = refl
 nullability_again m (stored.Integers zs) = refl
@@ -142,6 +146,16 @@ taken_before f (Some a) b e = refl
 pub argument_nullability : (n : ℕ) (a : Argument) → IsSized n a → nullability_of (type_of_argument a) ≡ nullability_in a.valid
 argument_nullability n a sized = ap nullability_of (argument_type n a sized) ∙ nullability_again (nullability_in a.valid) a.rows
 
+-- arguments whose types are the same but for nullability store values of one type
+pub plain_same : (n : ℕ) (a b : Argument) → IsSized n a → IsSized n b → same_but_nullability (type_of_argument a) (type_of_argument b) ≡ true
+    → plain_type a.rows ≡ plain_type b.rows
+plain_same n a b first second same =
+    sym (plain_again (nullability_in a.valid) a.rows)
+    ∙ ap (with_nullability NonNullable) (sym (argument_type n a first))
+    ∙ (same_but_nullability_Decides (type_of_argument a) (type_of_argument b)).0 same
+    ∙ ap (with_nullability NonNullable) (argument_type n b second)
+    ∙ plain_again (nullability_in b.valid) b.rows
+
 module _ (op : Operator) (n : ℕ) (a b : Argument) (first : IsSized n a) (second : IsSized n b) (taken : IsTaken (Binary op) (types_of (a ∷ b ∷ []))) where
   same_types : same_but_nullability (type_of_argument a) (type_of_argument b) ≡ true
   same_types = by_test (same_but_nullability (type_of_argument a) (type_of_argument b)) taken.1
@@ -152,12 +166,7 @@ module _ (op : Operator) (n : ℕ) (a b : Argument) (first : IsSized n a) (secon
       by_test false e = absurd (cc)
 
   pub operands_same : plain_type a.rows ≡ plain_type b.rows
-  operands_same =
-      sym (plain_again (nullability_in a.valid) a.rows)
-      ∙ ap (with_nullability NonNullable) (sym (argument_type n a first))
-      ∙ (same_but_nullability_Decides (type_of_argument a) (type_of_argument b)).0 same_types
-      ∙ ap (with_nullability NonNullable) (argument_type n b second)
-      ∙ plain_again (nullability_in b.valid) b.rows
+  operands_same = plain_same n a b first second same_types
 
   pub operands_typed : return_type (Binary op) (types_of (a ∷ b ∷ []))
       ≡ option_map (with_nullability (union (nullability_in a.valid) (nullability_in b.valid))) (operator_type op (plain_type a.rows))

@@ -13,3 +13,5 @@ pub mod Expanded
 pub mod Nulls
 pub mod ValidRows
 pub mod Truths
+pub mod Selected
+pub mod Bounds

@@ -8,10 +8,12 @@ ghost use Rattle.vx_column.specs.Arguments.{types_of, IsSized};
 ghost use Rattle.vx_column.specs.Computed.{IsTaken, IsComputed, IsNotComputed};
 
 use crate::argument::{Argument, arguments_of};
+use crate::between::between;
 use crate::boolean::negate;
 use crate::constant::{apply_constants, constants};
 use crate::nulls::{is_not_null, is_null, mask};
 use crate::operate::operate;
+use crate::select::{fill_null, zip};
 use std::alloc::Global;
 use vx_fn::ScalarFnRef;
 use vx_tree::{Canonical, Columnar};
@@ -63,8 +65,13 @@ fn apply_to_columns(
 {
     match (function, arguments) {
         (ScalarFnRef::Binary(operator), [lhs, rhs]) => operate(alloc, *operator, lhs, rhs, len),
+        (ScalarFnRef::Between(options), [array, lower, upper]) => {
+            between(alloc, *options, array, lower, upper, len)
+        }
         (ScalarFnRef::Not, [input]) => negate(alloc, input, len),
         (ScalarFnRef::Mask, [input, keep]) => mask(alloc, input, keep, len),
+        (ScalarFnRef::Zip, [if_true, if_false, mask]) => zip(alloc, if_true, if_false, mask, len),
+        (ScalarFnRef::FillNull, [input, fill_value]) => fill_null(alloc, input, fill_value, len),
         (ScalarFnRef::IsNull, [input]) => is_null(alloc, input, len),
         (ScalarFnRef::IsNotNull, [input]) => is_not_null(alloc, input, len),
         _ => unreachable!(),

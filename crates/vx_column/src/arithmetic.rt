@@ -1,6 +1,7 @@
 //! Arithmetic on integers.
 
-ghost use Rattle.std.specs.Prelude.{◌≡◌, true, false, map, length, IfOk, IfErr, IfNone, IsSome, MatchOption};
+ghost use Rattle.std.specs.Prelude.{◌≡◌, true, false, pos, map, length, slice_index_or, IfOk, IfErr, IfNone, IsSome, MatchOption};
+ghost use Rattle.vx_value.specs.Types.{primitive};
 ghost use Rattle.vx_value.specs.Values.{integer};
 ghost use Rattle.vx_value.specs.Cell.{value, fault};
 ghost use Rattle.vx_mask.specs.Logic.{bit_row};
@@ -12,10 +13,11 @@ ghost use Rattle.vx_fn.specs.declared.function.ScalarFnRef.TheVariants.{Binary};
 ghost use Rattle.vx_tree.specs.Validities.{HasRows as HasRowsOf};
 ghost use Rattle.vx_native.specs.Natives.{values_of, ptype_of};
 ghost use Rattle.vx_tree.specs.Columns.{canonical_tree};
+ghost use Rattle.vx_tree.specs.Tree.{dtype};
 ghost use Rattle.vx_column.specs.Arguments.{AreIntegers, plain_type, pair_at};
-ghost use Rattle.vx_column.specs.Computed.{IsFilled, IsNotFilled};
+ghost use Rattle.vx_column.specs.Computed.{IsMade, IsFilled, IsNotFilled};
 ghost use Rattle.vx_column.specs.Operands.{number_in, HasRow, HasRows, calculated_cell, calculated_rows, IsFaultyRow};
-ghost use Rattle.vx_column.specs.ValidRows.{is_valid, HasValidity};
+ghost use Rattle.vx_column.specs.ValidRows.{is_valid, HasValidity, nullability_in};
 ghost use Rattle.vx_column.specs.Expanded.{integer_column};
 ghost use Rattle.vx_column.specs.declared.argument.ArgumentRows.TheVariants.{Integers};
 
@@ -106,6 +108,23 @@ pub(crate) fn primitive_column(
     let dtype = DType::Primitive(values.ptype(), validity.nullability());
     let column = PrimitiveArray::try_new(alloc, dtype, values, validity)?;
     Ok(Canonical::Primitive(column))
+}
+
+/// Makes the column of `values`, `len` rows, that are null unless they are `valid`. The only error is `OutOfMemory`.
+pub(crate) fn valid_integers(
+    alloc: Global,
+    values: PrimitiveValues,
+    valid: &ValidRows,
+    len: usize,
+) -> VortexResult<Canonical>
+    requires values { length (values_of values) ≡ len }
+    requires valid { HasValidity valid.now len }
+    ensures ok { IfOk result (λ c. (dtype (canonical_tree c) ≡ primitive (ptype_of values) (nullability_in valid.now))
+        × IsMade valid.now (λ i. value (integer (slice_index_or (values_of values) i (pos 0)))) len (canonical_tree c)) }
+    ensures err { IfErr result (λ e. e ≡ VortexError.OutOfMemory) }
+{
+    let validity = valid.validity(alloc, len)?;
+    primitive_column(alloc, values, &validity)
 }
 
 /// Applies `A` to the `valid` rows of `lhs` and `rhs`, `len` rows each, which must be of the type `T`; the other rows are null.

@@ -89,7 +89,7 @@ pub(crate) fn operate_bits(
 }
 
 /// Returns `bits`, `len` rows, with `false` in each row that isn't valid.
-fn keep_valid(
+pub(crate) fn keep_valid(
     alloc: Global,
     bits: BitBuffer,
     valid: &ValidRows,

@@ -4,6 +4,7 @@
 mod apply;
 mod argument;
 mod arithmetic;
+mod between;
 mod boolean;
 mod canonicalize;
 mod comparison;
@@ -13,6 +14,7 @@ mod nulls;
 mod operand;
 mod operate;
 mod probe;
+mod select;
 mod stored;
 mod valid;
 

@@ -13,8 +13,8 @@ ghost use Rattle.vx_column.specs.Computed.{IsMade};
 ghost use Rattle.vx_column.specs.ValidRows.{HasValidity, nullability_in};
 
 use crate::argument::{ArgumentRows, IntegerOperand, IntegerRows};
-use crate::arithmetic::primitive_column;
-use crate::boolean::bool_column;
+use crate::arithmetic::valid_integers;
+use crate::boolean::valid_bools;
 use crate::valid::ValidRows;
 use std::alloc::{AllocError, Global};
 use vx_mask::{BitBuffer, BitOperand};
@@ -55,6 +55,7 @@ pub(crate) fn integer_rows(
 
 /// Makes the column of `rows`, `len` rows, that are null unless they are `valid`. Shares the buffer of `rows`, and writes out one
 /// value. The only error is `OutOfMemory`.
+#[tactic(auto, using(crate::proofs::ValidRowsLemmas::counted))]
 pub(crate) fn stored_column(
     alloc: Global,
     rows: ArgumentRows<'_>,
@@ -67,15 +68,14 @@ pub(crate) fn stored_column(
         × IsMade valid.now (λ i. value (value_at rows.entry i)) len (canonical_tree c)) }
     ensures err { IfErr result (λ e. e ≡ VortexError.OutOfMemory) }
 {
-    let validity = valid.validity(alloc, len)?;
     match rows {
         ArgumentRows::Bits(bits) => {
             let bits = bit_rows(alloc, bits, len)?;
-            bool_column(alloc, bits, &validity)
+            valid_bools(alloc, bits, valid, len)
         }
         ArgumentRows::Integers(integers) => {
             let values = integer_rows(alloc, integers, len)?;
-            primitive_column(alloc, values, &validity)
+            valid_integers(alloc, values, valid, len)
         }
     }
 }

@@ -1,0 +1,20 @@
+-- Whether the rows of an argument lie between those of two others.
+use Rattle.std.specs.Prelude.{ℕ, Bool, ◌&&◌}
+use Rattle.vx_value.specs.Values.{Value}
+use Rattle.vx_value.specs.Order.{value_cmp}
+use Rattle.vx_fn.specs.Between.{is_below}
+use Rattle.vx_fn.specs.declared.function.Operator.{Operator}
+use Rattle.vx_fn.specs.declared.function.Operator.TheVariants.{Lt, Lte}
+use Rattle.vx_fn.specs.declared.functions.between.StrictComparison.{StrictComparison}
+use Rattle.vx_fn.specs.declared.functions.between.StrictComparison.TheVariants.{Strict, NonStrict}
+use Rattle.vx_fn.specs.declared.functions.between.BetweenOptions.{BetweenOptions}
+
+-- the operator by which a bound is compared
+abbrev pub bound_by : StrictComparison → Operator
+bound_by Strict = Lt
+bound_by NonStrict = Lte
+
+-- row i of `array` lies between row i of the bounds
+abbrev pub is_between : BetweenOptions → (array lower upper : ℕ → Value) → ℕ → Bool
+is_between options array lower upper i =
+    is_below options.lower_strict (value_cmp (lower i) (array i)) && is_below options.upper_strict (value_cmp (array i) (upper i))
