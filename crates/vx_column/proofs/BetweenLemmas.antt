@@ -1,10 +1,9 @@
 -- Rows between bounds.
-use Rattle.std.proofs.Common.{◌≡◌, ◌<◌, ℕ, Bool, true, false, if◌then◌else◌, List, [], ◌∷◌, map, Option, Some, None, refl, sym, ap, ◌∙◌, arith}
+use Rattle.std.proofs.Common.{◌≡◌, ◌<◌, ℕ, Bool, true, false, if◌then◌else◌, List, [], ◌∷◌, map, Some, None, refl, sym, ap, ◌∙◌}
 use Rattle.std.specs.Prelude.{◌&&◌, ℤ, IsSome}
 use Rattle.std.specs.Ordering.{bool_cmp, int_cmp}
 use Rattle.std.specs.Cmp.{first_so, second_so}
 use Rattle.std.specs.List.{range_with_len}
-use Rattle.std.proofs.lemmas.List.FromFn.{get_or-map-range_with_len}
 use Rattle.std.specs.declared.cmp.Ordering.{Ordering}
 use Rattle.vx_value.specs.Types.{DataType, bool, nullability_of}
 use Rattle.vx_value.specs.Nullabilities.{with_nullability, union, same_but_nullability}
@@ -17,7 +16,7 @@ use Rattle.vx_mask.specs.Operands.{bit_in}
 use Rattle.vx_mask.specs.declared.operand.BitOperand.{BitOperand}
 use Rattle.vx_mask.proofs.Lists.{same_below}
 use Rattle.vx_fn.specs.Apply.{apply}
-use Rattle.vx_fn.specs.Between.{between_type, is_below, lies_between}
+use Rattle.vx_fn.specs.Between.{is_below, lies_between}
 use Rattle.vx_fn.specs.Binary.{operator_type}
 use Rattle.vx_fn.specs.Comparisons.{holds, ordered_type}
 use Rattle.vx_fn.specs.Meanings.{widened, null_through}
@@ -28,7 +27,7 @@ use Rattle.vx_fn.specs.declared.functions.between.StrictComparison.{StrictCompar
 use Rattle.vx_fn.specs.declared.functions.between.StrictComparison.TheVariants.{Strict, NonStrict}
 use Rattle.vx_fn.proofs.MeaningsLemmas.{union_with_plain}
 use Rattle.vx_tree.specs.Tree.{Tree, dtype}
-use Rattle.vx_column.specs.Arguments.{IsSized, types_of, row_of, cell_at, value_at, integer_in, plain_type, type_of_argument}
+use Rattle.vx_column.specs.Arguments.{IsSized, types_of, value_at, integer_in, plain_type, type_of_argument}
 use Rattle.vx_column.specs.Bits.{bit_by}
 use Rattle.vx_column.specs.Bounds.{bound_by, is_between}
 use Rattle.vx_column.specs.Computed.{IsTaken, IsMade, IsComputed}

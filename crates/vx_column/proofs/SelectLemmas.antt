@@ -1,15 +1,13 @@
 -- Rows chosen between two arguments, and the functions that choose.
-use Rattle.std.proofs.Common.{◌≡◌, ◌<◌, ℕ, Bool, true, false, if◌then◌else◌, List, [], ◌∷◌, map, get_or, Some, None, refl, sym, ap, ◌∙◌, arith}
+use Rattle.std.proofs.Common.{◌≡◌, ◌<◌, ℕ, Bool, true, false, if◌then◌else◌, List, [], ◌∷◌, map, get_or, Some, None, refl, sym, ap, ◌∙◌}
 use Rattle.std.specs.Prelude.{◌&&◌, ◌||◌, is_some}
 use Rattle.std.specs.Ordering.{bool_cmp, is_lt}
 use Rattle.std.specs.List.{range_with_len}
-use Rattle.std.proofs.lemmas.List.FromFn.{get_or-map-range_with_len}
 use Rattle.vx_value.specs.Types.{DataType}
 use Rattle.vx_value.specs.Nullabilities.{with_nullability, union, same_but_nullability}
 use Rattle.vx_value.specs.Values.{Value, null, boolean}
 use Rattle.vx_value.specs.Cell.{value}
-use Rattle.vx_value.specs.declared.dtype.Nullability.{Nullability}
-use Rattle.vx_value.specs.declared.dtype.Nullability.TheVariants.{NonNullable, Nullable}
+use Rattle.vx_value.specs.declared.dtype.Nullability.TheVariants.{NonNullable}
 use Rattle.vx_mask.specs.Logic.{bit_row}
 use Rattle.vx_mask.specs.Operands.{bit_in}
 use Rattle.vx_mask.specs.declared.operand.BitOperand.{BitOperand}

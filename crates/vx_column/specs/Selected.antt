@@ -1,5 +1,5 @@
 -- Rows chosen between two arguments by bits.
-use Rattle.std.specs.Prelude.{◌≡◌, ℕ, Bool, true, map, if◌then◌else◌}
+use Rattle.std.specs.Prelude.{◌≡◌, ℕ, true, map, if◌then◌else◌}
 use Rattle.std.specs.List.{range_with_len}
 use Rattle.vx_value.specs.Nullabilities.{with_nullability, union}
 use Rattle.vx_mask.specs.Operands.{bit_in}

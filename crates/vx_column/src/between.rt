@@ -1,13 +1,13 @@
 //! Whether rows lie between two bounds.
 
-ghost use Rattle.std.specs.Prelude.{◌≡◌, ◌∷◌, [], ◌&&◌, map, length, IfOk, IfErr};
+ghost use Rattle.std.specs.Prelude.{◌≡◌, ◌∷◌, [], ◌&&◌, map, IfOk, IfErr};
 ghost use Rattle.std.specs.List.{range_with_len};
 ghost use Rattle.std.specs.Ordering.{int_cmp};
-ghost use Rattle.vx_mask.specs.Operands.{bit_in, HasBits};
+ghost use Rattle.vx_mask.specs.Operands.{HasBits};
 ghost use Rattle.vx_fn.specs.Comparisons.{holds};
 ghost use Rattle.vx_fn.specs.declared.function.ScalarFnRef.TheVariants.{Between};
 ghost use Rattle.vx_tree.specs.Columns.{canonical_tree};
-ghost use Rattle.vx_column.specs.Arguments.{types_of, plain_type, value_at, ptype_in, IsSized, HasStored, AreIntegers};
+ghost use Rattle.vx_column.specs.Arguments.{types_of, plain_type, value_at, IsSized, HasStored, AreIntegers};
 ghost use Rattle.vx_column.specs.Bounds.{bound_by, is_between};
 ghost use Rattle.vx_column.specs.Computed.{IsTaken, IsComputed};
 ghost use Rattle.vx_column.specs.Operands.{number_in, HasRows};
