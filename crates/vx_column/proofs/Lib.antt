@@ -8,3 +8,4 @@ pub mod KeepsLemmas
 pub mod NullsLemmas
 pub mod ValidRowsLemmas
 pub mod PassingLemmas
+pub mod FilteredLemmas

@@ -102,7 +102,7 @@ column_row read d (Some t) valid n xs i told long lt =
     ∙ told_row read d told.0 xs i (omega arith) (told.1 ∙ sym long)
     ∙ ap (λ b. null_unless b (value (read (get_or xs i d)))) (sym (told.3 i lt))
 
-one_slot : (v : Option Tree) → slots_rows (slots_of (v ∷ [])) ≡ validity_cells v ∷ []
+pub one_slot : (v : Option Tree) → slots_rows (slots_of (v ∷ [])) ≡ validity_cells v ∷ []
 one_slot None = refl
 one_slot (Some t) = refl
 

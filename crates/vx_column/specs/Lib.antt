@@ -12,3 +12,4 @@ pub mod Bits
 pub mod Expanded
 pub mod Nulls
 pub mod ValidRows
+pub mod Filtered

@@ -8,6 +8,7 @@ mod boolean;
 mod canonicalize;
 mod comparison;
 mod constant;
+mod filter;
 mod operand;
 mod operate;
 mod probe;
@@ -15,4 +16,5 @@ mod valid;
 
 pub use apply::apply_fn;
 pub use canonicalize::constant_canonicalize;
+pub use filter::filter_canonical;
 pub use probe::execute_scalar;
