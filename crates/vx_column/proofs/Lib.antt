@@ -9,3 +9,4 @@ pub mod NullsLemmas
 pub mod ValidRowsLemmas
 pub mod PassingLemmas
 pub mod FilteredLemmas
+pub mod ShownLemmas

@@ -13,8 +13,10 @@ mod operand;
 mod operate;
 mod probe;
 mod valid;
+mod validity;
 
 pub use apply::apply_fn;
 pub use canonicalize::constant_canonicalize;
 pub use filter::filter_canonical;
 pub use probe::execute_scalar;
+pub use validity::validity_canonical;
