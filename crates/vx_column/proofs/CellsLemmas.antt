@@ -1,25 +1,31 @@
 -- One row of a node.
-use Rattle.std.proofs.Common.{◌≡◌, ℕ, zero, suc, ◌+◌, ◌-◌, ◌≤◌, ◌<◌, List, [], ◌∷◌, length, map, replicate, get_or, take, drop, ◌++◌, Bool, Option, Some, None, refl, sym, ◌∙◌, ap, subst, arith}
-use Rattle.std.specs.Prelude.{slice_get, slice_index_or, option_map, is_some, IsSome}
+use Rattle.std.proofs.Common.{◌≡◌, ℕ, zero, suc, ◌+◌, ◌-◌, ◌≤◌, ◌<◌, List, [], ◌∷◌, length, map, replicate, get_or, take, drop, ◌++◌, Bool, Option, Some, None, refl, sym, ◌∙◌, ap, subst, arith, true, false}
+use Rattle.std.specs.Prelude.{slice_get, slice_index_or, is_some, IsSome}
 use Rattle.std.specs.List.{AllZip, range_with_len}
-use Rattle.std.proofs.lemmas.List.{take_all, take_more, map-append}
+use Rattle.std.proofs.Math.Bool.{not}
+use Rattle.std.specs.Option.{option_map, option_and_then}
+use Rattle.std.proofs.lemmas.List.{take_all, take_more, map-append, length-replicate, get_or-replicate}
 use Rattle.std.proofs.lemmas.List.FromFn.{get_or-map-range_with_len, length-map-range_with_len}
 use Rattle.std.proofs.lemmas.Option.{slice_get-get_or, slice_get-map, get_or_from_slice_get}
 use Rattle.vx_value.specs.Types.{DataType}
 use Rattle.vx_value.specs.Typed.{Typed}
-use Rattle.vx_value.specs.Values.{Value, boolean}
+use Rattle.vx_value.specs.IsOf.{is_null}
+use Rattle.vx_value.specs.Values.{Value, null, boolean}
 use Rattle.vx_value.specs.Cell.{Cell, value, fault}
+use Rattle.vx_mask.specs.Places.{true_place}
+use Rattle.vx_mask.proofs.ChosenLemmas.{chosen-item}
+use Rattle.vx_mask.proofs.PlacesLemmas.{place_some}
 use Rattle.vx_fn.specs.Apply.{apply, on_values, value_of}
 use Rattle.vx_fn.specs.ReturnTypes.{return_type}
 use Rattle.vx_fn.specs.declared.function.ScalarFnRef.{ScalarFnRef}
-use Rattle.vx_tree.specs.Tree.{Tree, node, function, bool, column, constant_of, slots_of, dtype, len, height, slots_height, slice_of}
-use Rattle.vx_tree.specs.Cells.{row_at, rows, slots_rows, valid_cell, valid_cells}
+use Rattle.vx_tree.specs.Tree.{Tree, node, function, bool, column, constant_of, slots_of, dtype, len, height, slots_height, slice_of, filter_of, masked_of, validity_in}
+use Rattle.vx_tree.specs.Cells.{row_at, rows, slots_rows, valid_cell, valid_cells, shown_cell}
 use Rattle.vx_tree.specs.Well.{shape, shapes, IsNode, IsWell}
 use Rattle.vx_tree.proofs.CellsLemmas.{rows_counted}
 use Rattle.vx_tree.specs.Refusals.{types_in}
 use Rattle.vx_tree.proofs.RefusalsLemmas.{types_back}
 use Rattle.vx_column.specs.Applied.{types_of_scalars, cells_of_scalars}
-use Rattle.vx_column.specs.Nulls.{IsRowBy}
+use Rattle.vx_column.specs.Nulls.{IsRowBy, validity_cells}
 use Rattle.vx_column.specs.ValidRows.{null_unless}
 use Rattle.vx_column.proofs.ValidRowsLemmas.{filled_cell}
 use Rattle.vx_native.proofs.NativesLemmas.{map_copies}
@@ -41,6 +47,36 @@ pub slice_row : (t c : Tree) (a b i : ℕ) → t ≡ slice_of a b c → i < len 
 slice_row t c a b i e h =
     let l = ap len e in
     ap (λ u. slice_get (rows u) i) e ∙ get_take (b - a) i (drop a (rows c)) (omega arith) ∙ get_drop a i (rows c)
+
+-- ---- of a constant
+
+pub constant_row : (t : Tree) (s : Typed) (i : ℕ) → t ≡ constant_of s (len t) → i < len t → slice_get (rows t) i ≡ Some (value s.value)
+constant_row t s i e h =
+    let copies = replicate (len t) (value s.value) in
+    let long = length-replicate (len t) (value s.value) in
+    ap (λ u. slice_get (rows u) i) e ∙ slice_get-get_or copies i fault (omega (arith, long)) ∙ ap Some (get_or-replicate (len t) i (value s.value) fault h)
+
+-- ---- of a filter
+
+pub filter_row : (t c : Tree) (bits : List Bool) (i p : ℕ) → t ≡ filter_of bits c → true_place bits i ≡ Some p → slice_get (rows t) i ≡ slice_get (rows c) p
+filter_row t c bits i p e place = ap (λ u. slice_get (rows u) i) e ∙ chosen-item bits (rows c) i ∙ ap (option_and_then (slice_get (rows c))) place
+
+pub filter_place : (t c : Tree) (bits : List Bool) (i : ℕ) → t ≡ filter_of bits c → i < len t → true_place bits i ≡ None → ⊥
+filter_place t c bits i e h none = let there = place_some bits i (subst (λ n. i < n) (ap len e) h) in absurd (cc (there.1, none))
+
+-- ---- of a test for null
+
+shown_value : (v : Value) → shown_cell (value v) ≡ value (boolean (not (is_null v)))
+shown_value null = refl
+shown_value _ = refl
+
+pub shown_row : (t c : Tree) (i : ℕ) (v : Value) → t ≡ validity_in c → slice_get (rows c) i ≡ Some (value v)
+    → slice_get (rows t) i ≡ Some (value (boolean (not (is_null v))))
+shown_row t c i v e h =
+    ap (λ u. slice_get (rows u) i) e ∙ slice_get-map shown_cell (rows c) i ∙ ap (option_map shown_cell) h ∙ ap Some (shown_value v)
+
+pub shown_fault : (t c : Tree) (i : ℕ) → t ≡ validity_in c → slice_get (rows c) i ≡ Some fault → slice_get (rows t) i ≡ Some fault
+shown_fault t c i e h = ap (λ u. slice_get (rows u) i) e ∙ slice_get-map shown_cell (rows c) i ∙ ap (option_map shown_cell) h
 
 -- ---- of a column
 
@@ -80,7 +116,28 @@ constant_truths t s b bits is truth made =
     ap rows is ∙ ap (λ v. replicate (len t) (value v)) truth ∙ sym (map_copies (λ x. value (boolean x)) (len t) b)
     ∙ ap (map (λ x. value (boolean x))) (sym made)
 
--- read up to a row
+-- ---- of a masked node
+
+-- a fault stays one, whatever the validity
+fault_cell : (v : Cell) → valid_cell v fault ≡ fault
+fault_cell (value (boolean true)) = refl
+fault_cell (value (boolean false)) = refl
+fault_cell _ = refl
+
+fault_stays : (vs cs : List Cell) (i : ℕ) → slice_get cs i ≡ Some fault → slice_get (valid_cells vs cs) i ≡ Some fault
+fault_stays [] cs i h = h
+fault_stays (v ∷ vs) [] i h = absurd (cc)
+fault_stays (v ∷ vs) (c ∷ cs) zero h = let is : c ≡ fault = cc in ap Some (ap (valid_cell v) is ∙ fault_cell v)
+fault_stays (v ∷ vs) (c ∷ cs) (suc i) h = fault_stays vs cs i h
+
+pub masked_rows : (t c : Tree) (v : Option Tree) → t ≡ masked_of c v → rows t ≡ valid_cells (validity_cells v) (rows c)
+masked_rows t c None e = ap rows e
+masked_rows t c (Some u) e = ap rows e
+
+pub masked_fault : (t c : Tree) (v : Option Tree) (i : ℕ) → t ≡ masked_of c v → slice_get (rows c) i ≡ Some fault → slice_get (rows t) i ≡ Some fault
+masked_fault t c v i e h = ap (λ cs. slice_get cs i) (masked_rows t c v e) ∙ fault_stays (validity_cells v) (rows c) i h
+
+-- ---- of booleans, read up to a row
 pub truths_more : (t : Tree) (i : ℕ) (v : Value) (bits : List Bool) (b : Bool) → IsWell t → i < len t → slice_get (rows t) i ≡ Some (value v) → v ≡ boolean b
     → take i (rows t) ≡ map (λ b. value (boolean b)) bits → take (i + 1) (rows t) ≡ map (λ b. value (boolean b)) (bits ++ b ∷ [])
 truths_more t i v bits b well lt there is h =

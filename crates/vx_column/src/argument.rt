@@ -64,7 +64,7 @@ impl IntegerOperand<'_> {
 }
 
 /// Returns the rows of `column`. `Fault` if a row has no value.
-fn argument_of(alloc: Global, column: &Columnar) -> VortexResult<Argument<'_>>
+pub(crate) fn argument_of(alloc: Global, column: &Columnar) -> VortexResult<Argument<'_>>
     ensures ok { IfOk result (IsArgument column.now) }
     ensures err { IfErr result (IsUnread (columnar_tree column.now)) }
 {

@@ -9,6 +9,7 @@ mod boolean;
 mod canonicalize;
 mod comparison;
 mod constant;
+mod filter;
 mod logic;
 mod nulls;
 mod operand;
@@ -17,7 +18,10 @@ mod probe;
 mod select;
 mod stored;
 mod valid;
+mod validity;
 
 pub use apply::apply_fn;
 pub use canonicalize::constant_canonicalize;
+pub use filter::filter_canonical;
 pub use probe::execute_scalar;
+pub use validity::validity_canonical;

@@ -69,6 +69,20 @@ fn scalar_at(alloc: Global, array: &ArrayRef, index: usize) -> VortexResult<Scal
         }
         ArrayKind::Constant(scalar) => Ok(scalar.clone()?),
         ArrayKind::Slice(child, start, _) => scalar_at(alloc, child, start + index),
+        ArrayKind::Filter(child, mask) => {
+            let Some(place) = mask.rank(index) else {
+                unreachable!()
+            };
+            scalar_at(alloc, child, place)
+        }
+        ArrayKind::Masked(child, validity) => match scalar_at(alloc, child, index) {
+            Ok(scalar) => unless_null(alloc, validity, index, scalar.into_nullable()),
+            Err(e) => Err(e),
+        },
+        ArrayKind::ScalarFnValidity(child) => match scalar_at(alloc, child, index) {
+            Ok(scalar) => Ok(Scalar::bool(!scalar.is_null(), Nullability::NonNullable)),
+            Err(e) => Err(e),
+        },
         ArrayKind::ScalarFn(scalar_fn, slots) => function_at(alloc, array, scalar_fn, slots, index),
     }
 }

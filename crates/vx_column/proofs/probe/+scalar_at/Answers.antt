@@ -1,10 +1,13 @@
-use Rattle.std.proofs.Common.{get_or, inl, inr, arith, Some, sym, ap, subst, ◌∙◌}
+use Rattle.std.proofs.Common.{get_or, inl, inr, arith, Some, sym, ap, subst, ◌∙◌, ◌≡◌, rules, true, false}
 use Rattle.std.proofs.lemmas.Result.{IfOk-weaker}
 use Rattle.vx_column.specs.Nulls.{IsRowBy}
+use Rattle.vx_value.specs.Values.{boolean}
 use Rattle.vx_value.specs.Cell.{value, fault}
-use Rattle.vx_tree.specs.Tree.{slots_of, slots_height, dtype, len}
+use Rattle.vx_mask.specs.Masks.{bits_in}
+use Rattle.vx_mask.proofs.PlacesLemmas.{place_is}
+use Rattle.vx_tree.specs.Tree.{slots_of, height, slots_height, dtype, len}
 use Rattle.vx_column.proofs.ArgumentsLemmas.{zipped_more}
-use Rattle.vx_column.proofs.CellsLemmas.{IsRead, IsBelow, all_read, slice_row, child_below, child_faulted, function_taken, function_row, function_faulted, row_told, row_known, bits_row}
+use Rattle.vx_column.proofs.CellsLemmas.{IsRead, IsBelow, all_read, slice_row, child_below, child_faulted, function_taken, function_row, function_faulted, row_told, row_known, bits_row, constant_row, filter_row, filter_place, shown_row, shown_fault, masked_fault}
 use Rattle.vx_column.proofs.probe.+scalar_at.Goals as goal
 
 pub scalar_at-returns-in-Slice-clause-ok : goal.scalar_at-returns-in-Slice-clause-ok
@@ -16,6 +19,58 @@ pub scalar_at-returns-in-Slice-clause-err : goal.scalar_at-returns-in-Slice-clau
 scalar_at-returns-in-Slice-clause-err t c =
     let e = c.in-Slice.ensures.0 in
     rw (slice_row c.args.array.now c.in-Slice.child.now c.in-Slice.start c.in-Slice.field-2 c.args.index e c.requires) c.scalar_at.ensures.err
+
+pub scalar_at-returns-in_ok-clone-in-Constant-clause-ok : goal.scalar_at-returns-in_ok-clone-in-Constant-clause-ok
+scalar_at-returns-in_ok-clone-in-Constant-clause-ok t c =
+    let s = c.in-Constant.scalar.now in
+    let e = c.in-Constant.ensures.0 in
+    let same : c.in_ok-clone-in-Constant.field-0 ≡ s = search rules in
+    rw same (constant_row c.args.array.now s c.args.index e c.requires, sym (ap dtype e))
+
+pub scalar_at-unreachable-requires : goal.scalar_at-unreachable-requires
+scalar_at-unreachable-requires t c =
+    filter_place c.args.array.now c.in-Filter.child.now (bits_in c.in-Filter.mask.now) c.args.index c.in-Filter.ensures.0 c.requires
+    (sym c.rank.ensures ∙ c.in_default.is)
+
+pub scalar_at-scalar_at-requires-in-Filter : goal.scalar_at-scalar_at-requires-in-Filter
+scalar_at-scalar_at-requires-in-Filter t c =
+    let d = c.decreases in
+    let lower = ap height c.in-Filter.ensures.0 in
+    let place = place_is (bits_in c.in-Filter.mask.now) c.args.index c.in-Some.place (sym c.rank.ensures ∙ c.in-Some.is) in
+    (omega (arith, lower), omega (arith, place.0, c.in-Filter.ensures.1))
+
+pub scalar_at-returns-in-Some-clause-ok : goal.scalar_at-returns-in-Some-clause-ok
+scalar_at-returns-in-Some-clause-ok t c =
+    let e = c.in-Filter.ensures.0 in
+    rw (filter_row c.args.array.now c.in-Filter.child.now (bits_in c.in-Filter.mask.now) c.args.index c.in-Some.place e (sym c.rank.ensures ∙ c.in-Some.is), ap dtype e)
+    c.scalar_at-in-Filter.ensures.ok
+
+pub scalar_at-returns-in-Some-clause-err : goal.scalar_at-returns-in-Some-clause-err
+scalar_at-returns-in-Some-clause-err t c =
+    let e = c.in-Filter.ensures.0 in
+    rw (filter_row c.args.array.now c.in-Filter.child.now (bits_in c.in-Filter.mask.now) c.args.index c.in-Some.place e (sym c.rank.ensures ∙ c.in-Some.is))
+    c.scalar_at-in-Filter.ensures.err
+
+pub scalar_at-returns-in-Err-clause-err : goal.scalar_at-returns-in-Err-clause-err
+scalar_at-returns-in-Err-clause-err t c =
+    elim c.in-Err.ensures.err [
+      | inl m ↦ inl m
+      | inr m ↦ inr (m.0, masked_fault c.args.array.now c.in-Masked.child.now c.in-Masked.validity.now c.args.index c.in-Masked.ensures.0 m.1)
+    ]
+
+pub scalar_at-returns-in-Ok-scalar_at-clause-ok : goal.scalar_at-returns-in-Ok-scalar_at-clause-ok
+scalar_at-returns-in-Ok-scalar_at-clause-ok t c =
+    let e = c.in-ScalarFnValidity.ensures in
+    let s = c.in-Ok-scalar_at.scalar in
+    let row = shown_row c.args.array.now c.in-ScalarFnValidity.child.now c.args.index s.value e c.in-Ok-scalar_at.ensures.ok.0 in
+    rw (c.bool.ensures, c.is_null.ensures) (row, sym (ap dtype e))
+
+pub scalar_at-returns-in-Err-scalar_at-clause-err : goal.scalar_at-returns-in-Err-scalar_at-clause-err
+scalar_at-returns-in-Err-scalar_at-clause-err t c =
+    elim c.in-Err-scalar_at.ensures.err [
+      | inl m ↦ inl m
+      | inr m ↦ inr (m.0, shown_fault c.args.array.now c.in-ScalarFnValidity.child.now c.args.index c.in-ScalarFnValidity.ensures m.1)
+    ]
 
 pub function_at-unreachable-requires : goal.function_at-unreachable-requires
 function_at-unreachable-requires t c =

@@ -1,0 +1,40 @@
+-- The column that tells which rows of another aren't null.
+use Rattle.std.proofs.Common.{◌≡◌, ◌<◌, ℕ, zero, suc, List, [], ◌∷◌, length, map, get_or, Bool, true, false, refl, sym, ap, ◌∙◌, arith}
+use Rattle.vx_value.specs.Values.{boolean}
+use Rattle.vx_value.specs.Cell.{Cell, value, fault}
+use Rattle.vx_mask.specs.Logic.{bit_row}
+use Rattle.vx_tree.specs.Tree.{Tree, len, booleans, validity_in}
+use Rattle.vx_tree.specs.Cells.{rows, shown_cell}
+use Rattle.vx_tree.specs.Keeps.{KeepsExactly}
+use Rattle.vx_tree.specs.Columns.{columnar_tree}
+use Rattle.vx_tree.specs.declared.columnar.Columnar.{Columnar}
+use Rattle.vx_column.specs.Arguments.{IsArgument, value_at}
+use Rattle.vx_column.specs.ValidRows.{is_valid, null_unless}
+use Rattle.vx_column.specs.declared.argument.Argument.{Argument}
+use Rattle.vx_column.specs.declared.argument.ArgumentRows.{ArgumentRows}
+use Rattle.vx_column.specs.declared.argument.ArgumentRows.TheVariants as stored
+use Rattle.vx_column.proofs.KeepsLemmas.{same_exactly}
+
+-- a stored value isn't null
+shown_stored : (a : ArgumentRows) (i : ℕ) (b : Bool) → shown_cell (null_unless b (value (value_at a i))) ≡ value (boolean b)
+shown_stored a i false = refl
+shown_stored (stored.Bits bs) i true = refl
+shown_stored (stored.Integers zs) i true = refl
+
+shown_cells : (cs : List Cell) (bits : List Bool) → length cs ≡ length bits
+    → ((i : ℕ) → i < length cs → shown_cell (get_or cs i fault) ≡ value (boolean (bit_row bits i))) → map shown_cell cs ≡ map (λ b. value (boolean b)) bits
+shown_cells [] [] long h = refl
+shown_cells [] (b ∷ bits) long h = absurd (omega arith)
+shown_cells (c ∷ cs) [] long h = absurd (omega arith)
+shown_cells (c ∷ cs) (b ∷ bits) long h = λ j. h 0 (omega arith) j ∷ shown_cells cs bits (omega arith) (λ i lt. h (suc i) (omega arith)) j
+
+pub shown_exactly : (c : Columnar) (a : Argument) (bits : List Bool) → length (rows (columnar_tree c)) ≡ len (columnar_tree c) → IsArgument c a
+    → length bits ≡ len (columnar_tree c) → ((i : ℕ) → i < len (columnar_tree c) → bit_row bits i ≡ is_valid a.valid i)
+    → KeepsExactly (validity_in (columnar_tree c)) (booleans bits)
+shown_exactly c a bits counted is long told =
+    let t = columnar_tree c in
+    let within : (i : ℕ) → i < length (rows t) → i < len t = λ i lt. omega (arith, counted) in
+    same_exactly (validity_in t) (booleans bits) refl (sym long)
+    (shown_cells (rows t) bits (counted ∙ sym long)
+    (λ i lt. ap shown_cell (is.shown i (within i lt)) ∙ shown_stored a.rows i (is_valid a.valid i) ∙ ap (λ b. value (boolean b)) (sym (told i (within i lt)))))
+    tt

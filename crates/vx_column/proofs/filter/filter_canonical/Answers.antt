@@ -1,0 +1,65 @@
+use Rattle.std.proofs.Common.{◌≡◌, length, refl, sym, ap, subst, ◌∙◌}
+use Rattle.std.proofs.lemmas.Result.{IfOk-weaker}
+use Rattle.vx_value.specs.Types.{bool, primitive, nullability_of}
+use Rattle.vx_value.specs.Values.{boolean, integer}
+use Rattle.vx_value.specs.declared.dtype.Nullability.TheVariants.{NonNullable}
+use Rattle.vx_mask.specs.Masks.{bits_in}
+use Rattle.vx_native.specs.Natives.{values_of, ptype_of}
+use Rattle.vx_tree.specs.Tree as enc
+use Rattle.vx_tree.specs.Tree.{len, filter_of}
+use Rattle.vx_tree.specs.Well.{IsNodeOf}
+use Rattle.vx_tree.specs.Keeps.{KeepsExactly}
+use Rattle.vx_tree.specs.Columns.{canonical_tree}
+use Rattle.vx_tree.specs.Validities.{HasRows}
+use Rattle.vx_column.proofs.FilteredLemmas.{chosen_count, column_filtered}
+use Rattle.vx_column.proofs.filter.filter_canonical.Goals as goal
+
+pub bool_column-requires : goal.bool_column-requires
+bool_column-requires c =
+    let t = c.as_array-array.result.now in
+    let flat = subst IsNodeOf c.in-Bool.ensures.0 c.in-Bool.ensures.1 in
+    let long = c.requires ∙ ap len (sym c.as_array-array.ensures.of) in
+    subst (HasRows c.in_ok-validity-in-Bool.validity)
+    (chosen_count (bits_in c.args.mask.now) c.in-Bool.bits.now c.in_ok-filter-in-Bool.field-0 (len t) (sym flat.2) long c.in_ok-filter-in-Bool.ensures)
+    c.in_ok-validity-in-Bool.ensures.sized
+
+pub primitive_column-requires : goal.primitive_column-requires
+primitive_column-requires c =
+    let t = c.as_array-array.result.now in
+    let flat = subst IsNodeOf c.in-Primitive.ensures.0 c.in-Primitive.ensures.1 in
+    let long = c.requires ∙ ap len (sym c.as_array-array.ensures.of) in
+    subst (HasRows c.in_ok-validity-in-Primitive.validity)
+    (chosen_count (bits_in c.args.mask.now) (values_of c.in-Primitive.values.now) (values_of c.in_ok-filter-in-Primitive.field-0) (len t) (sym flat.2) long
+    c.in_ok-filter-in-Primitive.ensures.values)
+    c.in_ok-validity-in-Primitive.ensures.sized
+
+pub returns-in_ok-filter-in-Bool-clause-ok : goal.returns-in_ok-filter-in-Bool-clause-ok
+returns-in_ok-filter-in-Bool-clause-ok c =
+    let bits = bits_in c.args.mask.now in
+    let t = c.as_array-array.result.now in
+    let validity = c.in_ok-validity-in-Bool in
+    let flat = subst IsNodeOf c.in-Bool.ensures.0 c.in-Bool.ensures.1 in
+    let long = c.requires ∙ ap len (sym c.as_array-array.ensures.of) in
+    let same = validity.ensures.nullability ∙ c.nullability-nullability.ensures ∙ ap nullability_of c.dtype.ensures in
+    IfOk-weaker c.bool_column.result _ _
+    (λ u made. subst (λ x. KeepsExactly (filter_of bits x) (canonical_tree u)) c.as_array-array.ensures.of
+    (column_filtered boolean enc.bool (λ ty n xs css. refl) (bool NonNullable) bits c.in-Bool.bits.now c.in_ok-filter-in-Bool.field-0 c.in-Bool.validity.now
+    validity.validity t (canonical_tree u) c.in-Bool.ensures.0 flat long c.in_ok-filter-in-Bool.ensures same validity.ensures.chosen made))
+    c.bool_column.ensures.ok
+
+pub returns-in_ok-filter-in-Primitive-clause-ok : goal.returns-in_ok-filter-in-Primitive-clause-ok
+returns-in_ok-filter-in-Primitive-clause-ok c =
+    let bits = bits_in c.args.mask.now in
+    let t = c.as_array-array.result.now in
+    let p = ptype_of c.in-Primitive.values.now in
+    let validity = c.in_ok-validity-in-Primitive in
+    let kept = c.in_ok-filter-in-Primitive in
+    let flat = subst IsNodeOf c.in-Primitive.ensures.0 c.in-Primitive.ensures.1 in
+    let long = c.requires ∙ ap len (sym c.as_array-array.ensures.of) in
+    let same = validity.ensures.nullability ∙ c.nullability-nullability.ensures ∙ ap nullability_of c.dtype.ensures in
+    let column_made = rw kept.ensures.kind at c.primitive_column.ensures.ok in
+    IfOk-weaker c.primitive_column.result _ _
+    (λ u made. subst (λ x. KeepsExactly (filter_of bits x) (canonical_tree u)) c.as_array-array.ensures.of
+    (column_filtered integer (enc.primitive p) (λ ty n xs css. refl) (primitive p NonNullable) bits (values_of c.in-Primitive.values.now) (values_of kept.field-0)
+    c.in-Primitive.validity.now validity.validity t (canonical_tree u) c.in-Primitive.ensures.0 flat long kept.ensures.values same validity.ensures.chosen made))
+    column_made

@@ -1,0 +1,85 @@
+//! Columns filtered by a mask.
+
+ghost use Rattle.std.specs.Prelude.{◌≡◌, ◌∷◌, [], IfOk, IfErr, length};
+ghost use Rattle.vx_value.specs.Types.{bool};
+ghost use Rattle.vx_mask.specs.Masks.{bits_in};
+ghost use Rattle.vx_mask.specs.Places.{true_count};
+ghost use Rattle.vx_tree.specs.Tree.{dtype, len, filter_of, slots_of};
+ghost use Rattle.vx_tree.specs.Well.{AreWell};
+ghost use Rattle.vx_tree.specs.Keeps.{KeepsExactly};
+ghost use Rattle.vx_tree.specs.Columns.{canonical_tree};
+ghost use Rattle.vx_tree.specs.Validities.{nullability_by, child_of, HasRows};
+ghost use Rattle.vx_column.specs.Filtered.{IsChoice};
+ghost use Rattle.vx_column.specs.ValidRows.{TellsRows};
+
+use crate::arithmetic::primitive_column;
+use crate::boolean::bool_column;
+use std::alloc::Global;
+use vx_mask::Mask;
+use vx_tree::{
+    ArrayKind, ArrayRef, Canonical, FilterArray, IntoArray, Validity, child_to_validity,
+};
+use vx_value::{Nullability, VortexError, VortexResult};
+
+/// Returns the rows of `column` at the true bits of `mask`, which must have a bit for each row, as a column. The values share
+/// their storage with those of `column` if the true bits are consecutive. The only error is `OutOfMemory`. (own)
+pub fn filter_canonical(alloc: Global, column: &Canonical, mask: &Mask) -> VortexResult<Canonical>
+    requires { length (bits_in mask.now) ≡ len (canonical_tree column.now) }
+    ensures ok { IfOk result (λ c. KeepsExactly (filter_of (bits_in mask.now) (canonical_tree column.now)) (canonical_tree c)) }
+    ensures err { IfErr result (λ e. e ≡ VortexError.OutOfMemory) }
+{
+    let array = column.as_array();
+    array.well();
+    let nullability = array.dtype().nullability();
+    match array.kind() {
+        ArrayKind::Bool(bits, validity) => {
+            let validity = filter_validity(alloc, validity, nullability, mask)?;
+            bool_column(alloc, bits.filter(alloc, mask)?, &validity)
+        }
+        ArrayKind::Primitive(values, validity) => {
+            let validity = filter_validity(alloc, validity, nullability, mask)?;
+            primitive_column(alloc, values.filter(alloc, mask)?, &validity)
+        }
+        _ => unreachable!(),
+    }
+}
+
+/// Returns the validity of the rows at the true bits of `mask`, from the slot of the validity of a column of this nullability.
+/// The only error is `OutOfMemory`.
+fn filter_validity(
+    alloc: Global,
+    validity: &Option<ArrayRef>,
+    nullability: Nullability,
+    mask: &Mask,
+) -> VortexResult<Validity>
+    requires tells { TellsRows nullability (length (bits_in mask.now)) validity.now }
+    requires well { AreWell (slots_of (validity.now ∷ [])) }
+    ensures nullability { IfOk result (λ v. nullability_by v ≡ nullability) }
+    ensures sized { IfOk result (λ v. HasRows v (true_count (bits_in mask.now))) }
+    ensures chosen { IfOk result (λ v. IsChoice (bits_in mask.now) validity.now (child_of v (true_count (bits_in mask.now)))) }
+    ensures err { IfErr result (λ e. e ≡ VortexError.OutOfMemory) }
+{
+    match child_to_validity(validity.as_ref(), nullability)? {
+        Validity::Array(child) => {
+            let kept = filter_truths(alloc, child, mask)?;
+            kept.well();
+            Ok(Validity::Array(kept))
+        }
+        same => Ok(same),
+    }
+}
+
+/// Filters `array`, which must be non-nullable booleans, by `mask`: at once if it is a column without a validity, else lazily.
+/// The only error is `OutOfMemory`.
+fn filter_truths(alloc: Global, array: ArrayRef, mask: &Mask) -> VortexResult<ArrayRef>
+    requires typed { dtype array ≡ bool Nullability.NonNullable }
+    requires sized { length (bits_in mask.now) ≡ len array }
+    ensures ok { IfOk result (λ t. KeepsExactly (filter_of (bits_in mask.now) array) t) }
+    ensures err { IfErr result (λ e. e ≡ VortexError.OutOfMemory) }
+{
+    if let ArrayKind::Bool(bits, None) = array.kind() {
+        let kept = bits.filter(alloc, mask)?;
+        return Ok(bool_column(alloc, kept, &Validity::NonNullable)?.into_array());
+    }
+    Ok(FilterArray::new(alloc, array, mask.clone()?)?.into_array())
+}

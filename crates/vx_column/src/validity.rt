@@ -1,0 +1,49 @@
+//! Which rows of a column aren't null, as a column.
+
+ghost use Rattle.std.specs.Prelude.{◌≡◌, ◌<◌, ℕ, length, IfOk, IfErr};
+ghost use Rattle.vx_mask.specs.Logic.{bit_row};
+ghost use Rattle.vx_tree.specs.Tree.{validity_in};
+ghost use Rattle.vx_tree.specs.Keeps.{KeepsExactly};
+ghost use Rattle.vx_tree.specs.Columns.{canonical_tree, columnar_tree};
+ghost use Rattle.vx_column.specs.Arguments.{IsUnread};
+ghost use Rattle.vx_column.specs.ValidRows.{is_valid, HasValidity};
+
+use crate::argument::argument_of;
+use crate::boolean::bool_column;
+use crate::valid::ValidRows;
+use std::alloc::{AllocError, Global};
+use vx_mask::BitBuffer;
+use vx_tree::{Canonical, Columnar, Validity};
+use vx_value::VortexResult;
+
+/// Returns whether each row of `column` isn't null, as a column of non-nullable booleans. (own)
+///
+/// # Errors
+///
+/// `Fault` if a row of `column` has no value; `OutOfMemory`.
+pub fn validity_canonical(alloc: Global, column: &Columnar) -> VortexResult<Canonical>
+    ensures ok { IfOk result (λ c. KeepsExactly (validity_in (columnar_tree column.now)) (canonical_tree c)) }
+    ensures err { IfErr result (IsUnread (columnar_tree column.now)) }
+{
+    let array = column.as_array();
+    array.well();
+    match argument_of(alloc, column) {
+        Ok(argument) => {
+            let bits = valid_bits(alloc, argument.valid, array.len())?;
+            bool_column(alloc, bits, &Validity::NonNullable)
+        }
+        Err(e) => Err(e),
+    }
+}
+
+/// Returns whether each of `len` rows is among the `valid` ones.
+fn valid_bits(alloc: Global, valid: ValidRows, len: usize) -> Result<BitBuffer, AllocError>
+    requires { HasValidity valid len }
+    ensures sized { IfOk result (λ bits. length bits ≡ len) }
+    ensures rows { IfOk result (λ bits. (i : ℕ) → i < len → bit_row bits i ≡ is_valid valid i) }
+{
+    match valid {
+        ValidRows::All(_) => BitBuffer::repeat(alloc, true, len),
+        ValidRows::Bits(bits) => Ok(bits),
+    }
+}
