@@ -14,7 +14,6 @@ use Rattle.vx_tree.specs.ColumnTypes.{has_column}
 use Rattle.vx_tree.specs.Tree.{Tree, filled_slots, dtype, datum, is_constant, constant_of, call_of}
 use Rattle.vx_tree.specs.Cells.{rows, row_at, slots_rows, HasNoFault}
 use Rattle.vx_tree.specs.Columns.{columnar_tree}
-use Rattle.vx_tree.proofs.ColumnTypesLemmas.{computed_type}
 use Rattle.vx_tree.specs.declared.columnar.Columnar.{Columnar}
 use Rattle.vx_column.specs.Applied.{IsCall, IsApplied, IsUnapplied, all_constant, gives_constant, Repeats}
 use Rattle.vx_column.specs.Computed.{IsTaken, IsResult, IsNoResult, cells_of}
@@ -28,11 +27,11 @@ pub taken : (f : ScalarFnRef) {ts : List Tree} {n : ℕ} {tys : List DataType} {
     → IsSome (return_type f tys)
 taken f {ts = ts} {n = n} same call = ap is_some (ap (return_type f) (sym same.types) ∙ call_typed f ts n call)
 
--- there are columns of its result's type, and they are computed by the function
+-- there are columns of its result's type
 pub column_given : (f : ScalarFnRef) {ts : List Tree} {n : ℕ} {tys : List DataType} {row : ℕ → List Cell} → AreRows ts n tys row → IsCall f ts n
     → IfSome (return_type f tys) (λ ty. has_column ty ≡ true)
 column_given f {ts = ts} {n = n} same call =
-    subst (λ o. IfSome o (λ ty. has_column ty ≡ true)) (sym (ap (return_type f) (sym same.types) ∙ call_typed f ts n call)) (computed_type f call.0 call.1.3)
+    subst (λ o. IfSome o (λ ty. has_column ty ≡ true)) (sym (ap (return_type f) (sym same.types) ∙ call_typed f ts n call)) call.1.3
 
 pub call_taken : (f : ScalarFnRef) {ts : List Tree} {n : ℕ} {tys : List DataType} {row : ℕ → List Cell} → AreRows ts n tys row → IsCall f ts n → IsTaken f tys
 call_taken f {ts = ts} {n = n} same call = (call.0, ap (return_type f) (sym same.types) ∙ call_typed f ts n call, call.1.3)

@@ -9,7 +9,7 @@ use Rattle.vx_value.specs.declared.error.VortexError.TheVariants.{OutOfMemory, F
 use Rattle.vx_fn.specs.Apply.{apply}
 use Rattle.vx_fn.specs.ReturnTypes.{return_type}
 use Rattle.vx_fn.specs.declared.function.ScalarFnRef.{ScalarFnRef}
-use Rattle.vx_tree.specs.ColumnTypes.{is_computed}
+use Rattle.vx_tree.specs.ColumnTypes.{has_column}
 use Rattle.vx_tree.specs.Tree.{Tree, dtype, len, datum, slots, is_canonical}
 use Rattle.vx_tree.specs.Cells.{rows, HasNoFault, AreClean}
 use Rattle.vx_column.specs.Arguments.{types_of, row_of}
@@ -48,9 +48,9 @@ pub record IsComputed (f : ScalarFnRef) (args : List Argument) (n : ℕ) (u : Tr
 abbrev pub IsNotComputed : ScalarFnRef → List Argument → ℕ → VortexError → Type 0
 IsNotComputed f args n e = IsNoResult f (types_of args) (row_of args) n e
 
--- f computes columns of arguments of these types
+-- f takes arguments of these types, and there are columns of its result
 abbrev pub IsTaken : ScalarFnRef → List DataType → Type 0
-IsTaken f tys = (ty : DataType) × (return_type f tys ≡ Some ty) × (is_computed f ty ≡ true)
+IsTaken f tys = (ty : DataType) × (return_type f tys ≡ Some ty) × (has_column ty ≡ true)
 
 -- f on n rows, of which row i is `row i`, with a result of type ty: null in those that aren't valid
 abbrev pub filled_cells : ScalarFnRef → DataType → (ℕ → List Cell) → ValidRows → ℕ → List Cell

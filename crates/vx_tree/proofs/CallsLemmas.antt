@@ -76,25 +76,25 @@ module _ (f : ScalarFnRef) (ts : List Tree) (n : ℕ) (ss : Slots) (filled : ss 
         return_type f tys ≡ None → call_refusal f ts n ≡ Some (InvalidArgument NoRow)
     call_row_refused count long row =
         later_refused (arity_refusal f (length ts)) _ _ count
-        (later_refused (unless (all_of_len n ts) (InvalidArgument ChildLen)) _ _ (sym lengths_are ∙ long) (ap (row_refusal f) (sym row_is ∙ row)))
+        (later_refused (unless (all_of_len n ts) (InvalidArgument ChildLen)) _ _ (sym lengths_are ∙ long) (ap row_refusal (sym row_is ∙ row)))
 
     pub call_type_refused : (ty : DataType) (e : VortexError) → arity_refusal f (length ts) ≡ None → lengths_refusal n (shapes ss) ≡ None →
-        return_type f tys ≡ Some ty → column_type_refusal f ty ≡ Some e → call_refusal f ts n ≡ Some e
+        return_type f tys ≡ Some ty → column_type_refusal ty ≡ Some e → call_refusal f ts n ≡ Some e
     call_type_refused ty e count long row column =
         later_refused (arity_refusal f (length ts)) _ _ count
-        (later_refused (unless (all_of_len n ts) (InvalidArgument ChildLen)) _ _ (sym lengths_are ∙ long) (ap (row_refusal f) (sym row_is ∙ row) ∙ column))
+        (later_refused (unless (all_of_len n ts) (InvalidArgument ChildLen)) _ _ (sym lengths_are ∙ long) (ap row_refusal (sym row_is ∙ row) ∙ column))
 
     pub call_taken : (ty : DataType) → arity_refusal f (length ts) ≡ None → lengths_refusal n (shapes ss) ≡ None →
-        return_type f tys ≡ Some ty → column_type_refusal f ty ≡ None → call_refusal f ts n ≡ None
+        return_type f tys ≡ Some ty → column_type_refusal ty ≡ None → call_refusal f ts n ≡ None
     call_taken ty count long row column =
         none_refused (arity_refusal f (length ts)) _ count
-        (none_refused (unless (all_of_len n ts) (InvalidArgument ChildLen)) _ (sym lengths_are ∙ long) (ap (row_refusal f) (sym row_is ∙ row) ∙ column))
+        (none_refused (unless (all_of_len n ts) (InvalidArgument ChildLen)) _ (sym lengths_are ∙ long) (ap row_refusal (sym row_is ∙ row) ∙ column))
 
     pub call_made : (ty : DataType) → return_type f tys ≡ Some ty → called f ts n ≡ Some (node ty n (function f) ss)
     call_made ty row =
         ap (option_map (λ t. call_of f t n ts)) (sym row_is ∙ row) ∙ ap (λ x. Some (node ty n (function f) x)) (sym filled)
 
-    pub call_is_node : (ty : DataType) → lengths_refusal n (shapes ss) ≡ None → return_type f tys ≡ Some ty → column_type_refusal f ty ≡ None
+    pub call_is_node : (ty : DataType) → lengths_refusal n (shapes ss) ≡ None → return_type f tys ≡ Some ty → column_type_refusal ty ≡ None
         → IsNode ty n (function f) (shapes ss)
     call_is_node ty long row column =
         let present : all_present (shapes ss) ≡ true = ap (λ x. all_present (shapes x)) filled ∙ filled_present ts in

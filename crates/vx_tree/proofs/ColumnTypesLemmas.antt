@@ -9,7 +9,7 @@ use Rattle.vx_value.specs.declared.dtype.Nullability.TheVariants.{Nullable}
 use Rattle.vx_value.specs.declared.dtype.PType.{PType}
 use Rattle.vx_value.specs.declared.dtype.Storage.TheVariants.{Bits, Integers}
 use Rattle.vx_fn.specs.declared.function.ScalarFnRef.{ScalarFnRef}
-use Rattle.vx_tree.specs.ColumnTypes.{has_column, has_kernel, is_computed}
+use Rattle.vx_tree.specs.ColumnTypes.{has_column}
 use Rattle.vx_tree.specs.Tree as enc
 use Rattle.vx_tree.specs.Tree.{Tree, Data, node, no_slots, absent, slot, dtype}
 use Rattle.vx_tree.specs.Well.{Shape, shape, shapes, IsNode, IsWell}
@@ -22,10 +22,6 @@ column_of_bits _ h = absurd (cc)
 pub column_of_integers : (p : PType) (ty : DataType) → storage_of ty ≡ Integers p → ty ≡ primitive p (nullability_of ty)
 column_of_integers p (primitive q n) h = let same : q ≡ p = cc in ap (λ r. primitive r n) same
 column_of_integers p _ h = absurd (cc)
-
--- columns of the type are computed by a function, so there are columns of it
-pub computed_type : (f : ScalarFnRef) (ty : DataType) → is_computed f ty ≡ true → has_column ty ≡ true
-computed_type f ty h = second_so (has_kernel f) _ h
 
 -- a type with another nullability has columns too
 other_nullability : (m : Nullability) (ty : DataType) → has_column ty ≡ true → has_column (with_nullability m ty) ≡ true
@@ -42,7 +38,7 @@ node_typed ty n (enc.filter bits) ss w = inr (ty, length bits, [], w.0, λ h. h)
 node_typed ty n enc.masked ss w =
     inr (w.0, n, w.1 ∷ [], w.2, λ h. subst (λ x. has_column x ≡ true) (sym w.3) (other_nullability Nullable w.0 h))
 node_typed ty n enc.is_valid ss w = inl (ap has_column w.2)
-node_typed ty n (enc.function f) ss w = inl (computed_type f ty w.3)
+node_typed ty n (enc.function f) ss w = inl w.3
 node_typed ty n (enc.bool bs) ss w = inl (ap has_column w.1)
 node_typed ty n (enc.primitive p zs) ss w = inl (ap has_column w.1)
 

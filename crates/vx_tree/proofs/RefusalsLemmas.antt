@@ -22,7 +22,7 @@ use Rattle.vx_fn.specs.Functions.{arity, function_id}
 use Rattle.vx_fn.specs.ReturnTypes.{return_type}
 use Rattle.vx_fn.specs.declared.function.ScalarFnRef.{ScalarFnRef}
 use Rattle.vx_fn.proofs.ReturnTypesLemmas.{arity_of_row}
-use Rattle.vx_tree.specs.ColumnTypes.{is_computed}
+use Rattle.vx_tree.specs.ColumnTypes.{has_column}
 use Rattle.vx_tree.specs.Tree as enc
 use Rattle.vx_tree.specs.Tree.{Tree, Data, id_of, slots_of, dtype, len}
 use Rattle.vx_tree.specs.Well.{Shape, shape, shape_of, shapes, IsValidity, IsFlat, IsNode}
@@ -204,10 +204,10 @@ function_kept i ty n f ss h =
     let types : types_refusal i ty f ss ≡ None = first_none (types_refusal i ty f ss) (lengths_refusal n ss) later in
     let lengths : lengths_refusal n ss ≡ None = second_none (types_refusal i ty f ss) (lengths_refusal n ss) later in
     let present : unless (all_present ss) (InvalidArgument FnSlotMissing) ≡ None = first_none _ (arity_refusal f (length ss)) slots in
-    let typed : first_of_both (result_refusal ty (return_type f (types_in ss))) (column_type_refusal f ty) ≡ None =
+    let typed : first_of_both (result_refusal ty (return_type f (types_in ss))) (column_type_refusal ty) ≡ None =
     second_none (unless (same_id i (function_id f)) (InvalidArgument NodeType)) _ types in
-    let result = result_none ty (return_type f (types_in ss)) (first_none _ (column_type_refusal f ty) typed) in
-    let column : is_computed f ty ≡ true = unless_none _ _ (second_none (result_refusal ty (return_type f (types_in ss))) _ typed) in
+    let result = result_none ty (return_type f (types_in ss)) (first_none _ (column_type_refusal ty) typed) in
+    let column : has_column ty ≡ true = unless_none _ _ (second_none (result_refusal ty (return_type f (types_in ss))) _ typed) in
     (types_in ss, shapes_of_types n ss (unless_none _ _ present) (unless_none _ _ lengths), result, column)
 
 -- ---- and the parts that meet them aren't refused
@@ -270,9 +270,9 @@ function_taken ty n f ss h =
     let slots : slots_refusal f made ≡ None = none_refused _ _ (none_unless _ _ (present_types n tys)) (none_unless _ _ count) in
     let named : unless (same_id (function_id f) (function_id f)) (InvalidArgument NodeType) ≡ None =
     none_unless _ _ ((same_id_Decides (function_id f) (function_id f)).1 refl) in
-    let column : column_type_refusal f ty ≡ None = none_unless _ _ h.3 in
+    let column : column_type_refusal ty ≡ None = none_unless _ _ h.3 in
     let types : types_refusal (function_id f) ty f made ≡ None =
-    none_refused _ _ named (none_refused (result_refusal ty (return_type f (types_in made))) (column_type_refusal f ty) result column) in
+    none_refused _ _ named (none_refused (result_refusal ty (return_type f (types_in made))) (column_type_refusal ty) result column) in
     let lengths : lengths_refusal n made ≡ None = none_unless _ _ (long_types n tys) in
     let e : function_refusal (function_id f) ty n f made ≡ None =
     none_refused (slots_refusal f made) _ slots (none_refused (types_refusal (function_id f) ty f made) _ types lengths) in

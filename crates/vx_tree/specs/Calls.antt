@@ -15,16 +15,16 @@ abbrev pub all_of_len : ℕ → List Tree → Bool
 all_of_len n [] = true
 all_of_len n (t ∷ ts) = (len t == n) && all_of_len n ts
 
--- where the function takes no such arguments, or no column of their result's type is computed by it
-abbrev pub row_refusal : ScalarFnRef → Option DataType → Option VortexError
-row_refusal f None = Some (InvalidArgument NoRow)
-row_refusal f (Some ty) = column_type_refusal f ty
+-- where the function takes no such arguments, or there are no columns of their result's type
+abbrev pub row_refusal : Option DataType → Option VortexError
+row_refusal None = Some (InvalidArgument NoRow)
+row_refusal (Some ty) = column_type_refusal ty
 
 -- for so many rows
 abbrev pub call_refusal : ScalarFnRef → List Tree → ℕ → Option VortexError
 call_refusal f ts n =
     first_of_both (arity_refusal f (length ts))
-    (first_of_both (unless (all_of_len n ts) (InvalidArgument ChildLen)) (row_refusal f (return_type f (map dtype ts))))
+    (first_of_both (unless (all_of_len n ts) (InvalidArgument ChildLen)) (row_refusal (return_type f (map dtype ts))))
 
 -- for as many rows as the first argument has
 abbrev pub inferred_refusal : ScalarFnRef → List Tree → Option VortexError

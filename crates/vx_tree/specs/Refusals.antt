@@ -17,7 +17,7 @@ use Rattle.vx_mask.specs.Places.{true_count}
 use Rattle.vx_fn.specs.Functions.{arity, function_id}
 use Rattle.vx_fn.specs.ReturnTypes.{return_type}
 use Rattle.vx_fn.specs.declared.function.ScalarFnRef.{ScalarFnRef}
-use Rattle.vx_tree.specs.ColumnTypes.{has_column, is_computed}
+use Rattle.vx_tree.specs.ColumnTypes.{has_column}
 use Rattle.vx_tree.specs.Tree as enc
 use Rattle.vx_tree.specs.Tree.{Tree, Data, dtype, len}
 use Rattle.vx_tree.specs.Well.{Shape, shape}
@@ -120,9 +120,9 @@ abbrev pub result_refusal : DataType → Option DataType → Option VortexError
 result_refusal ty None = Some (InvalidArgument NoRow)
 result_refusal ty (Some s) = unless (same_type ty s) (InvalidArgument NodeType)
 
--- where no column of the type is computed by the function
-abbrev pub column_type_refusal : ScalarFnRef → DataType → Option VortexError
-column_type_refusal f ty = unless (is_computed f ty) (InvalidArgument BadType)
+-- where there are no columns of the type
+abbrev pub column_type_refusal : DataType → Option VortexError
+column_type_refusal ty = unless (has_column ty) (InvalidArgument BadType)
 
 -- of a function: its slots, its types where the node is to go by the id, and its lengths
 abbrev pub slots_refusal : ScalarFnRef → List (Option Shape) → Option VortexError
@@ -131,7 +131,7 @@ slots_refusal f ss = first_of_both (unless (all_present ss) (InvalidArgument FnS
 abbrev pub types_refusal : Id → DataType → ScalarFnRef → List (Option Shape) → Option VortexError
 types_refusal i ty f ss =
     first_of_both (unless (same_id i (function_id f)) (InvalidArgument NodeType))
-    (first_of_both (result_refusal ty (return_type f (types_in ss))) (column_type_refusal f ty))
+    (first_of_both (result_refusal ty (return_type f (types_in ss))) (column_type_refusal ty))
 
 abbrev pub lengths_refusal : ℕ → List (Option Shape) → Option VortexError
 lengths_refusal n ss = unless (all_long n ss) (InvalidArgument ChildLen)

@@ -8,7 +8,7 @@ use Rattle.vx_value.specs.declared.dtype.Nullability.{Nullability}
 use Rattle.vx_value.specs.declared.dtype.Nullability.TheVariants.{NonNullable, Nullable}
 use Rattle.vx_mask.specs.Places.{true_count}
 use Rattle.vx_fn.specs.ReturnTypes.{return_type}
-use Rattle.vx_tree.specs.ColumnTypes.{has_column, is_computed}
+use Rattle.vx_tree.specs.ColumnTypes.{has_column}
 use Rattle.vx_tree.specs.Tree as enc
 use Rattle.vx_tree.specs.Tree.{Tree, Data, Slots, node, no_slots, absent, slot, dtype, len}
 
@@ -47,7 +47,7 @@ IsNode ty n (enc.filter bits) ss = (ss ≡ Some (shape ty (length bits)) ∷ [])
 IsNode ty n enc.masked ss = IsMasked ty n ss
 IsNode ty n enc.is_valid ss = (s : DataType) × (ss ≡ Some (shape s n) ∷ []) × (ty ≡ type.bool NonNullable)
 IsNode ty n (enc.function f) ss =
-    (tys : List DataType) × (ss ≡ map (λ s. Some (shape s n)) tys) × (return_type f tys ≡ Some ty) × (is_computed f ty ≡ true)
+    (tys : List DataType) × (ss ≡ map (λ s. Some (shape s n)) tys) × (return_type f tys ≡ Some ty) × (has_column ty ≡ true)
 IsNode ty n (enc.bool bs) ss = IsFlat (type.bool NonNullable) (length bs) ty n ss
 IsNode ty n (enc.primitive p zs) ss = IsFlat (type.primitive p NonNullable) (length zs) ty n ss
 

@@ -1,10 +1,9 @@
-//! The types that there are columns of, and the functions that columns are computed by.
+//! The types that there are columns of.
 
 ghost use Rattle.std.specs.Prelude.{◌≡◌};
 ghost use Rattle.vx_value.specs.View.{type_of};
-ghost use Rattle.vx_tree.specs.ColumnTypes.{has_column, has_kernel, is_column_stored, is_computed};
+ghost use Rattle.vx_tree.specs.ColumnTypes.{has_column, is_column_stored};
 
-use vx_fn::ScalarFnRef;
 use vx_value::{DType, Storage};
 
 /// Checks whether there are columns of type `dtype`: its values are booleans or integers. (own)
@@ -19,18 +18,4 @@ fn is_column_stored(storage: Storage) -> bool
     ensures { result ≡ is_column_stored storage }
 {
     matches!(storage, Storage::Bits | Storage::Integers(_))
-}
-
-/// Checks whether columns of type `dtype` are computed by `function`. (own)
-pub fn is_computed(function: &ScalarFnRef, dtype: &DType) -> bool
-    ensures { result ≡ is_computed function.now (type_of dtype.now) }
-{
-    has_kernel(function) && has_column(dtype)
-}
-
-/// Checks whether columns are computed by `function`.
-fn has_kernel(function: &ScalarFnRef) -> bool
-    ensures { result ≡ has_kernel function.now }
-{
-    !matches!(function, ScalarFnRef::Cast(_))
 }

@@ -24,7 +24,7 @@ pub use arrays::scalar_fn::{ScalarFn, ScalarFnArray, ScalarFnData};
 pub use arrays::scalar_fn_validity::{EmptyArrayData, ScalarFnValidity, ScalarFnValidityArray};
 pub use arrays::slice::{Slice, SliceArray, SliceData, SliceDataParts};
 pub use canonical::Canonical;
-pub use column_types::{has_column, is_computed};
+pub use column_types::has_column;
 pub use columnar::Columnar;
 pub use laws::{column_laws, execution_bounds, keeping_laws, refused_exactly, validity_laws};
 pub use matcher::{AnyArray, AnyCanonical, AnyColumnar, AnyScalarFn, Matcher};

@@ -8,7 +8,7 @@ use vx_tree::{
     AnyCanonical, AnyColumnar, Array, ArrayKind, ArrayParts, ArrayRef, ArrayView, BoolArray,
     Canonical, Columnar, Constant, ConstantArray, ConstantData, IntoArray, Primitive,
     PrimitiveArray, PrimitiveData, PrimitiveValues, ScalarFn, ScalarFnArray, ScalarFnData, Slice,
-    SliceArray, SliceData, Validity, child_to_validity, has_column, is_computed, slice_canonical,
+    SliceArray, SliceData, Validity, child_to_validity, has_column, slice_canonical,
     validity_nchildren, validity_to_child,
 };
 use vx_value::{
@@ -433,10 +433,6 @@ fn validities_and_their_children(rt: HostRuntime) -> Result<(), Fail> {
 fn types_with_columns(rt: HostRuntime) {
     assert!(rt; has_column(&BOOL) && has_column(&U8) && has_column(&NULLABLE));
     assert!(rt; !has_column(&UTF8) && !has_column(&DType::Null));
-    assert!(rt; is_computed(&ADD, &I32) && is_computed(&AND, &BOOL) && is_computed(&NOT, &BOOL));
-    assert!(rt; is_computed(&ADD, &NULLABLE) && !is_computed(&CAST, &I32));
-    assert!(rt; is_computed(&AND, &DType::Bool(Nullability::Nullable)));
-    assert!(rt; is_computed(&ScalarFnRef::IsNull, &BOOL));
 }
 
 #[test]

@@ -15,7 +15,7 @@ use crate::array::{
     Array, ArrayId, ArrayKind, ArrayParts, ArrayRef, Encoded, Encoding, Node, VTable,
 };
 use crate::arrays::types::is_same_type;
-use crate::column_types::{has_column, is_computed};
+use crate::column_types::has_column;
 use std::alloc::{AllocError, Global};
 use vx_fn::{Arity, ScalarFnRef};
 use vx_value::{ArgKind, DType, VortexError, VortexResult};
@@ -233,7 +233,7 @@ fn check_types(
     }
     let types = types_of(alloc, slots)?;
     check_result(function, dtype, types.as_slice())?;
-    check_column_type(function, dtype)
+    check_column_type(dtype)
 }
 
 /// Checks that `function` gives `dtype` on arguments of these types.
@@ -249,12 +249,12 @@ fn check_result(function: &ScalarFnRef, dtype: &DType, types: &[DType]) -> Vorte
     }
 }
 
-/// Checks that columns of type `dtype` are computed by `function`.
-fn check_column_type(function: &ScalarFnRef, dtype: &DType) -> VortexResult<()>
-    ensures valid { OnOk result (column_type_refusal function.now (type_of dtype.now) ≡ None) }
-    ensures refused { IfErr result (λ e. column_type_refusal function.now (type_of dtype.now) ≡ Some e) }
+/// Checks that there are columns of type `dtype`.
+fn check_column_type(dtype: &DType) -> VortexResult<()>
+    ensures valid { OnOk result (column_type_refusal (type_of dtype.now) ≡ None) }
+    ensures refused { IfErr result (λ e. column_type_refusal (type_of dtype.now) ≡ Some e) }
 {
-    if is_computed(function, dtype) {
+    if has_column(dtype) {
         Ok(())
     } else {
         Err(VortexError::InvalidArgument(ArgKind::BadType))
@@ -298,7 +298,7 @@ impl ScalarFnArray {
     ///
     /// The first condition that fails gives the error: `InvalidArgument` with `Arity` if the function takes another number
     /// of arguments, `ChildLen` if a child doesn't have `len` rows, `NoRow` if the function takes no such types, and `BadType`
-    /// if there are no columns of the result's type or none are computed by the function.
+    /// if there are no columns of the result's type.
     #[tactic(auto, using(crate::proofs::CallsLemmas::calls))]
     pub fn try_new_with_len(
         alloc: Global,
@@ -316,7 +316,7 @@ impl ScalarFnArray {
         check_lengths(len, slots.as_slice())?;
         let types = types_of(alloc, slots.as_slice())?;
         let dtype = scalar_fn.return_dtype(types.as_slice())?;
-        check_column_type(&scalar_fn, &dtype)?;
+        check_column_type(&dtype)?;
         let parts = ArrayParts {
             vtable: ScalarFn { id: scalar_fn.id() },
             dtype,

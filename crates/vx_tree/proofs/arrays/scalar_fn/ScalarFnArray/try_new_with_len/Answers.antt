@@ -33,7 +33,7 @@ returns-in_err-check_column_type-clause-refused c =
     let long : lengths_refusal c.args.len (shapes ss) ≡ None = search rules in
     let typed : tys ≡ types_in (shapes ss) = search rules in
     let row : return_type c.args.scalar_fn tys ≡ Some ty = search rules in
-    let column : column_type_refusal c.args.scalar_fn ty ≡ Some e = search rules in
+    let column : column_type_refusal ty ≡ Some e = search rules in
     handed_on c.from_residual-in_err-check_column_type.result e _ c.from_residual-in_err-check_column_type.ensures.1
     (inr (call_type_refused c.args.scalar_fn c.args.children.items c.args.len ss c.in_ok-slots.ensures tys typed ty e count long row column))
 
@@ -54,7 +54,7 @@ returns-clause-valid c =
     let long : lengths_refusal c.args.len (shapes ss) ≡ None = search rules in
     let typed : tys ≡ types_in (shapes ss) = search rules in
     let row : return_type c.args.scalar_fn tys ≡ Some (type_of c.in_ok-dtype.dtype) = search rules in
-    let column : column_type_refusal c.args.scalar_fn (type_of c.in_ok-dtype.dtype) ≡ None = search rules in
+    let column : column_type_refusal (type_of c.in_ok-dtype.dtype) ≡ None = search rules in
     call_taken c.args.scalar_fn c.args.children.items c.args.len ss c.in_ok-slots.ensures tys typed (type_of c.in_ok-dtype.dtype) count long row column
 
 pub from_parts_unchecked-requires : goal.from_parts_unchecked-requires
@@ -64,5 +64,5 @@ from_parts_unchecked-requires c =
     let long : lengths_refusal c.args.len (shapes ss) ≡ None = search rules in
     let typed : tys ≡ types_in (shapes ss) = search rules in
     let row : return_type c.args.scalar_fn tys ≡ Some (type_of c.in_ok-dtype.dtype) = search rules in
-    let column : column_type_refusal c.args.scalar_fn (type_of c.in_ok-dtype.dtype) ≡ None = search rules in
+    let column : column_type_refusal (type_of c.in_ok-dtype.dtype) ≡ None = search rules in
     call_is_node c.args.scalar_fn c.args.children.items c.args.len ss c.in_ok-slots.ensures tys typed (type_of c.in_ok-dtype.dtype) long row column
