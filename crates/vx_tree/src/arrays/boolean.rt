@@ -17,6 +17,7 @@ use crate::array::{
     Array, ArrayId, ArrayKind, ArrayParts, ArrayRef, Encoded, Encoding, Node, VTable,
 };
 use crate::arrays::column::{check_column, flat_column, flat_slice};
+use crate::arrays::payload;
 use crate::canonical::Canonical;
 use crate::validity::Validity;
 use std::alloc::Global;
@@ -68,18 +69,11 @@ impl VTable for Bool {
     }
 
     fn project(encoding: &Encoding) -> Option<&BoolData> {
-        if let Encoding::Bool(data) = encoding {
-            Some(data)
-        } else {
-            None
-        }
+        payload!(encoding, Bool)
     }
 
     fn into_data(encoding: Encoding) -> Option<BoolData> {
-        let Encoding::Bool(data) = encoding else {
-            return None;
-        };
-        Some(data)
+        payload!(encoding, Bool)
     }
 
     fn wrap(payload: BoolData) -> Encoding {

@@ -9,6 +9,7 @@ ghost use Rattle.vx_tree.specs.Well.{IsNodeOf};
 ghost use Rattle.vx_tree.specs.Kinds.{IsKindOf};
 
 use crate::array::{Array, ArrayId, ArrayKind, ArrayParts, Encoded, Encoding, Node, VTable};
+use crate::arrays::payload;
 use crate::arrays::types::is_same_type;
 use crate::column_types::has_column;
 use std::alloc::Global;
@@ -72,18 +73,11 @@ impl VTable for Constant {
     }
 
     fn project(encoding: &Encoding) -> Option<&ConstantData> {
-        if let Encoding::Constant(data) = encoding {
-            Some(data)
-        } else {
-            None
-        }
+        payload!(encoding, Constant)
     }
 
     fn into_data(encoding: Encoding) -> Option<ConstantData> {
-        let Encoding::Constant(data) = encoding else {
-            return None;
-        };
-        Some(data)
+        payload!(encoding, Constant)
     }
 
     fn wrap(payload: ConstantData) -> Encoding {

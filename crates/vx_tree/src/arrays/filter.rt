@@ -13,6 +13,7 @@ use crate::array::{
     Array, ArrayId, ArrayKind, ArrayParts, ArrayRef, Encoded, Encoding, Node, VTable,
 };
 use crate::arrays::child::only_child;
+use crate::arrays::payload;
 use crate::arrays::types::is_same_type;
 use std::alloc::Global;
 use vx_mask::Mask;
@@ -107,18 +108,11 @@ impl VTable for Filter {
     }
 
     fn project(encoding: &Encoding) -> Option<&FilterData> {
-        if let Encoding::Filter(data) = encoding {
-            Some(data)
-        } else {
-            None
-        }
+        payload!(encoding, Filter)
     }
 
     fn into_data(encoding: Encoding) -> Option<FilterData> {
-        let Encoding::Filter(data) = encoding else {
-            return None;
-        };
-        Some(data)
+        payload!(encoding, Filter)
     }
 
     fn wrap(payload: FilterData) -> Encoding {

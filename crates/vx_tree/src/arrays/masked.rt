@@ -15,6 +15,7 @@ use crate::array::{
     Array, ArrayId, ArrayKind, ArrayParts, ArrayRef, Encoded, Encoding, Node, VTable,
 };
 use crate::arrays::column::{check_validity_len, check_validity_type};
+use crate::arrays::payload;
 use crate::arrays::types::is_same_type;
 use crate::validity::{Validity, validity_to_child};
 use std::alloc::Global;
@@ -65,18 +66,11 @@ impl VTable for Masked {
     }
 
     fn project(encoding: &Encoding) -> Option<&MaskedData> {
-        if let Encoding::Masked(data) = encoding {
-            Some(data)
-        } else {
-            None
-        }
+        payload!(encoding, Masked)
     }
 
     fn into_data(encoding: Encoding) -> Option<MaskedData> {
-        let Encoding::Masked(data) = encoding else {
-            return None;
-        };
-        Some(data)
+        payload!(encoding, Masked)
     }
 
     fn wrap(payload: MaskedData) -> Encoding {

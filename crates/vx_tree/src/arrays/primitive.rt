@@ -18,6 +18,7 @@ use crate::array::{
     Array, ArrayId, ArrayKind, ArrayParts, ArrayRef, Encoded, Encoding, Node, VTable,
 };
 use crate::arrays::column::{check_column, flat_column, flat_slice};
+use crate::arrays::payload;
 use crate::canonical::Canonical;
 use crate::validity::Validity;
 use std::alloc::Global;
@@ -69,18 +70,11 @@ impl VTable for Primitive {
     }
 
     fn project(encoding: &Encoding) -> Option<&PrimitiveData> {
-        if let Encoding::Primitive(data) = encoding {
-            Some(data)
-        } else {
-            None
-        }
+        payload!(encoding, Primitive)
     }
 
     fn into_data(encoding: Encoding) -> Option<PrimitiveData> {
-        let Encoding::Primitive(data) = encoding else {
-            return None;
-        };
-        Some(data)
+        payload!(encoding, Primitive)
     }
 
     fn wrap(payload: PrimitiveData) -> Encoding {

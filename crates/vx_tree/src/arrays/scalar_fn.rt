@@ -14,6 +14,7 @@ ghost use Rattle.vx_fn.specs.ReturnTypes.{return_type};
 use crate::array::{
     Array, ArrayId, ArrayKind, ArrayParts, ArrayRef, Encoded, Encoding, Node, VTable,
 };
+use crate::arrays::payload;
 use crate::arrays::types::is_same_type;
 use crate::column_types::has_column;
 use std::alloc::{AllocError, Global};
@@ -83,18 +84,11 @@ impl VTable for ScalarFn {
     }
 
     fn project(encoding: &Encoding) -> Option<&ScalarFnData> {
-        if let Encoding::ScalarFn(data) = encoding {
-            Some(data)
-        } else {
-            None
-        }
+        payload!(encoding, ScalarFn)
     }
 
     fn into_data(encoding: Encoding) -> Option<ScalarFnData> {
-        let Encoding::ScalarFn(data) = encoding else {
-            return None;
-        };
-        Some(data)
+        payload!(encoding, ScalarFn)
     }
 
     fn wrap(payload: ScalarFnData) -> Encoding {

@@ -11,6 +11,7 @@ use crate::array::{
     Array, ArrayId, ArrayKind, ArrayParts, ArrayRef, Encoded, Encoding, Node, VTable,
 };
 use crate::arrays::child::only_child;
+use crate::arrays::payload;
 use crate::arrays::types::{BOOLEANS, is_same_type};
 use std::alloc::Global;
 use std::fmt;
@@ -68,18 +69,11 @@ impl VTable for ScalarFnValidity {
     }
 
     fn project(encoding: &Encoding) -> Option<&EmptyArrayData> {
-        if let Encoding::ScalarFnValidity(data) = encoding {
-            Some(data)
-        } else {
-            None
-        }
+        payload!(encoding, ScalarFnValidity)
     }
 
     fn into_data(encoding: Encoding) -> Option<EmptyArrayData> {
-        let Encoding::ScalarFnValidity(data) = encoding else {
-            return None;
-        };
-        Some(data)
+        payload!(encoding, ScalarFnValidity)
     }
 
     fn wrap(payload: EmptyArrayData) -> Encoding {

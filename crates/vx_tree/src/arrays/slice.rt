@@ -11,6 +11,7 @@ use crate::array::{
     Array, ArrayId, ArrayKind, ArrayParts, ArrayRef, Encoded, Encoding, Node, VTable,
 };
 use crate::arrays::child::only_child;
+use crate::arrays::payload;
 use crate::arrays::types::is_same_type;
 use std::alloc::Global;
 use std::ops::Range;
@@ -105,18 +106,11 @@ impl VTable for Slice {
     }
 
     fn project(encoding: &Encoding) -> Option<&SliceData> {
-        if let Encoding::Slice(data) = encoding {
-            Some(data)
-        } else {
-            None
-        }
+        payload!(encoding, Slice)
     }
 
     fn into_data(encoding: Encoding) -> Option<SliceData> {
-        let Encoding::Slice(data) = encoding else {
-            return None;
-        };
-        Some(data)
+        payload!(encoding, Slice)
     }
 
     fn wrap(payload: SliceData) -> Encoding {
