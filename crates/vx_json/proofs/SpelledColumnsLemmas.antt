@@ -2,72 +2,39 @@
 use Rattle.std.proofs.Common.{◌≡◌, ℕ, List, length, map, Bool, true, false, Option, Some, None, refl, sym, ap, subst, ◌∙◌}
 use Rattle.std.proofs.lemmas.Option.{same_Some}
 use Rattle.std.specs.Cmp.{unsigned_Decides}
-use Rattle.std.specs.Prelude.{ℤ, ◌&&◌, ◌==◌, option_map, option_and_then, if◌then◌else◌}
+use Rattle.std.specs.Prelude.{ℤ, option_map, option_and_then, if◌then◌else◌}
 use Rattle.serde_json.specs.Data.{Items}
 use Rattle.serde_json.specs.Find.{as_bool}
 use Rattle.vx_value.specs.Types as type
-use Rattle.vx_value.specs.Types.{DataType, same_type, same_type_Decides}
+use Rattle.vx_value.specs.Types.{DataType, same_type_Decides}
 use Rattle.vx_value.specs.Nullabilities.{with_nullability}
-use Rattle.vx_value.specs.Values.{Value, boolean}
 use Rattle.vx_value.specs.declared.dtype.Nullability.{Nullability}
 use Rattle.vx_value.specs.declared.dtype.Nullability.TheVariants.{NonNullable, Nullable}
 use Rattle.vx_value.specs.declared.dtype.Storage.{Storage}
 use Rattle.vx_value.specs.declared.dtype.Storage.TheVariants.{Bits, Integers}
-use Rattle.vx_value.specs.declared.error.VortexError.{VortexError}
 use Rattle.vx_mask.specs.Masks.{is_all_true, is_all_false}
-use Rattle.vx_tree.specs.Tree as enc
-use Rattle.vx_tree.specs.Tree.{Tree, dtype, len, datum, booleans, integers}
-use Rattle.vx_tree.specs.Conditions.{first_of_both, unless}
+use Rattle.vx_tree.specs.Tree.{Tree, dtype, len, booleans, integers}
 use Rattle.vx_tree.specs.Rows.{boolean_rows, integer_rows}
-use Rattle.vx_tree.specs.Validities.{nullability_by, child_of, child_by, truths, of_truth, of_data, validity_of, array_refusal, flat_refusal}
+use Rattle.vx_tree.specs.Validities.{HasRows, nullability_by, child_of, child_by, truths, array_refusal, flat_refusal}
 use Rattle.vx_tree.specs.declared.validity.Validity.{Validity}
 use Rattle.vx_tree.specs.declared.validity.Validity.TheVariants as validity
 use Rattle.vx_tree.proofs.ConditionsLemmas.{none_refused, none_unless}
 use Rattle.vx_json.specs.SpelledValues.{integer_spelled, all_read}
-use Rattle.vx_json.specs.SpelledColumns.{tells, validity_spelled, rows_stored, values_stored}
-use Rattle.vx_json.specs.declared.columns.Nulls.{Nulls}
-use Rattle.vx_json.specs.declared.columns.Nulls.TheVariants.{Absent, EveryRow, Told}
+use Rattle.vx_json.specs.SpelledColumns.{rows_stored, values_stored}
+use Rattle.vx_json.specs.declared.nulls.Nulls.TheVariants.{Absent}
 use Rattle.vx_json.proofs.RowsLemmas.{booleans_there, integers_there}
 use Rattle.vx_json.proofs.SpelledValuesLemmas.{mapped_read}
 
--- a validity is one of n rows of a column of this nullability
-abbrev IsKept : Nullability → ℕ → Validity → Type 0
-IsKept m n v = (nullability_by v ≡ m) × (array_refusal n v ≡ None)
+-- a validity of the nullability and the rows of a column isn't refused
+not_refused : (s : DataType) (m : Nullability) (n : ℕ) (v : Validity) → nullability_by v ≡ m → array_refusal n v ≡ None → flat_refusal s (with_nullability m s) n v ≡ None
+not_refused s m n v e h = none_refused _ _ (none_unless _ _ ((same_type_Decides _ _).1 (ap (λ k. with_nullability k s) (sym e)))) h
 
-not_refused : (s : DataType) (m : Nullability) (n : ℕ) (v : Validity) → IsKept m n v → flat_refusal s (with_nullability m s) n v ≡ None
-not_refused s m n v h = none_refused _ _ (none_unless _ _ ((same_type_Decides _ _).1 (ap (λ k. with_nullability k s) (sym h.0)))) h.1
+tree_kept : (t : Tree) (n : ℕ) → dtype t ≡ type.bool NonNullable → len t ≡ n → array_refusal n (validity.Array t) ≡ None
+tree_kept t n typed counted = none_refused _ _ (none_unless _ _ ((same_type_Decides _ _).1 typed)) (none_unless _ _ ((unsigned_Decides _ _).1 counted))
 
-tree_kept : (t : Tree) (n : ℕ) → tells n t ≡ true → array_refusal n (validity.Array t) ≡ None
-tree_kept t n h = by_tests (same_type (dtype t) (type.bool NonNullable)) (len t == n) _ _ h
-  where
-    by_tests : (a b : Bool) (e f : VortexError) → (a && b) ≡ true → first_of_both (unless a e) (unless b f) ≡ None
-    by_tests true true e f h = refl
-    by_tests true false e f h = absurd (cc)
-    by_tests false b e f h = absurd (cc)
-
--- a constant that is read back too
-told_kept : (t : Tree) (n : ℕ) → array_refusal n (validity.Array t) ≡ None → IsKept Nullable n (validity_of Nullable (Some t))
-told_kept t n h = by_data (datum t)
-  where
-    by_truth : (x : Value) → IsKept Nullable n (of_truth x t)
-    by_truth (boolean true) = (refl, refl)
-    by_truth (boolean false) = (refl, refl)
-    by_truth _ = (refl, h)
-
-    by_data : (d : enc.Data) → IsKept Nullable n (of_data d t)
-    by_data (enc.constant v) = by_truth v.value
-    by_data _ = (refl, h)
-
-spelled_kept : (m : Nullability) (n : ℕ) (nulls : Nulls) (v : Validity) → validity_spelled m n nulls ≡ Some v → IsKept m n v
-spelled_kept NonNullable n Absent v e = subst (IsKept NonNullable n) (same_Some _ _ e) (refl, refl)
-spelled_kept NonNullable n _ v e = absurd (cc)
-spelled_kept Nullable n Absent v e = subst (IsKept Nullable n) (same_Some _ _ e) (refl, refl)
-spelled_kept Nullable n EveryRow v e = subst (IsKept Nullable n) (same_Some _ _ e) (refl, refl)
-spelled_kept Nullable n (Told t) v e = by_test (tells n t) refl e
-  where
-    by_test : (b : Bool) → tells n t ≡ b → (if b then Some (validity_of Nullable (Some t)) else None) ≡ Some v → IsKept Nullable n v
-    by_test true h e = subst (IsKept Nullable n) (same_Some _ _ e) (told_kept t n (tree_kept t n h))
-    by_test false h e = absurd (cc)
+rows_kept : (n : ℕ) (v : Validity) → HasRows v n → array_refusal n v ≡ None
+rows_kept n (validity.Array t) h = tree_kept t n h.1 h.2
+rows_kept n _ h = refl
 
 -- the validity of bits is one of as many rows
 bits_kept : (bits : List Bool) (v : Validity) → child_of v (length bits) ≡ child_by bits → array_refusal (length bits) v ≡ None
@@ -76,8 +43,7 @@ bits_kept bits (validity.Array t) e = by_tests (is_all_true bits) (is_all_false 
     long : (u : Tree) → dtype u ≡ type.bool NonNullable → len u ≡ length bits → Some t ≡ Some u → array_refusal (length bits) (validity.Array t) ≡ None
     long u typed counted same =
         let is : u ≡ t = sym (same_Some _ _ same) in
-        subst (λ x. array_refusal (length bits) (validity.Array x) ≡ None) is
-        (none_refused _ _ (none_unless _ _ ((same_type_Decides _ _).1 typed)) (none_unless _ _ ((unsigned_Decides _ _).1 counted)))
+        subst (λ x. array_refusal (length bits) (validity.Array x) ≡ None) is (tree_kept u (length bits) typed counted)
 
     by_tests : (a b : Bool) → Some t ≡ (if a then None else (if b then Some (truths false (length bits)) else Some (booleans bits)))
         → array_refusal (length bits) (validity.Array t) ≡ None
@@ -87,13 +53,12 @@ bits_kept bits (validity.Array t) e = by_tests (is_all_true bits) (is_all_false 
 bits_kept bits _ e = refl
 
 -- so no column is refused for it
-pub spelled_fits : (s : DataType) (m : Nullability) (n : ℕ) (nulls : Nulls) (v : Validity) → validity_spelled m n nulls ≡ Some v →
-    flat_refusal s (with_nullability m s) n v ≡ None
-spelled_fits s m n nulls v h = not_refused s m n v (spelled_kept m n nulls v h)
+pub rows_fit : (s : DataType) (m : Nullability) (n : ℕ) (v : Validity) → nullability_by v ≡ m → HasRows v n → flat_refusal s (with_nullability m s) n v ≡ None
+rows_fit s m n v e h = not_refused s m n v e (rows_kept n v h)
 
 pub bits_fit : (s : DataType) (bits : List Bool) (n : ℕ) (v : Validity) → child_of v (length bits) ≡ child_by bits → nullability_by v ≡ Nullable → length bits ≡ n →
     flat_refusal s (with_nullability Nullable s) n v ≡ None
-bits_fit s bits n v h nullable long = not_refused s Nullable n v (nullable, subst (λ k. array_refusal k v ≡ None) long (bits_kept bits v h))
+bits_fit s bits n v h nullable long = not_refused s Nullable n v nullable (subst (λ k. array_refusal k v ≡ None) long (bits_kept bits v h))
 
 -- a column of a non-nullable type by its rows is one by its values
 pub rows_are_values : (s : Storage) (ds : Items) → rows_stored NonNullable s ds ≡ values_stored NonNullable s Absent ds

@@ -9,6 +9,8 @@ pub mod Refused
 pub mod SpelledFunctions
 pub mod SpelledTypes
 pub mod SpelledValues
+pub mod SpelledNulls
 pub mod SpelledColumns
+pub mod SpelledNodes
 pub mod Spelled
 pub mod RowText

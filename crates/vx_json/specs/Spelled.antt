@@ -1,43 +1,15 @@
 -- The tree that a JSON value spells.
-use Rattle.std.specs.Prelude.{◌≡◌, ℕ, ◌&&◌, List, [], ◌∷◌, is_none, nat_le, if◌then◌else◌, Option, Some, None, option_map, option_and_then, codes, bytes_eq, IsUtf8}
+use Rattle.std.specs.Prelude.{◌≡◌, ℕ, List, [], ◌∷◌, if◌then◌else◌, Option, Some, None, option_map, option_and_then, codes, bytes_eq, IsUtf8}
 use Rattle.std.specs.Ordering.{nat_cmp, match_ordering}
 use Rattle.std.specs.Cmp.Lexicographic.{slice_cmp}
 use Rattle.serde_json.specs.Data.{Data, null, boolean, number, string, array, object, Items, no_items, item, Members, no_members, member}
 use Rattle.serde_json.specs.Find.{get}
 use Rattle.serde_json.specs.Read.{read}
-use Rattle.vx_value.specs.Types.{DataType}
-use Rattle.vx_value.specs.Typed.{Typed}
-use Rattle.vx_fn.specs.declared.function.ScalarFnRef.{ScalarFnRef}
-use Rattle.vx_tree.specs.Calls.{inferred_refusal, inferred}
-use Rattle.vx_tree.specs.Tree.{Tree, constant_of, slice_of, len}
-use Rattle.vx_json.specs.Fields.{keyed, text_at, number_at, items_at}
-use Rattle.vx_json.specs.SpelledColumns.{col_spelled, nulls_at, flat_spelled}
-use Rattle.vx_json.specs.SpelledFunctions.{function_at}
-use Rattle.vx_json.specs.SpelledTypes.{type_at}
-use Rattle.vx_json.specs.SpelledValues.{value_spelled}
-
--- `{"enc":"constant","type":T,"value":v,"len":n}`: n rows of the value v
-abbrev pub scalar_at : DataType → Data → Option Typed
-scalar_at ty d = option_map (λ v. record { of_type = ty; value = v }) (option_and_then (value_spelled ty) (get (codes "value") d))
-
-abbrev pub constant_spelled : Data → Option Tree
-constant_spelled d =
-    keyed 4 d (option_and_then (λ ty. option_and_then (λ s. option_map (constant_of s) (number_at (codes "len") d)) (scalar_at ty d)) (type_at d))
-
--- `{"enc":"slice","start":a,"stop":b,"child":{..}}`: rows `a..b` of the child
-abbrev pub slice_within : Tree → ℕ → ℕ → Option Tree
-slice_within t a b = if nat_le a b && nat_le b (len t) then Some (slice_of a b t) else None
-
-abbrev pub slice_spelled : Data → Tree → Option Tree
-slice_spelled d t =
-    keyed 4 d (option_and_then (λ a. option_and_then (slice_within t a) (number_at (codes "stop") d)) (number_at (codes "start") d))
-
--- `{"enc":"fn","fn":"add","args":[{..},{..}]}`: the function over the trees, if it accepts them
-abbrev pub call_on : List Tree → ScalarFnRef → Option Tree
-call_on ts f = if is_none (inferred_refusal f ts) then inferred f ts else None
-
-abbrev pub call_spelled : Data → List Tree → Option Tree
-call_spelled d ts = option_and_then (call_on ts) (function_at d)
+use Rattle.vx_tree.specs.Tree.{Tree}
+use Rattle.vx_json.specs.Fields.{text_at, items_at}
+use Rattle.vx_json.specs.SpelledColumns.{col_spelled, flat_spelled}
+use Rattle.vx_json.specs.SpelledNodes.{constant_spelled, slice_spelled, filter_spelled, masked_spelled, is_valid_spelled, call_spelled}
+use Rattle.vx_json.specs.SpelledNulls.{nulls_at}
 
 -- the tree of an object by its `enc`, given the tree and the list of trees under each key: a line for each encoding
 abbrev pub node_of : Data → (List ℕ → Option Tree) → (List ℕ → Option (List Tree)) → List ℕ → Option Tree
@@ -46,8 +18,11 @@ node_of d child children enc =
     else (if bytes_eq enc (codes "flat") then option_and_then (flat_spelled d) (nulls_at d (child (codes "validity")))
     else (if bytes_eq enc (codes "constant") then constant_spelled d
     else (if bytes_eq enc (codes "slice") then option_and_then (slice_spelled d) (child (codes "child"))
+    else (if bytes_eq enc (codes "filter") then option_and_then (filter_spelled d) (child (codes "child"))
+    else (if bytes_eq enc (codes "masked") then option_and_then (λ t. option_and_then (masked_spelled d t) (nulls_at d (child (codes "validity")))) (child (codes "child"))
+    else (if bytes_eq enc (codes "is_valid") then option_and_then (is_valid_spelled d) (child (codes "child"))
     else (if bytes_eq enc (codes "fn") then option_and_then (call_spelled d) (children (codes "args"))
-    else None))))
+    else None)))))))
 
 -- a tree in front of a list of trees
 abbrev pub tree_first : Option Tree → Option (List Tree) → Option (List Tree)

@@ -8,27 +8,17 @@ ghost use Rattle.vx_value.specs.Storage.{storage_of};
 ghost use Rattle.vx_tree.specs.Rows.{boolean_rows, integer_rows};
 ghost use Rattle.vx_json.specs.Refused.{IsRefused};
 ghost use Rattle.vx_json.specs.SpelledValues.{integer_spelled, or_null, all_read};
-ghost use Rattle.vx_json.specs.SpelledColumns.{column_of_rows, rows_stored, col_spelled, validity_spelled, tells, column_of_values, values_stored, flat_keys, flat_spelled};
+ghost use Rattle.vx_json.specs.SpelledColumns.{column_of_rows, rows_stored, col_spelled, column_of_values, values_stored, flat_spelled};
 
 use crate::BAD_VALUE;
 use crate::fields::{check_keys, items};
+use crate::nulls::Nulls;
 use crate::types::type_at;
 use crate::values::{booleans, integers, nullable_booleans, nullable_integers};
 use serde_json::Value;
 use std::alloc::Global;
-use vx_tree::{ArrayRef, BoolArray, IntoArray, PrimitiveArray, Validity, child_to_validity};
+use vx_tree::{ArrayRef, BoolArray, IntoArray, PrimitiveArray, Validity};
 use vx_value::{DType, Nullability, PType, Storage, VortexResult};
-
-/// Which rows of a column are null, as its `validity` spells it.
-#[derive(Drop)]
-pub(crate) enum Nulls {
-    /// No row: the key is absent.
-    Absent,
-    /// Every row: `false`.
-    EveryRow,
-    /// The rows for which this tree is false.
-    Told(ArrayRef),
-}
 
 /// Reads a column by its rows.
 pub(crate) fn col(alloc: Global, value: &Value) -> VortexResult<ArrayRef>
@@ -99,20 +89,10 @@ pub(crate) fn flat(alloc: Global, value: &Value, nulls: &Nulls) -> VortexResult<
     ensures ok { IfOk result (λ t. flat_spelled (view value.now) nulls.now ≡ Some t) }
     ensures err { IfErr result (IsRefused (flat_spelled (view value.now) nulls.now ≡ None)) }
 {
-    check_keys(value, flat_keys(nulls))?;
+    check_keys(value, 3 + nulls.keys())?;
     let dtype = type_at(value).ok_or(BAD_VALUE)?;
     let list = items(value, "values").ok_or(BAD_VALUE)?;
     column_of_values(alloc, &dtype, list, nulls)
-}
-
-/// Returns the number of keys of a column by its values: with or without `validity`.
-fn flat_keys(nulls: &Nulls) -> usize
-    ensures { result ≡ flat_keys nulls.now }
-{
-    match nulls {
-        Nulls::Absent => 3,
-        _ => 4,
-    }
 }
 
 /// Reads a column of `dtype` with the values in `list`, which are never null.
@@ -144,7 +124,7 @@ fn bool_column(
     ensures err { IfErr result (IsRefused (values_stored nullability Storage.Bits nulls.now (items_view list.now.items) ≡ None)) }
 {
     let bits = booleans(alloc, list)?;
-    let validity = validity_of(nullability, bits.len(), nulls)?;
+    let validity = nulls.validity(nullability, bits.len())?;
     let dtype = DType::Bool(nullability);
     Ok(BoolArray::try_new(alloc, dtype, bits, &validity)?.into_array())
 }
@@ -161,32 +141,7 @@ fn primitive_column(
     ensures err { IfErr result (IsRefused (values_stored nullability (Storage.Integers ptype) nulls.now (items_view list.now.items) ≡ None)) }
 {
     let values = integers(alloc, ptype, list)?;
-    let validity = validity_of(nullability, values.len(), nulls)?;
+    let validity = nulls.validity(nullability, values.len())?;
     let dtype = DType::Primitive(ptype, nullability);
     Ok(PrimitiveArray::try_new(alloc, dtype, values, &validity)?.into_array())
-}
-
-/// Returns the validity of a column of `len` rows. A constant is read back. `InvalidArgument(BadValue)` if a column of this
-/// nullability has no `validity`, or if the tree can't tell which rows are null.
-fn validity_of(nullability: Nullability, len: usize, nulls: &Nulls) -> VortexResult<Validity>
-    ensures ok { IfOk result (λ v. validity_spelled nullability len nulls.now ≡ Some v) }
-    ensures err { IfErr result (IsRefused (validity_spelled nullability len nulls.now ≡ None)) }
-{
-    match nulls {
-        Nulls::Absent => Ok(Validity::from(nullability)),
-        _ if !nullability.is_nullable() => Err(BAD_VALUE),
-        Nulls::EveryRow => Ok(Validity::AllInvalid),
-        Nulls::Told(tree) => told_validity(tree, len),
-    }
-}
-
-/// Returns the validity that `tree` tells of `len` rows: it must have that many, of non-nullable booleans.
-fn told_validity(tree: &ArrayRef, len: usize) -> VortexResult<Validity>
-    ensures ok { IfOk result (λ v. validity_spelled Nullability.Nullable len (Nulls.Told tree.now) ≡ Some v) }
-    ensures err { IfErr result (IsRefused (validity_spelled Nullability.Nullable len (Nulls.Told tree.now) ≡ None)) }
-{
-    if *tree.dtype() != DType::Bool(Nullability::NonNullable) || tree.len() != len {
-        return Err(BAD_VALUE);
-    }
-    Ok(child_to_validity(Some(tree), Nullability::Nullable)?)
 }

@@ -5,6 +5,8 @@ mod columns;
 mod fields;
 mod functions;
 mod key;
+mod nodes;
+mod nulls;
 mod rows;
 mod tree;
 mod types;

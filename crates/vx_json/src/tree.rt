@@ -2,67 +2,27 @@
 //!
 //! A tree is an object whose `enc` names the encoding. Each encoding has exactly its own keys:
 //! `{"enc":"col","type":"i32?","rows":[1,null]}`, `{"enc":"flat","type":"i32?","values":[1,-2],"validity":{..}}`, of which
-//! `validity` may be absent, `{"enc":"constant","type":"bool","value":true,"len":3}`, `{"enc":"slice","start":0,"stop":1,"child":{..}}` and
-//! `{"enc":"fn","fn":"add","args":[{..},{..}]}`.
+//! `validity` may be absent, `{"enc":"constant","type":"bool","value":true,"len":3}`, `{"enc":"slice","start":0,"stop":1,"child":{..}}`,
+//! `{"enc":"filter","mask":[true,false],"child":{..}}`, `{"enc":"masked","child":{..},"validity":{..}}`, of which `validity` may be
+//! absent, `{"enc":"is_valid","child":{..}}` and `{"enc":"fn","fn":"add","args":[{..},{..}]}`.
 
 ghost use Rattle.std.specs.Prelude.{◌≡◌, ◌⊎◌, Some, None, IfOk, IfErr};
 ghost use Rattle.serde_json.specs.View.{view, items_view};
 ghost use Rattle.vx_json.specs.Keys.{key_text};
 ghost use Rattle.vx_json.specs.Refused.{IsRefused};
-ghost use Rattle.vx_json.specs.SpelledColumns.{nulls_at};
-ghost use Rattle.vx_json.specs.Spelled.{constant_spelled, slice_spelled, call_spelled, tree_spelled, trees_spelled, tree_at, trees_at, Spells, SpellsNone};
+ghost use Rattle.vx_json.specs.SpelledNulls.{nulls_at};
+ghost use Rattle.vx_json.specs.Spelled.{tree_spelled, trees_spelled, tree_at, trees_at, Spells, SpellsNone};
 
 use crate::BAD_VALUE;
-use crate::columns::{Nulls, col, flat};
-use crate::fields::{check_keys, items, number, text};
-use crate::functions::function_at;
+use crate::columns::{col, flat};
+use crate::fields::{items, text};
 use crate::key::Key;
-use crate::types::type_at;
-use crate::values::scalar;
+use crate::nodes::{call, constant, filter, is_valid, masked, slice};
+use crate::nulls::Nulls;
 use serde_json::Value;
 use std::alloc::Global;
-use vx_tree::{ArrayRef, ConstantArray, IntoArray, ScalarFnArray, SliceArray};
+use vx_tree::ArrayRef;
 use vx_value::{ArgKind, VortexError, VortexResult};
-
-/// Reads a constant: `len` rows of one value.
-fn constant(alloc: Global, value: &Value) -> VortexResult<ArrayRef>
-    ensures ok { IfOk result (λ t. constant_spelled (view value.now) ≡ Some t) }
-    ensures err { IfErr result (IsRefused (constant_spelled (view value.now) ≡ None)) }
-{
-    check_keys(value, 4)?;
-    let dtype = type_at(value).ok_or(BAD_VALUE)?;
-    let spelled = value.get("value").ok_or(BAD_VALUE)?;
-    let scalar = scalar(dtype, spelled).ok_or(BAD_VALUE)?;
-    let len = number(value, "len").ok_or(BAD_VALUE)?;
-    Ok(ConstantArray::new(alloc, scalar, len as usize)?.into_array())
-}
-
-/// Reads a lazy slice of `child`.
-fn slice(alloc: Global, value: &Value, child: ArrayRef) -> VortexResult<ArrayRef>
-    ensures ok { IfOk result (λ t. slice_spelled (view value.now) child ≡ Some t) }
-    ensures err { IfErr result (IsRefused (slice_spelled (view value.now) child ≡ None)) }
-{
-    check_keys(value, 4)?;
-    let start = number(value, "start").ok_or(BAD_VALUE)?;
-    let stop = number(value, "stop").ok_or(BAD_VALUE)?;
-    if stop < start || stop > child.len() as u64 {
-        return Err(BAD_VALUE);
-    }
-    Ok(SliceArray::new(alloc, child, start as usize..stop as usize)?.into_array())
-}
-
-/// Reads a lazy function of `children`, if it accepts them.
-fn call(alloc: Global, value: &Value, children: Vec<ArrayRef>) -> VortexResult<ArrayRef>
-    ensures ok { IfOk result (λ t. call_spelled (view value.now) children.items ≡ Some t) }
-    ensures err { IfErr result (IsRefused (call_spelled (view value.now) children.items ≡ None)) }
-{
-    let function = function_at(value).ok_or(BAD_VALUE)?;
-    match ScalarFnArray::try_new(alloc, function, children) {
-        Ok(node) => Ok(node.into_array()),
-        Err(VortexError::OutOfMemory) => Err(VortexError::OutOfMemory),
-        Err(_) => Err(BAD_VALUE),
-    }
-}
 
 /// Reads the trees in `list`.
 #[cycle(tree_of)]
@@ -144,6 +104,21 @@ pub fn tree_of(alloc: Global, value: &Value) -> VortexResult<ArrayRef>
         Some("constant") => constant(alloc, value),
         Some("slice") => match child(alloc, value, Key::Child) {
             Ok(child) => slice(alloc, value, child),
+            Err(e) => Err(e),
+        },
+        Some("filter") => match child(alloc, value, Key::Child) {
+            Ok(child) => filter(alloc, value, child),
+            Err(e) => Err(e),
+        },
+        Some("masked") => match child(alloc, value, Key::Child) {
+            Ok(child) => match nulls(alloc, value) {
+                Ok(nulls) => masked(alloc, value, child, &nulls),
+                Err(e) => Err(e),
+            },
+            Err(e) => Err(e),
+        },
+        Some("is_valid") => match child(alloc, value, Key::Child) {
+            Ok(child) => is_valid(alloc, value, child),
             Err(e) => Err(e),
         },
         Some("fn") => match children(alloc, value, Key::Args) {

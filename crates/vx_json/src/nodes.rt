@@ -1,0 +1,100 @@
+//! Nodes, given the trees under their keys.
+
+ghost use Rattle.std.specs.Prelude.{◌≡◌, Some, None, IfOk, IfErr};
+ghost use Rattle.serde_json.specs.View.{view};
+ghost use Rattle.vx_json.specs.Refused.{IsRefused};
+ghost use Rattle.vx_json.specs.SpelledNodes.{constant_spelled, slice_spelled, filter_spelled, masked_spelled, is_valid_spelled, call_spelled};
+
+use crate::BAD_VALUE;
+use crate::fields::{check_keys, items, number};
+use crate::functions::function_at;
+use crate::nulls::Nulls;
+use crate::types::type_at;
+use crate::values::{booleans, scalar};
+use serde_json::Value;
+use std::alloc::Global;
+use vx_mask::Mask;
+use vx_tree::{
+    ArrayRef, ConstantArray, FilterArray, IntoArray, MaskedArray, ScalarFnArray,
+    ScalarFnValidityArray, SliceArray,
+};
+use vx_value::{Nullability, VortexError, VortexResult};
+
+/// Reads a constant: `len` rows of one value.
+pub(crate) fn constant(alloc: Global, value: &Value) -> VortexResult<ArrayRef>
+    ensures ok { IfOk result (λ t. constant_spelled (view value.now) ≡ Some t) }
+    ensures err { IfErr result (IsRefused (constant_spelled (view value.now) ≡ None)) }
+{
+    check_keys(value, 4)?;
+    let dtype = type_at(value).ok_or(BAD_VALUE)?;
+    let spelled = value.get("value").ok_or(BAD_VALUE)?;
+    let scalar = scalar(dtype, spelled).ok_or(BAD_VALUE)?;
+    let len = number(value, "len").ok_or(BAD_VALUE)?;
+    Ok(ConstantArray::new(alloc, scalar, len as usize)?.into_array())
+}
+
+/// Reads a lazy slice of `child`.
+pub(crate) fn slice(alloc: Global, value: &Value, child: ArrayRef) -> VortexResult<ArrayRef>
+    ensures ok { IfOk result (λ t. slice_spelled (view value.now) child ≡ Some t) }
+    ensures err { IfErr result (IsRefused (slice_spelled (view value.now) child ≡ None)) }
+{
+    check_keys(value, 4)?;
+    let start = number(value, "start").ok_or(BAD_VALUE)?;
+    let stop = number(value, "stop").ok_or(BAD_VALUE)?;
+    if stop < start || stop > child.len() as u64 {
+        return Err(BAD_VALUE);
+    }
+    Ok(SliceArray::new(alloc, child, start as usize..stop as usize)?.into_array())
+}
+
+/// Reads a lazy filter of `child`, whose mask is a list of booleans.
+#[tactic(auto, using(vx_mask::proofs::MasksLemmas::bits_in_mask_of))]
+pub(crate) fn filter(alloc: Global, value: &Value, child: ArrayRef) -> VortexResult<ArrayRef>
+    ensures ok { IfOk result (λ t. filter_spelled (view value.now) child ≡ Some t) }
+    ensures err { IfErr result (IsRefused (filter_spelled (view value.now) child ≡ None)) }
+{
+    check_keys(value, 3)?;
+    let list = items(value, "mask").ok_or(BAD_VALUE)?;
+    let mask = Mask::from_bits(booleans(alloc, list)?);
+    if mask.len() != child.len() {
+        return Err(BAD_VALUE);
+    }
+    Ok(FilterArray::new(alloc, child, mask)?.into_array())
+}
+
+/// Reads a masked array: the rows of `child`, null where `nulls` says so or `child` is.
+pub(crate) fn masked(
+    alloc: Global,
+    value: &Value,
+    child: ArrayRef,
+    nulls: &Nulls,
+) -> VortexResult<ArrayRef>
+    ensures ok { IfOk result (λ t. masked_spelled (view value.now) child nulls.now ≡ Some t) }
+    ensures err { IfErr result (IsRefused (masked_spelled (view value.now) child nulls.now ≡ None)) }
+{
+    check_keys(value, 2 + nulls.keys())?;
+    let validity = nulls.validity(Nullability::Nullable, child.len())?;
+    Ok(MaskedArray::new_unchecked(alloc, child, &validity)?.into_array())
+}
+
+/// Reads the lazy test of which rows of `child` are valid.
+pub(crate) fn is_valid(alloc: Global, value: &Value, child: ArrayRef) -> VortexResult<ArrayRef>
+    ensures ok { IfOk result (λ t. is_valid_spelled (view value.now) child ≡ Some t) }
+    ensures err { IfErr result (IsRefused (is_valid_spelled (view value.now) child ≡ None)) }
+{
+    check_keys(value, 2)?;
+    Ok(ScalarFnValidityArray::new(alloc, child)?.into_array())
+}
+
+/// Reads a lazy function of `children`, if it accepts them.
+pub(crate) fn call(alloc: Global, value: &Value, children: Vec<ArrayRef>) -> VortexResult<ArrayRef>
+    ensures ok { IfOk result (λ t. call_spelled (view value.now) children.items ≡ Some t) }
+    ensures err { IfErr result (IsRefused (call_spelled (view value.now) children.items ≡ None)) }
+{
+    let function = function_at(value).ok_or(BAD_VALUE)?;
+    match ScalarFnArray::try_new(alloc, function, children) {
+        Ok(node) => Ok(node.into_array()),
+        Err(VortexError::OutOfMemory) => Err(VortexError::OutOfMemory),
+        Err(_) => Err(BAD_VALUE),
+    }
+}
