@@ -1,22 +1,30 @@
 //! The functions that objects spell.
 
-ghost use Rattle.std.specs.Prelude.{◌≡◌};
+ghost use Rattle.std.specs.Prelude.{◌≡◌, Some};
 ghost use Rattle.serde_json.specs.View.{view};
+ghost use Rattle.vx_json.specs.Fields.{keyed};
 ghost use Rattle.vx_json.specs.SpelledFunctions.{without_options, binary, strictness_at, between_options, between, function_named, function_at};
 
 use crate::fields::{boolean, count, text};
 use serde_json::Value;
 use vx_fn::{BetweenOptions, Operator, ScalarFnRef, StrictComparison};
 
-/// Returns `function`, which has no options, if the object has exactly the keys `enc`, `fn` and `args`.
-fn without_options(value: &Value, function: ScalarFnRef) -> Option<ScalarFnRef>
-    ensures { result ≡ without_options function (view value.now) }
+/// Returns `function`, if the object has exactly `keys` keys.
+fn with_keys(value: &Value, keys: usize, function: ScalarFnRef) -> Option<ScalarFnRef>
+    ensures { result ≡ keyed keys (view value.now) (Some function) }
 {
-    if count(value) == 3 {
+    if count(value) == keys {
         Some(function)
     } else {
         None
     }
+}
+
+/// Returns `function`, which has no options, if the object has exactly the keys `enc`, `fn` and `args`.
+fn without_options(value: &Value, function: ScalarFnRef) -> Option<ScalarFnRef>
+    ensures { result ≡ without_options function (view value.now) }
+{
+    with_keys(value, 3, function)
 }
 
 /// Returns the function of a binary operator, which has no options.
@@ -51,11 +59,7 @@ fn between_options(value: &Value) -> Option<BetweenOptions>
 fn between(value: &Value) -> Option<ScalarFnRef>
     ensures { result ≡ between (view value.now) }
 {
-    if count(value) == 5 {
-        Some(ScalarFnRef::Between(between_options(value)?))
-    } else {
-        None
-    }
+    with_keys(value, 5, ScalarFnRef::Between(between_options(value)?))
 }
 
 /// Returns the function named `name`, with the options that the object has for it.

@@ -62,7 +62,7 @@ pub(crate) fn filter(alloc: Global, value: &Value, child: ArrayRef) -> VortexRes
     Ok(FilterArray::new(alloc, child, mask)?.into_array())
 }
 
-/// Reads `child` with the rows made null that `nulls` tells.
+/// Reads a masked array: the rows of `child`, null where `nulls` says so or `child` is.
 pub(crate) fn masked(
     alloc: Global,
     value: &Value,
