@@ -26,7 +26,7 @@ use Rattle.vx_column.specs.Filtered.{IsChoice}
 use Rattle.vx_column.specs.Nulls.{validity_cells}
 use Rattle.vx_column.specs.ValidRows.{TellsRows}
 use Rattle.vx_column.proofs.KeepsLemmas.{any_rows, copies_clean}
-use Rattle.vx_column.proofs.NullsLemmas.{one_slot}
+use Rattle.vx_column.proofs.ValidRowsLemmas.{one_slot}
 
 -- ---- cells chosen by a mask
 
