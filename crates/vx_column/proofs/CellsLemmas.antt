@@ -94,7 +94,7 @@ row_told validity t i v stored is told =
     subst (λ w. IsRowBy w i stored (valid_cell v stored)) (sym is) (λ cs there. valid_get (rows t) cs i v stored told there)
 
 -- a fault stays one, whatever the validity
-fault_cell : (v : Cell) → valid_cell v fault ≡ fault
+pub fault_cell : (v : Cell) → valid_cell v fault ≡ fault
 fault_cell (value (boolean true)) = refl
 fault_cell (value (boolean false)) = refl
 fault_cell _ = refl

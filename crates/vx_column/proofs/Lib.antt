@@ -10,3 +10,5 @@ pub mod ValidRowsLemmas
 pub mod PassingLemmas
 pub mod FilteredLemmas
 pub mod ShownLemmas
+pub mod TypedLemmas
+pub mod MaskedLemmas

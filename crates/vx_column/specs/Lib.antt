@@ -13,3 +13,4 @@ pub mod Expanded
 pub mod Nulls
 pub mod ValidRows
 pub mod Filtered
+pub mod Masked
