@@ -119,7 +119,7 @@ constant_truths t s b bits is truth made =
 -- ---- of a masked node
 
 -- a fault stays one, whatever the validity
-fault_cell : (v : Cell) → valid_cell v fault ≡ fault
+pub fault_cell : (v : Cell) → valid_cell v fault ≡ fault
 fault_cell (value (boolean true)) = refl
 fault_cell (value (boolean false)) = refl
 fault_cell _ = refl

@@ -141,7 +141,7 @@ chosen_count bits xs ys n long masked kept = sym (ap length kept ∙ length-chos
 module _ {X : Type 0} (read : X → Value) (of_items : List X → Data)
     (cells : (ty : DataType) (n : ℕ) (xs : List X) (css : List (List Cell))
     → node_cells ty n (of_items xs) css ≡ valid_cells (cells_at css 0) (map (λ x. value (read x)) xs)) where
-  column_cells : (ty : DataType) (n : ℕ) (xs : List X) (v : Option Tree) → rows (column ty n (of_items xs) v) ≡ valid_cells (validity_cells v) (map (λ x. value (read x)) xs)
+  pub column_cells : (ty : DataType) (n : ℕ) (xs : List X) (v : Option Tree) → rows (column ty n (of_items xs) v) ≡ valid_cells (validity_cells v) (map (λ x. value (read x)) xs)
   column_cells ty n xs v = ap (node_cells ty n (of_items xs)) (one_slot v) ∙ cells ty n xs (validity_cells v ∷ [])
 
   pub filtered_exactly : (bits : List Bool) (xs ys : List X) (v w : Option Tree) (ty : DataType) (n : ℕ) → length xs ≡ n → length bits ≡ n → ys ≡ chosen bits xs

@@ -15,3 +15,5 @@ pub mod SelectLemmas
 pub mod BetweenLemmas
 pub mod FilteredLemmas
 pub mod ShownLemmas
+pub mod TypedLemmas
+pub mod MaskedLemmas

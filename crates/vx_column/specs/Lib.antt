@@ -16,3 +16,4 @@ pub mod Truths
 pub mod Selected
 pub mod Bounds
 pub mod Filtered
+pub mod Masked

@@ -189,7 +189,7 @@ static DECIMALS: [(u8, u8, Option<DecimalType>); 13] = [
     (2, 3, None),
 ];
 
-static ERROR_TEXTS: [(VortexError, &str); 16] = [
+static ERROR_TEXTS: [(VortexError, &str); 17] = [
     (VortexError::OutOfMemory, "out of memory"),
     (
         VortexError::IterationLimit { limit: 4 },
@@ -232,6 +232,10 @@ static ERROR_TEXTS: [(VortexError, &str); 16] = [
         VortexError::InvalidArgument(ArgKind::NoChildren),
         "ScalarFnArray length cannot be inferred without children",
     ),
+    (
+        VortexError::InvalidArgument(ArgKind::MaskLen { child: 3, mask: 2 }),
+        "FilterArray array and mask lengths must match",
+    ),
     (VortexError::InvalidArgument(ArgKind::NoRow), "no row"),
     (VortexError::InvalidArgument(ArgKind::NodeType), "node type"),
     (VortexError::InvalidArgument(ArgKind::NodeLen), "node len"),
@@ -239,9 +243,12 @@ static ERROR_TEXTS: [(VortexError, &str); 16] = [
     (VortexError::InvalidArgument(ArgKind::BadValue), "bad value"),
 ];
 
-static IDS: [(&str, Option<Id>); 17] = [
+static IDS: [(&str, Option<Id>); 20] = [
     ("vortex.constant", Some(Id::Constant)),
     ("vortex.slice", Some(Id::Slice)),
+    ("vortex.filter", Some(Id::Filter)),
+    ("vortex.masked", Some(Id::Masked)),
+    ("vortex.scalar_fn_validity", Some(Id::ScalarFnValidity)),
     ("vortex.binary", Some(Id::Binary)),
     ("vortex.between", Some(Id::Between)),
     ("vortex.not", Some(Id::Not)),

@@ -3,13 +3,13 @@ use std::ops::Range;
 use std::rc::Rc;
 use std::test::Fail;
 use vx_fn::{Operator, ScalarFnRef};
-use vx_mask::{BitBuffer, Buffer};
+use vx_mask::{BitBuffer, Buffer, Mask};
 use vx_tree::{
     AnyCanonical, AnyColumnar, Array, ArrayKind, ArrayParts, ArrayRef, ArrayView, BoolArray,
-    Canonical, Columnar, Constant, ConstantArray, ConstantData, IntoArray, Primitive,
-    PrimitiveArray, PrimitiveData, PrimitiveValues, ScalarFn, ScalarFnArray, ScalarFnData, Slice,
-    SliceArray, SliceData, Validity, child_to_validity, has_column, slice_canonical,
-    validity_nchildren, validity_to_child,
+    Canonical, Columnar, Constant, ConstantArray, ConstantData, Filter, FilterArray, FilterData,
+    IntoArray, Primitive, PrimitiveArray, PrimitiveData, PrimitiveValues, ScalarFn, ScalarFnArray,
+    ScalarFnData, Slice, SliceArray, SliceData, Validity, child_to_validity, has_column,
+    slice_canonical, validity_nchildren, validity_to_child,
 };
 use vx_value::{
     ArgKind, ByteBuffer, DType, DecimalDType, DecimalValue, Id, Nullability, PType, Scalar,
@@ -37,8 +37,6 @@ const LESS: ScalarFnRef = ScalarFnRef::Binary(Operator::Lt);
 const AND: ScalarFnRef = ScalarFnRef::Binary(Operator::And);
 
 const NOT: ScalarFnRef = ScalarFnRef::Not;
-
-const CAST: ScalarFnRef = ScalarFnRef::Cast(DType::Primitive(PType::I64, Nullability::NonNullable));
 
 fn is_refused<T: Drop>(answer: VortexResult<T>, kind: ArgKind) -> bool {
     match answer {
@@ -228,6 +226,47 @@ fn slices_only_in_bounds(rt: HostRuntime) -> Result<(), Fail> {
     assert!(rt; reads_as(&slice, &I32, Id::Slice, Some("child")));
     assert!(rt; slice.is::<Slice>() && !slice.is::<AnyColumnar>());
     Ok(())
+}
+
+fn filter_of_parts(
+    alloc: Global,
+    dtype: DType,
+    len: usize,
+    slots: &[Option<(DType, usize)>],
+) -> VortexResult<FilterArray> {
+    let mask = Mask::from_bits(BitBuffer::repeat(alloc, true, 3)?);
+    let slots = in_slots(alloc, slots)?;
+    Array::try_from_parts(
+        alloc,
+        ArrayParts::new(Filter, dtype, len, FilterData::new(mask), slots),
+    )
+}
+
+#[test]
+fn parts_of_a_filter_are_refused_in_order(rt: HostRuntime) {
+    let alloc = rt.alloc();
+    let short = ArgKind::MaskLen { child: 2, mask: 3 };
+    assert!(rt; is_refused(filter_of_parts(alloc, NULLABLE, 9, &[]), ArgKind::SlotCount));
+    assert!(rt;
+        is_refused(
+            filter_of_parts(alloc, NULLABLE, 9, &[None]),
+            ArgKind::SlotMissing { slot: 0 }
+        )
+    );
+    assert!(rt;
+        is_refused(
+            filter_of_parts(alloc, NULLABLE, 9, &[Some((I32, 2))]),
+            ArgKind::NodeType
+        )
+    );
+    assert!(rt; is_refused(filter_of_parts(alloc, I32, 9, &[Some((I32, 2))]), short));
+    assert!(rt;
+        is_refused(
+            filter_of_parts(alloc, I32, 9, &[Some((I32, 3))]),
+            ArgKind::NodeLen
+        )
+    );
+    assert!(rt; filter_of_parts(alloc, I32, 3, &[Some((I32, 3))]).is_ok());
 }
 
 #[test]
@@ -436,7 +475,7 @@ fn types_with_columns(rt: HostRuntime) {
 }
 
 #[test]
-fn functions_are_refused_in_order(rt: HostRuntime) {
+fn functions_are_refused_in_order(rt: HostRuntime) -> Result<(), Fail> {
     let alloc = rt.alloc();
     let cases: [(&[(DType, usize)], ArgKind); 7] = [
         (&[], ArgKind::NoChildren),
@@ -453,9 +492,10 @@ fn functions_are_refused_in_order(rt: HostRuntime) {
     for (columns, kind) in cases {
         assert!(rt; is_refused(call_of(alloc, ADD, columns), kind), "{kind:?}");
     }
-    for function in [ScalarFnRef::IsNull, CAST] {
-        assert!(rt; is_refused(call_of(alloc, function, &[(I32, 3)]), ArgKind::BadType));
-    }
+    let decimal = DType::Decimal(DecimalDType::try_new(12, 2)?, Nullability::NonNullable);
+    let cast = ScalarFnRef::Cast(decimal);
+    assert!(rt; is_refused(call_of(alloc, cast, &[(I32, 3)]), ArgKind::BadType));
+    Ok(())
 }
 
 #[test]

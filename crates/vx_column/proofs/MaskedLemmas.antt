@@ -1,0 +1,157 @@
+-- Columns with some of their rows made null: the two validities joined.
+use Rattle.std.proofs.Common.{◌≡◌, ℕ, zero, suc, ◌+◌, List, [], ◌∷◌, length, map, get_or, Bool, true, false, ◌&&◌, Option, Some, None}
+use Rattle.std.proofs.Common.{refl, sym, ap, subst, ◌∙◌, arith}
+use Rattle.std.specs.Prelude.{option_map}
+use Rattle.std.specs.Cmp.{unsigned_Decides}
+use Rattle.std.specs.List.{range_with_len}
+use Rattle.std.proofs.lemmas.List.{length-map}
+use Rattle.vx_value.specs.Types.{DataType, bool, nullability_of}
+use Rattle.vx_value.specs.Nullabilities.{with_nullability}
+use Rattle.vx_value.specs.Values.{Value, boolean}
+use Rattle.vx_value.specs.Cell.{Cell, value, fault}
+use Rattle.vx_value.specs.declared.dtype.Nullability.{Nullability}
+use Rattle.vx_value.specs.declared.dtype.Nullability.TheVariants.{NonNullable, Nullable}
+use Rattle.vx_fn.specs.Apply.{apply}
+use Rattle.vx_fn.specs.ReturnTypes.{return_type}
+use Rattle.vx_fn.specs.declared.function.Operator.TheVariants.{And}
+use Rattle.vx_fn.specs.declared.function.ScalarFnRef.{ScalarFnRef}
+use Rattle.vx_fn.specs.declared.function.ScalarFnRef.TheVariants.{Binary}
+use Rattle.vx_tree.specs.Tree.{Tree, Data, slots_of, dtype, len, column, call_of, masked_of}
+use Rattle.vx_tree.specs.Well.{Shape, shapes, IsFlat}
+use Rattle.vx_tree.specs.Cells.{rows, node_cells, cells_at, valid_cell, valid_cells, HasNoFault, IsClean, AreClean}
+use Rattle.vx_tree.specs.Keeps.{KeepsExactly}
+use Rattle.vx_tree.specs.Calls.{call_refusal, called, row_refusal}
+use Rattle.vx_tree.specs.Validities.{nullability_by, child_of, HasRows}
+use Rattle.vx_tree.specs.declared.validity.Validity.{Validity}
+use Rattle.vx_tree.specs.declared.validity.Validity.TheVariants as validity
+use Rattle.vx_tree.proofs.CellsLemmas.{rows_counted}
+use Rattle.vx_tree.proofs.ConditionsLemmas.{none_refused, none_unless}
+use Rattle.vx_tree.proofs.KeepsLemmas.{rows_equal}
+use Rattle.vx_tree.proofs.ValiditiesLemmas.{whole}
+use Rattle.vx_column.specs.Masked.{IsBoth}
+use Rattle.vx_column.specs.Nulls.{validity_cells}
+use Rattle.vx_column.proofs.CellsLemmas.{fault_cell, masked_rows}
+use Rattle.vx_column.proofs.FilteredLemmas.{column_cells}
+use Rattle.vx_column.proofs.TypedLemmas.{CellFits, AllFit, rows_fit}
+
+-- ---- the conjunction of two trees of booleans
+
+module _ (t u : Tree) (n : ℕ) (first : HasRows (validity.Array t) n) (second : HasRows (validity.Array u) n) where
+  returned : return_type (Binary And) (map dtype (t ∷ u ∷ [])) ≡ Some (bool NonNullable)
+  returned = λ i. return_type (Binary And) (first.1 i ∷ second.1 i ∷ [])
+
+  pub and_taken : call_refusal (Binary And) (t ∷ u ∷ []) n ≡ None
+  and_taken =
+      none_refused _ _ refl
+      (none_refused _ _ (none_unless _ _ (λ i. (unsigned_Decides (len t) n).1 first.2 i && ((unsigned_Decides (len u) n).1 second.2 i && true)))
+      (ap (row_refusal (Binary And)) returned))
+
+  pub and_made : called (Binary And) (t ∷ u ∷ []) n ≡ Some (call_of (Binary And) (bool NonNullable) n (t ∷ u ∷ []))
+  and_made = ap (option_map (λ ty. call_of (Binary And) ty n (t ∷ u ∷ []))) returned
+
+-- ---- its cells
+
+abbrev and_cell : Cell → Cell → Cell
+and_cell c d = apply (Binary And) (bool NonNullable) (c ∷ d ∷ [])
+
+abbrev and_cells : List Cell → List Cell → List Cell
+and_cells [] ds = []
+and_cells (c ∷ cs) [] = []
+and_cells (c ∷ cs) (d ∷ ds) = and_cell c d ∷ and_cells cs ds
+
+and_from : (s : ℕ) (cs ds : List Cell) (f : ℕ → Cell) → length cs ≡ length ds → ((i : ℕ) → f (s + i) ≡ and_cell (get_or cs i fault) (get_or ds i fault))
+    → map f (range_with_len s (length cs)) ≡ and_cells cs ds
+and_from s [] ds f long h = refl
+and_from s (c ∷ cs) [] f long h = absurd (omega arith)
+and_from s (c ∷ cs) (d ∷ ds) f long h =
+    let here : s ≡ s + 0 = omega arith in
+    let first : f s ≡ and_cell c d = ap f here ∙ h 0 in
+    let later : (i : ℕ) → s + 1 + i ≡ s + suc i = λ i. omega arith in
+    λ j. first j ∷ and_from (s + 1) cs ds f (omega arith) (λ i. ap f (later i) ∙ h (suc i)) j
+
+and_rows : (t u : Tree) (n : ℕ) → length (rows t) ≡ n → length (rows u) ≡ n
+    → rows (call_of (Binary And) (bool NonNullable) n (t ∷ u ∷ [])) ≡ and_cells (rows t) (rows u)
+and_rows t u n first second =
+    let f = λ (i : ℕ). and_cell (get_or (rows t) i fault) (get_or (rows u) i fault) in
+    ap (λ k. map f (range_with_len 0 k)) (sym first) ∙ and_from 0 (rows t) (rows u) f (first ∙ sym second) (λ i. ap f (omega arith))
+
+both_cell : (c d x : Cell) → CellFits (bool NonNullable) c → CellFits (bool NonNullable) d → valid_cell d (valid_cell c x) ≡ valid_cell (and_cell c d) x
+both_cell fault d x h k = fault_cell d
+both_cell (value (boolean b)) fault x h k = refl
+both_cell (value (boolean true)) (value (boolean true)) x h k = refl
+both_cell (value (boolean true)) (value (boolean false)) x h k = refl
+both_cell (value (boolean false)) (value (boolean true)) x h k = refl
+both_cell (value (boolean false)) (value (boolean false)) (value v) h k = refl
+both_cell (value (boolean false)) (value (boolean false)) fault h k = refl
+both_cell (value (boolean b)) (value _) x h k = absurd (cc)
+both_cell (value _) d x h k = absurd (cc)
+
+both_cells : (cs ds xs : List Cell) → length cs ≡ length ds → length xs ≡ length cs → AllFit (bool NonNullable) cs → AllFit (bool NonNullable) ds
+    → valid_cells ds (valid_cells cs xs) ≡ valid_cells (and_cells cs ds) xs
+both_cells [] [] xs e l h k = refl
+both_cells [] (d ∷ ds) xs e l h k = absurd (omega arith)
+both_cells (c ∷ cs) [] xs e l h k = absurd (omega arith)
+both_cells (c ∷ cs) (d ∷ ds) [] e l h k = absurd (omega arith)
+both_cells (c ∷ cs) (d ∷ ds) (x ∷ xs) e l h k = λ j. both_cell c d x h.0 k.0 j ∷ both_cells cs ds xs (omega arith) (omega arith) h.1 k.1 j
+
+and_clean : (cs ds : List Cell) → HasNoFault cs → HasNoFault ds → HasNoFault (and_cells cs ds)
+and_clean [] ds h k = tt
+and_clean (c ∷ cs) [] h k = tt
+and_clean (value v ∷ cs) (value w ∷ ds) h k = and_clean cs ds h k
+and_clean (value v ∷ cs) (fault ∷ ds) h k = absurd k
+and_clean (fault ∷ cs) (d ∷ ds) h k = absurd h
+
+-- ---- the rows that two validities both tell
+
+pub both_and : (n : ℕ) (t u w : Tree) → HasRows (validity.Array t) n → HasRows (validity.Array u) n → w ≡ call_of (Binary And) (bool NonNullable) n (t ∷ u ∷ [])
+    → IsBoth n (Some t) (Some u) (Some w)
+both_and n t u w first second made =
+    let left : length (rows t) ≡ n = rows_counted t first.0 ∙ first.2 in
+    let right : length (rows u) ≡ n = rows_counted u second.0 ∙ second.2 in
+    let cells = and_rows t u n left right in
+    let left_fit = subst (λ ty. AllFit ty (rows t)) first.1 (rows_fit t first.0) in
+    let right_fit = subst (λ ty. AllFit ty (rows u)) second.1 (rows_fit u second.0) in
+    subst (λ x. IsBoth n (Some t) (Some u) (Some x)) (sym made)
+    (record {
+      told = λ cs h. both_cells (rows t) (rows u) cs (left ∙ sym right) (h ∙ sym left) left_fit right_fit ∙ ap (λ vs. valid_cells vs cs) (sym cells);
+      clean = λ h k. ((subst HasNoFault (sym cells) (and_clean (rows t) (rows u) (whole t h.0) (whole u k.0)), (h.0, (k.0, tt))), tt);
+    })
+
+-- ---- a column of values of one type, each read from an item
+
+module _ {X : Type 0} (read : X → Value) (of_items : List X → Data)
+    (cells : (ty : DataType) (n : ℕ) (xs : List X) (css : List (List Cell))
+    → node_cells ty n (of_items xs) css ≡ valid_cells (cells_at css 0) (map (λ x. value (read x)) xs))
+    (of_type : DataType) (set : (m : Nullability) → with_nullability Nullable (with_nullability m of_type) ≡ with_nullability Nullable of_type) where
+  masked_exactly : (xs : List X) (v c w : Option Tree) (ty : DataType) → ty ≡ with_nullability (nullability_of ty) of_type → IsBoth (length xs) v c w
+      → KeepsExactly (masked_of (column ty (length xs) (of_items xs) v) c) (column (with_nullability Nullable of_type) (length xs) (of_items xs) w)
+  masked_exactly xs v c w ty typed both =
+      let n = length xs in
+      let t = column ty n (of_items xs) v in
+      let u = column (with_nullability Nullable of_type) n (of_items xs) w in
+      let stored = map (λ x. value (read x)) xs in
+      let shown : rows (masked_of t c) ≡ rows u =
+      masked_rows (masked_of t c) t c refl
+      ∙ ap (valid_cells (validity_cells c)) (column_cells read of_items cells ty n xs v)
+      ∙ both.told stored (length-map xs (λ x. value (read x)))
+      ∙ sym (column_cells read of_items cells (with_nullability Nullable of_type) n xs w) in
+      record {
+        keeps = record {
+          same_type = ap (with_nullability Nullable) typed ∙ set (nullability_of ty);
+          same_len = refl;
+          same_rows = rows_equal _ _ shown;
+          still_clean = λ k. (subst HasNoFault shown k.0, both.clean k.1.0.1 k.1.1);
+        };
+        equal = shown;
+      }
+
+  pub column_masked : (xs : List X) (v c : Option Tree) (w : Validity) (t u : Tree) → t ≡ column (dtype t) (len t) (of_items xs) v
+      → IsFlat of_type (length xs) (dtype t) (len t) (shapes (slots_of (v ∷ []))) → nullability_by w ≡ Nullable → IsBoth (len t) v c (child_of w (len t))
+      → u ≡ column (with_nullability (nullability_by w) of_type) (length xs) (of_items xs) (child_of w (length xs)) → KeepsExactly (masked_of t c) u
+  column_masked xs v c w t u is flat nullable both made =
+      let whole_is : t ≡ column (dtype t) (length xs) (of_items xs) v = is ∙ ap (λ n. column (dtype t) n (of_items xs) v) flat.2 in
+      let shown : column (with_nullability Nullable of_type) (length xs) (of_items xs) (child_of w (length xs)) ≡ u =
+      ap (λ m. column (with_nullability m of_type) (length xs) (of_items xs) (child_of w (length xs))) (sym nullable) ∙ sym made in
+      subst (KeepsExactly (masked_of t c)) shown
+      (subst (λ x. KeepsExactly (masked_of x c) (column (with_nullability Nullable of_type) (length xs) (of_items xs) (child_of w (length xs)))) (sym whole_is)
+      (masked_exactly xs v c (child_of w (length xs)) (dtype t) flat.1 (subst (λ n. IsBoth n v c (child_of w n)) flat.2 both)))

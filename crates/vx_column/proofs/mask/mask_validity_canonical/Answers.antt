@@ -1,0 +1,55 @@
+use Rattle.std.proofs.Common.{◌≡◌, refl, ap, subst, ◌∙◌, rules}
+use Rattle.std.proofs.lemmas.Result.{IfOk-weaker}
+use Rattle.vx_value.specs.Types.{bool, primitive}
+use Rattle.vx_value.specs.Values.{boolean, integer}
+use Rattle.vx_value.specs.declared.dtype.Nullability.TheVariants.{NonNullable}
+use Rattle.vx_native.specs.Natives.{values_of, ptype_of}
+use Rattle.vx_tree.specs.Tree as enc
+use Rattle.vx_tree.specs.Tree.{len, masked_of}
+use Rattle.vx_tree.specs.Well.{IsNodeOf}
+use Rattle.vx_tree.specs.Keeps.{KeepsExactly}
+use Rattle.vx_tree.specs.Columns.{canonical_tree}
+use Rattle.vx_tree.specs.Validities.{child_of}
+use Rattle.vx_column.specs.Expanded.{boolean_column, integer_column}
+use Rattle.vx_column.specs.Masked.{IsBoth}
+use Rattle.vx_column.proofs.MaskedLemmas.{column_masked}
+use Rattle.vx_column.proofs.mask.mask_validity_canonical.Goals as goal
+
+pub returns-in_ok-clone-in-Bool-clause-ok : goal.returns-in_ok-clone-in-Bool-clause-ok
+returns-in_ok-clone-in-Bool-clause-ok c =
+    let t = c.as_array-array.result.now in
+    let of = c.as_array-array.ensures.of in
+    let bits = c.in-Bool.bits.now in
+    let own = c.in-Bool.own.now in
+    let w = child_of c.args.validity.now (len (canonical_tree c.args.column.now)) in
+    let validity = c.in_ok-both-in-Bool in
+    let flat = subst IsNodeOf c.in-Bool.ensures.0 c.in-Bool.ensures.1 in
+    let shared : c.in_ok-clone-in-Bool.field-0 ≡ bits = search rules in
+    let child : c.in_ok-child.child ≡ w = c.in_ok-child.ensures.ok ∙ ap (child_of c.args.validity.now) (c.len-len.ensures ∙ ap len of) in
+    let both = subst (λ n. IsBoth n own w (child_of validity.both n)) c.len-len.ensures
+    (subst (λ x. IsBoth c.len-len.result own x (child_of validity.both c.len-len.result)) child validity.ensures.both) in
+    IfOk-weaker c.bool_column.result _ _
+    (λ u made. subst (λ x. KeepsExactly (masked_of x w) (canonical_tree u)) of
+    (column_masked boolean enc.bool (λ ty n xs css. refl) (bool NonNullable) (λ m. refl) bits own w validity.both t (canonical_tree u) c.in-Bool.ensures.0 flat
+    validity.ensures.nullable both (made ∙ ap (λ bs. boolean_column bs validity.both) shared)))
+    c.bool_column.ensures.ok
+
+pub returns-in_ok-clone-in-Primitive-clause-ok : goal.returns-in_ok-clone-in-Primitive-clause-ok
+returns-in_ok-clone-in-Primitive-clause-ok c =
+    let t = c.as_array-array.result.now in
+    let of = c.as_array-array.ensures.of in
+    let values = c.in-Primitive.values.now in
+    let p = ptype_of values in
+    let own = c.in-Primitive.own.now in
+    let w = child_of c.args.validity.now (len (canonical_tree c.args.column.now)) in
+    let validity = c.in_ok-both-in-Primitive in
+    let flat = subst IsNodeOf c.in-Primitive.ensures.0 c.in-Primitive.ensures.1 in
+    let shared = c.in_ok-clone-in-Primitive.ensures.cases in
+    let child : c.in_ok-child.child ≡ w = c.in_ok-child.ensures.ok ∙ ap (child_of c.args.validity.now) (c.len-len.ensures ∙ ap len of) in
+    let both = subst (λ n. IsBoth n own w (child_of validity.both n)) c.len-len.ensures
+    (subst (λ x. IsBoth c.len-len.result own x (child_of validity.both c.len-len.result)) child validity.ensures.both) in
+    IfOk-weaker c.primitive_column.result _ _
+    (λ u made. subst (λ x. KeepsExactly (masked_of x w) (canonical_tree u)) of
+    (column_masked integer (enc.primitive p) (λ ty n xs css. refl) (primitive p NonNullable) (λ m. refl) (values_of values) own w validity.both t (canonical_tree u)
+    c.in-Primitive.ensures.0 flat validity.ensures.nullable both (made ∙ (λ i. integer_column (shared.0 i) (shared.1 i) validity.both))))
+    c.primitive_column.ensures.ok

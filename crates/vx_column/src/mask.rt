@@ -1,0 +1,99 @@
+//! Columns with some of their rows made null.
+
+ghost use Rattle.std.specs.Prelude.{◌≡◌, ◌∷◌, [], IfOk, IfErr};
+ghost use Rattle.vx_value.specs.Types.{bool};
+ghost use Rattle.vx_fn.specs.declared.function.ScalarFnRef.TheVariants.{Binary};
+ghost use Rattle.vx_tree.specs.Tree.{len, call_of, masked_of};
+ghost use Rattle.vx_tree.specs.Keeps.{KeepsExactly};
+ghost use Rattle.vx_tree.specs.Columns.{canonical_tree};
+ghost use Rattle.vx_tree.specs.Validities.{nullability_by, child_of, HasRows};
+ghost use Rattle.vx_tree.specs.declared.validity.Validity.TheVariants.{Array};
+ghost use Rattle.vx_column.specs.Masked.{TellsAll, IsBoth};
+
+use crate::arithmetic::primitive_column;
+use crate::boolean::bool_column;
+use std::alloc::Global;
+use vx_fn::{Operator, ScalarFnRef};
+use vx_tree::{
+    ArrayKind, ArrayRef, Canonical, IntoArray, ScalarFnArray, Validity, validity_to_child,
+};
+use vx_value::{Nullability, VortexError, VortexResult};
+
+/// Returns the rows of `column`, null where `validity` says so, as a nullable column that shares its values. `validity` must be
+/// a nullable one with a row for each of the column's. The only error is `OutOfMemory`. (own)
+pub fn mask_validity_canonical(
+    alloc: Global,
+    column: &Canonical,
+    validity: &Validity,
+) -> VortexResult<Canonical>
+    requires nullable { nullability_by validity.now ≡ Nullability.Nullable }
+    requires rows { HasRows validity.now (len (canonical_tree column.now)) }
+    ensures ok { IfOk result (λ c. KeepsExactly (masked_of (canonical_tree column.now) (child_of validity.now (len (canonical_tree column.now))))
+        (canonical_tree c)) }
+    ensures err { IfErr result (λ e. e ≡ VortexError.OutOfMemory) }
+{
+    let array = column.as_array();
+    array.well();
+    let len = array.len();
+    let child = validity_to_child(alloc, validity, len)?;
+    match array.kind() {
+        ArrayKind::Bool(bits, own) => {
+            let both = both_valid(alloc, own, child, len)?;
+            bool_column(alloc, bits.clone()?, &both)
+        }
+        ArrayKind::Primitive(values, own) => {
+            let both = both_valid(alloc, own, child, len)?;
+            primitive_column(alloc, values.clone()?, &both)
+        }
+        _ => unreachable!(),
+    }
+}
+
+/// Returns the validity of a nullable column of `len` rows whose valid rows two slots of validities both tell. The only error is
+/// `OutOfMemory`.
+fn both_valid(
+    alloc: Global,
+    first: &Option<ArrayRef>,
+    second: Option<ArrayRef>,
+    len: usize,
+) -> VortexResult<Validity>
+    requires first { TellsAll len first.now }
+    requires second { TellsAll len second }
+    ensures nullable { IfOk result (λ v. nullability_by v ≡ Nullability.Nullable) }
+    ensures sized { IfOk result (λ v. HasRows v len) }
+    ensures both { IfOk result (λ v. IsBoth len first.now second (child_of v len)) }
+    ensures err { IfErr result (λ e. e ≡ VortexError.OutOfMemory) }
+{
+    match (first, second) {
+        (None, None) => Ok(Validity::AllValid),
+        (Some(first), None) => Ok(Validity::Array(first.clone()?)),
+        (None, Some(second)) => Ok(Validity::Array(second)),
+        (Some(first), Some(second)) => {
+            let both = and_lazily(alloc, first.clone()?, second, len)?;
+            both.well();
+            Ok(Validity::Array(both))
+        }
+    }
+}
+
+/// Makes the lazy conjunction of two arrays, which must be non-nullable booleans, `len` rows each. The only error is
+/// `OutOfMemory`.
+#[tactic(auto, using(crate::proofs::MaskedLemmas::and_taken, crate::proofs::MaskedLemmas::and_made))]
+fn and_lazily(
+    alloc: Global,
+    first: ArrayRef,
+    second: ArrayRef,
+    len: usize,
+) -> VortexResult<ArrayRef>
+    requires first { HasRows (Array first) len }
+    requires second { HasRows (Array second) len }
+    ensures ok { IfOk result (λ a. a ≡ call_of (Binary Operator.And) (bool Nullability.NonNullable) len (first ∷ second ∷ [])) }
+    ensures err { IfErr result (λ e. e ≡ VortexError.OutOfMemory) }
+{
+    let mut children = Vec::with_capacity(alloc, 2)?;
+    children.push(first)?;
+    children.push(second)?;
+    let function = ScalarFnRef::Binary(Operator::And);
+    let both = ScalarFnArray::try_new_with_len(alloc, function, children, len)?;
+    Ok(both.into_array())
+}
