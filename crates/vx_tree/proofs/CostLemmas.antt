@@ -1,5 +1,5 @@
 -- The bound on turns.
-use Rattle.std.proofs.Common.{◌≡◌, ◌<◌, ◌+◌, ℕ, true, List, [], ◌∷◌, arith, ap, refl}
+use Rattle.std.proofs.Common.{◌≡◌, ◌<◌, ◌+◌, ℕ, true, [], ◌∷◌, arith, ap, refl}
 use Rattle.vx_tree.specs.Tree as enc
 use Rattle.vx_tree.specs.Tree.{Tree, Data, Slots, node, no_slots, absent, slot, is_canonical}
 use Rattle.vx_tree.specs.Cost.{none, all, cost, base_cost, slots_cost, all_reached, extra, slots_extra, slots_sum, reach}

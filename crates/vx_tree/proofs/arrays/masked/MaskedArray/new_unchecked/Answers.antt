@@ -1,11 +1,9 @@
-use Rattle.std.proofs.Common.{◌≡◌, ◌∷◌, [], Some, subst, sym, arith}
+use Rattle.std.proofs.Common.{◌≡◌, ◌∷◌, [], Some, arith}
 use Rattle.std.proofs.lemmas.Grind.{common_steps}
 use Rattle.vx_value.specs.View.{type_of}
-use Rattle.vx_value.specs.Types.{DataType}
 use Rattle.vx_value.specs.Nullabilities.{with_nullability}
 use Rattle.vx_value.specs.declared.dtype.Nullability.TheVariants.{Nullable}
-use Rattle.vx_tree.specs.Tree.{masked, slots_of, dtype, len}
-use Rattle.vx_tree.specs.Well.{IsNode, shapes}
+use Rattle.vx_tree.specs.Tree.{dtype, len}
 use Rattle.vx_tree.specs.Validities.{child_of}
 use Rattle.vx_tree.proofs.ValiditiesLemmas.{masked_is_node}
 use Rattle.vx_tree.proofs.arrays.masked.MaskedArray.new_unchecked.Goals as goal

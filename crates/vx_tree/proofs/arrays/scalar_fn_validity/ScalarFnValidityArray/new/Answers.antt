@@ -1,7 +1,6 @@
-use Rattle.std.proofs.Common.{◌≡◌, ◌∷◌, [], Some, ap, refl, arith}
+use Rattle.std.proofs.Common.{◌≡◌, ◌∷◌, [], Some, refl, arith}
 use Rattle.std.proofs.lemmas.Grind.{common_steps}
-use Rattle.vx_tree.specs.Tree.{slots_of, dtype, len}
-use Rattle.vx_tree.specs.Well.{shapes, shape}
+use Rattle.vx_tree.specs.Tree.{dtype}
 use Rattle.vx_tree.proofs.arrays.scalar_fn_validity.ScalarFnValidityArray.new.Goals as goal
 
 pub from_parts_unchecked-requires : goal.from_parts_unchecked-requires
