@@ -1,10 +1,12 @@
 //! Laws of trees. Each is a function with an empty body, whose contract is the law.
 
-ghost use Rattle.std.specs.Prelude.{◌≡◌, ◌↔◌, ◌+◌, ◌*◌, ◌<◌, ◌≤◌, ℕ, Bool, List, Option, None, true, false};
+ghost use Rattle.std.specs.Prelude.{◌≡◌, ◌↔◌, ◌+◌, ◌-◌, ◌*◌, ◌<◌, ◌≤◌, ℕ, Bool, List, Option, None, true, false};
 ghost use Rattle.vx_value.specs.Types.{DataType};
 ghost use Rattle.vx_value.specs.Typed.{Typed};
-ghost use Rattle.vx_tree.specs.Tree.{Tree, Slots, Data, id_of, node, constant, slice, filter, masked, is_valid, function, slot, no_slots, datum, is_constant, is_canonical, is_columnar};
+ghost use Rattle.vx_tree.specs.Tree.{Tree, Slots, Data, len, slice_of, filter_of, id_of, node, constant, slice, filter, masked, is_valid, function, slot, no_slots, datum, is_constant, is_canonical, is_columnar};
+ghost use Rattle.vx_tree.specs.Cells.{rows};
 ghost use Rattle.vx_tree.specs.Well.{Shape, IsNode, IsWell};
+ghost use Rattle.vx_mask.specs.Places.{combined};
 ghost use Rattle.vx_tree.specs.Refusals.{refusal};
 ghost use Rattle.vx_tree.specs.Slots.{put};
 ghost use Rattle.vx_tree.specs.Keeps.{Keeps, KeepsExactly};
@@ -45,6 +47,14 @@ pub fn execution_bounds()
     ensures functions { (ty : DataType) (n : ℕ) (f : ScalarFnOf) (ss : Slots) → cost (node ty n (function f) ss) ≡ 3 + slots_sum (λ c. 1 + cost c) ss }
     ensures function_reach { (ty : DataType) (n : ℕ) (f : ScalarFnOf) (ss : Slots) → reach (node ty n (function f) ss) ≡ 1 + slots_sum reach ss }
     ensures positive { (t : Tree) → 0 < cost t }
+{}
+
+/// States that a slice of a slice has the rows of one slice, and a filter of a filter those of the filter by the combined mask.
+/// (own)
+pub fn choice_laws()
+    ensures slices { (t : Tree) (a b c d : ℕ) → a ≤ b → b ≤ len t → c ≤ d → d ≤ b - a
+        → rows (slice_of c d (slice_of a b t)) ≡ rows (slice_of (a + c) (a + d) t) }
+    ensures filters { (t : Tree) (outer inner : List Bool) → rows (filter_of inner (filter_of outer t)) ≡ rows (filter_of (combined outer inner) t) }
 {}
 
 /// States that the validity which a child tells is the one that it was made of. (own)
