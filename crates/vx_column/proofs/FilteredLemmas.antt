@@ -1,8 +1,8 @@
 -- Columns at the true bits of a mask: their values, and their validity.
-use Rattle.std.proofs.Common.{◌≡◌, ◌≤◌, ℕ, zero, suc, List, [], ◌∷◌, length, map, replicate, Bool, true, false, Option, Some, None}
+use Rattle.std.proofs.Common.{◌≡◌, ℕ, zero, suc, List, [], ◌∷◌, length, map, replicate, Bool, true, false, Option, Some, None}
 use Rattle.std.proofs.Common.{refl, sym, ap, subst, ◌∙◌, arith}
 use Rattle.std.proofs.lemmas.List.{length-map, length-replicate}
-use Rattle.vx_value.specs.Types.{DataType, bool, primitive, nullability_of}
+use Rattle.vx_value.specs.Types.{DataType, bool, nullability_of}
 use Rattle.vx_value.specs.Nullabilities.{with_nullability}
 use Rattle.vx_value.specs.Values.{Value, boolean}
 use Rattle.vx_value.specs.Cell.{Cell, value, fault}
@@ -12,9 +12,9 @@ use Rattle.vx_mask.specs.Places.{true_count, chosen}
 use Rattle.vx_mask.proofs.ChosenLemmas.{chosen_map, chosen-replicate}
 use Rattle.vx_mask.proofs.PlacesLemmas.{length-chosen}
 use Rattle.vx_tree.specs.Tree as enc
-use Rattle.vx_tree.specs.Tree.{Tree, Data, node, slots, slots_of, dtype, len, datum, column, booleans, filter_of}
-use Rattle.vx_tree.specs.Well.{Shape, shapes, IsWell, AreWell, IsFlat, IsNode, IsNodeOf}
-use Rattle.vx_tree.specs.Cells.{rows, slots_rows, node_cells, cells_at, valid_cell, valid_cells, HasNoFault, IsClean, AreClean}
+use Rattle.vx_tree.specs.Tree.{Tree, Data, slots_of, dtype, len, datum, column, booleans, filter_of}
+use Rattle.vx_tree.specs.Well.{shapes, IsWell, AreWell, IsFlat, IsNodeOf}
+use Rattle.vx_tree.specs.Cells.{rows, node_cells, cells_at, valid_cell, valid_cells, HasNoFault, IsClean}
 use Rattle.vx_tree.specs.Keeps.{KeepsExactly}
 use Rattle.vx_tree.specs.Validities.{nullability_by, without_nulls, child_of, validity_of, of_truth, of_data, truths, valid_rows, HasRows}
 use Rattle.vx_tree.specs.declared.validity.Validity.{Validity}

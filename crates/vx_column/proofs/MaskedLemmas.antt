@@ -1,5 +1,5 @@
 -- Columns with some of their rows made null: the two validities joined.
-use Rattle.std.proofs.Common.{◌≡◌, ℕ, zero, suc, ◌+◌, List, [], ◌∷◌, length, map, get_or, Bool, true, false, ◌&&◌, Option, Some, None}
+use Rattle.std.proofs.Common.{◌≡◌, ℕ, suc, ◌+◌, List, [], ◌∷◌, length, map, get_or, true, false, ◌&&◌, Option, Some, None}
 use Rattle.std.proofs.Common.{refl, sym, ap, subst, ◌∙◌, arith}
 use Rattle.std.specs.Prelude.{option_map}
 use Rattle.std.specs.Cmp.{unsigned_Decides}
@@ -14,11 +14,10 @@ use Rattle.vx_value.specs.declared.dtype.Nullability.TheVariants.{NonNullable, N
 use Rattle.vx_fn.specs.Apply.{apply}
 use Rattle.vx_fn.specs.ReturnTypes.{return_type}
 use Rattle.vx_fn.specs.declared.function.Operator.TheVariants.{And}
-use Rattle.vx_fn.specs.declared.function.ScalarFnRef.{ScalarFnRef}
 use Rattle.vx_fn.specs.declared.function.ScalarFnRef.TheVariants.{Binary}
 use Rattle.vx_tree.specs.Tree.{Tree, Data, slots_of, dtype, len, column, call_of, masked_of}
-use Rattle.vx_tree.specs.Well.{Shape, shapes, IsFlat}
-use Rattle.vx_tree.specs.Cells.{rows, node_cells, cells_at, valid_cell, valid_cells, HasNoFault, IsClean, AreClean}
+use Rattle.vx_tree.specs.Well.{shapes, IsFlat}
+use Rattle.vx_tree.specs.Cells.{rows, node_cells, cells_at, valid_cell, valid_cells, HasNoFault}
 use Rattle.vx_tree.specs.Keeps.{KeepsExactly}
 use Rattle.vx_tree.specs.Calls.{call_refusal, called, row_refusal}
 use Rattle.vx_tree.specs.Validities.{nullability_by, child_of, HasRows}

@@ -3,7 +3,7 @@ use Rattle.std.proofs.Common.{◌≡◌, ◌<◌, ℕ, zero, suc, List, [], ◌�
 use Rattle.vx_value.specs.Values.{boolean}
 use Rattle.vx_value.specs.Cell.{Cell, value, fault}
 use Rattle.vx_mask.specs.Logic.{bit_row}
-use Rattle.vx_tree.specs.Tree.{Tree, len, booleans, validity_in}
+use Rattle.vx_tree.specs.Tree.{len, booleans, validity_in}
 use Rattle.vx_tree.specs.Cells.{rows, shown_cell}
 use Rattle.vx_tree.specs.Keeps.{KeepsExactly}
 use Rattle.vx_tree.specs.Columns.{columnar_tree}

@@ -13,7 +13,6 @@ use Rattle.vx_value.specs.Cell.{Cell, value, fault}
 use Rattle.vx_value.specs.Parts.{boolean_in}
 use Rattle.vx_value.specs.declared.dtype.Nullability.{Nullability}
 use Rattle.vx_value.specs.declared.dtype.Nullability.TheVariants.{NonNullable, Nullable}
-use Rattle.vx_value.specs.declared.dtype.PType.{PType}
 use Rattle.vx_value.proofs.NullabilitiesLemmas.{union_first, union_second}
 use Rattle.vx_mask.specs.Places.{chosen}
 use Rattle.vx_fn.specs.Apply.{apply, on_values, value_of}

@@ -4,6 +4,8 @@ pub use Rattle.vx_tree.specs.Tree
 pub use Rattle.vx_tree.specs.Cells
 pub use Rattle.vx_tree.specs.Keeps
 pub use Rattle.vx_tree.specs.Columns
+pub use Rattle.vx_tree.specs.Validities
+pub use Rattle.vx_mask.specs.Masks
 pub mod Applied
 pub mod Arguments
 pub mod Computed

@@ -1,4 +1,4 @@
-//! Applies functions to whole columns, and reads single rows of a tree.
+//! Applies functions to whole columns, filters and masks them, tells their validity, and reads single rows of a tree.
 #![tactic(auto)]
 
 mod apply;

@@ -1,7 +1,7 @@
 use Rattle.std.proofs.Common.{◌≡◌, None, sym, subst, ◌∙◌, ap, rules}
 use Rattle.vx_mask.specs.Masks.{bits_in}
 use Rattle.vx_tree.specs.Tree as enc
-use Rattle.vx_tree.specs.Tree.{Tree, dtype, len, column, booleans, filter_of}
+use Rattle.vx_tree.specs.Tree.{dtype, len, column, booleans, filter_of}
 use Rattle.vx_tree.specs.Keeps.{KeepsExactly}
 use Rattle.vx_tree.proofs.KeepsLemmas.{exactly_refl}
 use Rattle.vx_column.proofs.FilteredLemmas.{booleans_filtered}
