@@ -43,7 +43,7 @@ module _ (t u : Tree) (n : ℕ) (first : HasRows (validity.Array t) n) (second :
   and_taken =
       none_refused _ _ refl
       (none_refused _ _ (none_unless _ _ (λ i. (unsigned_Decides (len t) n).1 first.2 i && ((unsigned_Decides (len u) n).1 second.2 i && true)))
-      (ap (row_refusal (Binary And)) returned))
+      (ap row_refusal returned))
 
   pub and_made : called (Binary And) (t ∷ u ∷ []) n ≡ Some (call_of (Binary And) (bool NonNullable) n (t ∷ u ∷ []))
   and_made = ap (option_map (λ ty. call_of (Binary And) ty n (t ∷ u ∷ []))) returned

@@ -1,7 +1,11 @@
 -- The function that an object spells.
-use Rattle.std.specs.Prelude.{ℕ, List, [], ◌∷◌, Bool, true, false, Option, Some, option_map, option_and_then, codes, bytes_eq}
+use Rattle.std.specs.Prelude.{ℕ, List, [], ◌∷◌, Bool, true, false, Option, Some, None, option_map, option_and_then, codes, bytes_eq}
 use Rattle.std.specs.Map.{lookup}
 use Rattle.serde_json.specs.Data.{Data}
+use Rattle.vx_value.specs.Types as type
+use Rattle.vx_value.specs.Types.{DataType}
+use Rattle.vx_value.specs.declared.dtype.DType.{DType}
+use Rattle.vx_value.specs.declared.dtype.DType.TheVariants as dtype
 use Rattle.vx_fn.specs.declared.function.Operator.{Operator}
 use Rattle.vx_fn.specs.declared.function.Operator.TheVariants as operator
 use Rattle.vx_fn.specs.declared.function.ScalarFnRef.{ScalarFnRef}
@@ -10,6 +14,7 @@ use Rattle.vx_fn.specs.declared.functions.between.BetweenOptions.{BetweenOptions
 use Rattle.vx_fn.specs.declared.functions.between.StrictComparison.{StrictComparison}
 use Rattle.vx_fn.specs.declared.functions.between.StrictComparison.TheVariants.{Strict, NonStrict}
 use Rattle.vx_json.specs.Fields.{keyed, text_at, boolean_at}
+use Rattle.vx_json.specs.SpelledTypes.{type_at}
 
 -- a function without options: its object has exactly the keys `enc`, `fn` and `args`
 abbrev pub without_options : ScalarFnRef → Data → Option ScalarFnRef
@@ -34,6 +39,16 @@ between_options d =
 abbrev pub between : Data → Option ScalarFnRef
 between d = keyed 5 d (option_map function.Between (between_options d))
 
+-- the type of the program that a type with columns is: a line for each kind
+abbrev pub declared : DataType → Option DType
+declared (type.bool m) = Some (dtype.Bool m)
+declared (type.primitive p m) = Some (dtype.Primitive p m)
+declared _ = None
+
+-- `cast` has its target under `type`
+abbrev pub cast : Data → Option ScalarFnRef
+cast d = keyed 4 d (option_map function.Cast (option_and_then declared (type_at d)))
+
 -- the names of functions, and how an object of each spells it, with its options: a line for each function
 abbrev pub named_functions : List (List ℕ × (Data → Option ScalarFnRef))
 named_functions =
@@ -56,6 +71,7 @@ named_functions =
     ∷ (codes "fill_null", without_options function.FillNull)
     ∷ (codes "is_null", without_options function.IsNull)
     ∷ (codes "is_not_null", without_options function.IsNotNull)
+    ∷ (codes "cast", cast)
     ∷ []
 
 abbrev pub function_named : Data → List ℕ → Option ScalarFnRef

@@ -3,9 +3,10 @@
 ghost use Rattle.std.specs.Prelude.{◌≡◌, Some};
 ghost use Rattle.serde_json.specs.View.{view};
 ghost use Rattle.vx_json.specs.Fields.{keyed};
-ghost use Rattle.vx_json.specs.SpelledFunctions.{without_options, binary, strictness_at, between_options, between, function_named, function_at};
+ghost use Rattle.vx_json.specs.SpelledFunctions.{without_options, binary, strictness_at, between_options, between, cast, function_named, function_at};
 
 use crate::fields::{boolean, count, text};
+use crate::types::type_at;
 use serde_json::Value;
 use vx_fn::{BetweenOptions, Operator, ScalarFnRef, StrictComparison};
 
@@ -62,6 +63,14 @@ fn between(value: &Value) -> Option<ScalarFnRef>
     with_keys(value, 5, ScalarFnRef::Between(between_options(value)?))
 }
 
+/// Returns the cast to the type under `type`, if the object has exactly the keys `enc`, `fn`, `args` and `type`.
+#[tactic(auto, using(crate::proofs::SpelledFunctionsLemmas::target_named))]
+fn cast(value: &Value) -> Option<ScalarFnRef>
+    ensures { result ≡ cast (view value.now) }
+{
+    with_keys(value, 4, ScalarFnRef::Cast(type_at(value)?))
+}
+
 /// Returns the function named `name`, with the options that the object has for it.
 fn function_named(value: &Value, name: &str) -> Option<ScalarFnRef>
     ensures { result ≡ function_named (view value.now) name.now }
@@ -86,6 +95,7 @@ fn function_named(value: &Value, name: &str) -> Option<ScalarFnRef>
         "fill_null" => without_options(value, ScalarFnRef::FillNull),
         "is_null" => without_options(value, ScalarFnRef::IsNull),
         "is_not_null" => without_options(value, ScalarFnRef::IsNotNull),
+        "cast" => cast(value),
         _ => None,
     }
 }
