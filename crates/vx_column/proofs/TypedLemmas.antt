@@ -7,12 +7,13 @@ use Rattle.vx_value.specs.Types.{DataType, nullability_of, is_nullable}
 use Rattle.vx_value.specs.Nullabilities.{with_nullability, union, same_but_nullability, same_but_nullability_Decides}
 use Rattle.vx_value.specs.Values.{Value, null, boolean, integer, decimal}
 use Rattle.vx_value.specs.IsOf.{is_of, in_range}
-use Rattle.vx_value.specs.Casts.{sized}
+use Rattle.vx_value.specs.Casts.{sized, cast_to, into}
 use Rattle.vx_value.specs.Decimals.{has_digits}
 use Rattle.vx_value.specs.Cell.{Cell, value, fault}
 use Rattle.vx_value.specs.Parts.{boolean_in}
 use Rattle.vx_value.specs.declared.dtype.Nullability.{Nullability}
 use Rattle.vx_value.specs.declared.dtype.Nullability.TheVariants.{NonNullable, Nullable}
+use Rattle.vx_value.proofs.CastsLemmas.{into_typed}
 use Rattle.vx_value.proofs.NullabilitiesLemmas.{union_first, union_second}
 use Rattle.vx_mask.specs.Places.{chosen}
 use Rattle.vx_fn.specs.Apply.{apply, on_values, value_of}
@@ -33,8 +34,6 @@ use Rattle.vx_fn.specs.declared.function.ScalarFnRef.TheVariants as function
 use Rattle.vx_fn.proofs.BinaryLemmas.{null_first, null_second}
 use Rattle.vx_fn.proofs.LogicLemmas.{Knows, and_knows, or_knows}
 use Rattle.vx_fn.proofs.MeaningsLemmas.{nullable_by_argument, nullable_before}
-use Rattle.std.specs.Cmp.{first_so}
-use Rattle.vx_tree.specs.ColumnTypes.{has_kernel, has_column}
 use Rattle.vx_tree.specs.Tree as enc
 use Rattle.vx_tree.specs.Tree.{Tree, Data, Slots, node, no_slots, absent, slot, dtype}
 use Rattle.vx_tree.specs.Cells.{rows, slots_rows, node_cells, cells_at, row_at, valid_cell, valid_cells, shown_cell}
@@ -240,35 +239,57 @@ fill_fits s t ty v w h k e = by_same (same_but_nullability s t) refl e
     by_same false same e = absurd (cc)
     by_same true same e = let is : t ≡ ty = cc in subst (λ x. CellFits x (filled v w)) is (by_value v h (same_other s t same))
 
--- a line for each function that has a kernel
-values_fit : (f : ScalarFnRef) (tys : List DataType) (ty : DataType) (vs : List Value) → has_kernel f ≡ true → return_type f tys ≡ Some ty → ValuesFit tys vs
+constant_fits : (v : Value) (ty : DataType) → is_of ty v ≡ true → fits v ty ≡ true
+constant_fits null ty h = h
+constant_fits (boolean b) ty h = refl
+constant_fits (integer z) (type.bool m) h = absurd (cc)
+constant_fits (decimal z r) (type.bool m) h = absurd (cc)
+constant_fits _ (type.bool m) h = absurd (cc)
+constant_fits _ _ h = refl
+
+-- what a cast gives is of its target
+cast_fits : (ty : DataType) (v : Value) → CellFits ty (cast_to ty v)
+cast_fits ty null = by_nullability (is_nullable (nullability_of ty)) refl
+  where
+    by_nullability : (b : Bool) → is_nullable (nullability_of ty) ≡ b → CellFits ty (if b then value null else fault)
+    by_nullability true h = h
+    by_nullability false h = tt
+cast_fits ty _ = by_cell _ _ refl
+  where
+    by_cell : (v : Value) (c : Cell) → into ty v ≡ c → CellFits ty c
+    by_cell v (value w) h = constant_fits w ty (into_typed ty v w h)
+    by_cell v fault h = tt
+
+-- a line for each function
+values_fit : (f : ScalarFnRef) (tys : List DataType) (ty : DataType) (vs : List Value) → return_type f tys ≡ Some ty → ValuesFit tys vs
     → CellFits ty (value_of f ty vs)
-values_fit (function.Binary op) (s ∷ t ∷ []) ty (v ∷ w ∷ []) k e h = binary_fits op s t ty v w h.0 h.1.0 e
-values_fit (function.Binary op) (s ∷ t ∷ []) ty _ k e h = tt
-values_fit (function.Binary op) _ ty vs k e h = absurd (cc)
-values_fit (function.Between options) (s ∷ t ∷ u ∷ []) ty (v ∷ w ∷ x ∷ []) k e h =
+values_fit (function.Binary op) (s ∷ t ∷ []) ty (v ∷ w ∷ []) e h = binary_fits op s t ty v w h.0 h.1.0 e
+values_fit (function.Binary op) (s ∷ t ∷ []) ty _ e h = tt
+values_fit (function.Binary op) _ ty vs e h = absurd (cc)
+values_fit (function.Between options) (s ∷ t ∷ u ∷ []) ty (v ∷ w ∷ x ∷ []) e h =
     through_fits s (widened t (widened u (between_type s t u))) ty v _ h.0 e
     (λ r same. through_fits t (widened u (between_type s t u)) r w _ h.1.0 same
     (λ q again. through_fits u (between_type s t u) q x (lies_between options v w x) h.1.1.0 again (λ p last. refl)))
-values_fit (function.Between options) (s ∷ t ∷ u ∷ []) ty _ k e h = tt
-values_fit (function.Between options) _ ty vs k e h = absurd (cc)
-values_fit function.Not (s ∷ []) ty (v ∷ []) k e h = through_fits s (not_type s) ty v (negated v) h.0 e (λ r same. negated_fits v r)
-values_fit function.Not (s ∷ []) ty _ k e h = tt
-values_fit function.Not _ ty vs k e h = absurd (cc)
-values_fit function.Mask (s ∷ t ∷ []) ty (v ∷ w ∷ []) k e h = mask_fits s t ty v w h.0 e
-values_fit function.Mask (s ∷ t ∷ []) ty _ k e h = tt
-values_fit function.Mask _ ty vs k e h = absurd (cc)
-values_fit function.Zip (s ∷ t ∷ u ∷ []) ty (v ∷ w ∷ x ∷ []) k e h = zip_fits s t u ty v w x h.0 h.1.0 e
-values_fit function.Zip (s ∷ t ∷ u ∷ []) ty _ k e h = tt
-values_fit function.Zip _ ty vs k e h = absurd (cc)
-values_fit function.FillNull (s ∷ t ∷ []) ty (v ∷ w ∷ []) k e h = fill_fits s t ty v w h.0 h.1.0 e
-values_fit function.FillNull (s ∷ t ∷ []) ty _ k e h = tt
-values_fit function.FillNull _ ty vs k e h = absurd (cc)
-values_fit function.IsNull tys ty (v ∷ []) k e h = refl
-values_fit function.IsNull tys ty _ k e h = tt
-values_fit function.IsNotNull tys ty (v ∷ []) k e h = refl
-values_fit function.IsNotNull tys ty _ k e h = tt
-values_fit (function.Cast target) tys ty vs k e h = absurd (cc)
+values_fit (function.Between options) (s ∷ t ∷ u ∷ []) ty _ e h = tt
+values_fit (function.Between options) _ ty vs e h = absurd (cc)
+values_fit function.Not (s ∷ []) ty (v ∷ []) e h = through_fits s (not_type s) ty v (negated v) h.0 e (λ r same. negated_fits v r)
+values_fit function.Not (s ∷ []) ty _ e h = tt
+values_fit function.Not _ ty vs e h = absurd (cc)
+values_fit function.Mask (s ∷ t ∷ []) ty (v ∷ w ∷ []) e h = mask_fits s t ty v w h.0 e
+values_fit function.Mask (s ∷ t ∷ []) ty _ e h = tt
+values_fit function.Mask _ ty vs e h = absurd (cc)
+values_fit function.Zip (s ∷ t ∷ u ∷ []) ty (v ∷ w ∷ x ∷ []) e h = zip_fits s t u ty v w x h.0 h.1.0 e
+values_fit function.Zip (s ∷ t ∷ u ∷ []) ty _ e h = tt
+values_fit function.Zip _ ty vs e h = absurd (cc)
+values_fit function.FillNull (s ∷ t ∷ []) ty (v ∷ w ∷ []) e h = fill_fits s t ty v w h.0 h.1.0 e
+values_fit function.FillNull (s ∷ t ∷ []) ty _ e h = tt
+values_fit function.FillNull _ ty vs e h = absurd (cc)
+values_fit function.IsNull tys ty (v ∷ []) e h = refl
+values_fit function.IsNull tys ty _ e h = tt
+values_fit function.IsNotNull tys ty (v ∷ []) e h = refl
+values_fit function.IsNotNull tys ty _ e h = tt
+values_fit (function.Cast target) tys ty (v ∷ []) e h = cast_fits ty v
+values_fit (function.Cast target) tys ty _ e h = tt
 
 row_values_fit : (ty : DataType) (g : List Value → Cell) (tys : List DataType) (cs : List Cell) → RowFits tys cs
     → ((vs : List Value) → ValuesFit tys vs → CellFits ty (g vs)) → CellFits ty (on_values g cs)
@@ -352,14 +373,6 @@ row_fits (cs ∷ css) (s ∷ tys) n i h = (cell_at i cs h.0, row_fits css tys n 
     cell_at zero (c ∷ cs) h = h.0
     cell_at (suc i) (c ∷ cs) h = cell_at i cs h.1
 
-constant_fits : (v : Value) (ty : DataType) → is_of ty v ≡ true → fits v ty ≡ true
-constant_fits null ty h = h
-constant_fits (boolean b) ty h = refl
-constant_fits (integer z) (type.bool m) h = absurd (cc)
-constant_fits (decimal z r) (type.bool m) h = absurd (cc)
-constant_fits _ (type.bool m) h = absurd (cc)
-constant_fits _ _ h = refl
-
 -- a line for each encoding
 node_fits : (ty : DataType) (n : ℕ) (d : Data) (css : List (List Cell)) (ss : List (Option Shape)) → IsNode ty n d ss → SlotsFit css ss → AllFit ty (node_cells ty n d css)
 node_fits ty n (enc.constant v) css ss h k = copies_fit n ty (value v.value) (constant_fits v.value ty h.2)
@@ -373,7 +386,7 @@ node_fits ty n enc.is_valid css ss h k = map_fits shown_cell (cells_at css 0) ty
 node_fits ty n (enc.function f) css ss h k =
     map_fits (λ i. apply f ty (row_at css i)) (range_with_len 0 n) ty
     (λ i. row_values_fit ty (value_of f ty) h.0 (row_at css i) (row_fits css h.0 n i (subst (SlotsFit css) h.1 k))
-    (λ vs fit. values_fit f h.0 ty vs (first_so (has_kernel f) (has_column ty) h.3) h.2 fit))
+    (λ vs fit. values_fit f h.0 ty vs h.2 fit))
 node_fits ty n (enc.bool bs) css ss h k =
     column_fits ty (nullability_of ty) n h.0 css (map (λ b. value (boolean b)) bs) refl h.4 (subst (SlotsFit css) h.3 k) (map_fits (λ b. value (boolean b)) bs ty (λ b. refl))
 node_fits ty n (enc.primitive p zs) css ss h k =
