@@ -1,5 +1,5 @@
 -- Columns with some of their rows made null: the two validities joined.
-use Rattle.std.proofs.Common.{◌≡◌, ℕ, suc, ◌+◌, List, [], ◌∷◌, length, map, get_or, true, false, ◌&&◌, Option, Some, None}
+use Rattle.std.proofs.Common.{◌≡◌, ℕ, suc, ◌+◌, List, [], ◌∷◌, length, map, get_or, Bool, true, false, ◌&&◌, Option, Some, None}
 use Rattle.std.proofs.Common.{refl, sym, ap, subst, ◌∙◌, arith}
 use Rattle.std.specs.Prelude.{option_map}
 use Rattle.std.specs.Cmp.{unsigned_Decides}
@@ -27,7 +27,12 @@ use Rattle.vx_tree.proofs.CellsLemmas.{rows_counted}
 use Rattle.vx_tree.proofs.ConditionsLemmas.{none_refused, none_unless}
 use Rattle.vx_tree.proofs.KeepsLemmas.{rows_equal}
 use Rattle.vx_tree.proofs.ValiditiesLemmas.{whole}
+use Rattle.vx_mask.specs.Logic.{bit_row}
+use Rattle.std.proofs.lemmas.List.FromFn.{length-map-range_with_len}
 use Rattle.vx_column.specs.Masked.{IsBoth}
+use Rattle.vx_column.specs.ValidRows.{IsValidityOf}
+use Rattle.vx_column.specs.declared.valid.ValidRows.TheVariants as rows_valid
+use Rattle.vx_column.proofs.ValidRowsLemmas.{child_told, filled_clean}
 use Rattle.vx_column.specs.Nulls.{validity_cells}
 use Rattle.vx_column.proofs.CellsLemmas.{fault_cell, masked_rows}
 use Rattle.vx_column.proofs.FilteredLemmas.{column_cells}
@@ -114,6 +119,48 @@ both_and n t u w first second made =
     (record {
       told = λ cs h. both_cells (rows t) (rows u) cs (left ∙ sym right) (h ∙ sym left) left_fit right_fit ∙ ap (λ vs. valid_cells vs cs) (sym cells);
       clean = λ h k. ((subst HasNoFault (sym cells) (and_clean (rows t) (rows u) (whole t h.0) (whole u k.0)), (h.0, (k.0, tt))), tt);
+    })
+
+-- of bits, joined by words
+bits_fit : (bits : List Bool) → AllFit (bool NonNullable) (map (λ b. value (boolean b)) bits)
+bits_fit [] = tt
+bits_fit (b ∷ bits) = (refl, bits_fit bits)
+
+and_bits : (s : ℕ) (xs ys : List Bool) (f : ℕ → Bool) → length xs ≡ length ys → ((i : ℕ) → f (s + i) ≡ bit_row xs i && bit_row ys i)
+    → map (λ b. value (boolean b)) (map f (range_with_len s (length xs))) ≡ and_cells (map (λ b. value (boolean b)) xs) (map (λ b. value (boolean b)) ys)
+and_bits s [] ys f long h = refl
+and_bits s (x ∷ xs) [] f long h = absurd (omega arith)
+and_bits s (x ∷ xs) (y ∷ ys) f long h =
+    let here : s ≡ s + 0 = omega arith in
+    let first : f s ≡ x && y = ap f here ∙ h 0 in
+    let later : (i : ℕ) → s + 1 + i ≡ s + suc i = λ i. omega arith in
+    λ j. (ap (λ b. value (boolean b)) first ∙ and_bit x y) j ∷ and_bits (s + 1) xs ys f (omega arith) (λ i. ap f (later i) ∙ h (suc i)) j
+  where
+    and_bit : (x y : Bool) → value (boolean (x && y)) ≡ and_cell (value (boolean x)) (value (boolean y))
+    and_bit true true = refl
+    and_bit true false = refl
+    and_bit false true = refl
+    and_bit false false = refl
+
+pub both_bits : (n : ℕ) (t u : Tree) (xs ys bits : List Bool) (v : Validity) → HasRows (validity.Array t) n → HasRows (validity.Array u) n
+    → rows t ≡ map (λ b. value (boolean b)) xs → rows u ≡ map (λ b. value (boolean b)) ys
+    → bits ≡ map (λ i. bit_row xs i && bit_row ys i) (range_with_len 0 n) → IsValidityOf (rows_valid.Bits bits) n v → IsBoth n (Some t) (Some u) (child_of v n)
+both_bits n t u xs ys bits v first second left right made told =
+    let long : length xs ≡ n = sym (length-map xs (λ b. value (boolean b))) ∙ ap length (sym left) ∙ rows_counted t first.0 ∙ first.2 in
+    let wide : length ys ≡ n = sym (length-map ys (λ b. value (boolean b))) ∙ ap length (sym right) ∙ rows_counted u second.0 ∙ second.2 in
+    let count : length bits ≡ n = ap length made ∙ length-map-range_with_len (λ i. bit_row xs i && bit_row ys i) 0 n in
+    let cells : map (λ b. value (boolean b)) bits ≡ and_cells (rows t) (rows u) =
+    ap (map (λ b. value (boolean b))) (made ∙ ap (λ k. map (λ i. bit_row xs i && bit_row ys i) (range_with_len 0 k)) (sym long))
+    ∙ and_bits 0 xs ys (λ i. bit_row xs i && bit_row ys i) (long ∙ sym wide) (λ i. ap (λ k. bit_row xs k && bit_row ys k) (omega arith))
+    ∙ (λ j. and_cells (sym left j) (sym right j)) in
+    let left_fit = subst (AllFit (bool NonNullable)) (sym left) (bits_fit xs) in
+    let right_fit = subst (AllFit (bool NonNullable)) (sym right) (bits_fit ys) in
+    let t_long : length (rows t) ≡ n = rows_counted t first.0 ∙ first.2 in
+    let u_long : length (rows u) ≡ n = rows_counted u second.0 ∙ second.2 in
+    subst (IsBoth n (Some t) (Some u)) (sym told.1) (record {
+      told = λ cs h. both_cells (rows t) (rows u) cs (t_long ∙ sym u_long) (h ∙ sym t_long) left_fit right_fit
+          ∙ ap (λ vs. valid_cells vs cs) (sym cells) ∙ sym (child_told bits cs (h ∙ sym count));
+      clean = λ h k. filled_clean (rows_valid.Bits bits);
     })
 
 -- ---- a column of values of one type, each read from an item

@@ -70,7 +70,7 @@ all_false_cells [] h = refl
 all_false_cells (false ∷ bits) h = ap (λ x. value (boolean false) ∷ x) (all_false_cells bits h)
 all_false_cells (true ∷ bits) h = absurd (cc)
 
-child_told : (bits : List Bool) (cs : List Cell) → length cs ≡ length bits
+pub child_told : (bits : List Bool) (cs : List Cell) → length cs ≡ length bits
     → valid_cells (validity_cells (child_by bits)) cs ≡ valid_cells (map (λ b. value (boolean b)) bits) cs
 child_told bits cs l = by_tests (is_all_true bits) (is_all_false bits) refl refl
   where

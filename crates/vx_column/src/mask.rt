@@ -1,9 +1,12 @@
 //! Columns with some of their rows made null.
 
-ghost use Rattle.std.specs.Prelude.{◌≡◌, ◌∷◌, [], IfOk, IfErr};
+ghost use Rattle.std.specs.Prelude.{◌≡◌, ◌∷◌, [], Some, map, IfOk, IfErr, IfSome};
 ghost use Rattle.vx_value.specs.Types.{bool};
+ghost use Rattle.vx_value.specs.Values.{boolean};
+ghost use Rattle.vx_value.specs.Cell.{value};
 ghost use Rattle.vx_fn.specs.declared.function.ScalarFnRef.TheVariants.{Binary};
 ghost use Rattle.vx_tree.specs.Tree.{len, call_of, masked_of};
+ghost use Rattle.vx_tree.specs.Cells.{rows};
 ghost use Rattle.vx_tree.specs.Keeps.{KeepsExactly};
 ghost use Rattle.vx_tree.specs.Columns.{canonical_tree};
 ghost use Rattle.vx_tree.specs.Validities.{nullability_by, child_of, HasRows};
@@ -12,8 +15,10 @@ ghost use Rattle.vx_column.specs.Masked.{TellsAll, IsBoth};
 
 use crate::arithmetic::primitive_column;
 use crate::boolean::bool_column;
+use crate::valid::ValidRows;
 use std::alloc::Global;
 use vx_fn::{Operator, ScalarFnRef};
+use vx_mask::{BitAnd, BitBuffer, BitOperand};
 use vx_tree::{
     ArrayKind, ArrayRef, Canonical, IntoArray, ScalarFnArray, Validity, validity_to_child,
 };
@@ -68,11 +73,44 @@ fn both_valid(
         (None, None) => Ok(Validity::AllValid),
         (Some(first), None) => Ok(Validity::Array(first.clone()?)),
         (None, Some(second)) => Ok(Validity::Array(second)),
-        (Some(first), Some(second)) => {
-            let both = and_lazily(alloc, first.clone()?, second, len)?;
-            both.well();
-            Ok(Validity::Array(both))
-        }
+        (Some(first), Some(second)) => both_true(alloc, first, second, len),
+    }
+}
+
+/// Returns the validity of a nullable column of `len` rows that are valid where two arrays are both true: by words if both are
+/// columns without nulls, else by a lazy conjunction. The only error is `OutOfMemory`.
+fn both_true(
+    alloc: Global,
+    first: &ArrayRef,
+    second: ArrayRef,
+    len: usize,
+) -> VortexResult<Validity>
+    requires first { HasRows (Array first.now) len }
+    requires second { HasRows (Array second) len }
+    ensures nullable { IfOk result (λ v. nullability_by v ≡ Nullability.Nullable) }
+    ensures sized { IfOk result (λ v. HasRows v len) }
+    ensures both { IfOk result (λ v. IsBoth len (Some first.now) (Some second) (child_of v len)) }
+    ensures err { IfErr result (λ e. e ≡ VortexError.OutOfMemory) }
+{
+    first.well();
+    second.well();
+    if let (Some(left), Some(right)) = (plain_bits(first), plain_bits(&second)) {
+        let left = BitOperand::Bits(left);
+        let bits = BitBuffer::zip::<BitAnd>(alloc, left, BitOperand::Bits(right), len)?;
+        return ValidRows::Bits(bits).validity(alloc, len);
+    }
+    let both = and_lazily(alloc, first.clone()?, second, len)?;
+    both.well();
+    Ok(Validity::Array(both))
+}
+
+/// Returns the bits of `array` if it is a column of booleans without a validity.
+fn plain_bits(array: &ArrayRef) -> Option<&BitBuffer>
+    ensures { IfSome result (λ bits. rows array.now ≡ map (λ b. value (boolean b)) bits.now) }
+{
+    match array.kind() {
+        ArrayKind::Bool(bits, None) => Some(bits),
+        _ => None,
     }
 }
 
