@@ -26,7 +26,9 @@ pub use arrays::slice::{Slice, SliceArray, SliceData, SliceDataParts};
 pub use canonical::Canonical;
 pub use column_types::has_column;
 pub use columnar::Columnar;
-pub use laws::{choice_laws, column_laws, execution_bounds, keeping_laws, refused_exactly, validity_laws};
+pub use laws::{
+    choice_laws, column_laws, execution_bounds, keeping_laws, refused_exactly, validity_laws,
+};
 pub use matcher::{AnyArray, AnyCanonical, AnyColumnar, AnyScalarFn, Matcher};
 pub use slicing::slice_canonical;
 pub use validity::{Validity, child_to_validity, validity_nchildren, validity_to_child};
