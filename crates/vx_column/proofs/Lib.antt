@@ -13,3 +13,5 @@ pub mod LogicLemmas
 pub mod NullFunctionsLemmas
 pub mod SelectLemmas
 pub mod BetweenLemmas
+pub mod CastsLemmas
+pub mod OperandsLemmas

@@ -15,3 +15,4 @@ pub mod ValidRows
 pub mod Truths
 pub mod Selected
 pub mod Bounds
+pub mod Casts
