@@ -7,29 +7,27 @@ use Rattle.std.specs.Ordering.{int_cmp}
 use Rattle.std.proofs.lemmas.Option.{get_or_from_slice_get}
 use Rattle.vx_fn.specs.Comparisons.{holds}
 use Rattle.vx_fn.specs.declared.function.Operator.{Operator}
-use Rattle.vx_column.specs.Operands.{calculated_cell, calculated_rows, compared_rows}
+use Rattle.vx_column.specs.Operands.{zero_unless, calculated_rows, compared_rows}
 use Rattle.std.specs.List.{range_with_len}
 use Rattle.std.proofs.lemmas.List.{length-map, map-append, get_or-map}
+use Rattle.std.proofs.lemmas.Simd.{map-map}
 use Rattle.std.proofs.lemmas.List.FromFn.{length-map-range_with_len, map-range_with_len_more, get_or-map-range_with_len}
-use Rattle.vx_value.specs.Types.{DataType, bool, primitive}
+use Rattle.vx_value.specs.Types.{DataType, bool}
 use Rattle.vx_value.specs.Values.{null, boolean, integer}
 use Rattle.vx_value.specs.Cell.{Cell, value, fault}
-use Rattle.vx_value.specs.declared.dtype.PType.{PType}
 use Rattle.vx_value.specs.declared.error.VortexError.{VortexError}
 use Rattle.vx_fn.specs.Apply.{apply}
 use Rattle.vx_fn.specs.ReturnTypes.{return_type}
 use Rattle.vx_fn.specs.declared.function.ScalarFnRef.{ScalarFnRef}
 use Rattle.vx_tree.specs.Tree.{Tree, dtype}
 use Rattle.vx_tree.specs.Cells.{HasNoFault}
-use Rattle.vx_tree.specs.declared.validity.Validity.{Validity}
 use Rattle.vx_tree.specs.Columns.{canonical_tree}
 use Rattle.vx_tree.specs.declared.canonical.Canonical.{Canonical}
-use Rattle.vx_column.proofs.MadeLemmas.{made_by, bools_made, integers_made}
-use Rattle.vx_column.proofs.ValidRowsLemmas.{by_rows, bit_made}
+use Rattle.vx_column.proofs.MadeLemmas.{made_by}
+use Rattle.vx_column.proofs.ValidRowsLemmas.{bit_made}
 use Rattle.vx_column.specs.Computed.{IsMade, IsFilled, cells_of, filled_cells, filled_type}
 use Rattle.vx_mask.specs.Logic.{bit_row}
-use Rattle.vx_column.specs.Expanded.{boolean_column, integer_column}
-use Rattle.vx_column.specs.ValidRows.{is_valid, HasValidity, nullability_in, IsValidityOf, null_unless}
+use Rattle.vx_column.specs.ValidRows.{is_valid, nullability_in, null_unless}
 use Rattle.vx_column.specs.declared.valid.ValidRows.{ValidRows}
 
 -- one more row that is made by f
@@ -45,13 +43,13 @@ pub bits_more : (f : ℕ → Bool) (out : List Bool) (i : ℕ) (r : Bool) → ou
 bits_more f out i r h e = rw (map-range_with_len_more f 0 i i (omega arith), h, e) refl
 
 -- of the rows at the true bits
-pub calculated_more : {T : Type 0} (read : T → ℤ) (op : Operator) (p : PType) (bits : List Bool) (l r : ℕ → ℤ) (out : List T) (i : ℕ) (x : T) (b : Bool) →
-    slice_get bits i ≡ Some b → calculated_cell op p b (l i) (r i) ≡ value (integer (read x)) →
-    map (λ y. value (integer (read y))) out ≡ calculated_rows op p (bit_row bits) l r i →
-    map (λ y. value (integer (read y))) (out ++ x ∷ []) ≡ calculated_rows op p (bit_row bits) l r (i + 1)
-calculated_more read op p bits l r out i x b here e h =
-    rows_more (λ y. value (integer (read y))) (λ j. calculated_cell op p (bit_row bits j) (l j) (r j)) out i x h
-    (ap (λ c. calculated_cell op p c (l i) (r i)) (get_or_from_slice_get bits i b false here) ∙ e)
+pub calculated_more : {T : Type 0} (read : T → ℤ) (bits : List Bool) (cell : ℕ → Cell) (out : List T) (i : ℕ) (x : T) (b : Bool) →
+    slice_get bits i ≡ Some b → zero_unless b (cell i) ≡ value (integer (read x)) →
+    map (λ y. value (integer (read y))) out ≡ calculated_rows (bit_row bits) cell i →
+    map (λ y. value (integer (read y))) (out ++ x ∷ []) ≡ calculated_rows (bit_row bits) cell (i + 1)
+calculated_more read bits cell out i x b here e h =
+    rows_more (λ y. value (integer (read y))) (λ j. zero_unless (bit_row bits j) (cell j)) out i x h
+    (ap (λ c. zero_unless c (cell i)) (get_or_from_slice_get bits i b false here) ∙ e)
 
 pub compared_more : (op : Operator) (bits : List Bool) (l r : ℕ → ℤ) (out : List Bool) (i : ℕ) (x b : Bool) →
     slice_get bits i ≡ Some b → x ≡ b && holds op (int_cmp (l i) (r i)) → out ≡ compared_rows op (bit_row bits) l r i →
@@ -70,11 +68,6 @@ clean_at (fault ∷ cs) i h e = absurd h
 pub fault_among : (f : ℕ → Cell) (n i : ℕ) → i < n → f i ≡ fault → ¬ (HasNoFault (map f (range_with_len 0 n)))
 fault_among f n i h e = λ clean. clean_at _ i clean (get_or-map-range_with_len f 0 n i i (value null) h (omega arith) ∙ e)
 
--- what cells hold the numbers that items stand for
-pub cells_read : {T : Type 0} (read : T → ℤ) (xs : List T) → map (λ z. value (integer z)) (map read xs) ≡ map (λ x. value (integer (read x))) xs
-cells_read read [] = refl
-cells_read read (x ∷ xs) = ap (λ cs. value (integer (read x)) ∷ cs) (cells_read read xs)
-
 -- a fault in row i
 pub fault_at_row : (f : ScalarFnRef) (tys : List DataType) (row : ℕ → List Cell) (n i : ℕ) → i < n →
     ((ty : DataType) → return_type f tys ≡ Some ty → apply f ty (row i) ≡ fault) → (ty : DataType) → return_type f tys ≡ Some ty
@@ -92,7 +85,7 @@ module _ (f : ScalarFnRef) (of_type : Option DataType) (row : ℕ → List Cell)
       (ap (λ b. null_unless b (apply f s (row i))) here ∙ ap (λ t. apply f t (row i)) same ∙ none)
 
   -- a column that stores them in the valid rows
-  filled : (ty : DataType) (stored : ℕ → Cell) (u : Tree) → filled_type valid of_type ≡ Some ty → (dtype u ≡ ty) × IsMade valid stored n u
+  pub filled : (ty : DataType) (stored : ℕ → Cell) (u : Tree) → filled_type valid of_type ≡ Some ty → (dtype u ≡ ty) × IsMade valid stored n u
       → ((i : ℕ) → i < n → is_valid valid i ≡ true → stored i ≡ apply f ty (row i)) → IsFilled f of_type row valid n u
   filled ty stored u typed made same = record {
     typed = typed ∙ ap Some (sym made.0);
@@ -118,17 +111,21 @@ module _ (f : ScalarFnRef) (of_type : Option DataType) (row : ℕ → List Cell)
       bools_filled r (λ i. is_valid valid i && bit_row bits i) kept typed
       (λ i lt here. ap (λ b. value (boolean (b && bit_row bits i))) here ∙ ap (λ b. value (boolean b)) (bit_made test bits n i are lt) ∙ given i)
 
-  module _ (sized : HasValidity valid n) (v : Validity) (told : IsValidityOf valid n v) (r : Result Canonical VortexError) where
-    pub integers_filled : (p : PType) (zs : List ℤ) (g : ℕ → Cell) → filled_type valid of_type ≡ Some (primitive p (nullability_in valid)) →
-        map (λ z. value (integer z)) zs ≡ map g (range_with_len 0 n) →
-        ((i : ℕ) → i < n → is_valid valid i ≡ true → g i ≡ apply f (primitive p (nullability_in valid)) (row i)) →
-        IfOk r (λ c. canonical_tree c ≡ integer_column p zs v) → IfOk r (λ c. IsFilled f of_type row valid n (canonical_tree c))
-    integers_filled p zs g typed cells same =
-        let long : length zs ≡ n = sym (length-map zs (λ z. value (integer z))) ∙ ap length cells ∙ length-map-range_with_len g 0 n in
-        let at_row : (i : ℕ) → i < n → value (integer (get_or zs i (pos 0))) ≡ g i =
-        λ i lt. sym (get_or-map (λ z. value (integer z)) zs i (pos 0) fault (omega (arith, lt, long)))
-        ∙ ap (λ cs. get_or cs i fault) cells ∙ get_or-map-range_with_len g 0 n i i fault lt (omega arith) in
-        IfOk-weaker r _ _
-        (λ c new. filled (primitive p (nullability_in valid)) (λ i. value (integer (get_or zs i (pos 0)))) (canonical_tree c) typed
-        (integers_made valid n sized v told p zs (λ i. get_or zs i (pos 0)) (canonical_tree c) (by_rows zs (pos 0) n long) new)
-        (λ i lt here. at_row i lt ∙ same i lt here))
+-- integers that are calculated: the numbers that items stand for
+module _ {T : Type 0} (read : T → ℤ) (valid : ValidRows) (cell : ℕ → Cell) (n : ℕ) (xs : List T) (zs : List ℤ) (are : zs ≡ map read xs)
+    (made : map (λ x. value (integer (read x))) xs ≡ calculated_rows (is_valid valid) cell n) where
+  cells_read : map (λ z. value (integer z)) zs ≡ calculated_rows (is_valid valid) cell n
+  cells_read = ap (map (λ z. value (integer z))) are ∙ map-map (λ z. value (integer z)) read xs ∙ made
+
+  pub calculated_long : length zs ≡ n
+  calculated_long =
+      sym (length-map zs (λ z. value (integer z))) ∙ ap length cells_read ∙ length-map-range_with_len (λ i. zero_unless (is_valid valid i) (cell i)) 0 n
+
+  pub calculated_made : (u : Tree) → IsMade valid (λ i. value (integer (get_or zs i (pos 0)))) n u → IsMade valid cell n u
+  calculated_made u =
+      let long = calculated_long in
+      made_by valid (λ i. value (integer (get_or zs i (pos 0)))) cell n u
+      (λ i lt here. sym (get_or-map (λ z. value (integer z)) zs i (pos 0) fault (omega (arith, lt, long)))
+      ∙ ap (λ cs. get_or cs i fault) cells_read
+      ∙ get_or-map-range_with_len (λ j. zero_unless (is_valid valid j) (cell j)) 0 n i i fault lt (omega arith)
+      ∙ ap (λ b. zero_unless b (cell i)) here)

@@ -17,3 +17,5 @@ pub mod FilteredLemmas
 pub mod ShownLemmas
 pub mod TypedLemmas
 pub mod MaskedLemmas
+pub mod CastsLemmas
+pub mod OperandsLemmas

@@ -98,8 +98,11 @@ by_rows xs d n long =
 pub counted : {X : Type 0} (f : ℕ → X) (xs : List X) (n : ℕ) → xs ≡ map f (range_with_len 0 n) → length xs ≡ n
 counted f xs n made = ap length made ∙ length-map-range_with_len f 0 n
 
+pub row_made : {X : Type 0} (d : X) (f : ℕ → X) (xs : List X) (n i : ℕ) → xs ≡ map f (range_with_len 0 n) → i < n → get_or xs i d ≡ f i
+row_made d f xs n i made lt = ap (λ ys. get_or ys i d) made ∙ get_or-map-range_with_len f 0 n i i d lt (omega arith)
+
 pub bit_made : (f : ℕ → Bool) (bits : List Bool) (n i : ℕ) → bits ≡ map f (range_with_len 0 n) → i < n → bit_row bits i ≡ f i
-bit_made f bits n i made lt = ap (λ bs. bit_row bs i) made ∙ get_or-map-range_with_len f 0 n i i false lt (omega arith)
+bit_made = row_made false
 
 -- a value, or null
 pub filled_cell : (b : Bool) (w : Value) → valid_cell (value (boolean b)) (value w) ≡ null_unless b (value w)

@@ -19,3 +19,4 @@ pub mod Selected
 pub mod Bounds
 pub mod Filtered
 pub mod Masked
+pub mod Casts

@@ -2,14 +2,18 @@
 use Rattle.std.specs.Prelude.{◌≡◌, ◌⊎◌, ◌&&◌, ℕ, ℤ, pos, ◌<◌, Bool, true, false, List, map, length, slice_index_or}
 use Rattle.std.specs.List.{range_with_len}
 use Rattle.std.specs.Ordering.{int_cmp}
+use Rattle.vx_value.specs.Types.{primitive}
 use Rattle.vx_value.specs.Values.{integer}
 use Rattle.vx_value.specs.Cell.{Cell, value, fault}
 use Rattle.vx_value.specs.declared.dtype.PType.{PType}
 use Rattle.vx_value.specs.declared.error.VortexError.{VortexError}
 use Rattle.vx_value.specs.declared.error.VortexError.TheVariants.{OutOfMemory, Fault}
-use Rattle.vx_fn.specs.Arithmetic.{calculated}
 use Rattle.vx_fn.specs.Comparisons.{holds}
 use Rattle.vx_fn.specs.declared.function.Operator.{Operator}
+use Rattle.vx_tree.specs.Tree.{Tree, dtype}
+use Rattle.vx_column.specs.Computed.{IsMade}
+use Rattle.vx_column.specs.ValidRows.{nullability_in}
+use Rattle.vx_column.specs.declared.valid.ValidRows.{ValidRows}
 use Rattle.vx_column.specs.declared.operand.Operand.{Operand}
 use Rattle.vx_column.specs.declared.operand.Operand.TheVariants.{Rows, Value}
 
@@ -27,19 +31,22 @@ HasRow (Value x) i = Unit {0}
 abbrev pub HasRows : {T : Type 0} → Operand T → ℕ → Type 0
 HasRows x n = (i : ℕ) → i < n → HasRow x i
 
--- the cell that a calculation stores: 0 if the row is null
-abbrev pub calculated_cell : Operator → PType → Bool → ℤ → ℤ → Cell
-calculated_cell op p true x y = calculated op p x y
-calculated_cell op p false x y = value (integer (pos 0))
+-- the cell that is stored of a row: 0 if it is null
+abbrev pub zero_unless : Bool → Cell → Cell
+zero_unless true c = c
+zero_unless false c = value (integer (pos 0))
 
--- those of n rows, of which row i is `l i` and `r i`, null unless `valid i`
-abbrev pub calculated_rows : Operator → PType → (ℕ → Bool) → (ℕ → ℤ) → (ℕ → ℤ) → ℕ → List Cell
-calculated_rows op p valid l r n = map (λ i. calculated_cell op p (valid i) (l i) (r i)) (range_with_len 0 n)
+-- those of n rows, of which row i is `cell i`, null unless `valid i`
+abbrev pub calculated_rows : (ℕ → Bool) → (ℕ → Cell) → ℕ → List Cell
+calculated_rows valid cell n = map (λ i. zero_unless (valid i) (cell i)) (range_with_len 0 n)
 
 -- why there are none: out of memory, or one of them is a fault
-abbrev pub IsFaultyRow : Operator → PType → (ℕ → Bool) → (ℕ → ℤ) → (ℕ → ℤ) → ℕ → VortexError → Type 0
-IsFaultyRow op p valid l r n e =
-    (e ≡ OutOfMemory) ⊎ ((e ≡ Fault) × (i : ℕ) × (i < n) × (valid i ≡ true) × (calculated op p (l i) (r i) ≡ fault))
+abbrev pub IsFaultyRow : (ℕ → Bool) → (ℕ → Cell) → ℕ → VortexError → Type 0
+IsFaultyRow valid cell n e = (e ≡ OutOfMemory) ⊎ ((e ≡ Fault) × (i : ℕ) × (i < n) × (valid i ≡ true) × (cell i ≡ fault))
+
+-- u is the canonical column of n integers of type p: row i is `cell i`, null unless it is valid
+abbrev pub IsCalculated : PType → ValidRows → (ℕ → Cell) → ℕ → Tree → Type 0
+IsCalculated p valid cell n u = (dtype u ≡ primitive p (nullability_in valid)) × IsMade valid cell n u
 
 -- the bits that a comparison stores: false if the row is null
 abbrev pub compared_rows : Operator → (ℕ → Bool) → (ℕ → ℤ) → (ℕ → ℤ) → ℕ → List Bool

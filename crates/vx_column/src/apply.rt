@@ -10,6 +10,7 @@ ghost use Rattle.vx_column.specs.Computed.{IsTaken, IsComputed, IsNotComputed};
 use crate::argument::{Argument, arguments_of};
 use crate::between::between;
 use crate::boolean::negate;
+use crate::cast::cast;
 use crate::constant::{apply_constants, constants};
 use crate::nulls::{is_not_null, is_null, mask};
 use crate::operate::operate;
@@ -74,6 +75,7 @@ fn apply_to_columns(
         (ScalarFnRef::FillNull, [input, fill_value]) => fill_null(alloc, input, fill_value, len),
         (ScalarFnRef::IsNull, [input]) => is_null(alloc, input, len),
         (ScalarFnRef::IsNotNull, [input]) => is_not_null(alloc, input, len),
+        (ScalarFnRef::Cast(target), [input]) => cast(alloc, target, input, len),
         _ => unreachable!(),
     }
 }
