@@ -23,10 +23,10 @@ use Rattle.vx_tree.proofs.KeepsLemmas.{rows_equal}
 use Rattle.vx_tree.proofs.CellsLemmas.{rows_counted}
 use Rattle.vx_tree.proofs.ValiditiesLemmas.{told_back, whole, no_child, same_nullability}
 use Rattle.vx_column.specs.Filtered.{IsChoice}
-use Rattle.vx_column.specs.Nulls.{validity_cells}
-use Rattle.vx_column.specs.ValidRows.{TellsRows}
-use Rattle.vx_column.proofs.KeepsLemmas.{any_rows, copies_clean}
-use Rattle.vx_column.proofs.ValidRowsLemmas.{one_slot}
+use Rattle.vx_rows.specs.Nulls.{validity_cells}
+use Rattle.vx_rows.specs.ValidRows.{TellsRows}
+use Rattle.vx_rows.proofs.KeepsLemmas.{any_rows, copies_clean}
+use Rattle.vx_rows.proofs.ValidRowsLemmas.{one_slot}
 
 -- ---- cells chosen by a mask
 
@@ -137,6 +137,12 @@ same_choice bits m (Some t) v tells well is none =
 
 pub chosen_count : {X : Type 0} (bits : List Bool) (xs ys : List X) (n : ℕ) → length xs ≡ n → length bits ≡ n → ys ≡ chosen bits xs → true_count bits ≡ length ys
 chosen_count bits xs ys n long masked kept = sym (ap length kept ∙ length-chosen bits xs (omega (arith, long, masked)))
+
+-- a validity of the chosen rows is one of the chosen values
+pub rows_chosen : {X : Type 0} (bits : List Bool) (xs ys : List X) (t u : Tree) (v : Validity) → length xs ≡ len t → length bits ≡ len u → t ≡ u
+    → ys ≡ chosen bits xs → HasRows v (true_count bits) → HasRows v (length ys)
+rows_chosen bits xs ys t u v long masked same kept h =
+    subst (HasRows v) (chosen_count bits xs ys (len t) long (masked ∙ ap len (sym same)) kept) h
 
 module _ {X : Type 0} (read : X → Value) (of_items : List X → Data)
     (cells : (ty : DataType) (n : ℕ) (xs : List X) (css : List (List Cell))

@@ -30,11 +30,11 @@ use Rattle.vx_tree.proofs.ValiditiesLemmas.{whole}
 use Rattle.vx_mask.specs.Logic.{bit_row}
 use Rattle.std.proofs.lemmas.List.FromFn.{length-map-range_with_len}
 use Rattle.vx_column.specs.Masked.{IsBoth}
-use Rattle.vx_column.specs.ValidRows.{IsValidityOf}
-use Rattle.vx_column.specs.declared.valid.ValidRows.TheVariants as rows_valid
-use Rattle.vx_column.proofs.ValidRowsLemmas.{child_told, filled_clean}
-use Rattle.vx_column.specs.Nulls.{validity_cells}
-use Rattle.vx_column.proofs.CellsLemmas.{fault_cell, masked_rows}
+use Rattle.vx_rows.specs.ValidRows.{IsValidityOf}
+use Rattle.vx_rows.specs.declared.valid.ValidRows.TheVariants as rows_valid
+use Rattle.vx_rows.proofs.ValidRowsLemmas.{child_told, filled_clean}
+use Rattle.vx_rows.specs.Nulls.{validity_cells}
+use Rattle.vx_rows.proofs.CellsLemmas.{fault_cell, masked_rows}
 use Rattle.vx_column.proofs.FilteredLemmas.{column_cells}
 use Rattle.vx_column.proofs.TypedLemmas.{CellFits, AllFit, rows_fit}
 

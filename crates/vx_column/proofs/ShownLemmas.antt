@@ -8,12 +8,12 @@ use Rattle.vx_tree.specs.Cells.{rows, shown_cell}
 use Rattle.vx_tree.specs.Keeps.{KeepsExactly}
 use Rattle.vx_tree.specs.Columns.{columnar_tree}
 use Rattle.vx_tree.specs.declared.columnar.Columnar.{Columnar}
-use Rattle.vx_column.specs.Arguments.{IsArgument, value_at}
-use Rattle.vx_column.specs.ValidRows.{is_valid, null_unless}
-use Rattle.vx_column.specs.declared.argument.Argument.{Argument}
-use Rattle.vx_column.specs.declared.argument.ArgumentRows.{ArgumentRows}
-use Rattle.vx_column.specs.declared.argument.ArgumentRows.TheVariants as stored
-use Rattle.vx_column.proofs.KeepsLemmas.{same_exactly}
+use Rattle.vx_rows.specs.Arguments.{IsArgument, value_at}
+use Rattle.vx_rows.specs.ValidRows.{is_valid, null_unless}
+use Rattle.vx_rows.specs.declared.argument.Argument.{Argument}
+use Rattle.vx_rows.specs.declared.argument.ArgumentRows.{ArgumentRows}
+use Rattle.vx_rows.specs.declared.argument.ArgumentRows.TheVariants as stored
+use Rattle.vx_rows.proofs.KeepsLemmas.{same_exactly}
 
 -- a stored value isn't null
 shown_stored : (a : ArgumentRows) (i : ℕ) (b : Bool) → shown_cell (null_unless b (value (value_at a i))) ≡ value (boolean b)

@@ -7,11 +7,10 @@ ghost use Rattle.vx_tree.specs.Columns.{canonical_tree};
 ghost use Rattle.vx_tree.specs.Keeps.{KeepsExactly};
 ghost use Rattle.vx_column.specs.Expanded.{repeated_validity};
 
-use crate::arithmetic::primitive_column;
-use crate::boolean::bool_column;
 use std::alloc::Global;
 use vx_mask::BitBuffer;
 use vx_native::PrimitiveValues;
+use vx_rows::{bool_column, primitive_column};
 use vx_tree::{ArrayView, Canonical, Constant, Validity};
 use vx_value::{Scalar, Storage, VortexError, VortexResult};
 
@@ -34,7 +33,7 @@ pub fn constant_canonicalize(
 }
 
 /// Makes the column of `len` rows, each `scalar`; `false` or 0 stands under a null. The only error is `OutOfMemory`.
-#[tactic(auto, using(crate::proofs::KeepsLemmas::stored_integer, crate::proofs::KeepsLemmas::repeated_rows))]
+#[tactic(auto, using(vx_rows::proofs::StoredLemmas::stored_integer, crate::proofs::RepeatedLemmas::repeated_rows))]
 fn repeat(alloc: Global, scalar: &Scalar, len: usize) -> VortexResult<Canonical>
     requires { has_column scalar.now.of_type ≡ true }
     ensures ok { IfOk result (λ c. KeepsExactly (constant_of scalar.now len) (canonical_tree c)) }

@@ -10,12 +10,11 @@ ghost use Rattle.vx_tree.specs.Keeps.{KeepsExactly};
 ghost use Rattle.vx_tree.specs.Columns.{canonical_tree};
 ghost use Rattle.vx_tree.specs.Validities.{nullability_by, child_of, HasRows};
 ghost use Rattle.vx_column.specs.Filtered.{IsChoice};
-ghost use Rattle.vx_column.specs.ValidRows.{TellsRows};
+ghost use Rattle.vx_rows.specs.ValidRows.{TellsRows};
 
-use crate::arithmetic::primitive_column;
-use crate::boolean::bool_column;
 use std::alloc::Global;
 use vx_mask::Mask;
+use vx_rows::{bool_column, primitive_column};
 use vx_tree::{
     ArrayKind, ArrayRef, Canonical, FilterArray, IntoArray, Validity, child_to_validity,
 };

@@ -13,12 +13,10 @@ ghost use Rattle.vx_tree.specs.Validities.{nullability_by, child_of, HasRows};
 ghost use Rattle.vx_tree.specs.declared.validity.Validity.TheVariants.{Array};
 ghost use Rattle.vx_column.specs.Masked.{TellsAll, IsBoth};
 
-use crate::arithmetic::primitive_column;
-use crate::boolean::bool_column;
-use crate::valid::ValidRows;
 use std::alloc::Global;
 use vx_fn::{Operator, ScalarFnRef};
 use vx_mask::{BitAnd, BitBuffer, BitOperand};
+use vx_rows::{ValidRows, bool_column, primitive_column};
 use vx_tree::{
     ArrayKind, ArrayRef, Canonical, IntoArray, ScalarFnArray, Validity, validity_to_child,
 };

@@ -5,14 +5,12 @@ ghost use Rattle.vx_mask.specs.Logic.{bit_row};
 ghost use Rattle.vx_tree.specs.Tree.{validity_in};
 ghost use Rattle.vx_tree.specs.Keeps.{KeepsExactly};
 ghost use Rattle.vx_tree.specs.Columns.{canonical_tree, columnar_tree};
-ghost use Rattle.vx_column.specs.Arguments.{IsUnread};
-ghost use Rattle.vx_column.specs.ValidRows.{is_valid, HasValidity};
+ghost use Rattle.vx_rows.specs.Arguments.{IsUnread};
+ghost use Rattle.vx_rows.specs.ValidRows.{is_valid, HasValidity};
 
-use crate::argument::argument_of;
-use crate::boolean::bool_column;
-use crate::valid::ValidRows;
 use std::alloc::{AllocError, Global};
 use vx_mask::BitBuffer;
+use vx_rows::{ValidRows, argument_of, bool_column};
 use vx_tree::{Canonical, Columnar, Validity};
 use vx_value::VortexResult;
 

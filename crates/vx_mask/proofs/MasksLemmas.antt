@@ -2,7 +2,7 @@
 use Rattle.std.specs.Prelude.{not, nat_eq, None}
 use Rattle.std.specs.Bool.{then_some}
 use Rattle.std.specs.List.{list_all}
-use Rattle.std.proofs.Common.{◌≡◌, ◌<◌, ◌≤◌, ◌-◌, ℕ, Bool, true, false, cond, List, [], ◌∷◌, length, take, replicate, slice_range, arith, refl, sym, ◌∙◌, ap, inl, inr}
+use Rattle.std.proofs.Common.{◌≡◌, ◌<◌, ◌≤◌, ◌-◌, ℕ, Bool, true, false, cond, List, [], ◌∷◌, length, take, replicate, slice_range, arith, refl, sym, ◌∙◌, ap, subst, inl, inr}
 use Rattle.std.proofs.Math.Dec.{ltb}
 use Rattle.std.proofs.lemmas.Bool.{cases_lt, cases_Bool, lt-ltb, le-ltb, eq-eqb, ne_eqb}
 use Rattle.std.proofs.lemmas.List.{length-replicate, take-replicate, drop-replicate}
@@ -63,6 +63,11 @@ pub slice_of_copies : (bit : Bool) (n a b : ℕ) → a ≤ b → b ≤ length (r
 slice_of_copies bit n a b order bounds =
     let size = length-replicate n bit in
     ap (take (b - a)) (drop-replicate a n bit) ∙ take-replicate (b - a) (n - a) bit (omega arith)
+
+pub slice_of_same : (bits : List Bool) (bit : Bool) (n a b : ℕ) → bits ≡ replicate n bit → a ≤ b → b ≤ length bits
+    → mask_of (slice_range bits a b) ≡ mask_of (replicate (b - a) bit)
+slice_of_same bits bit n a b same order bounds =
+    ap (λ l. mask_of (slice_range l a b)) same ∙ ap mask_of (slice_of_copies bit n a b order (subst (λ l. b ≤ length l) same bounds))
 
 pub place_in_trues : (n k : ℕ) → then_some (ltb k n) k ≡ true_place (replicate n true) k
 place_in_trues n k = elim (cases_lt k n) [

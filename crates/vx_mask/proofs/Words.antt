@@ -10,7 +10,7 @@ use Rattle.std.proofs.lemmas.Nat.Bits.{bit_at_lowest, bit_at-zero, bit_at_or, bi
 use Rattle.std.proofs.lemmas.Bool.{cases_lt}
 use Rattle.std.proofs.lemmas.Bool.Decides.{nat_tests}
 use Rattle.vx_mask.specs.Bits.{bit_of, bits_of, bit_of_both}
-use Rattle.vx_mask.proofs.BitsLemmas.{bit_of_part}
+use Rattle.vx_mask.proofs.BitsLemmas.{bit_of_part, length_part}
 
 -- a bit of a number that is shifted down
 shifted_down : (n by i : ℕ) → bit_at (n / 2 ^ by) i ≡ bit_at n (by + i)
@@ -85,9 +85,10 @@ bit_from words place by i low high within low_is high_is h =
           ∙ held_by words (64 * place + by + i) (place + 1) (by + i - 64) high (omega arith) (omega arith) high_is
     ]
 
--- bit i of a word that is read from the words is row `index + i` of the part that begins at s
-pub row_of_part : (words : List ℕ) (s n place by index i : ℕ) (bit : Bool) → s + n ≤ 64 * length words → 64 * place + by ≡ s + index
-    → index + i < n → bit ≡ bit_of words (64 * place + by + i) → bit ≡ get_or (take n (drop s (bits_of words))) (index + i) false
-row_of_part words s n place by index i bit bounds at within is =
+-- bit i of a word that is read from the words is row `index + i` of the bits, the part that begins at s
+pub row_of_part : (words : List ℕ) (s n place by index i : ℕ) (bit : Bool) (bits : List Bool) → bits ≡ take n (drop s (bits_of words)) → s + n ≤ 64 * length words
+    → 64 * place + by ≡ s + index → index + i < length bits → bit ≡ bit_of words (64 * place + by + i) → bit ≡ get_or bits (index + i) false
+row_of_part words s n place by index i bit bits part bounds at within is =
     let from : 64 * place + by + i ≡ s + (index + i) = omega arith in
-    is ∙ ap (bit_of words) from ∙ sym (bit_of_part words s n (index + i) within bounds)
+    let there : index + i < n = omega (arith, ap length part, length_part words s n bounds) in
+    is ∙ ap (bit_of words) from ∙ sym (bit_of_part words s n (index + i) there bounds) ∙ ap (λ l. get_or l (index + i) false) (sym part)

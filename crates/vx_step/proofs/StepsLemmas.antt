@@ -21,8 +21,8 @@ use Rattle.vx_step.specs.Waiting.{AreColumns}
 use Rattle.vx_step.specs.declared.steps.ExecutionStep.TheVariants.{ExecuteSlot}
 use Rattle.vx_step.specs.declared.steps.SlotTarget.TheVariants.{Canonical, Columnar}
 use Rattle.vx_tree.proofs.CellsLemmas.{no_fault_at}
-use Rattle.vx_column.specs.Arguments.{IsUnread}
-use Rattle.vx_column.specs.Applied.{IsCall, IsApplied, IsUnapplied, all_constant}
+use Rattle.vx_rows.specs.Arguments.{IsUnread}
+use Rattle.vx_apply.specs.Applied.{IsCall, IsApplied, IsUnapplied, all_constant}
 
 some_same : (s t : DataType) → Some s ≡ Some t → s ≡ t
 some_same s t h = cc

@@ -11,7 +11,7 @@ ghost use Rattle.vx_step.specs.declared.steps.SlotTarget.TheVariants as target;
 
 use crate::steps::{ExecutionStep, SlotTarget};
 use std::alloc::{AllocError, Global};
-use vx_column::apply_fn;
+use vx_apply::apply_fn;
 use vx_fn::ScalarFnRef;
 use vx_tree::{AnyColumnar, ArrayRef, Columnar, IntoArray};
 use vx_value::VortexResult;

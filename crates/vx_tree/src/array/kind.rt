@@ -1,9 +1,10 @@
-//! The one place where nodes are taken apart. What an encoding's data and children are is in the encoding's file.
+//! The one place where nodes are taken apart.
 
-ghost use Rattle.std.specs.Prelude.{◌≡◌};
+ghost use Rattle.std.specs.Prelude.{◌≡◌, Some, true};
 ghost use Rattle.vx_tree.specs.TreeView.{tree_of};
 ghost use Rattle.vx_tree.specs.Well.{IsNodeOf};
 ghost use Rattle.vx_tree.specs.Kinds.{IsKindOf};
+ghost use Rattle.vx_tree.specs.Refusals.{is_present};
 
 use crate::array::{ArrayRef, Encoding, Node};
 use vx_fn::ScalarFnRef;
@@ -41,19 +42,32 @@ impl ArrayRef {
     }
 }
 
-/// Returns the data and children of `node`.
+/// Returns the data and children of `node`: a line for each encoding.
 fn kind_of(node: &Node) -> ArrayKind<'_>
     requires { IsNodeOf (tree_of node.now) }
     ensures { IsKindOf result (tree_of node.now) }
 {
     match &node.encoding {
-        Encoding::Constant(data) => data.kind_of(node),
-        Encoding::Slice(data) => data.kind_of(node),
-        Encoding::Filter(data) => data.kind_of(node),
-        Encoding::Masked(data) => data.kind_of(node),
-        Encoding::ScalarFnValidity(data) => data.kind_of(node),
-        Encoding::ScalarFn(data) => data.kind_of(node),
-        Encoding::Bool(data) => data.kind_of(node),
-        Encoding::Primitive(data) => data.kind_of(node),
+        Encoding::Constant(data) => ArrayKind::Constant(&data.scalar),
+        Encoding::Slice(data) => ArrayKind::Slice(
+            present(&node.slots[0]),
+            data.range.start,
+            data.range.end,
+        ),
+        Encoding::Filter(data) => ArrayKind::Filter(present(&node.slots[0]), &data.mask),
+        Encoding::Masked(_) => ArrayKind::Masked(present(&node.slots[0]), &node.slots[1]),
+        Encoding::ScalarFnValidity(_) => ArrayKind::ScalarFnValidity(present(&node.slots[0])),
+        Encoding::ScalarFn(data) => ArrayKind::ScalarFn(&data.scalar_fn, &node.slots),
+        Encoding::Bool(data) => ArrayKind::Bool(&data.bits, &node.slots[0]),
+        Encoding::Primitive(data) => ArrayKind::Primitive(&data.values, &node.slots[0]),
     }
+}
+
+/// Returns the tree in `slot`, which must have one.
+fn present(slot: &Option<ArrayRef>) -> &ArrayRef
+    requires { is_present slot.now ≡ true }
+    ensures { slot.now ≡ Some result.now }
+{
+    let Some(child) = slot else { unreachable!() };
+    child
 }

@@ -1,23 +1,17 @@
 //! Boolean columns.
 
-ghost use Rattle.std.specs.Prelude.{◌≡◌, ◌⊎◌, ◌≤◌, IfOk, IfErr, OnOk, Some, None, true, refl, is_ok, length, option_map};
+ghost use Rattle.std.specs.Prelude.{◌≡◌, ◌⊎◌, ◌≤◌, IfOk, IfErr, OnOk, Some, None, is_ok, length, option_map};
 ghost use Rattle.vx_value.specs.View.{type_of};
 ghost use Rattle.vx_value.specs.Types as type;
 ghost use Rattle.vx_value.specs.declared.dtype.Nullability.TheVariants.{NonNullable};
 ghost use Rattle.vx_value.specs.declared.id.Id.TheVariants as id;
 ghost use Rattle.vx_tree.specs.Tree.{bool, is_bool, column, len, datum, slice_of};
-ghost use Rattle.vx_tree.specs.TreeView.{tree_of};
-ghost use Rattle.vx_tree.specs.Well.{IsNodeOf};
-ghost use Rattle.vx_tree.specs.Kinds.{IsKindOf};
 ghost use Rattle.vx_tree.specs.Keeps.{KeepsExactly};
 ghost use Rattle.vx_tree.specs.Validities.{child_of, flat_refusal};
 ghost use Rattle.vx_tree.specs.Columns.{canonical_tree, bool_column, empty_of};
 
-use crate::array::{
-    Array, ArrayId, ArrayKind, ArrayParts, ArrayRef, Encoded, Encoding, Node, VTable,
-};
+use crate::array::{Array, ArrayId, ArrayKind, ArrayParts, ArrayRef, VTable};
 use crate::arrays::column::{check_column, flat_column, flat_slice};
-use crate::arrays::payload;
 use crate::canonical::Canonical;
 use crate::validity::Validity;
 use std::alloc::Global;
@@ -38,27 +32,8 @@ pub struct BoolData {
     pub bits: BitBuffer,
 }
 
-impl BoolData {
-    /// Returns the data and children of `node`, whose data this is. (own)
-    pub(crate) fn kind_of<'a>(&'a self, node: &'a Node) -> ArrayKind<'a>
-        requires well { IsNodeOf (tree_of node.now) }
-        requires own { node.now.encoding ≡ Encoding.Bool self.now }
-        ensures { IsKindOf result (tree_of node.now) }
-    {
-        ArrayKind::Bool(&self.bits, &node.slots[0])
-    }
-}
-
-impl Encoded for Bool {
-    type TypedArrayData = BoolData;
-}
-
 impl VTable for Bool {
-    ghost is_kind = { is_bool };
-
     ghost named = { λ _. id.Bool };
-
-    ghost stands_for = { λ d. bool d.bits };
 
     fn id(&self) -> ArrayId {
         Id::Bool
@@ -68,18 +43,6 @@ impl VTable for Bool {
         Bool
     }
 
-    fn project(encoding: &Encoding) -> Option<&BoolData> {
-        payload!(encoding, Bool)
-    }
-
-    fn into_data(encoding: Encoding) -> Option<BoolData> {
-        payload!(encoding, Bool)
-    }
-
-    fn wrap(payload: BoolData) -> Encoding {
-        Encoding::Bool(payload)
-    }
-
     fn validate(_alloc: Global, parts: &ArrayParts<Bool>) -> VortexResult<()> {
         check_column(
             parts,
@@ -87,8 +50,6 @@ impl VTable for Bool {
             parts.payload.bits.len(),
         )
     }
-
-    ghost kind_of = { λ d. refl };
 }
 
 impl BoolArray {

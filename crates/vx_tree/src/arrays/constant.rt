@@ -1,15 +1,11 @@
 //! Arrays that repeat one value.
 
-ghost use Rattle.std.specs.Prelude.{◌≡◌, ◌⊎◌, IfOk, IfErr, OnOk, true, false, refl};
+ghost use Rattle.std.specs.Prelude.{◌≡◌, ◌⊎◌, IfOk, IfErr, OnOk, true, false};
 ghost use Rattle.vx_value.specs.declared.id.Id.TheVariants as id;
 ghost use Rattle.vx_tree.specs.ColumnTypes.{has_column};
-ghost use Rattle.vx_tree.specs.Tree.{constant, is_constant, constant_of};
-ghost use Rattle.vx_tree.specs.TreeView.{tree_of};
-ghost use Rattle.vx_tree.specs.Well.{IsNodeOf};
-ghost use Rattle.vx_tree.specs.Kinds.{IsKindOf};
+ghost use Rattle.vx_tree.specs.Tree.{constant, constant_of};
 
-use crate::array::{Array, ArrayId, ArrayKind, ArrayParts, Encoded, Encoding, Node, VTable};
-use crate::arrays::payload;
+use crate::array::{Array, ArrayId, ArrayParts, VTable};
 use crate::arrays::types::is_same_type;
 use crate::column_types::has_column;
 use std::alloc::Global;
@@ -42,27 +38,10 @@ impl ConstantData {
     {
         &self.scalar
     }
-
-    /// Returns the data and children of `node`, whose data this is. (own)
-    pub(crate) fn kind_of<'a>(&'a self, node: &'a Node) -> ArrayKind<'a>
-        requires well { IsNodeOf (tree_of node.now) }
-        requires own { node.now.encoding ≡ Encoding.Constant self.now }
-        ensures { IsKindOf result (tree_of node.now) }
-    {
-        ArrayKind::Constant(&self.scalar)
-    }
-}
-
-impl Encoded for Constant {
-    type TypedArrayData = ConstantData;
 }
 
 impl VTable for Constant {
-    ghost is_kind = { is_constant };
-
     ghost named = { λ _. id.Constant };
-
-    ghost stands_for = { λ d. constant d.scalar };
 
     fn id(&self) -> ArrayId {
         Id::Constant
@@ -70,18 +49,6 @@ impl VTable for Constant {
 
     fn tag(_payload: &ConstantData) -> Constant {
         Constant
-    }
-
-    fn project(encoding: &Encoding) -> Option<&ConstantData> {
-        payload!(encoding, Constant)
-    }
-
-    fn into_data(encoding: Encoding) -> Option<ConstantData> {
-        payload!(encoding, Constant)
-    }
-
-    fn wrap(payload: ConstantData) -> Encoding {
-        Encoding::Constant(payload)
     }
 
     #[tactic(auto, using(crate::proofs::RefusalsLemmas::constant_slot_count, std::proofs::lemmas::List::nil_from_length))]
@@ -97,8 +64,6 @@ impl VTable for Constant {
         }
         Ok(())
     }
-
-    ghost kind_of = { λ d. refl };
 }
 
 impl ConstantArray {

@@ -1,19 +1,13 @@
 //! Lazy filters of other arrays.
 
-ghost use Rattle.std.specs.Prelude.{◌≡◌, ◌⊎◌, ◌≢◌, ◌==◌, IfOk, IfErr, OnOk, Some, None, true, refl, length};
+ghost use Rattle.std.specs.Prelude.{◌≡◌, ◌⊎◌, ◌≢◌, ◌==◌, IfOk, IfErr, OnOk, Some, length};
 ghost use Rattle.vx_value.specs.declared.id.Id.TheVariants as id;
 ghost use Rattle.vx_mask.specs.Masks.{bits_in};
 ghost use Rattle.vx_mask.specs.Places.{true_count};
-ghost use Rattle.vx_tree.specs.Tree.{len, filter, is_filter, filter_of};
-ghost use Rattle.vx_tree.specs.TreeView.{tree_of};
-ghost use Rattle.vx_tree.specs.Well.{IsNodeOf};
-ghost use Rattle.vx_tree.specs.Kinds.{IsKindOf};
+ghost use Rattle.vx_tree.specs.Tree.{len, filter, filter_of};
 
-use crate::array::{
-    Array, ArrayId, ArrayKind, ArrayParts, ArrayRef, Encoded, Encoding, Node, VTable,
-};
+use crate::array::{Array, ArrayId, ArrayParts, ArrayRef, VTable};
 use crate::arrays::child::only_child;
-use crate::arrays::payload;
 use crate::arrays::types::is_same_type;
 use std::alloc::Global;
 use vx_mask::Mask;
@@ -74,30 +68,10 @@ impl FilterData {
     {
         FilterDataParts { mask: self.mask }
     }
-
-    /// Returns the data and children of `node`, whose data this is. (own)
-    pub(crate) fn kind_of<'a>(&'a self, node: &'a Node) -> ArrayKind<'a>
-        requires well { IsNodeOf (tree_of node.now) }
-        requires own { node.now.encoding ≡ Encoding.Filter self.now }
-        ensures { IsKindOf result (tree_of node.now) }
-    {
-        let Some(child) = &node.slots[0] else {
-            unreachable!()
-        };
-        ArrayKind::Filter(child, &self.mask)
-    }
-}
-
-impl Encoded for Filter {
-    type TypedArrayData = FilterData;
 }
 
 impl VTable for Filter {
-    ghost is_kind = { is_filter };
-
     ghost named = { λ _. id.Filter };
-
-    ghost stands_for = { λ d. filter (bits_in d.mask) };
 
     fn id(&self) -> ArrayId {
         Id::Filter
@@ -105,18 +79,6 @@ impl VTable for Filter {
 
     fn tag(_payload: &FilterData) -> Filter {
         Filter
-    }
-
-    fn project(encoding: &Encoding) -> Option<&FilterData> {
-        payload!(encoding, Filter)
-    }
-
-    fn into_data(encoding: Encoding) -> Option<FilterData> {
-        payload!(encoding, Filter)
-    }
-
-    fn wrap(payload: FilterData) -> Encoding {
-        Encoding::Filter(payload)
     }
 
     #[tactic(auto, using(crate::proofs::RefusalsLemmas::by_child))]
@@ -131,8 +93,6 @@ impl VTable for Filter {
         }
         Ok(())
     }
-
-    ghost kind_of = { λ d. refl };
 }
 
 /// Checks that `mask` chooses among `len` rows.

@@ -1,21 +1,16 @@
 //! Arrays some of whose rows are made null.
 
-ghost use Rattle.std.specs.Prelude.{◌≡◌, ℕ, ◌∷◌, [], MatchResult, IfOk, IfErr, Some, None, true, refl, option_map};
+ghost use Rattle.std.specs.Prelude.{◌≡◌, ℕ, ◌∷◌, [], MatchResult, IfOk, IfErr, Some, None, option_map};
 ghost use Rattle.vx_value.specs.Types.{DataType};
 ghost use Rattle.vx_value.specs.declared.id.Id.TheVariants as id;
 ghost use Rattle.vx_value.specs.declared.dtype.Nullability.TheVariants.{Nullable};
-ghost use Rattle.vx_tree.specs.Tree.{len, masked, is_masked, masked_of, slots_of};
-ghost use Rattle.vx_tree.specs.TreeView.{tree_of};
-ghost use Rattle.vx_tree.specs.Well.{IsNodeOf, shape_of, shapes};
+ghost use Rattle.vx_tree.specs.Tree.{len, masked, masked_of, slots_of};
+ghost use Rattle.vx_tree.specs.Well.{shape_of, shapes};
 ghost use Rattle.vx_tree.specs.Refusals.{masked_refusal};
 ghost use Rattle.vx_tree.specs.Validities.{HasRows, nullability_by, child_of};
-ghost use Rattle.vx_tree.specs.Kinds.{IsKindOf};
 
-use crate::array::{
-    Array, ArrayId, ArrayKind, ArrayParts, ArrayRef, Encoded, Encoding, Node, VTable,
-};
+use crate::array::{Array, ArrayId, ArrayParts, ArrayRef, VTable};
 use crate::arrays::column::{check_validity_len, check_validity_type};
-use crate::arrays::payload;
 use crate::arrays::types::is_same_type;
 use crate::validity::{Validity, validity_to_child};
 use std::alloc::Global;
@@ -32,30 +27,8 @@ pub type MaskedArray = Array<Masked>;
 #[derive(Clone, Copy, Debug)]
 pub struct MaskedData;
 
-impl MaskedData {
-    /// Returns the children of `node`. (own)
-    pub(crate) fn kind_of<'a>(&'a self, node: &'a Node) -> ArrayKind<'a>
-        requires well { IsNodeOf (tree_of node.now) }
-        requires own { node.now.encoding ≡ Encoding.Masked self.now }
-        ensures { IsKindOf result (tree_of node.now) }
-    {
-        let Some(child) = &node.slots[0] else {
-            unreachable!()
-        };
-        ArrayKind::Masked(child, &node.slots[1])
-    }
-}
-
-impl Encoded for Masked {
-    type TypedArrayData = MaskedData;
-}
-
 impl VTable for Masked {
-    ghost is_kind = { is_masked };
-
     ghost named = { λ _. id.Masked };
-
-    ghost stands_for = { λ _. masked };
 
     fn id(&self) -> ArrayId {
         Id::Masked
@@ -63,18 +36,6 @@ impl VTable for Masked {
 
     fn tag(_payload: &MaskedData) -> Masked {
         Masked
-    }
-
-    fn project(encoding: &Encoding) -> Option<&MaskedData> {
-        payload!(encoding, Masked)
-    }
-
-    fn into_data(encoding: Encoding) -> Option<MaskedData> {
-        payload!(encoding, Masked)
-    }
-
-    fn wrap(payload: MaskedData) -> Encoding {
-        Encoding::Masked(payload)
     }
 
     #[tactic(auto, using(crate::proofs::RefusalsLemmas::masked_by_slots))]
@@ -89,8 +50,6 @@ impl VTable for Masked {
         }
         check_validity_len(parts.len, validity, 1)
     }
-
-    ghost kind_of = { λ d. refl };
 }
 
 /// Returns the child of a masked array with these slots, and the slot of its validity. `InvalidArgument` with `SlotCount` or

@@ -1,24 +1,18 @@
 //! Integer columns.
 
-ghost use Rattle.std.specs.Prelude.{◌≡◌, ◌⊎◌, ◌≤◌, IfOk, IfErr, OnOk, Some, None, true, refl, is_ok, length, option_map};
+ghost use Rattle.std.specs.Prelude.{◌≡◌, ◌⊎◌, ◌≤◌, IfOk, IfErr, OnOk, Some, None, is_ok, length, option_map};
 ghost use Rattle.vx_value.specs.View.{type_of};
 ghost use Rattle.vx_value.specs.Types as type;
 ghost use Rattle.vx_value.specs.declared.dtype.Nullability.TheVariants.{NonNullable};
 ghost use Rattle.vx_native.specs.Natives.{values_of, ptype_of};
 ghost use Rattle.vx_value.specs.declared.id.Id.TheVariants as id;
 ghost use Rattle.vx_tree.specs.Tree.{primitive, is_primitive, column, len, datum, slice_of};
-ghost use Rattle.vx_tree.specs.TreeView.{tree_of};
-ghost use Rattle.vx_tree.specs.Well.{IsNodeOf};
-ghost use Rattle.vx_tree.specs.Kinds.{IsKindOf};
 ghost use Rattle.vx_tree.specs.Keeps.{KeepsExactly};
 ghost use Rattle.vx_tree.specs.Validities.{child_of, flat_refusal};
 ghost use Rattle.vx_tree.specs.Columns.{canonical_tree, primitive_column, empty_of};
 
-use crate::array::{
-    Array, ArrayId, ArrayKind, ArrayParts, ArrayRef, Encoded, Encoding, Node, VTable,
-};
+use crate::array::{Array, ArrayId, ArrayKind, ArrayParts, ArrayRef, VTable};
 use crate::arrays::column::{check_column, flat_column, flat_slice};
-use crate::arrays::payload;
 use crate::canonical::Canonical;
 use crate::validity::Validity;
 use std::alloc::Global;
@@ -39,27 +33,8 @@ pub struct PrimitiveData {
     pub values: PrimitiveValues,
 }
 
-impl PrimitiveData {
-    /// Returns the data and children of `node`, whose data this is. (own)
-    pub(crate) fn kind_of<'a>(&'a self, node: &'a Node) -> ArrayKind<'a>
-        requires well { IsNodeOf (tree_of node.now) }
-        requires own { node.now.encoding ≡ Encoding.Primitive self.now }
-        ensures { IsKindOf result (tree_of node.now) }
-    {
-        ArrayKind::Primitive(&self.values, &node.slots[0])
-    }
-}
-
-impl Encoded for Primitive {
-    type TypedArrayData = PrimitiveData;
-}
-
 impl VTable for Primitive {
-    ghost is_kind = { is_primitive };
-
     ghost named = { λ _. id.Primitive };
-
-    ghost stands_for = { λ d. primitive (ptype_of d.values) (values_of d.values) };
 
     fn id(&self) -> ArrayId {
         Id::Primitive
@@ -69,25 +44,11 @@ impl VTable for Primitive {
         Primitive
     }
 
-    fn project(encoding: &Encoding) -> Option<&PrimitiveData> {
-        payload!(encoding, Primitive)
-    }
-
-    fn into_data(encoding: Encoding) -> Option<PrimitiveData> {
-        payload!(encoding, Primitive)
-    }
-
-    fn wrap(payload: PrimitiveData) -> Encoding {
-        Encoding::Primitive(payload)
-    }
-
     fn validate(_alloc: Global, parts: &ArrayParts<Primitive>) -> VortexResult<()> {
         let values = &parts.payload.values;
         let of_type = DType::Primitive(values.ptype(), Nullability::NonNullable);
         check_column(parts, &of_type, values.len())
     }
-
-    ghost kind_of = { λ d. refl };
 }
 
 impl PrimitiveArray {

@@ -1,20 +1,15 @@
 //! Lazy functions of other arrays.
 
-ghost use Rattle.std.specs.Prelude.{◌≡◌, ◌⊎◌, ◌++◌, map, IfOk, IfErr, OnOk, Some, None, true, false, refl};
+ghost use Rattle.std.specs.Prelude.{◌≡◌, ◌⊎◌, ◌++◌, map, IfOk, IfErr, OnOk, Some, None, true, false};
 ghost use Rattle.vx_value.specs.View.{type_of};
-ghost use Rattle.vx_tree.specs.Tree.{function, is_function, slots_of, filled_slots};
-ghost use Rattle.vx_tree.specs.TreeView.{tree_of};
-ghost use Rattle.vx_tree.specs.Well.{shapes, IsNodeOf};
-ghost use Rattle.vx_tree.specs.Kinds.{IsKindOf};
+ghost use Rattle.vx_tree.specs.Tree.{function, slots_of, filled_slots};
+ghost use Rattle.vx_tree.specs.Well.{shapes};
 ghost use Rattle.vx_tree.specs.Refusals.{arity_refusal, slots_refusal, types_refusal, lengths_refusal, result_refusal, column_type_refusal};
 ghost use Rattle.vx_tree.specs.Refusals.{all_present, all_long, types_in, is_present, is_long, type_in};
 ghost use Rattle.vx_tree.specs.Calls.{call_refusal, inferred_refusal, called, inferred};
 ghost use Rattle.vx_fn.specs.ReturnTypes.{return_type};
 
-use crate::array::{
-    Array, ArrayId, ArrayKind, ArrayParts, ArrayRef, Encoded, Encoding, Node, VTable,
-};
-use crate::arrays::payload;
+use crate::array::{Array, ArrayId, ArrayParts, ArrayRef, VTable};
 use crate::arrays::types::is_same_type;
 use crate::column_types::has_column;
 use std::alloc::{AllocError, Global};
@@ -51,27 +46,10 @@ impl ScalarFnData {
     {
         &self.scalar_fn
     }
-
-    /// Returns the data and children of `node`, whose data this is. (own)
-    pub(crate) fn kind_of<'a>(&'a self, node: &'a Node) -> ArrayKind<'a>
-        requires well { IsNodeOf (tree_of node.now) }
-        requires own { node.now.encoding ≡ Encoding.ScalarFn self.now }
-        ensures { IsKindOf result (tree_of node.now) }
-    {
-        ArrayKind::ScalarFn(&self.scalar_fn, &node.slots)
-    }
-}
-
-impl Encoded for ScalarFn {
-    type TypedArrayData = ScalarFnData;
 }
 
 impl VTable for ScalarFn {
-    ghost is_kind = { is_function };
-
     ghost named = { λ tag. tag.id };
-
-    ghost stands_for = { λ d. function d.scalar_fn };
 
     fn id(&self) -> ArrayId {
         self.id
@@ -83,18 +61,6 @@ impl VTable for ScalarFn {
         }
     }
 
-    fn project(encoding: &Encoding) -> Option<&ScalarFnData> {
-        payload!(encoding, ScalarFn)
-    }
-
-    fn into_data(encoding: Encoding) -> Option<ScalarFnData> {
-        payload!(encoding, ScalarFn)
-    }
-
-    fn wrap(payload: ScalarFnData) -> Encoding {
-        Encoding::ScalarFn(payload)
-    }
-
     #[tactic(auto, using(crate::proofs::ConditionsLemmas::in_turn))]
     fn validate(alloc: Global, parts: &ArrayParts<ScalarFn>) -> VortexResult<()> {
         let function = &parts.payload.scalar_fn;
@@ -102,8 +68,6 @@ impl VTable for ScalarFn {
         check_types(alloc, parts.vtable.id, function, &parts.dtype, &parts.slots)?;
         check_lengths(parts.len, &parts.slots)
     }
-
-    ghost kind_of = { λ d. refl };
 }
 
 /// Checks that each slot has a tree and that `function` takes that many arguments.

@@ -1,17 +1,11 @@
 //! Lazy tests for null.
 
-ghost use Rattle.std.specs.Prelude.{◌≡◌, IfOk, IfErr, Some, None, true, refl};
+ghost use Rattle.std.specs.Prelude.{◌≡◌, IfOk, IfErr, Some};
 ghost use Rattle.vx_value.specs.declared.id.Id.TheVariants as id;
-ghost use Rattle.vx_tree.specs.Tree.{is_valid, is_validity, validity_in};
-ghost use Rattle.vx_tree.specs.TreeView.{tree_of};
-ghost use Rattle.vx_tree.specs.Well.{IsNodeOf};
-ghost use Rattle.vx_tree.specs.Kinds.{IsKindOf};
+ghost use Rattle.vx_tree.specs.Tree.{validity_in};
 
-use crate::array::{
-    Array, ArrayId, ArrayKind, ArrayParts, ArrayRef, Encoded, Encoding, Node, VTable,
-};
+use crate::array::{Array, ArrayId, ArrayParts, ArrayRef, VTable};
 use crate::arrays::child::only_child;
-use crate::arrays::payload;
 use crate::arrays::types::{BOOLEANS, is_same_type};
 use std::alloc::Global;
 use std::fmt;
@@ -35,30 +29,8 @@ impl fmt::Display for EmptyArrayData {
     }
 }
 
-impl EmptyArrayData {
-    /// Returns the child of `node`, which tells its validity. (own)
-    pub(crate) fn kind_of<'a>(&'a self, node: &'a Node) -> ArrayKind<'a>
-        requires well { IsNodeOf (tree_of node.now) }
-        requires own { node.now.encoding ≡ Encoding.ScalarFnValidity self.now }
-        ensures { IsKindOf result (tree_of node.now) }
-    {
-        let Some(child) = &node.slots[0] else {
-            unreachable!()
-        };
-        ArrayKind::ScalarFnValidity(child)
-    }
-}
-
-impl Encoded for ScalarFnValidity {
-    type TypedArrayData = EmptyArrayData;
-}
-
 impl VTable for ScalarFnValidity {
-    ghost is_kind = { is_validity };
-
     ghost named = { λ _. id.ScalarFnValidity };
-
-    ghost stands_for = { λ _. is_valid };
 
     fn id(&self) -> ArrayId {
         Id::ScalarFnValidity
@@ -66,18 +38,6 @@ impl VTable for ScalarFnValidity {
 
     fn tag(_payload: &EmptyArrayData) -> ScalarFnValidity {
         ScalarFnValidity
-    }
-
-    fn project(encoding: &Encoding) -> Option<&EmptyArrayData> {
-        payload!(encoding, ScalarFnValidity)
-    }
-
-    fn into_data(encoding: Encoding) -> Option<EmptyArrayData> {
-        payload!(encoding, ScalarFnValidity)
-    }
-
-    fn wrap(payload: EmptyArrayData) -> Encoding {
-        Encoding::ScalarFnValidity(payload)
     }
 
     #[tactic(auto, using(crate::proofs::RefusalsLemmas::by_child))]
@@ -91,8 +51,6 @@ impl VTable for ScalarFnValidity {
         }
         Ok(())
     }
-
-    ghost kind_of = { λ d. refl };
 }
 
 impl ScalarFnValidityArray {

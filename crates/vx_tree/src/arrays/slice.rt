@@ -1,17 +1,11 @@
 //! Lazy slices of other arrays.
 
-ghost use Rattle.std.specs.Prelude.{◌≡◌, ◌⊎◌, ◌-◌, ◌≤◌, ◌==◌, IfOk, IfErr, OnOk, Some, None, true, refl};
+ghost use Rattle.std.specs.Prelude.{◌≡◌, ◌⊎◌, ◌-◌, ◌≤◌, ◌==◌, IfOk, IfErr, OnOk, Some};
 ghost use Rattle.vx_value.specs.declared.id.Id.TheVariants as id;
-ghost use Rattle.vx_tree.specs.Tree.{Tree, len, slice, is_slice, slice_of};
-ghost use Rattle.vx_tree.specs.TreeView.{tree_of};
-ghost use Rattle.vx_tree.specs.Well.{IsNodeOf};
-ghost use Rattle.vx_tree.specs.Kinds.{IsKindOf};
+ghost use Rattle.vx_tree.specs.Tree.{len, slice, slice_of};
 
-use crate::array::{
-    Array, ArrayId, ArrayKind, ArrayParts, ArrayRef, Encoded, Encoding, Node, VTable,
-};
+use crate::array::{Array, ArrayId, ArrayParts, ArrayRef, VTable};
 use crate::arrays::child::only_child;
-use crate::arrays::payload;
 use crate::arrays::types::is_same_type;
 use std::alloc::Global;
 use std::ops::Range;
@@ -72,30 +66,10 @@ impl SliceData {
     {
         SliceDataParts { range: self.range }
     }
-
-    /// Returns the data and children of `node`, whose data this is. (own)
-    pub(crate) fn kind_of<'a>(&'a self, node: &'a Node) -> ArrayKind<'a>
-        requires well { IsNodeOf (tree_of node.now) }
-        requires own { node.now.encoding ≡ Encoding.Slice self.now }
-        ensures { IsKindOf result (tree_of node.now) }
-    {
-        let Some(child) = &node.slots[0] else {
-            unreachable!()
-        };
-        ArrayKind::Slice(child, self.range.start, self.range.end)
-    }
-}
-
-impl Encoded for Slice {
-    type TypedArrayData = SliceData;
 }
 
 impl VTable for Slice {
-    ghost is_kind = { is_slice };
-
     ghost named = { λ _. id.Slice };
-
-    ghost stands_for = { λ d. slice d.range.start d.range.end };
 
     fn id(&self) -> ArrayId {
         Id::Slice
@@ -103,18 +77,6 @@ impl VTable for Slice {
 
     fn tag(_payload: &SliceData) -> Slice {
         Slice
-    }
-
-    fn project(encoding: &Encoding) -> Option<&SliceData> {
-        payload!(encoding, Slice)
-    }
-
-    fn into_data(encoding: Encoding) -> Option<SliceData> {
-        payload!(encoding, Slice)
-    }
-
-    fn wrap(payload: SliceData) -> Encoding {
-        Encoding::Slice(payload)
     }
 
     #[tactic(auto, using(crate::proofs::RefusalsLemmas::by_child))]
@@ -129,8 +91,6 @@ impl VTable for Slice {
         }
         check_range(start, end, child.len())
     }
-
-    ghost kind_of = { λ d. refl };
 }
 
 /// Checks that a range is in order and in bounds. `OutOfBounds` unless `start` <= `stop` <= `len`.

@@ -4,7 +4,7 @@ use Rattle.std.specs.Int.{w128}
 use Rattle.vx_value.specs.Storage.{storage_of}
 use Rattle.vx_value.specs.declared.dtype.Storage.TheVariants.{Bits, Integers}
 use Rattle.vx_native.specs.Natives.{values_of, ptype_of}
-use Rattle.vx_column.proofs.KeepsLemmas.{bools_repeated, integers_repeated}
+use Rattle.vx_column.proofs.RepeatedLemmas.{bools_repeated, integers_repeated}
 use Rattle.vx_column.proofs.canonicalize.repeat.Goals as goal
 
 pub returns-in-Bits-clause-ok : goal.returns-in-Bits-clause-ok

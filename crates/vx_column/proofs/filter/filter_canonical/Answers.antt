@@ -10,27 +10,20 @@ use Rattle.vx_tree.specs.Tree.{len, filter_of}
 use Rattle.vx_tree.specs.Well.{IsNodeOf}
 use Rattle.vx_tree.specs.Keeps.{KeepsExactly}
 use Rattle.vx_tree.specs.Columns.{canonical_tree}
-use Rattle.vx_tree.specs.Validities.{HasRows}
-use Rattle.vx_column.proofs.FilteredLemmas.{chosen_count, column_filtered}
+use Rattle.vx_column.proofs.FilteredLemmas.{rows_chosen, column_filtered}
 use Rattle.vx_column.proofs.filter.filter_canonical.Goals as goal
 
 pub bool_column-requires : goal.bool_column-requires
 bool_column-requires c =
-    let t = c.as_array-array.result.now in
     let flat = subst IsNodeOf c.in-Bool.ensures.0 c.in-Bool.ensures.1 in
-    let long = c.requires ∙ ap len (sym c.as_array-array.ensures.of) in
-    subst (HasRows c.in_ok-validity-in-Bool.validity)
-    (chosen_count (bits_in c.args.mask.now) c.in-Bool.bits.now c.in_ok-filter-in-Bool.field-0 (len t) (sym flat.2) long c.in_ok-filter-in-Bool.ensures)
-    c.in_ok-validity-in-Bool.ensures.sized
+    rows_chosen (bits_in c.args.mask.now) c.in-Bool.bits.now c.in_ok-filter-in-Bool.field-0 c.as_array-array.result.now _ c.in_ok-validity-in-Bool.validity
+    (sym flat.2) c.requires c.as_array-array.ensures.of c.in_ok-filter-in-Bool.ensures c.in_ok-validity-in-Bool.ensures.sized
 
 pub primitive_column-requires : goal.primitive_column-requires
 primitive_column-requires c =
-    let t = c.as_array-array.result.now in
     let flat = subst IsNodeOf c.in-Primitive.ensures.0 c.in-Primitive.ensures.1 in
-    let long = c.requires ∙ ap len (sym c.as_array-array.ensures.of) in
-    subst (HasRows c.in_ok-validity-in-Primitive.validity)
-    (chosen_count (bits_in c.args.mask.now) (values_of c.in-Primitive.values.now) (values_of c.in_ok-filter-in-Primitive.field-0) (len t) (sym flat.2) long
-    c.in_ok-filter-in-Primitive.ensures.values)
+    rows_chosen (bits_in c.args.mask.now) (values_of c.in-Primitive.values.now) (values_of c.in_ok-filter-in-Primitive.field-0) c.as_array-array.result.now _
+    c.in_ok-validity-in-Primitive.validity (sym flat.2) c.requires c.as_array-array.ensures.of c.in_ok-filter-in-Primitive.ensures.values
     c.in_ok-validity-in-Primitive.ensures.sized
 
 pub returns-in_ok-filter-in-Bool-clause-ok : goal.returns-in_ok-filter-in-Bool-clause-ok

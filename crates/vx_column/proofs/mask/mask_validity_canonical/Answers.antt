@@ -10,7 +10,7 @@ use Rattle.vx_tree.specs.Well.{IsNodeOf}
 use Rattle.vx_tree.specs.Keeps.{KeepsExactly}
 use Rattle.vx_tree.specs.Columns.{canonical_tree}
 use Rattle.vx_tree.specs.Validities.{child_of}
-use Rattle.vx_column.specs.Expanded.{boolean_column, integer_column}
+use Rattle.vx_rows.specs.Stored.{boolean_column, integer_column}
 use Rattle.vx_column.specs.Masked.{IsBoth}
 use Rattle.vx_column.proofs.MaskedLemmas.{column_masked}
 use Rattle.vx_column.proofs.mask.mask_validity_canonical.Goals as goal

@@ -5,7 +5,7 @@ use Rattle.vx_tree.specs.Columns.{columnar_tree}
 use Rattle.vx_tree.specs.Well.{IsWell}
 use Rattle.vx_tree.specs.declared.columnar.Columnar.{Columnar}
 use Rattle.vx_step.specs.Steps.{IsDone, IsStopped}
-use Rattle.vx_column.specs.Applied.{IsCall, IsApplied, IsUnapplied}
+use Rattle.vx_apply.specs.Applied.{IsCall, IsApplied, IsUnapplied}
 use Rattle.vx_step.proofs.StepsLemmas.{function_waits, may_call, applied_done, unapplied_stopped}
 use Rattle.vx_step.proofs.function.apply_or_wait.Goals as goal
 

@@ -1,0 +1,164 @@
+-- Casts of an argument: the targets that it has, and its rows.
+use Rattle.std.proofs.Common.{◌≡◌, ◌<◌, ◌+◌, ℕ, suc, ℤ, Bool, true, false, List, [], ◌∷◌, length, map, get_or, pos, Option, Some, None, inl, inr, refl, sym, ap, ◌∙◌, subst, if◌then◌else◌, arith}
+use Rattle.std.specs.Prelude.{is_some, nat_lt, MatchOption, option_map}
+use Rattle.std.proofs.lemmas.Bool.Decides.{nat_tests}
+use Rattle.vx_value.specs.Types.{DataType, bool, primitive, nullability_of, is_nullable}
+use Rattle.vx_value.specs.Nullabilities.{with_nullability}
+use Rattle.vx_value.specs.View.{type_of}
+use Rattle.vx_value.specs.Values.{Value, null, boolean, integer}
+use Rattle.vx_value.specs.Cell.{value, fault}
+use Rattle.vx_value.specs.IsOf.{in_range}
+use Rattle.vx_value.specs.Casts.{to_integer, cast_to, has_cast}
+use Rattle.vx_value.specs.declared.dtype.DType.{DType}
+use Rattle.vx_value.specs.declared.dtype.PType.{PType}
+use Rattle.vx_value.specs.declared.dtype.Nullability.{Nullability}
+use Rattle.vx_value.specs.declared.dtype.Nullability.TheVariants.{NonNullable, Nullable}
+use Rattle.vx_value.specs.declared.error.VortexError.{VortexError}
+use Rattle.vx_mask.specs.Logic.{bit_row}
+use Rattle.vx_mask.specs.Operands.{bit_in}
+use Rattle.vx_mask.specs.Places.{true_count}
+use Rattle.vx_mask.specs.declared.operand.BitOperand.{BitOperand}
+use Rattle.vx_fn.specs.Apply.{apply}
+use Rattle.vx_fn.specs.ReturnTypes.{return_type}
+use Rattle.vx_fn.specs.declared.function.ScalarFnRef.TheVariants.{Cast}
+use Rattle.vx_fn.proofs.CastLemmas.{cast_taken}
+use Rattle.vx_tree.specs.ColumnTypes.{has_column}
+use Rattle.vx_tree.specs.Tree.{Tree, dtype}
+use Rattle.vx_tree.specs.Cells.{HasNoFault}
+use Rattle.vx_rows.specs.Arguments.{IsSized, type_of_argument, types_of, row_of, plain_type, value_at}
+use Rattle.vx_apply.specs.Casts.{converted, IsCastTarget}
+use Rattle.vx_apply.specs.Computed.{IsTaken, IsMade, IsComputed, IsNotComputed, cells_of}
+use Rattle.vx_apply.specs.Operands.{IsFaultyRow, IsCalculated}
+use Rattle.vx_rows.specs.ValidRows.{is_valid, nullability_in, null_unless}
+use Rattle.vx_rows.specs.declared.argument.Argument.{Argument}
+use Rattle.vx_rows.specs.declared.argument.ArgumentRows.{ArgumentRows}
+use Rattle.vx_rows.specs.declared.argument.ArgumentRows.TheVariants as stored
+use Rattle.vx_rows.specs.declared.valid.ValidRows.{ValidRows}
+use Rattle.vx_rows.specs.declared.valid.ValidRows.TheVariants as rows_valid
+use Rattle.vx_apply.proofs.ComputedLemmas.{fault_among}
+use Rattle.vx_apply.proofs.MadeLemmas.{made_by, computed_by}
+use Rattle.vx_apply.proofs.OperatorLemmas.{argument_type}
+use Rattle.vx_rows.proofs.ValidRowsLemmas.{row_made}
+use Rattle.std.specs.List.{range_with_len}
+
+-- ---- which casts there are
+
+cast_target : (r : ArgumentRows) (m : Nullability) (t : DataType) → has_cast (with_nullability m (plain_type r)) t ≡ true → has_column t ≡ true → IsCastTarget r t
+cast_target (stored.Bits bs) m (bool k) h column = refl
+cast_target (stored.Bits bs) m _ h column = absurd (cc)
+cast_target (stored.Integers zs) m (primitive p k) h column = (p, refl)
+cast_target (stored.Integers zs) m _ h column = absurd (cc)
+
+-- ---- rows
+
+-- what holds of each row before, and of one more
+pub below_more : (P : ℕ → Type 0) (n : ℕ) → ((i : ℕ) → i < n → P i) → P n → (i : ℕ) → i < n + 1 → P i
+below_more P n h p i lt = by_test (nat_lt i n) refl
+  where
+    by_test : (b : Bool) → nat_lt i n ≡ b → P i
+    by_test true e = h i (grind (arith, nat_tests))
+    by_test false e = subst P (grind (arith, nat_tests)) p
+
+-- bits that aren't all true
+pub false_row : (bits : List Bool) → ¬ (true_count bits ≡ length bits) → (i : ℕ) × (i < length bits) × (bit_row bits i ≡ false)
+unfolding true_count
+false_row [] h = absurd (h refl)
+false_row (false ∷ bits) h = (0, omega arith, refl)
+false_row (true ∷ bits) h =
+    let later = false_row bits (λ e. h (ap suc e)) in
+    (suc later.0, omega (arith, later.1), later.2)
+
+-- the column of integers in their own type
+pub integers_kept : (p : PType) (z : ℕ → ℤ) (valid : ValidRows) (n : ℕ) (u : Tree) → ((i : ℕ) → i < n → in_range p (z i) ≡ true)
+    → IsMade valid (λ i. value (integer (z i))) n u → IsMade valid (converted p z) n u
+integers_kept p z valid n u ranged =
+    made_by valid (λ i. value (integer (z i))) (converted p z) n u
+    (λ i lt here. ap (λ b. if b then value (integer (z i)) else fault) (sym (ranged i lt)))
+
+-- integers by the rows that they are made of
+module _ (p : PType) (z : ℕ → ℤ) (zs : List ℤ) (valid : ValidRows) (n : ℕ) (are : zs ≡ map z (range_with_len 0 n)) where
+  same_row : (i : ℕ) → i < n → to_integer p (integer (get_or zs i (pos 0))) ≡ converted p z i
+  same_row i lt = ap (λ y. to_integer p (integer y)) (row_made (pos 0) z zs n i are lt)
+
+  pub converted_made : (u : Tree) → IsCalculated p valid (converted p (λ i. get_or zs i (pos 0))) n u → IsCalculated p valid (converted p z) n u
+  converted_made u h = (h.0, made_by valid _ _ n u (λ i lt here. same_row i lt) h.1)
+
+  pub not_converted : (e : VortexError) → IsFaultyRow (is_valid valid) (converted p (λ i. get_or zs i (pos 0))) n e
+      → IsFaultyRow (is_valid valid) (converted p z) n e
+  not_converted e (inl memory) = inl memory
+  not_converted e (inr h) = inr (h.0, h.1, h.2, h.3, sym (same_row h.1 h.2) ∙ h.4)
+
+-- booleans stay
+pub bits_kept : (r : ArgumentRows) (bs : BitOperand) (t : DataType) (valid : ValidRows) (n : ℕ) (u : Tree) → r ≡ stored.Bits bs → IsCastTarget r t
+    → nullability_in valid ≡ nullability_of t → (dtype u ≡ with_nullability (nullability_in valid) (plain_type r)) × IsMade valid (λ i. value (value_at r i)) n u
+    → (dtype u ≡ t) × IsMade valid (λ i. cast_to t (value_at r i)) n u
+bits_kept (stored.Bits cs) bs t valid n u is target nullability h = (
+  h.0 ∙ ap bool nullability ∙ sym target,
+  made_by valid _ _ n u (λ i lt here. sym (ap (λ s. cast_to s (boolean (bit_in cs i))) target)) h.1,
+)
+bits_kept (stored.Integers zs) bs t valid n u is target nullability h = absurd (cc)
+
+-- an integer in another type
+pub converted_row : {U : Type 0} (read : U → ℤ) (p : PType) (wide z : ℤ) (r : Option U) → option_map read r ≡ (if in_range p wide then Some wide else None) → wide ≡ z
+    → MatchOption r (to_integer p (integer z) ≡ fault) (λ u. to_integer p (integer z) ≡ value (integer (read u)))
+converted_row {U = U} read p wide z r h same =
+    subst (λ w. MatchOption r (to_integer p (integer w) ≡ fault) (λ u. to_integer p (integer w) ≡ value (integer (read u)))) same (by_test (in_range p wide) r h)
+  where
+    by_test : (b : Bool) (r : Option U) → option_map read r ≡ (if b then Some wide else None)
+        → MatchOption r ((if b then value (integer wide) else fault) ≡ fault) (λ u. (if b then value (integer wide) else fault) ≡ value (integer (read u)))
+    by_test true None e = absurd (cc)
+    by_test true (Some u) e = let is : wide ≡ read u = cc in ap (λ w. value (integer w)) is
+    by_test false None e = refl
+    by_test false (Some u) e = absurd (cc)
+
+-- only nullable columns have nulls
+null_nullable : (valid : ValidRows) (i : ℕ) → is_valid valid i ≡ false → nullability_in valid ≡ Nullable
+null_nullable (rows_valid.All m) i h = absurd (cc)
+null_nullable (rows_valid.Bits bits) i h = refl
+
+cast_cell : (target : DType) (t : DataType) (v : Bool) (x : Value) → (v ≡ false → nullability_of t ≡ Nullable)
+    → null_unless v (cast_to t x) ≡ apply (Cast target) t (null_unless v (value x) ∷ [])
+cast_cell target t true x h = refl
+cast_cell target t false x h = sym (ap (λ m. if is_nullable m then value null else fault) (h refl))
+
+-- ---- the column of a cast
+
+module _ (n : ℕ) (a : Argument) (target : DType) (sized : IsSized n a) (taken : IsTaken (Cast target) (types_of (a ∷ []))) where
+  found : (has_cast (type_of_argument a) (type_of target) ≡ true) × (return_type (Cast target) (types_of (a ∷ [])) ≡ Some (type_of target))
+  found = cast_taken (type_of target) (type_of_argument a) (ap is_some taken.1)
+
+  same_type : (t : DataType) → return_type (Cast target) (types_of (a ∷ [])) ≡ Some t → t ≡ type_of target
+  same_type t h = let typed = found.1 in cc (typed, h)
+
+  pub is_cast_target : IsCastTarget a.rows (type_of target)
+  is_cast_target =
+      cast_target a.rows (nullability_in a.valid) (type_of target) (ap (λ s. has_cast s (type_of target)) (sym (argument_type n a sized)) ∙ found.0)
+      (ap has_column (sym (same_type taken.0 taken.1)) ∙ taken.2)
+
+  pub null_not_computed : (i : ℕ) → i < n → is_valid a.valid i ≡ false → nullability_of (type_of target) ≡ NonNullable → (t : DataType)
+      → return_type (Cast target) (types_of (a ∷ [])) ≡ Some t → ¬ (HasNoFault (cells_of (Cast target) t (row_of (a ∷ [])) n))
+  null_not_computed i lt here plain t typed =
+      fault_among (λ j. apply (Cast target) t (row_of (a ∷ []) j)) n i lt
+      (ap (λ b. apply (Cast target) t (null_unless b (value (value_at a.rows i)) ∷ [])) here
+      ∙ ap (λ m. if is_nullable m then value null else fault) (ap nullability_of (same_type t typed) ∙ plain))
+
+  module _ (valid : ValidRows) (rows : (i : ℕ) → i < n → is_valid valid i ≡ is_valid a.valid i) where
+    pub cast_computed : (u : Tree) → nullability_in valid ≡ nullability_of (type_of target)
+        → (dtype u ≡ type_of target) × IsMade valid (λ i. cast_to (type_of target) (value_at a.rows i)) n u → IsComputed (Cast target) (a ∷ []) n u
+    cast_computed u nullability h =
+        computed_by (Cast target) (a ∷ []) valid _ n u (found.1 ∙ ap Some (sym h.0)) h.1
+        (λ i lt. cast_cell target (type_of target) (is_valid valid i) (value_at a.rows i) (λ e. sym nullability ∙ null_nullable valid i e)
+        ∙ (λ j. apply (Cast target) (sym h.0 j) (null_unless (rows i lt j) (value (value_at a.rows i)) ∷ [])))
+
+    pub cast_not_computed : (e : VortexError) → IsFaultyRow (is_valid valid) (λ i. cast_to (type_of target) (value_at a.rows i)) n e
+        → IsNotComputed (Cast target) (a ∷ []) n e
+    cast_not_computed e (inl memory) = inl memory
+    cast_not_computed e (inr h) =
+        let i = h.1 in
+        inr (
+          h.0,
+          λ t typed. fault_among (λ j. apply (Cast target) t (row_of (a ∷ []) j)) n i h.2
+              (ap (λ b. apply (Cast target) t (null_unless b (value (value_at a.rows i)) ∷ [])) (sym (rows i h.2) ∙ h.3)
+              ∙ ap (λ s. cast_to s (value_at a.rows i)) (same_type t typed)
+              ∙ h.4),
+        )

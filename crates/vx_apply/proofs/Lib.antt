@@ -1,0 +1,13 @@
+pub mod AppliedLemmas
+pub mod ApplyLemmas
+pub mod BetweenLemmas
+pub mod CallsLemmas
+pub mod CastsLemmas
+pub mod ComputedLemmas
+pub mod LogicLemmas
+pub mod MadeLemmas
+pub mod NullFunctionsLemmas
+pub mod OperandsLemmas
+pub mod OperatorLemmas
+pub mod PassingLemmas
+pub mod SelectLemmas

@@ -1,0 +1,96 @@
+-- A column by what it stores and by its valid rows.
+use Rattle.std.proofs.Common.{◌≡◌, ◌<◌, ℕ, ℤ, Bool, true, false, List, [], ◌∷◌, length, map, get_or, Some, refl, sym, ap, ◌∙◌, subst, arith}
+use Rattle.std.specs.List.{range_with_len}
+use Rattle.std.proofs.lemmas.List.FromFn.{get_or-map-range_with_len, length-map-range_with_len}
+use Rattle.std.proofs.lemmas.Simd.{map-map}
+use Rattle.vx_value.specs.Types.{DataType, bool, primitive}
+use Rattle.vx_value.specs.Values.{Value, boolean, integer}
+use Rattle.vx_value.specs.Cell.{Cell, value}
+use Rattle.vx_value.specs.declared.dtype.PType.{PType}
+use Rattle.vx_mask.proofs.Lists.{same_below}
+use Rattle.vx_fn.specs.Apply.{apply}
+use Rattle.vx_fn.specs.ReturnTypes.{return_type}
+use Rattle.vx_fn.specs.declared.function.ScalarFnRef.{ScalarFnRef}
+use Rattle.vx_tree.specs.Tree as enc
+use Rattle.vx_tree.specs.Tree.{Tree, Data, dtype, slots_of, column, is_canonical}
+use Rattle.vx_tree.specs.Cells.{slots_rows, node_cells, cells_at, valid_cells}
+use Rattle.vx_tree.specs.Validities.{nullability_by, child_of}
+use Rattle.vx_tree.specs.declared.validity.Validity.{Validity}
+use Rattle.vx_rows.specs.Arguments.{types_of, row_of}
+use Rattle.vx_apply.specs.Computed.{IsMade, IsComputed}
+use Rattle.vx_rows.specs.Stored.{boolean_column, integer_column}
+use Rattle.vx_rows.specs.Nulls.{validity_cells}
+use Rattle.vx_rows.specs.ValidRows.{is_valid, HasValidity, nullability_in, child_in, IsValidityOf, null_unless}
+use Rattle.vx_rows.specs.declared.argument.Argument.{Argument}
+use Rattle.vx_rows.specs.declared.valid.ValidRows.{ValidRows}
+use Rattle.vx_rows.proofs.ValidRowsLemmas.{filled_rows, filled_clean, one_slot}
+
+-- what stands under a null tells nothing
+same_unless_null : (b : Bool) (c d : Cell) → (b ≡ true → c ≡ d) → null_unless b c ≡ null_unless b d
+same_unless_null true c d h = h refl
+same_unless_null false c d h = refl
+
+pub made_by : (valid : ValidRows) (stored other : ℕ → Cell) (n : ℕ) (u : Tree) → ((i : ℕ) → i < n → is_valid valid i ≡ true → stored i ≡ other i)
+    → IsMade valid stored n u → IsMade valid other n u
+made_by valid stored other n u same h = record {
+  counted = h.counted;
+  shown = h.shown ∙ same_below n _ _ (λ i lt. same_unless_null (is_valid valid i) (stored i) (other i) (same i lt));
+  clean = h.clean;
+  canonical = h.canonical;
+}
+
+-- items that stand for the values of `f`
+pub made_stored : {X : Type 0} (read : X → Value) (d : X) (g : ℕ → X) (f : ℕ → Value) (valid : ValidRows) (n : ℕ) (xs : List X) (u : Tree)
+    → xs ≡ map g (range_with_len 0 n) → ((i : ℕ) → read (g i) ≡ f i) → IsMade valid (λ i. value (read (get_or xs i d))) n u → IsMade valid (λ i. value (f i)) n u
+made_stored read d g f valid n xs u are same h =
+    made_by valid (λ i. value (read (get_or xs i d))) (λ i. value (f i)) n u
+    (λ i lt here. ap (λ zs. value (read (get_or zs i d))) are
+    ∙ ap (λ z. value (read z)) (get_or-map-range_with_len g 0 n i i d lt (omega arith))
+    ∙ ap value (same i)) h
+
+-- the column of a function, by what it stores
+pub computed_by : (f : ScalarFnRef) (args : List Argument) (valid : ValidRows) (stored : ℕ → Cell) (n : ℕ) (u : Tree)
+    → return_type f (types_of args) ≡ Some (dtype u) → IsMade valid stored n u
+    → ((i : ℕ) → i < n → null_unless (is_valid valid i) (stored i) ≡ apply f (dtype u) (row_of args i)) → IsComputed f args n u
+computed_by f args valid stored n u typed h same = record {
+  result = record { typed = typed; counted = h.counted; shown = h.shown ∙ same_below n _ _ same; clean = h.clean };
+  canonical = h.canonical;
+}
+
+module _ (valid : ValidRows) (n : ℕ) (sized : HasValidity valid n) (v : Validity) (told : IsValidityOf valid n v) where
+  made : {X : Type 0} (read : X → Value) (of_items : List X → Data)
+      → ((ty : DataType) (k : ℕ) (xs : List X) (css : List (List Cell)) → node_cells ty k (of_items xs) css ≡ valid_cells (cells_at css 0) (map (λ x. value (read x)) xs))
+      → ((xs : List X) → is_canonical (of_items xs) ≡ true) → (ty : DataType) (xs : List X) (g : ℕ → X) → xs ≡ map g (range_with_len 0 n)
+      → IsMade valid (λ i. value (read (g i))) n (column ty (length xs) (of_items xs) (child_of v (length xs)))
+  made read of_items cells canonical ty xs g are =
+      let long : length xs ≡ n = ap length are ∙ length-map-range_with_len g 0 n in
+      let child : child_of v (length xs) ≡ child_in valid = ap (child_of v) long ∙ told.1 in
+      let stored : map (λ x. value (read x)) xs ≡ map (λ i. value (read (g i))) (range_with_len 0 n) =
+      ap (map (λ x. value (read x))) are ∙ map-map (λ x. value (read x)) g (range_with_len 0 n) in
+      let whole : IsMade valid (λ i. value (read (g i))) n (column ty (length xs) (of_items xs) (child_in valid)) =
+      record {
+        counted = long;
+        shown = cells ty (length xs) xs (slots_rows (slots_of (child_in valid ∷ [])))
+            ∙ ap (λ css. valid_cells (cells_at css 0) (map (λ x. value (read x)) xs)) (one_slot (child_in valid))
+            ∙ ap (valid_cells (validity_cells (child_in valid))) stored
+            ∙ filled_rows valid n (λ i. read (g i)) sized;
+        clean = filled_clean valid;
+        canonical = canonical xs;
+      } in
+      subst (λ c. IsMade valid (λ i. value (read (g i))) n (column ty (length xs) (of_items xs) c)) (sym child) whole
+
+  pub bools_made : (bits : List Bool) (test : ℕ → Bool) (u : Tree) → bits ≡ map test (range_with_len 0 n) → u ≡ boolean_column bits v
+      → (dtype u ≡ bool (nullability_in valid)) × IsMade valid (λ i. value (boolean (test i))) n u
+  bools_made bits test u are new = (
+    ap dtype new ∙ ap bool told.0,
+    subst (IsMade valid (λ i. value (boolean (test i))) n) (sym new)
+        (made boolean enc.bool (λ ty k xs css. refl) (λ xs. refl) (bool (nullability_by v)) bits test are),
+  )
+
+  pub integers_made : (p : PType) (zs : List ℤ) (g : ℕ → ℤ) (u : Tree) → zs ≡ map g (range_with_len 0 n) → u ≡ integer_column p zs v
+      → (dtype u ≡ primitive p (nullability_in valid)) × IsMade valid (λ i. value (integer (g i))) n u
+  integers_made p zs g u are new = (
+    ap dtype new ∙ ap (primitive p) told.0,
+    subst (IsMade valid (λ i. value (integer (g i))) n) (sym new)
+        (made integer (enc.primitive p) (λ ty k xs css. refl) (λ xs. refl) (primitive p (nullability_by v)) zs g are),
+  )

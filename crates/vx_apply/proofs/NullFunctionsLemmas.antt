@@ -1,0 +1,91 @@
+-- Functions of which values are null.
+use Rattle.std.proofs.Common.{◌≡◌, ℕ, Bool, true, false, List, [], ◌∷◌, map, Some, refl, sym, ap, ◌∙◌}
+use Rattle.std.specs.Prelude.{◌&&◌}
+use Rattle.std.specs.List.{range_with_len}
+use Rattle.vx_value.specs.Types.{DataType, bool}
+use Rattle.vx_value.specs.Nullabilities.{with_nullability}
+use Rattle.vx_value.specs.Values.{Value, null, boolean}
+use Rattle.vx_value.specs.Cell.{value}
+use Rattle.vx_value.specs.IsOf.{is_null}
+use Rattle.vx_value.specs.declared.dtype.Nullability.{Nullability}
+use Rattle.vx_value.specs.declared.dtype.Nullability.TheVariants.{NonNullable, Nullable}
+use Rattle.vx_mask.specs.Logic.{bit_row}
+use Rattle.vx_mask.specs.Operands.{bit_in}
+use Rattle.vx_mask.specs.declared.operand.BitOperand.{BitOperand}
+use Rattle.vx_fn.specs.Apply.{apply}
+use Rattle.vx_fn.specs.Mask.{mask_type}
+use Rattle.vx_fn.specs.ReturnTypes.{return_type}
+use Rattle.vx_fn.specs.declared.function.ScalarFnRef.{ScalarFnRef}
+use Rattle.vx_fn.specs.declared.function.ScalarFnRef.TheVariants.{Mask}
+use Rattle.vx_tree.specs.Tree.{Tree, dtype}
+use Rattle.vx_rows.specs.Arguments.{types_of, type_of_argument, plain_type, value_at, cell_at, IsSized}
+use Rattle.vx_apply.specs.Computed.{IsMade, IsComputed, IsTaken}
+use Rattle.vx_rows.specs.ValidRows.{is_valid, nullability_in, null_unless}
+use Rattle.vx_rows.specs.declared.argument.Argument.{Argument}
+use Rattle.vx_rows.specs.declared.argument.ArgumentRows.{ArgumentRows}
+use Rattle.vx_rows.specs.declared.argument.ArgumentRows.TheVariants as stored
+use Rattle.vx_rows.specs.declared.argument.IntegerOperand.{IntegerOperand}
+use Rattle.vx_rows.specs.declared.valid.ValidRows.{ValidRows}
+use Rattle.vx_rows.specs.declared.valid.ValidRows.TheVariants as rows_valid
+use Rattle.vx_apply.proofs.MadeLemmas.{computed_by}
+use Rattle.vx_apply.proofs.OperatorLemmas.{argument_type, set_again}
+use Rattle.vx_rows.proofs.ValidRowsLemmas.{bit_made}
+
+-- ---- tests of a value, by what they say of null, and of any other
+
+stored_value : (r : ArgumentRows) (i : ℕ) → is_null (value_at r i) ≡ false
+stored_value (stored.Bits bs) i = refl
+stored_value (stored.Integers zs) i = refl
+
+module _ (f : ScalarFnRef) (g : Bool → Bool) (typed : (s : DataType) → return_type f (s ∷ []) ≡ Some (bool NonNullable))
+    (of_null : (ty : DataType) → apply f ty (value null ∷ []) ≡ value (boolean (g false)))
+    (of_value : (ty : DataType) (x : Value) → is_null x ≡ false → apply f ty (value x ∷ []) ≡ value (boolean (g true))) where
+  test_cell : (ty : DataType) (r : ArgumentRows) (i : ℕ) (v : Bool) → value (boolean (g v)) ≡ apply f ty (null_unless v (value (value_at r i)) ∷ [])
+  test_cell ty r i true = sym (of_value ty (value_at r i) (stored_value r i))
+  test_cell ty r i false = sym (of_null ty)
+
+  pub tested : (a : Argument) (n : ℕ) (bits : List Bool) (u : Tree) → bits ≡ map (λ i. g (is_valid a.valid i)) (range_with_len 0 n)
+      → (dtype u ≡ bool NonNullable) × IsMade (rows_valid.All NonNullable) (λ i. value (boolean (bit_row bits i))) n u → IsComputed f (a ∷ []) n u
+  tested a n bits u made h =
+      computed_by f (a ∷ []) (rows_valid.All NonNullable) (λ i. value (boolean (bit_row bits i))) n u (typed (type_of_argument a) ∙ ap Some (sym h.0)) h.1
+      (λ i lt. ap (λ b. value (boolean b)) (bit_made (λ j. g (is_valid a.valid j)) bits n i made lt) ∙ test_cell (dtype u) a.rows i (is_valid a.valid i))
+
+-- ---- a mask
+
+mask_cell : (ty : DataType) (v b : Bool) (x : Value) → null_unless (v && b) (value x) ≡ apply Mask ty (null_unless v (value x) ∷ value (boolean b) ∷ [])
+mask_cell ty true true x = refl
+mask_cell ty true false x = refl
+mask_cell ty false true x = refl
+mask_cell ty false false x = refl
+
+all_valid : (valid : ValidRows) (i : ℕ) → nullability_in valid ≡ NonNullable → is_valid valid i ≡ true
+all_valid (rows_valid.All m) i h = refl
+all_valid (rows_valid.Bits bits) i h = absurd (cc)
+
+-- it is non-nullable
+plain_mask : (s ty : DataType) (m : Nullability) → mask_type s (bool m) ≡ Some ty → m ≡ NonNullable
+plain_mask s ty NonNullable e = refl
+plain_mask s ty Nullable e = absurd (cc)
+
+module _ (n : ℕ) (a k : Argument) (first : IsSized n a) (second : IsSized n k) (taken : IsTaken Mask (types_of (a ∷ k ∷ []))) where
+  by_type : (r : ArgumentRows) → k.rows ≡ r → mask_type (type_of_argument a) (with_nullability (nullability_in k.valid) (plain_type r)) ≡ Some taken.0
+  by_type r is =
+      sym (ap (mask_type (type_of_argument a)) (argument_type n k second ∙ ap (λ x. with_nullability (nullability_in k.valid) (plain_type x)) is)) ∙ taken.1
+
+  pub no_integer_mask : (zs : IntegerOperand) → k.rows ≡ stored.Integers zs → ⊥
+  no_integer_mask zs is = let no = by_type (stored.Integers zs) is in cc
+
+  pub masked : (keep : BitOperand) (bits : List Bool) (u : Tree) → k.rows ≡ stored.Bits keep → bits ≡ map (λ i. is_valid a.valid i && bit_in keep i) (range_with_len 0 n)
+      → (dtype u ≡ with_nullability Nullable (plain_type a.rows)) × IsMade (rows_valid.Bits bits) (λ i. value (value_at a.rows i)) n u
+      → IsComputed Mask (a ∷ k ∷ []) n u
+  masked keep bits u is made h =
+      let plain : nullability_in k.valid ≡ NonNullable = plain_mask (type_of_argument a) taken.0 (nullability_in k.valid) (by_type (stored.Bits keep) is) in
+      let of_mask : type_of_argument k ≡ bool NonNullable =
+      argument_type n k second ∙ (λ j. with_nullability (plain j) (plain_type (is j))) in
+      let typed : return_type Mask (types_of (a ∷ k ∷ [])) ≡ Some (with_nullability Nullable (plain_type a.rows)) =
+      ap (mask_type (type_of_argument a)) of_mask ∙ ap (λ s. Some (with_nullability Nullable s)) (argument_type n a first)
+      ∙ ap Some (set_again Nullable (nullability_in a.valid) a.rows) in
+      computed_by Mask (a ∷ k ∷ []) (rows_valid.Bits bits) (λ i. value (value_at a.rows i)) n u (typed ∙ ap Some (sym h.0)) h.1
+      (λ i lt. ap (λ b. null_unless b (value (value_at a.rows i))) (bit_made (λ j. is_valid a.valid j && bit_in keep j) bits n i made lt)
+      ∙ mask_cell (dtype u) (is_valid a.valid i) (bit_in keep i) (value_at a.rows i)
+      ∙ (λ j. apply Mask (dtype u) (cell_at a i ∷ null_unless (sym (all_valid k.valid i plain) j) (value (value_at (sym is j) i)) ∷ [])))

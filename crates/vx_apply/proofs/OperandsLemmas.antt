@@ -1,0 +1,47 @@
+-- An arithmetic operator on the integers of two operands.
+use Rattle.std.proofs.Common.{◌≡◌, ℕ, ℤ, false, Some, inl, inr, sym, ap, ◌∙◌}
+use Rattle.std.specs.Prelude.{IsSome}
+use Rattle.vx_value.specs.Types.{primitive}
+use Rattle.vx_value.specs.declared.dtype.PType.{PType}
+use Rattle.vx_value.specs.declared.error.VortexError.{VortexError}
+use Rattle.vx_fn.specs.Apply.{apply}
+use Rattle.vx_fn.specs.Arithmetic.{calculated}
+use Rattle.vx_fn.specs.Binary.{is_comparison, operator_type}
+use Rattle.vx_fn.specs.declared.function.Operator.{Operator}
+use Rattle.vx_fn.specs.declared.function.ScalarFnRef.TheVariants.{Binary}
+use Rattle.vx_tree.specs.Tree.{Tree}
+use Rattle.vx_rows.specs.Arguments.{integer_in, ptype_in, plain_type, pair_at}
+use Rattle.vx_apply.specs.Computed.{IsFilled, IsNotFilled, filled_type}
+use Rattle.vx_apply.specs.Operands.{IsFaultyRow, IsCalculated}
+use Rattle.vx_rows.specs.ValidRows.{is_valid, nullability_in}
+use Rattle.vx_rows.specs.declared.argument.ArgumentRows.TheVariants.{Integers}
+use Rattle.vx_rows.specs.declared.argument.IntegerOperand.{IntegerOperand}
+use Rattle.vx_rows.specs.declared.valid.ValidRows.{ValidRows}
+use Rattle.vx_apply.proofs.ComputedLemmas.{filled, filled_fault}
+use Rattle.vx_apply.proofs.OperatorLemmas.{integers_plain, integers_calculated, calculated_value}
+
+module _ (op : Operator) (p : PType) (lhs rhs : IntegerOperand) (valid : ValidRows) (n : ℕ) (other : is_comparison op ≡ false) (kind : ptype_in lhs ≡ p)
+    (taken : IsSome (operator_type op (plain_type (Integers lhs)))) (l r : ℕ → ℤ) (left : l ≡ integer_in lhs) (right : r ≡ integer_in rhs) where
+  typed : filled_type valid (operator_type op (plain_type (Integers lhs))) ≡ Some (primitive p (nullability_in valid))
+  typed = integers_calculated op (ptype_in lhs) (nullability_in valid) taken other ∙ ap (λ q. Some (primitive q (nullability_in valid))) kind
+
+  same_cell : (i : ℕ) → calculated op p (l i) (r i) ≡ apply (Binary op) (primitive p (nullability_in valid)) (pair_at (Integers lhs) (Integers rhs) i)
+  same_cell i =
+      (λ j. calculated op p (left j i) (right j i))
+      ∙ sym (calculated_value op p (nullability_in valid) (integer_in lhs i) (integer_in rhs i) (integers_plain op (ptype_in lhs) taken))
+
+  pub operation_filled : (u : Tree) → IsCalculated p valid (λ i. calculated op p (l i) (r i)) n u
+      → IsFilled (Binary op) (operator_type op (plain_type (Integers lhs))) (pair_at (Integers lhs) (Integers rhs)) valid n u
+  operation_filled u h =
+      filled (Binary op) (operator_type op (plain_type (Integers lhs))) (pair_at (Integers lhs) (Integers rhs)) valid n (primitive p (nullability_in valid))
+      (λ i. calculated op p (l i) (r i)) u typed h (λ i lt here. same_cell i)
+
+  pub operation_not_filled : (e : VortexError) → IsFaultyRow (is_valid valid) (λ i. calculated op p (l i) (r i)) n e
+      → IsNotFilled (Binary op) (operator_type op (plain_type (Integers lhs))) (pair_at (Integers lhs) (Integers rhs)) valid n e
+  operation_not_filled e (inl memory) = inl memory
+  operation_not_filled e (inr h) =
+      inr (
+        h.0,
+        filled_fault (Binary op) (operator_type op (plain_type (Integers lhs))) (pair_at (Integers lhs) (Integers rhs)) valid n
+            (primitive p (nullability_in valid)) h.1 typed h.2 h.3 (sym (same_cell h.1) ∙ h.4),
+      )

@@ -1,0 +1,188 @@
+-- What an operator gives on columns: the type of its result and the value of a row, over booleans and over integers.
+use Rattle.std.proofs.Common.{◌≡◌, ℕ, Bool, true, false, if◌then◌else◌, refl, sym, ap, subst, ◌∙◌, ◌∷◌, [], Some, None}
+use Rattle.std.specs.Prelude.{ℤ, Option, IsSome, option_map}
+use Rattle.std.specs.Ordering.{int_cmp}
+use Rattle.vx_value.specs.Types.{bool, primitive, nullability_of}
+use Rattle.vx_value.specs.Nullabilities.{with_nullability, union, same_but_nullability, same_but_nullability_Decides}
+use Rattle.vx_value.specs.View.{type_of}
+use Rattle.vx_value.specs.Values.{boolean, integer}
+use Rattle.vx_value.specs.Cell.{value}
+use Rattle.vx_value.specs.declared.dtype.PType.{PType}
+use Rattle.vx_value.specs.declared.dtype.Nullability.{Nullability}
+use Rattle.vx_value.specs.declared.dtype.Nullability.TheVariants.{NonNullable}
+use Rattle.vx_fn.specs.Apply.{apply}
+use Rattle.vx_fn.specs.ReturnTypes.{return_type}
+use Rattle.vx_fn.specs.Binary.{is_comparison, is_logical, operator_type, null_rule, operated}
+use Rattle.vx_fn.specs.Comparisons.{holds}
+use Rattle.vx_fn.specs.Arithmetic.{calculated}
+use Rattle.vx_fn.specs.Meanings.{widened}
+use Rattle.vx_fn.specs.declared.function.Operator.{Operator}
+use Rattle.vx_fn.specs.declared.function.Operator.TheVariants as operator
+use Rattle.vx_fn.specs.declared.function.ScalarFnRef.TheVariants.{Binary}
+use Rattle.vx_fn.proofs.BinaryLemmas.{result_type}
+use Rattle.vx_tree.proofs.ColumnTypesLemmas.{column_of_integers}
+use Rattle.vx_apply.specs.Bits.{bit_by}
+use Rattle.vx_rows.specs.Arguments.{type_of_argument, type_of_rows, plain_type, types_of, ptype_in, IsSized, AreStored, HasStored}
+use Rattle.vx_apply.specs.Computed.{IsTaken}
+use Rattle.vx_rows.specs.ValidRows.{nullability_in}
+use Rattle.vx_rows.specs.declared.argument.Argument.{Argument}
+use Rattle.vx_rows.specs.declared.argument.ArgumentRows.{ArgumentRows}
+use Rattle.vx_rows.specs.declared.argument.IntegerOperand.{IntegerOperand}
+use Rattle.vx_rows.specs.declared.argument.ArgumentRows.TheVariants as stored
+
+-- ---- booleans
+
+-- logic and comparison take them, and give booleans
+bool_result : (op : Operator) → IsSome (operator_type op (bool NonNullable)) → operator_type op (bool NonNullable) ≡ Some (bool NonNullable)
+bool_result operator.Add h = absurd (cc)
+bool_result operator.Sub h = absurd (cc)
+bool_result operator.Mul h = absurd (cc)
+bool_result operator.Div h = absurd (cc)
+bool_result _ h = refl
+
+pub bools_typed : (op : Operator) (m : Nullability) → IsSome (operator_type op (bool NonNullable))
+    → option_map (with_nullability m) (operator_type op (bool NonNullable)) ≡ Some (bool m)
+bools_typed op m h = ap (option_map (with_nullability m)) (bool_result op h)
+
+pub bools_valued : (op : Operator) (m : Nullability) (a b : Bool) → apply (Binary op) (bool m) (value (boolean a) ∷ value (boolean b) ∷ []) ≡ value (boolean (bit_by op a b))
+bools_valued operator.And m true b = refl
+bools_valued operator.And m false b = refl
+bools_valued operator.Or m true b = refl
+bools_valued operator.Or m false b = refl
+bools_valued operator.Eq m a b = refl
+bools_valued _ m a b = refl
+
+-- ---- integers
+
+-- logic takes none
+pub integers_plain : (op : Operator) (p : PType) → IsSome (operator_type op (primitive p NonNullable)) → is_logical op ≡ false
+integers_plain operator.And p h = absurd (cc)
+integers_plain operator.Or p h = absurd (cc)
+integers_plain operator.Eq p h = refl
+integers_plain _ p h = refl
+
+pub integers_compared : (op : Operator) (p : PType) (m : Nullability) → is_comparison op ≡ true
+    → option_map (with_nullability m) (operator_type op (primitive p NonNullable)) ≡ Some (bool m)
+integers_compared operator.Add p m c = absurd (cc)
+integers_compared operator.Sub p m c = absurd (cc)
+integers_compared operator.Mul p m c = absurd (cc)
+integers_compared operator.Div p m c = absurd (cc)
+integers_compared operator.And p m c = absurd (cc)
+integers_compared operator.Or p m c = absurd (cc)
+integers_compared _ p m c = refl
+
+pub integers_calculated : (op : Operator) (p : PType) (m : Nullability) → IsSome (operator_type op (primitive p NonNullable)) → is_comparison op ≡ false
+    → option_map (with_nullability m) (operator_type op (primitive p NonNullable)) ≡ Some (primitive p m)
+integers_calculated op p m h c = by_operator op c (integers_plain op p h)
+  where
+    by_operator : (op : Operator) → is_comparison op ≡ false → is_logical op ≡ false
+        → option_map (with_nullability m) (operator_type op (primitive p NonNullable)) ≡ Some (primitive p m)
+    by_operator operator.Add c l = refl
+    by_operator operator.Sub c l = refl
+    by_operator operator.Mul c l = refl
+    by_operator operator.Div c l = refl
+    by_operator _ c l = absurd (cc)
+
+pub compared_value : (op : Operator) (m : Nullability) (x y : ℤ) → is_comparison op ≡ true
+    → apply (Binary op) (bool m) (value (integer x) ∷ value (integer y) ∷ []) ≡ value (boolean (holds op (int_cmp x y)))
+compared_value operator.Eq m x y c = refl
+compared_value operator.NotEq m x y c = refl
+compared_value operator.Gt m x y c = refl
+compared_value operator.Gte m x y c = refl
+compared_value operator.Lt m x y c = refl
+compared_value operator.Lte m x y c = refl
+compared_value _ m x y c = absurd (cc)
+
+pub calculated_value : (op : Operator) (p : PType) (m : Nullability) (x y : ℤ) → is_logical op ≡ false
+    → apply (Binary op) (primitive p m) (value (integer x) ∷ value (integer y) ∷ []) ≡ calculated op p x y
+calculated_value op p m x y l = ap (λ b. null_rule b (integer x) (null_rule b (integer y) (operated op (primitive p m) (integer x) (integer y)))) l
+
+-- ---- two arguments, by the types and the cells of their rows
+
+-- an operator's result doesn't depend on the nullability of its arguments
+same_for_bools : (op : Operator) (m : Nullability) → operator_type op (bool m) ≡ operator_type op (bool NonNullable)
+same_for_bools operator.Eq m = refl
+same_for_bools _ m = refl
+
+same_for_integers : (op : Operator) (p : PType) (m : Nullability) → operator_type op (primitive p m) ≡ operator_type op (primitive p NonNullable)
+same_for_integers operator.Eq p m = refl
+same_for_integers _ p m = refl
+
+module _ (n : ℕ) (a : Argument) (sized : IsSized n a) where
+  pub argument_type : type_of_argument a ≡ with_nullability (nullability_in a.valid) (plain_type a.rows)
+  argument_type = by_rows a.rows sized.0
+    where
+      by_rows : (r : ArgumentRows) → AreStored (nullability_in a.valid) r n → type_of_rows (nullability_in a.valid) r ≡ with_nullability (nullability_in a.valid) (plain_type r)
+      by_rows (stored.Bits bs) h = refl
+      by_rows (stored.Integers zs) h = column_of_integers (ptype_in zs) (type_of zs.dtype.now) h.0.3 ∙ ap (primitive (ptype_in zs)) h.1
+
+  pub has_stored : HasStored a.rows n
+  has_stored = by_rows a.rows sized.0
+    where
+      by_rows : (r : ArgumentRows) → AreStored (nullability_in a.valid) r n → HasStored r n
+      by_rows (stored.Bits bs) h = h
+      by_rows (stored.Integers zs) h = h.0
+
+plain_again : (m : Nullability) (r : ArgumentRows) → with_nullability NonNullable (with_nullability m (plain_type r)) ≡ plain_type r
+plain_again m (stored.Bits bs) = refl
+plain_again m (stored.Integers zs) = refl
+
+pub set_again : (k m : Nullability) (r : ArgumentRows) → with_nullability k (with_nullability m (plain_type r)) ≡ with_nullability k (plain_type r)
+set_again k m (stored.Bits bs) = refl
+set_again k m (stored.Integers zs) = refl
+
+nullability_again : (m : Nullability) (r : ArgumentRows) → nullability_of (with_nullability m (plain_type r)) ≡ m
+nullability_again m (stored.Bits bs) = refl
+nullability_again m (stored.Integers zs) = refl
+
+operator_again : (op : Operator) (m : Nullability) (r : ArgumentRows) → operator_type op (with_nullability m (plain_type r)) ≡ operator_type op (plain_type r)
+operator_again op m (stored.Bits bs) = same_for_bools op m
+operator_again op m (stored.Integers zs) = same_for_integers op (ptype_in zs) m
+
+taken_before : {A B : Type 0} (f : A → B) (o : Option A) (b : B) → option_map f o ≡ Some b → IsSome o
+taken_before f None b e = absurd (cc)
+taken_before f (Some a) b e = refl
+
+pub argument_nullability : (n : ℕ) (a : Argument) → IsSized n a → nullability_of (type_of_argument a) ≡ nullability_in a.valid
+argument_nullability n a sized = ap nullability_of (argument_type n a sized) ∙ nullability_again (nullability_in a.valid) a.rows
+
+-- arguments whose types are the same but for nullability store values of one type
+pub plain_same : (n : ℕ) (a b : Argument) → IsSized n a → IsSized n b → same_but_nullability (type_of_argument a) (type_of_argument b) ≡ true
+    → plain_type a.rows ≡ plain_type b.rows
+plain_same n a b first second same =
+    sym (plain_again (nullability_in a.valid) a.rows)
+    ∙ ap (with_nullability NonNullable) (sym (argument_type n a first))
+    ∙ (same_but_nullability_Decides (type_of_argument a) (type_of_argument b)).0 same
+    ∙ ap (with_nullability NonNullable) (argument_type n b second)
+    ∙ plain_again (nullability_in b.valid) b.rows
+
+module _ (op : Operator) (n : ℕ) (a b : Argument) (first : IsSized n a) (second : IsSized n b) (taken : IsTaken (Binary op) (types_of (a ∷ b ∷ []))) where
+  same_types : same_but_nullability (type_of_argument a) (type_of_argument b) ≡ true
+  same_types = by_test (same_but_nullability (type_of_argument a) (type_of_argument b)) taken.1
+    where
+      by_test : (t : Bool) → widened (type_of_argument a) (widened (type_of_argument b) (if t then operator_type op (type_of_argument a) else None)) ≡ Some taken.0
+          → t ≡ true
+      by_test true e = refl
+      by_test false e = absurd (cc)
+
+  pub operands_same : plain_type a.rows ≡ plain_type b.rows
+  operands_same = plain_same n a b first second same_types
+
+  pub operands_typed : return_type (Binary op) (types_of (a ∷ b ∷ []))
+      ≡ option_map (with_nullability (union (nullability_in a.valid) (nullability_in b.valid))) (operator_type op (plain_type a.rows))
+  operands_typed =
+      let left = argument_nullability n a first in
+      let right = argument_nullability n b second in
+      result_type op (type_of_argument a) (type_of_argument b) same_types
+      ∙ (λ i. option_map (with_nullability (union (left i) (right i))) (operator_type op (type_of_argument a)))
+      ∙ ap (option_map (with_nullability (union (nullability_in a.valid) (nullability_in b.valid))))
+      (ap (operator_type op) (argument_type n a first) ∙ operator_again op (nullability_in a.valid) a.rows)
+
+  pub operands_taken : IsSome (operator_type op (plain_type a.rows))
+  operands_taken = taken_before _ _ taken.0 (sym operands_typed ∙ taken.1)
+
+  -- logic takes no integers
+  pub no_integers : (zs : IntegerOperand) → is_logical op ≡ true → a.rows ≡ stored.Integers zs → ⊥
+  no_integers zs logical is =
+      let plain : is_logical op ≡ false = integers_plain op (ptype_in zs) (subst (λ r. IsSome (operator_type op (plain_type r))) is operands_taken) in
+      cc (logical, plain)

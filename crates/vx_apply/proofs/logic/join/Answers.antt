@@ -1,0 +1,22 @@
+use Rattle.std.proofs.Common.{IfOk, ◌∷◌, [], sym, subst}
+use Rattle.vx_fn.specs.declared.function.ScalarFnRef.TheVariants.{Binary}
+use Rattle.vx_tree.specs.Columns.{canonical_tree}
+use Rattle.vx_apply.specs.Computed.{IsComputed}
+use Rattle.vx_rows.specs.declared.argument.ArgumentRows.TheVariants.{Bits}
+use Rattle.vx_apply.proofs.OperatorLemmas.{no_integers}
+use Rattle.vx_apply.proofs.logic.join.Goals as goal
+
+pub unreachable-requires : goal.unreachable-requires
+unreachable-requires c =
+    no_integers c.args.operator c.args.len c.args.lhs.now c.args.rhs.now c.requires.lhs c.requires.rhs c.requires.taken c.in_default.field-0 c.requires.logical
+    c.in_default.is
+
+pub returns-clause-ok : goal.returns-clause-ok
+returns-clause-ok c =
+    let a = c.args.lhs.now in
+    let b = c.args.rhs.now in
+    let f = Binary c.args.operator in
+    let r = c.join_truths.result in
+    subst (λ x. IfOk r (λ u. IsComputed f (record { rows = x; valid = a.valid } ∷ b ∷ []) c.args.len (canonical_tree u))) (sym c.in-Bits.is)
+    (subst (λ x. IfOk r (λ u. IsComputed f (record { rows = Bits c.in-Bits.first; valid = a.valid } ∷ record { rows = x; valid = b.valid } ∷ []) c.args.len (canonical_tree u)))
+    (sym c.in-Bits-rows.is) c.join_truths.ensures.ok)

@@ -1,0 +1,39 @@
+use Rattle.std.proofs.Common.{pos, false, sym, ap, ◌∙◌}
+use Rattle.std.proofs.lemmas.Result.{IfOk-weaker}
+use Rattle.vx_value.specs.Types.{primitive}
+use Rattle.vx_value.specs.Nullabilities.{with_nullability}
+use Rattle.vx_value.specs.Values.{boolean, integer}
+use Rattle.vx_mask.specs.Operands.{bit_in}
+use Rattle.vx_native.specs.Natives.{values_of}
+use Rattle.vx_tree.specs.Columns.{canonical_tree}
+use Rattle.vx_rows.specs.Arguments.{plain_type, value_at, integer_in}
+use Rattle.vx_rows.specs.ValidRows.{nullability_in}
+use Rattle.vx_apply.proofs.MadeLemmas.{made_stored}
+use Rattle.vx_apply.proofs.stored.stored_column.Goals as goal
+
+pub returns-in_ok-bits-in-Bits-clause-ok : goal.returns-in_ok-bits-in-Bits-clause-ok
+returns-in_ok-bits-in-Bits-clause-ok c =
+    let valid = c.args.valid.now in
+    let is = c.in-Bits.is in
+    let made = c.in_ok-bits-in-Bits in
+    IfOk-weaker c.valid_bools.result _ _
+    (λ u h. (
+      h.0 ∙ ap (λ r. with_nullability (nullability_in valid) (plain_type r)) (sym is),
+      made_stored boolean false (bit_in c.in-Bits.bits) (value_at c.args.rows) valid c.args.len made.bits (canonical_tree u) made.ensures
+          (λ i. ap (λ r. value_at r i) (sym is)) h.1,
+    ))
+    c.valid_bools.ensures.ok
+
+pub returns-in_ok-values-in-Integers-clause-ok : goal.returns-in_ok-values-in-Integers-clause-ok
+returns-in_ok-values-in-Integers-clause-ok c =
+    let valid = c.args.valid.now in
+    let m = nullability_in valid in
+    let is = c.in-Integers.is in
+    let made = c.in_ok-values-in-Integers in
+    IfOk-weaker c.valid_integers.result _ _
+    (λ u h. (
+      h.0 ∙ ap (λ p. primitive p m) made.ensures.kind ∙ ap (λ r. with_nullability m (plain_type r)) (sym is),
+      made_stored integer (pos 0) (integer_in c.in-Integers.integers) (value_at c.args.rows) valid c.args.len (values_of made.values) (canonical_tree u) made.ensures.values
+          (λ i. ap (λ r. value_at r i) (sym is)) h.1,
+    ))
+    c.valid_integers.ensures.ok

@@ -1,0 +1,39 @@
+-- What a cast makes of the rows of an argument.
+use Rattle.std.specs.Prelude.{◌≡◌, ℕ, ℤ, pos, length, slice_index_or}
+use Rattle.vx_value.specs.Types.{DataType, bool, primitive, nullability_of}
+use Rattle.vx_value.specs.Values.{integer}
+use Rattle.vx_value.specs.Cell.{Cell}
+use Rattle.vx_value.specs.Casts.{to_integer}
+use Rattle.vx_value.specs.declared.dtype.PType.{PType}
+use Rattle.vx_value.specs.declared.error.VortexError.{VortexError}
+use Rattle.vx_native.specs.Natives.{values_of}
+use Rattle.vx_tree.specs.Tree.{Tree}
+use Rattle.vx_apply.specs.Operands.{IsFaultyRow, IsCalculated}
+use Rattle.vx_rows.specs.ValidRows.{is_valid, HasValidity}
+use Rattle.vx_apply.specs.declared.cast.Conversion.{Conversion}
+use Rattle.vx_rows.specs.declared.argument.ArgumentRows.{ArgumentRows}
+use Rattle.vx_rows.specs.declared.argument.ArgumentRows.TheVariants as stored
+
+-- row i of integers, cast to the type p
+abbrev pub converted : PType → (ℕ → ℤ) → ℕ → Cell
+converted p z i = to_integer p (integer (z i))
+
+-- the types of columns to which there is a cast: a line for each storage
+abbrev pub IsCastTarget : ArgumentRows → DataType → Type 0
+IsCastTarget (stored.Bits bs) t = t ≡ bool (nullability_of t)
+IsCastTarget (stored.Integers zs) t = (p : PType) × (t ≡ primitive p (nullability_of t))
+
+-- the integer at row i, or 0 past the last one
+abbrev pub value_in : Conversion → ℕ → ℤ
+value_in x i = slice_index_or (values_of x.values.now) i (pos 0)
+
+abbrev pub HasRowsToConvert : Conversion → Type 0
+HasRowsToConvert x = (length (values_of x.values.now) ≡ x.len) × HasValidity x.valid.now x.len
+
+-- u is the column of its integers in the target's type
+abbrev pub IsConverted : Conversion → Tree → Type 0
+IsConverted x u = IsCalculated x.target x.valid.now (converted x.target (value_in x)) x.len u
+
+-- why there is none: out of memory, or one of them is out of range
+abbrev pub IsNotConverted : Conversion → VortexError → Type 0
+IsNotConverted x e = IsFaultyRow (is_valid x.valid.now) (converted x.target (value_in x)) x.len e

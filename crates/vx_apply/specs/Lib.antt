@@ -1,0 +1,13 @@
+pub use Rattle.vx_fn.specs.Apply
+pub use Rattle.vx_tree.specs.Tree
+pub use Rattle.vx_tree.specs.Cells
+pub use Rattle.vx_tree.specs.Keeps
+pub use Rattle.vx_tree.specs.Columns
+pub mod Applied
+pub mod Bits
+pub mod Bounds
+pub mod Casts
+pub mod Computed
+pub mod Operands
+pub mod Selected
+pub mod Truths

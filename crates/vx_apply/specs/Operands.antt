@@ -1,0 +1,53 @@
+-- The operands of a kernel: numbers of a native type.
+use Rattle.std.specs.Prelude.{◌≡◌, ◌⊎◌, ◌&&◌, ℕ, ℤ, pos, ◌<◌, Bool, true, false, List, map, length, slice_index_or}
+use Rattle.std.specs.List.{range_with_len}
+use Rattle.std.specs.Ordering.{int_cmp}
+use Rattle.vx_value.specs.Types.{primitive}
+use Rattle.vx_value.specs.Values.{integer}
+use Rattle.vx_value.specs.Cell.{Cell, value, fault}
+use Rattle.vx_value.specs.declared.dtype.PType.{PType}
+use Rattle.vx_value.specs.declared.error.VortexError.{VortexError}
+use Rattle.vx_value.specs.declared.error.VortexError.TheVariants.{OutOfMemory, Fault}
+use Rattle.vx_fn.specs.Comparisons.{holds}
+use Rattle.vx_fn.specs.declared.function.Operator.{Operator}
+use Rattle.vx_tree.specs.Tree.{Tree, dtype}
+use Rattle.vx_apply.specs.Computed.{IsMade}
+use Rattle.vx_rows.specs.ValidRows.{nullability_in}
+use Rattle.vx_rows.specs.declared.valid.ValidRows.{ValidRows}
+use Rattle.vx_apply.specs.declared.operand.Operand.{Operand}
+use Rattle.vx_apply.specs.declared.operand.Operand.TheVariants.{Rows, Value}
+
+-- what the number at row i stands for, or 0 past the last one
+abbrev pub number_in : {T : Type 0} → (T → ℤ) → Operand T → ℕ → ℤ
+number_in read (Rows xs) i = slice_index_or (map read xs.now) i (pos 0)
+number_in read (Value x) i = read x
+
+-- row i exists; one number stands for each
+abbrev pub HasRow : {T : Type 0} → Operand T → ℕ → Type 0
+HasRow (Rows xs) i = i < length xs.now
+HasRow (Value x) i = Unit {0}
+
+-- so do the first n
+abbrev pub HasRows : {T : Type 0} → Operand T → ℕ → Type 0
+HasRows x n = (i : ℕ) → i < n → HasRow x i
+
+-- the cell that is stored of a row: 0 if it is null
+abbrev pub zero_unless : Bool → Cell → Cell
+zero_unless true c = c
+zero_unless false c = value (integer (pos 0))
+
+-- those of n rows, of which row i is `cell i`, null unless `valid i`
+abbrev pub calculated_rows : (ℕ → Bool) → (ℕ → Cell) → ℕ → List Cell
+calculated_rows valid cell n = map (λ i. zero_unless (valid i) (cell i)) (range_with_len 0 n)
+
+-- why there are none: out of memory, or one of them is a fault
+abbrev pub IsFaultyRow : (ℕ → Bool) → (ℕ → Cell) → ℕ → VortexError → Type 0
+IsFaultyRow valid cell n e = (e ≡ OutOfMemory) ⊎ ((e ≡ Fault) × (i : ℕ) × (i < n) × (valid i ≡ true) × (cell i ≡ fault))
+
+-- u is the canonical column of n integers of type p: row i is `cell i`, null unless it is valid
+abbrev pub IsCalculated : PType → ValidRows → (ℕ → Cell) → ℕ → Tree → Type 0
+IsCalculated p valid cell n u = (dtype u ≡ primitive p (nullability_in valid)) × IsMade valid cell n u
+
+-- the bits that a comparison stores: false if the row is null
+abbrev pub compared_rows : Operator → (ℕ → Bool) → (ℕ → ℤ) → (ℕ → ℤ) → ℕ → List Bool
+compared_rows op valid l r n = map (λ i. valid i && holds op (int_cmp (l i) (r i))) (range_with_len 0 n)

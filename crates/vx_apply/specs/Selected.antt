@@ -1,0 +1,23 @@
+-- Rows chosen between two arguments by bits.
+use Rattle.std.specs.Prelude.{◌≡◌, ℕ, true, map, if◌then◌else◌}
+use Rattle.std.specs.List.{range_with_len}
+use Rattle.vx_value.specs.Nullabilities.{with_nullability, union}
+use Rattle.vx_mask.specs.Operands.{bit_in}
+use Rattle.vx_mask.specs.declared.operand.BitOperand.{BitOperand}
+use Rattle.vx_tree.specs.Tree.{Tree, dtype, len, datum, slots, is_canonical}
+use Rattle.vx_tree.specs.Cells.{rows, AreClean}
+use Rattle.vx_rows.specs.Arguments.{plain_type, cell_at}
+use Rattle.vx_rows.specs.ValidRows.{nullability_in}
+use Rattle.vx_rows.specs.declared.argument.Argument.{Argument}
+
+-- x in row i if its bit is true, else y
+abbrev pub selected : {A : Type 0} → BitOperand → (ℕ → A) → (ℕ → A) → ℕ → A
+selected choice x y i = if bit_in choice i then x i else y i
+
+-- u is the canonical column of these cells, nullable if one of the two is
+pub record IsSelected (choice : BitOperand) (x y : Argument) (n : ℕ) (u : Tree) : Type 0 where
+  pub typed : dtype u ≡ with_nullability (union (nullability_in x.valid) (nullability_in y.valid)) (plain_type x.rows)
+  pub counted : len u ≡ n
+  pub shown : rows u ≡ map (selected choice (cell_at x) (cell_at y)) (range_with_len 0 n)
+  pub clean : AreClean (slots u)
+  pub canonical : is_canonical (datum u) ≡ true

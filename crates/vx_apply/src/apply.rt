@@ -1,0 +1,81 @@
+//! Functions applied to whole columns.
+
+ghost use Rattle.std.specs.Prelude.{map, IfOk, IfErr};
+ghost use Rattle.std.specs.List.{AllByRecursion};
+ghost use Rattle.vx_tree.specs.Columns.{columnar_tree, canonical_tree};
+ghost use Rattle.vx_apply.specs.Applied.{IsCall, IsApplied, IsUnapplied};
+ghost use Rattle.vx_rows.specs.Arguments.{types_of, IsSized};
+ghost use Rattle.vx_apply.specs.Computed.{IsTaken, IsComputed, IsNotComputed};
+
+use crate::between::between;
+use crate::boolean::negate;
+use crate::cast::cast;
+use crate::constant::{apply_constants, constants};
+use crate::nulls::{is_not_null, is_null, mask};
+use crate::operate::operate;
+use crate::select::{fill_null, zip};
+use std::alloc::Global;
+use vx_fn::ScalarFnRef;
+use vx_rows::{Argument, arguments_of};
+use vx_tree::{Canonical, Columnar};
+use vx_value::VortexResult;
+
+/// Applies `function` to `arguments`, each `len` rows long, in one pass and one allocation for the rows; constants
+/// aren't expanded, and values under nulls aren't computed. The result is a constant if `len > 0` and every argument is
+/// one, else canonical. (own)
+///
+/// # Errors
+///
+/// `Fault` if a row has no value; `OutOfMemory`.
+pub fn apply_fn(
+    alloc: Global,
+    function: &ScalarFnRef,
+    arguments: &[Columnar],
+    len: usize,
+) -> VortexResult<Columnar>
+    requires { IsCall function.now (map columnar_tree arguments.now) len }
+    ensures ok { IfOk result (λ c. IsApplied function.now (map columnar_tree arguments.now) len (columnar_tree c)) }
+    ensures err { IfErr result (IsUnapplied function.now (map columnar_tree arguments.now) len) }
+{
+    match constants(alloc, arguments, len)? {
+        Some(scalars) => match apply_constants(alloc, function, scalars.as_slice(), len) {
+            Ok(column) => Ok(column),
+            Err(e) => Err(e),
+        },
+        None => match arguments_of(alloc, arguments) {
+            Ok(rows) => match apply_to_columns(alloc, function, rows.as_slice(), len) {
+                Ok(column) => Ok(Columnar::Canonical(column)),
+                Err(e) => Err(e),
+            },
+            Err(e) => Err(e),
+        },
+    }
+}
+
+/// Applies `function` to `arguments`, `len` rows each, of which it must compute columns. `Fault` if a row has no value.
+fn apply_to_columns(
+    alloc: Global,
+    function: &ScalarFnRef,
+    arguments: &[Argument<'_>],
+    len: usize,
+) -> VortexResult<Canonical>
+    requires sized { AllByRecursion (IsSized len) arguments.now }
+    requires taken { IsTaken function.now (types_of arguments.now) }
+    ensures ok { IfOk result (λ c. IsComputed function.now arguments.now len (canonical_tree c)) }
+    ensures err { IfErr result (IsNotComputed function.now arguments.now len) }
+{
+    match (function, arguments) {
+        (ScalarFnRef::Binary(operator), [lhs, rhs]) => operate(alloc, *operator, lhs, rhs, len),
+        (ScalarFnRef::Between(options), [array, lower, upper]) => {
+            between(alloc, *options, array, lower, upper, len)
+        }
+        (ScalarFnRef::Not, [input]) => negate(alloc, input, len),
+        (ScalarFnRef::Mask, [input, keep]) => mask(alloc, input, keep, len),
+        (ScalarFnRef::Zip, [if_true, if_false, mask]) => zip(alloc, if_true, if_false, mask, len),
+        (ScalarFnRef::FillNull, [input, fill_value]) => fill_null(alloc, input, fill_value, len),
+        (ScalarFnRef::IsNull, [input]) => is_null(alloc, input, len),
+        (ScalarFnRef::IsNotNull, [input]) => is_not_null(alloc, input, len),
+        (ScalarFnRef::Cast(target), [input]) => cast(alloc, target, input, len),
+        _ => unreachable!(),
+    }
+}

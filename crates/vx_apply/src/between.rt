@@ -1,0 +1,198 @@
+//! Whether rows lie between two bounds.
+
+ghost use Rattle.std.specs.Prelude.{◌≡◌, ◌∷◌, [], ◌&&◌, map, IfOk, IfErr};
+ghost use Rattle.std.specs.List.{range_with_len};
+ghost use Rattle.std.specs.Ordering.{int_cmp};
+ghost use Rattle.vx_mask.specs.Operands.{HasBits};
+ghost use Rattle.vx_fn.specs.Comparisons.{holds};
+ghost use Rattle.vx_fn.specs.declared.function.ScalarFnRef.TheVariants.{Between};
+ghost use Rattle.vx_tree.specs.Columns.{canonical_tree};
+ghost use Rattle.vx_rows.specs.Arguments.{types_of, plain_type, value_at, IsSized, HasStored, AreIntegers};
+ghost use Rattle.vx_apply.specs.Bounds.{bound_by, is_between};
+ghost use Rattle.vx_apply.specs.Computed.{IsTaken, IsComputed};
+ghost use Rattle.vx_apply.specs.Operands.{number_in, HasRows};
+ghost use Rattle.vx_rows.specs.declared.argument.ArgumentRows.TheVariants.{Bits, Integers};
+
+use crate::boolean::{keep_valid, operate_bits, valid_bools};
+use crate::comparison::{Below, Comparison, NotAbove};
+use crate::operand::{Operand, operand_of};
+use std::alloc::{AllocError, Global};
+use vx_fn::{BetweenOptions, Operator, StrictComparison};
+use vx_mask::{BitAnd, BitBuffer, BitBuilder, BitOperand};
+use vx_native::{NativeInteger, by_type};
+use vx_rows::{Argument, ArgumentRows, IntegerOperand};
+use vx_tree::Canonical;
+use vx_value::{VortexError, VortexResult};
+
+/// Checks whether each row of `array` lies between `lower` and `upper`, `len` rows each; a row is null if one of the three is.
+/// The only error is `OutOfMemory`.
+#[tactic(auto, using(vx_rows::proofs::ValidRowsLemmas::counted))]
+pub(crate) fn between(
+    alloc: Global,
+    options: BetweenOptions,
+    array: &Argument<'_>,
+    lower: &Argument<'_>,
+    upper: &Argument<'_>,
+    len: usize,
+) -> VortexResult<Canonical>
+    requires array { IsSized len array.now }
+    requires lower { IsSized len lower.now }
+    requires upper { IsSized len upper.now }
+    requires taken { IsTaken (Between options) (types_of (array.now ∷ lower.now ∷ upper.now ∷ [])) }
+    ensures ok { IfOk result (λ c. IsComputed (Between options) (array.now ∷ lower.now ∷ upper.now ∷ []) len (canonical_tree c)) }
+    ensures err { IfErr result (λ e. e ≡ VortexError.OutOfMemory) }
+{
+    let bounds_valid = lower.valid.and(alloc, &upper.valid, len)?;
+    let valid = array.valid.and(alloc, &bounds_valid, len)?;
+    let bits = between_rows(alloc, options, array.rows, lower.rows, upper.rows, len)?;
+    let kept = keep_valid(alloc, bits, &valid, len)?;
+    valid_bools(alloc, kept, &valid, len)
+}
+
+/// Checks each of `len` rows, which must be of one type; null rows are compared by what they store.
+fn between_rows(
+    alloc: Global,
+    options: BetweenOptions,
+    array: ArgumentRows<'_>,
+    lower: ArgumentRows<'_>,
+    upper: ArgumentRows<'_>,
+    len: usize,
+) -> Result<BitBuffer, AllocError>
+    requires array { HasStored array len }
+    requires lower { HasStored lower len }
+    requires upper { HasStored upper len }
+    requires same_lower { plain_type array ≡ plain_type lower }
+    requires same_upper { plain_type array ≡ plain_type upper }
+    ensures { IfOk result (λ b. b ≡ map (is_between options (value_at array.entry) (value_at lower.entry) (value_at upper.entry)) (range_with_len 0 len)) }
+{
+    match (array, lower, upper) {
+        (ArgumentRows::Bits(array), ArgumentRows::Bits(lower), ArgumentRows::Bits(upper)) => {
+            between_bits(alloc, options, array, lower, upper, len)
+        }
+        (
+            ArgumentRows::Integers(array),
+            ArgumentRows::Integers(lower),
+            ArgumentRows::Integers(upper),
+        ) => {
+            by_type!(
+                array.ptype(),
+                between_integers(alloc, options, array, lower, upper, len)
+            )
+        }
+        _ => unreachable!(),
+    }
+}
+
+/// Returns the operator by which a bound is compared.
+fn bound_operator(comparison: StrictComparison) -> Operator
+    ensures { result ≡ bound_by comparison }
+{
+    match comparison {
+        StrictComparison::Strict => Operator::Lt,
+        StrictComparison::NonStrict => Operator::Lte,
+    }
+}
+
+/// Checks each of `len` rows of booleans, by words.
+#[tactic(auto, using(vx_rows::proofs::ValidRowsLemmas::counted))]
+fn between_bits(
+    alloc: Global,
+    options: BetweenOptions,
+    array: BitOperand<'_>,
+    lower: BitOperand<'_>,
+    upper: BitOperand<'_>,
+    len: usize,
+) -> Result<BitBuffer, AllocError>
+    requires array { HasBits array len }
+    requires lower { HasBits lower len }
+    requires upper { HasBits upper len }
+    ensures { IfOk result (λ b.
+        b ≡ map (is_between options (value_at (Bits array.entry)) (value_at (Bits lower.entry)) (value_at (Bits upper.entry))) (range_with_len 0 len)) }
+{
+    let above = operate_bits(
+        alloc,
+        bound_operator(options.lower_strict),
+        lower,
+        array,
+        len,
+    )?;
+    let below = operate_bits(
+        alloc,
+        bound_operator(options.upper_strict),
+        array,
+        upper,
+        len,
+    )?;
+    let above = BitOperand::Bits(&above);
+    BitBuffer::zip::<BitAnd>(alloc, above, BitOperand::Bits(&below), len)
+}
+
+/// Checks each of `len` rows of integers, which must be of the type `T`.
+fn between_integers<T: NativeInteger>(
+    alloc: Global,
+    options: BetweenOptions,
+    array: IntegerOperand<'_>,
+    lower: IntegerOperand<'_>,
+    upper: IntegerOperand<'_>,
+    len: usize,
+) -> Result<BitBuffer, AllocError>
+    requires array { AreIntegers T.kind array len }
+    requires lower { AreIntegers T.kind lower len }
+    requires upper { AreIntegers T.kind upper len }
+    ensures { IfOk result (λ b.
+        b ≡ map (is_between options (value_at (Integers array.entry)) (value_at (Integers lower.entry)) (value_at (Integers upper.entry))) (range_with_len 0 len)) }
+{
+    let array: Operand<'_, T> = operand_of(array);
+    let lower: Operand<'_, T> = operand_of(lower);
+    let upper: Operand<'_, T> = operand_of(upper);
+    match (options.lower_strict, options.upper_strict) {
+        (StrictComparison::Strict, StrictComparison::Strict) => {
+            between_natives::<T, Below, Below>(alloc, array, lower, upper, len)
+        }
+        (StrictComparison::Strict, StrictComparison::NonStrict) => {
+            between_natives::<T, Below, NotAbove>(alloc, array, lower, upper, len)
+        }
+        (StrictComparison::NonStrict, StrictComparison::Strict) => {
+            between_natives::<T, NotAbove, Below>(alloc, array, lower, upper, len)
+        }
+        (StrictComparison::NonStrict, StrictComparison::NonStrict) => {
+            between_natives::<T, NotAbove, NotAbove>(alloc, array, lower, upper, len)
+        }
+    }
+}
+
+/// Compares `lower` with `array` by `L`, and `array` with `upper` by `U`, in each of `len` rows.
+#[tactic(auto, using(crate::proofs::ComputedLemmas::bits_more))]
+fn between_natives<T: NativeInteger, L: Comparison, U: Comparison>(
+    alloc: Global,
+    array: Operand<'_, T>,
+    lower: Operand<'_, T>,
+    upper: Operand<'_, T>,
+    len: usize,
+) -> Result<BitBuffer, AllocError>
+    requires array { HasRows array len }
+    requires lower { HasRows lower len }
+    requires upper { HasRows upper len }
+    ensures { IfOk result (λ b. b ≡ map (λ i. holds L.operator (int_cmp (number_in T.value lower.entry i) (number_in T.value array.entry i))
+        && holds U.operator (int_cmp (number_in T.value array.entry i) (number_in T.value upper.entry i))) (range_with_len 0 len)) }
+{
+    let mut bits = BitBuilder::with_capacity(alloc, len)?;
+    for index in 0..len {
+        bits.push(between_row::<T, L, U>(array.row(index), lower.row(index), upper.row(index)))?;
+    }
+    bits.finish(alloc)
+}
+
+/// Compares `lower` with `number` by `L`, and `number` with `upper` by `U`.
+#[inline]
+fn between_row<T: NativeInteger, L: Comparison, U: Comparison>(
+    number: T,
+    lower: T,
+    upper: T,
+) -> bool
+    ensures { result ≡ holds L.operator (int_cmp (T.value lower) (T.value number)) && holds U.operator (int_cmp (T.value number) (T.value upper)) }
+{
+    let above = L::compare_row(lower, number);
+    let below = U::compare_row(number, upper);
+    above & below
+}

@@ -1,0 +1,19 @@
+//! Applies functions to whole columns.
+#![tactic(auto)]
+
+mod apply;
+mod arithmetic;
+mod between;
+mod boolean;
+mod calculation;
+mod cast;
+mod comparison;
+mod constant;
+mod logic;
+mod nulls;
+mod operand;
+mod operate;
+mod select;
+mod stored;
+
+pub use apply::apply_fn;

@@ -1,0 +1,47 @@
+//! The operands of a kernel.
+
+ghost use Rattle.std.specs.Prelude.{◌≡◌, ℕ};
+ghost use Rattle.vx_rows.specs.Arguments.{integer_in, ptype_in, IsInRange, HasIntegers};
+ghost use Rattle.vx_apply.specs.Operands.{number_in, HasRow, HasRows};
+
+use vx_native::{NativeInteger, native_of};
+use vx_rows::{IntegerOperand, IntegerRows};
+
+/// Numbers of a native type: one for each row, or one for every row.
+#[derive(Clone, Copy)]
+pub(crate) enum Operand<'a, T> {
+    Rows(&'a [T]),
+    Value(T),
+}
+
+impl<'a, T: NativeInteger> Operand<'a, T> {
+    /// Returns the number at row `index`, which must exist.
+    #[inline]
+    pub(crate) fn row(&self, index: usize) -> T
+        requires { HasRow self.now index }
+        ensures { T.value result ≡ number_in T.value self.now index }
+    {
+        match *self {
+            Operand::Rows(rows) => rows[index],
+            Operand::Value(value) => value,
+        }
+    }
+}
+
+/// Returns `integers`, which must be of the type `T`, as native numbers.
+pub(crate) fn operand_of<'a, T: NativeInteger>(integers: IntegerOperand<'a>) -> Operand<'a, T>
+    requires kind { ptype_in integers ≡ T.kind }
+    requires ranged { IsInRange integers.rows }
+    ensures numbers { number_in T.value result ≡ integer_in integers.entry }
+    ensures rows { (n : ℕ) → HasIntegers integers.entry.rows n → HasRows result n }
+{
+    match integers.rows {
+        IntegerRows::Rows(values) => {
+            let Some(buffer) = T::project(values) else {
+                unreachable!()
+            };
+            Operand::Rows(buffer.as_slice())
+        }
+        IntegerRows::Value(_, wide) => Operand::Value(native_of(wide)),
+    }
+}

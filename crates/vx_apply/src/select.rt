@@ -1,0 +1,289 @@
+//! Rows chosen between two arguments by bits.
+
+ghost use Rattle.std.specs.Prelude.{◌≡◌, ◌<◌, ◌∷◌, [], ℕ, map, length, IfOk, IfErr, if◌then◌else◌};
+ghost use Rattle.std.specs.List.{range_with_len};
+ghost use Rattle.vx_mask.specs.Logic.{bit_row};
+ghost use Rattle.vx_mask.specs.Operands.{bit_in, HasBits};
+ghost use Rattle.vx_value.specs.Nullabilities.{with_nullability, union};
+ghost use Rattle.vx_value.specs.Cell.{value};
+ghost use Rattle.vx_native.specs.Natives.{values_of, ptype_of};
+ghost use Rattle.vx_fn.specs.declared.function.ScalarFnRef.TheVariants.{Zip, FillNull};
+ghost use Rattle.vx_tree.specs.Tree.{dtype};
+ghost use Rattle.vx_tree.specs.Columns.{canonical_tree};
+ghost use Rattle.vx_rows.specs.Arguments.{types_of, plain_type, value_at, integer_in, ptype_in, IsSized, HasStored, AreIntegers};
+ghost use Rattle.vx_apply.specs.Computed.{IsTaken, IsComputed, IsMade};
+ghost use Rattle.vx_apply.specs.Operands.{number_in, HasRow, HasRows};
+ghost use Rattle.vx_apply.specs.Selected.{selected, IsSelected};
+ghost use Rattle.vx_rows.specs.ValidRows.{is_valid, HasValidity, nullability_in};
+
+use crate::arithmetic::valid_integers;
+use crate::boolean::valid_bools;
+use crate::operand::{Operand, operand_of};
+use crate::stored::{bit_rows, integer_rows};
+use std::alloc::{AllocError, Global};
+use vx_mask::{BitAnd, BitBuffer, BitLt, BitOperand, BitOr, Buffer};
+use vx_native::{NativeInteger, PrimitiveValues, by_type};
+use vx_rows::{Argument, ArgumentRows, IntegerOperand, ValidRows};
+use vx_tree::Canonical;
+use vx_value::{Nullability, VortexError, VortexResult};
+
+/// Chooses `if_true` where `mask` is true, and `if_false` where it is false or null, `len` rows each. The only error is
+/// `OutOfMemory`.
+#[tactic(auto, using(vx_rows::proofs::ValidRowsLemmas::counted))]
+pub(crate) fn zip(
+    alloc: Global,
+    if_true: &Argument<'_>,
+    if_false: &Argument<'_>,
+    mask: &Argument<'_>,
+    len: usize,
+) -> VortexResult<Canonical>
+    requires if_true { IsSized len if_true.now }
+    requires if_false { IsSized len if_false.now }
+    requires mask { IsSized len mask.now }
+    requires taken { IsTaken Zip (types_of (if_true.now ∷ if_false.now ∷ mask.now ∷ [])) }
+    ensures ok { IfOk result (λ c. IsComputed Zip (if_true.now ∷ if_false.now ∷ mask.now ∷ []) len (canonical_tree c)) }
+    ensures err { IfErr result (λ e. e ≡ VortexError.OutOfMemory) }
+{
+    let ArgumentRows::Bits(bits) = mask.rows else {
+        unreachable!()
+    };
+    match &mask.valid {
+        ValidRows::All(_) => select(alloc, bits, if_true, if_false, len),
+        ValidRows::Bits(valid) => {
+            let choice = BitBuffer::zip::<BitAnd>(alloc, BitOperand::Bits(valid), bits, len)?;
+            select(alloc, BitOperand::Bits(&choice), if_true, if_false, len)
+        }
+    }
+}
+
+/// Puts `fill_value` in place of the nulls of `input`, `len` rows each. The only error is `OutOfMemory`.
+pub(crate) fn fill_null(
+    alloc: Global,
+    input: &Argument<'_>,
+    fill_value: &Argument<'_>,
+    len: usize,
+) -> VortexResult<Canonical>
+    requires input { IsSized len input.now }
+    requires fill_value { IsSized len fill_value.now }
+    requires taken { IsTaken FillNull (types_of (input.now ∷ fill_value.now ∷ [])) }
+    ensures ok { IfOk result (λ c. IsComputed FillNull (input.now ∷ fill_value.now ∷ []) len (canonical_tree c)) }
+    ensures err { IfErr result (λ e. e ≡ VortexError.OutOfMemory) }
+{
+    let values = Argument {
+        rows: input.rows,
+        valid: ValidRows::All(Nullability::NonNullable),
+    };
+    select(alloc, input.valid.as_operand(), &values, fill_value, len)
+}
+
+/// Chooses `if_true` where `choice` is true, else `if_false`, `len` rows each, whose values must be of one type. The only
+/// error is `OutOfMemory`.
+fn select(
+    alloc: Global,
+    choice: BitOperand<'_>,
+    if_true: &Argument<'_>,
+    if_false: &Argument<'_>,
+    len: usize,
+) -> VortexResult<Canonical>
+    requires choice { HasBits choice len }
+    requires if_true { HasStored if_true.now.rows len }
+    requires if_false { HasStored if_false.now.rows len }
+    requires true_valid { HasValidity if_true.now.valid len }
+    requires false_valid { HasValidity if_false.now.valid len }
+    requires same { plain_type if_true.now.rows ≡ plain_type if_false.now.rows }
+    ensures ok { IfOk result (λ c. IsSelected choice.entry if_true.now if_false.now len (canonical_tree c)) }
+    ensures err { IfErr result (λ e. e ≡ VortexError.OutOfMemory) }
+{
+    let valid = select_valid(alloc, choice, &if_true.valid, &if_false.valid, len)?;
+    select_rows(alloc, choice, if_true.rows, if_false.rows, &valid, len)
+}
+
+/// Chooses the valid rows of a column.
+#[tactic(auto, using(vx_rows::proofs::ValidRowsLemmas::counted))]
+fn select_valid(
+    alloc: Global,
+    choice: BitOperand<'_>,
+    if_true: &ValidRows,
+    if_false: &ValidRows,
+    len: usize,
+) -> Result<ValidRows, AllocError>
+    requires choice { HasBits choice len }
+    requires if_true { HasValidity if_true.now len }
+    requires if_false { HasValidity if_false.now len }
+    ensures rows { IfOk result (λ r. (i : ℕ) → i < len → is_valid r i ≡ selected choice.entry (is_valid if_true.now) (is_valid if_false.now) i) }
+    ensures sized { IfOk result (λ r. HasValidity r len) }
+    ensures nullability { IfOk result (λ r. nullability_in r ≡ union (nullability_in if_true.now) (nullability_in if_false.now)) }
+{
+    match (if_true, if_false) {
+        (ValidRows::All(first), ValidRows::All(second)) => Ok(ValidRows::All(first.union(*second))),
+        _ => {
+            let bits = select_bits(
+                alloc,
+                choice,
+                if_true.as_operand(),
+                if_false.as_operand(),
+                len,
+            )?;
+            Ok(ValidRows::Bits(bits))
+        }
+    }
+}
+
+/// Makes the column of the rows that `choice` chooses, whose `valid` rows aren't null. The only error is `OutOfMemory`.
+#[tactic(auto, using(vx_rows::proofs::ValidRowsLemmas::counted))]
+fn select_rows(
+    alloc: Global,
+    choice: BitOperand<'_>,
+    if_true: ArgumentRows<'_>,
+    if_false: ArgumentRows<'_>,
+    valid: &ValidRows,
+    len: usize,
+) -> VortexResult<Canonical>
+    requires choice { HasBits choice len }
+    requires if_true { HasStored if_true len }
+    requires if_false { HasStored if_false len }
+    requires valid { HasValidity valid.now len }
+    requires same { plain_type if_true ≡ plain_type if_false }
+    ensures ok { IfOk result (λ c. (dtype (canonical_tree c) ≡ with_nullability (nullability_in valid.now) (plain_type if_true.entry))
+        × IsMade valid.now (λ i. value (selected choice.entry (value_at if_true.entry) (value_at if_false.entry) i)) len (canonical_tree c)) }
+    ensures err { IfErr result (λ e. e ≡ VortexError.OutOfMemory) }
+{
+    match (if_true, if_false) {
+        (ArgumentRows::Bits(if_true), ArgumentRows::Bits(if_false)) => {
+            let bits = select_bits(alloc, choice, if_true, if_false, len)?;
+            valid_bools(alloc, bits, valid, len)
+        }
+        (ArgumentRows::Integers(if_true), ArgumentRows::Integers(if_false)) => {
+            let values = select_integers(alloc, choice, if_true, if_false, len)?;
+            valid_integers(alloc, values, valid, len)
+        }
+        _ => unreachable!(),
+    }
+}
+
+/// Chooses among bits, by words; if one side is chosen whole, its bits are shared.
+fn select_bits(
+    alloc: Global,
+    choice: BitOperand<'_>,
+    if_true: BitOperand<'_>,
+    if_false: BitOperand<'_>,
+    len: usize,
+) -> Result<BitBuffer, AllocError>
+    requires choice { HasBits choice len }
+    requires if_true { HasBits if_true len }
+    requires if_false { HasBits if_false len }
+    ensures { IfOk result (λ b. b ≡ map (selected choice.entry (bit_in if_true.entry) (bit_in if_false.entry)) (range_with_len 0 len)) }
+{
+    match (choice, if_true) {
+        (BitOperand::Bit(true), _) => bit_rows(alloc, if_true, len),
+        (BitOperand::Bit(false), _) => bit_rows(alloc, if_false, len),
+        (_, BitOperand::Bit(true)) => BitBuffer::zip::<BitOr>(alloc, choice, if_false, len),
+        _ => select_words(alloc, choice, if_true, if_false, len),
+    }
+}
+
+/// Chooses among bits, by words.
+#[tactic(auto, using(vx_rows::proofs::ValidRowsLemmas::counted))]
+fn select_words(
+    alloc: Global,
+    choice: BitOperand<'_>,
+    if_true: BitOperand<'_>,
+    if_false: BitOperand<'_>,
+    len: usize,
+) -> Result<BitBuffer, AllocError>
+    requires choice { HasBits choice len }
+    requires if_true { HasBits if_true len }
+    requires if_false { HasBits if_false len }
+    ensures { IfOk result (λ b. b ≡ map (selected choice.entry (bit_in if_true.entry) (bit_in if_false.entry)) (range_with_len 0 len)) }
+{
+    let chosen = BitBuffer::zip::<BitAnd>(alloc, choice, if_true, len)?;
+    let others = BitBuffer::zip::<BitLt>(alloc, choice, if_false, len)?;
+    let chosen = BitOperand::Bits(&chosen);
+    BitBuffer::zip::<BitOr>(alloc, chosen, BitOperand::Bits(&others), len)
+}
+
+/// Chooses among integers; if one side is chosen whole, its integers are shared.
+fn select_integers(
+    alloc: Global,
+    choice: BitOperand<'_>,
+    if_true: IntegerOperand<'_>,
+    if_false: IntegerOperand<'_>,
+    len: usize,
+) -> Result<PrimitiveValues, AllocError>
+    requires choice { HasBits choice len }
+    requires if_true { AreIntegers (ptype_in if_true) if_true len }
+    requires if_false { AreIntegers (ptype_in if_true) if_false len }
+    ensures kind { IfOk result (λ v. ptype_of v ≡ ptype_in if_true.entry) }
+    ensures values { IfOk result (λ v. values_of v ≡ map (selected choice.entry (integer_in if_true.entry) (integer_in if_false.entry)) (range_with_len 0 len)) }
+{
+    match choice {
+        BitOperand::Bit(true) => integer_rows(alloc, if_true, len),
+        BitOperand::Bit(false) => integer_rows(alloc, if_false, len),
+        BitOperand::Bits(bits) => {
+            by_type!(
+                if_true.ptype(),
+                select_natives(alloc, bits, if_true, if_false, len)
+            )
+        }
+    }
+}
+
+/// Chooses `if_true` at the true bits of `choice`, else `if_false`, `len` rows each, which must be of the type `T`.
+fn select_natives<T: NativeInteger>(
+    alloc: Global,
+    choice: &BitBuffer,
+    if_true: IntegerOperand<'_>,
+    if_false: IntegerOperand<'_>,
+    len: usize,
+) -> Result<PrimitiveValues, AllocError>
+    requires choice { length choice.now ≡ len }
+    requires if_true { AreIntegers T.kind if_true len }
+    requires if_false { AreIntegers T.kind if_false len }
+    ensures kind { IfOk result (λ v. ptype_of v ≡ T.kind) }
+    ensures values { IfOk result (λ v. values_of v
+        ≡ map (λ i. if bit_row choice.now i then integer_in if_true.entry i else integer_in if_false.entry i) (range_with_len 0 len)) }
+{
+    let left: Operand<'_, T> = operand_of(if_true);
+    let right: Operand<'_, T> = operand_of(if_false);
+    let numbers = select_numbers(alloc, choice, left, right, len)?;
+    Ok(T::wrap(Buffer::from_vec(alloc, numbers)?))
+}
+
+/// Chooses `left` at the true bits of `choice`, else `right`, `len` rows each.
+fn select_numbers<T: NativeInteger>(
+    alloc: Global,
+    choice: &BitBuffer,
+    left: Operand<'_, T>,
+    right: Operand<'_, T>,
+    len: usize,
+) -> Result<Vec<T>, AllocError>
+    requires choice { length choice.now ≡ len }
+    requires left { HasRows left len }
+    requires right { HasRows right len }
+    ensures { IfOk result (λ v. map T.value v.items
+        ≡ map (λ i. if bit_row choice.now i then number_in T.value left.entry i else number_in T.value right.entry i) (range_with_len 0 len)) }
+{
+    let mut numbers = Vec::with_capacity(alloc, len)?;
+    for index in 0..len {
+        let is_true = choice.value(index);
+        numbers.push_reserved(select_row(&left, &right, index, is_true));
+    }
+    Ok(numbers)
+}
+
+/// Returns row `index`, which must exist, of `left` if `choice` is true, else of `right`.
+#[inline]
+fn select_row<T: NativeInteger>(
+    left: &Operand<'_, T>,
+    right: &Operand<'_, T>,
+    index: usize,
+    choice: bool,
+) -> T
+    requires left { HasRow left.now index }
+    requires right { HasRow right.now index }
+    ensures { T.value result ≡ (if choice then number_in T.value left.now index else number_in T.value right.now index) }
+{
+    let first = left.row(index);
+    let second = right.row(index);
+    if choice { first } else { second }
+}

@@ -1,0 +1,110 @@
+-- A column of one value, repeated.
+use Rattle.std.proofs.Common.{◌≡◌, ℕ, zero, suc, ℤ, pos, Bool, true, false, List, [], ◌∷◌, length, map, replicate, Result, IfOk, refl, sym, ◌∙◌, ap, subst}
+use Rattle.std.specs.Prelude.{unwrap_or, if◌then◌else◌}
+use Rattle.std.proofs.lemmas.List.{length-replicate}
+use Rattle.std.proofs.lemmas.Result.{IfOk-weaker}
+use Rattle.vx_value.specs.Types as type
+use Rattle.vx_value.specs.Types.{DataType, nullability_of, is_nullable}
+use Rattle.vx_value.specs.Storage.{storage_of}
+use Rattle.vx_value.specs.declared.dtype.Storage.{Storage}
+use Rattle.vx_value.specs.declared.dtype.Storage.TheVariants.{Bits, Integers}
+use Rattle.vx_value.specs.IsOf.{is_of, is_stored, is_null, in_range}
+use Rattle.vx_value.specs.Parts.{boolean_in, integer_in}
+use Rattle.vx_value.specs.Values as of
+use Rattle.vx_value.specs.Values.{Value, boolean, integer}
+use Rattle.vx_value.specs.Typed.{Typed}
+use Rattle.vx_value.specs.Cell.{Cell, value}
+use Rattle.vx_value.specs.declared.dtype.Nullability.{Nullability}
+use Rattle.vx_value.specs.declared.dtype.Nullability.TheVariants.{NonNullable, Nullable}
+use Rattle.vx_value.specs.declared.dtype.PType.{PType}
+use Rattle.vx_value.specs.declared.error.VortexError.{VortexError}
+use Rattle.vx_value.proofs.DefaultsLemmas.{zero_in_range}
+use Rattle.vx_tree.specs.Tree.{Tree, Data, node, bool, primitive, dtype, len, slots, slots_of, column, constant_of}
+use Rattle.vx_tree.specs.Cells.{rows, slots_rows, node_cells, cells_at, valid_cells, HasNoFault, IsClean, AreClean}
+use Rattle.vx_tree.specs.Columns.{canonical_tree}
+use Rattle.vx_tree.specs.Keeps.{KeepsExactly}
+use Rattle.vx_tree.specs.Validities.{nullability_by, without_nulls, child_of, HasRows}
+use Rattle.vx_tree.specs.declared.canonical.Canonical.{Canonical}
+use Rattle.vx_tree.specs.declared.validity.Validity.{Validity}
+use Rattle.vx_tree.specs.declared.validity.Validity.TheVariants.{AllInvalid}
+use Rattle.vx_tree.proofs.ColumnTypesLemmas.{column_of_bits, column_of_integers}
+use Rattle.vx_tree.proofs.ValiditiesLemmas.{no_child, same_nullability}
+use Rattle.vx_native.proofs.NativesLemmas.{map_copies}
+use Rattle.vx_rows.specs.Stored.{boolean_column, integer_column}
+use Rattle.vx_rows.proofs.KeepsLemmas.{same_exactly, any_rows, copies_clean}
+use Rattle.vx_rows.proofs.StoredLemmas.{stored_boolean, stored_number}
+use Rattle.vx_column.specs.Expanded.{repeated_validity}
+
+nullable_null : (m : Nullability) → is_nullable m ≡ true → m ≡ Nullable
+nullable_null Nullable h = refl
+nullable_null NonNullable h = absurd (cc)
+
+abbrev validity_by : DataType → Value → Validity
+validity_by ty v = if is_null v then AllInvalid else without_nulls (nullability_of ty)
+
+nullability_back : (ty : DataType) (v : Value) → is_of ty v ≡ true → nullability_by (validity_by ty v) ≡ nullability_of ty
+nullability_back ty of.null h = sym (nullable_null (nullability_of ty) h)
+nullability_back ty _ h = same_nullability (nullability_of ty)
+
+pub repeated_rows : (s : Typed) (n : ℕ) → HasRows (repeated_validity s) n
+repeated_rows s n = by_value s.value
+  where
+    by_value : (v : Value) → HasRows (validity_by s.of_type v) n
+    by_value of.null = tt
+    by_value _ = any_rows (nullability_of s.of_type) n
+
+validity_clean : (ty : DataType) (v : Value) (n : ℕ) → AreClean (slots_of (child_of (validity_by ty v) n ∷ []))
+validity_clean ty of.null n = ((copies_clean n (boolean false), tt), tt)
+validity_clean ty _ n = subst (λ w. AreClean (slots_of (w ∷ []))) (sym (no_child (nullability_of ty) n)) tt
+
+nulls : {X : Type 0} (read : X → Value) (x : X) (n : ℕ)
+    → valid_cells (replicate n (value (boolean false))) (map (λ y. value (read y)) (replicate n x)) ≡ replicate n (value of.null)
+nulls read x zero = refl
+nulls read x (suc n) = ap (λ cs. value of.null ∷ cs) (nulls read x n)
+
+validity_cells : {X : Type 0} (read : X → Value) (x : X) (ty : DataType) (v : Value) (n : ℕ) → (is_null v ≡ false → read x ≡ v) →
+    valid_cells (cells_at (slots_rows (slots_of (child_of (validity_by ty v) n ∷ []))) 0) (map (λ y. value (read y)) (replicate n x)) ≡ replicate n (value v)
+validity_cells read x ty of.null n h = nulls read x n
+validity_cells read x ty v n h =
+    ap (λ w. valid_cells (cells_at (slots_rows (slots_of (w ∷ []))) 0) (map (λ y. value (read y)) (replicate n x))) (no_child (nullability_of ty) n)
+    ∙ map_copies (λ y. value (read y)) n x
+    ∙ ap (λ u. replicate n (value u)) (h refl)
+
+repeated_exactly : {X : Type 0} (read : X → Value) (of_items : List X → Data) →
+    ((ty : DataType) (n : ℕ) (xs : List X) (css : List (List Cell)) → node_cells ty n (of_items xs) css ≡ valid_cells (cells_at css 0) (map (λ x. value (read x)) xs)) →
+    (x : X) (s : Typed) (n : ℕ) (u : Tree) → (is_null s.value ≡ false → read x ≡ s.value) →
+    u ≡ column s.of_type n (of_items (replicate n x)) (child_of (repeated_validity s) n) → KeepsExactly (constant_of s n) u
+repeated_exactly read of_items cells x s n u valued made =
+    let whole = column s.of_type n (of_items (replicate n x)) (child_of (repeated_validity s) n) in
+    let css = slots_rows (slots_of (child_of (repeated_validity s) n ∷ [])) in
+    let shown : rows (constant_of s n) ≡ rows whole =
+    sym (cells s.of_type n (replicate n x) css ∙ validity_cells read x s.of_type s.value n valued) in
+    subst (KeepsExactly (constant_of s n)) (sym made) (same_exactly (constant_of s n) whole refl refl shown (validity_clean s.of_type s.value n))
+
+module _ (s : Typed) (n : ℕ) (typed : is_of s.of_type s.value ≡ true) (v : Validity) (told : v ≡ repeated_validity s) (r : Result Canonical VortexError) where
+  nullability : nullability_by v ≡ nullability_of s.of_type
+  nullability = ap nullability_by told ∙ nullability_back s.of_type s.value typed
+
+  pub bools_repeated : (bit : Bool) (bits : List Bool) → storage_of s.of_type ≡ Bits → bit ≡ unwrap_or (boolean_in s.value) false → bits ≡ replicate n bit →
+      IfOk r (λ c. canonical_tree c ≡ boolean_column bits v) → IfOk r (λ c. KeepsExactly (constant_of s n) (canonical_tree c))
+  bools_repeated bit bits stored valued made column_made =
+      let long : length bits ≡ n = ap length made ∙ length-replicate n bit in
+      let of_type : type.bool (nullability_by v) ≡ s.of_type = ap type.bool nullability ∙ sym (column_of_bits s.of_type stored) in
+      let is : boolean_column bits v ≡ column s.of_type n (bool (replicate n bit)) (child_of (repeated_validity s) n) =
+      λ i. column (of_type i) (long i) (bool (made i)) (child_of (told i) (long i)) in
+      IfOk-weaker r _ _
+      (λ c new. repeated_exactly boolean bool (λ ty n xs css. refl) bit s n (canonical_tree c)
+      (λ k. ap boolean valued ∙ stored_boolean (nullability_of s.of_type) (storage_of s.of_type) s.value stored typed k) (new ∙ is)) column_made
+
+  pub integers_repeated : (p q : PType) (z : ℤ) (zs : List ℤ) → storage_of s.of_type ≡ Integers p → z ≡ unwrap_or (integer_in s.value) (pos 0) → q ≡ p
+      → zs ≡ replicate n z →
+      IfOk r (λ c. canonical_tree c ≡ integer_column q zs v) → IfOk r (λ c. KeepsExactly (constant_of s n) (canonical_tree c))
+  integers_repeated p q z zs stored valued same made column_made =
+      let long : length zs ≡ n = ap length made ∙ length-replicate n z in
+      let of_type : type.primitive q (nullability_by v) ≡ s.of_type =
+      (λ i. type.primitive (same i) (nullability i)) ∙ sym (column_of_integers p s.of_type stored) in
+      let is : integer_column q zs v ≡ column s.of_type n (primitive p (replicate n z)) (child_of (repeated_validity s) n) =
+      λ i. column (of_type i) (long i) (primitive (same i) (made i)) (child_of (told i) (long i)) in
+      IfOk-weaker r _ _
+      (λ c new. repeated_exactly integer (primitive p) (λ ty n xs css. refl) z s n (canonical_tree c)
+      (λ k. ap integer valued ∙ stored_number p (nullability_of s.of_type) (storage_of s.of_type) s.value stored typed k) (new ∙ is)) column_made

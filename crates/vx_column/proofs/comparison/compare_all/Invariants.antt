@@ -1,7 +1,0 @@
-use Rattle.std.proofs.Common.{◌≡◌, true}
-use Rattle.vx_column.specs.Operands.{number_in, compared_rows}
-use Rattle.vx_column.proofs.comparison.compare_all.Given as goal
-
-abbrev pub invariant-loop-index : goal.invariant-loop-index
-invariant-loop-index g l =
-    l.bits ≡ compared_rows g.C.Comparison.operator (λ i. true) (number_in g.T.Number.value l.left) (number_in g.T.Number.value l.right) l.index

@@ -1,0 +1,243 @@
+-- One row of a node.
+use Rattle.std.proofs.Common.{◌≡◌, ℕ, zero, suc, ◌+◌, ◌-◌, ◌≤◌, ◌<◌, List, [], ◌∷◌, length, map, replicate, get_or, take, drop, ◌++◌, Bool, Option, Some, None, refl, sym, ◌∙◌, ap, subst, arith, true, false}
+use Rattle.std.specs.Prelude.{slice_get, slice_index_or, is_some, IsSome}
+use Rattle.std.specs.List.{AllZip, range_with_len}
+use Rattle.std.proofs.Math.Bool.{not}
+use Rattle.std.specs.Option.{option_map, option_and_then}
+use Rattle.std.proofs.lemmas.List.{take_all, take_more, map-append, length-replicate, get_or-replicate}
+use Rattle.std.proofs.lemmas.List.FromFn.{get_or-map-range_with_len, length-map-range_with_len}
+use Rattle.std.proofs.lemmas.Option.{slice_get-get_or, slice_get-map, get_or_from_slice_get}
+use Rattle.vx_value.specs.Types.{DataType}
+use Rattle.vx_value.specs.Typed.{Typed}
+use Rattle.vx_value.specs.IsOf.{is_null}
+use Rattle.vx_value.specs.Values.{Value, null, boolean}
+use Rattle.vx_value.specs.Cell.{Cell, value, fault}
+use Rattle.vx_mask.specs.Places.{true_place}
+use Rattle.vx_mask.proofs.ChosenLemmas.{chosen-item}
+use Rattle.vx_mask.proofs.PlacesLemmas.{place_some}
+use Rattle.vx_fn.specs.Apply.{apply, on_values, value_of}
+use Rattle.vx_fn.specs.ReturnTypes.{return_type}
+use Rattle.vx_fn.specs.declared.function.ScalarFnRef.{ScalarFnRef}
+use Rattle.vx_tree.specs.Tree.{Tree, node, function, bool, column, constant_of, slots_of, dtype, len, height, slots_height, slice_of, filter_of, masked_of, validity_in}
+use Rattle.vx_tree.specs.Cells.{row_at, rows, slots_rows, valid_cell, valid_cells, shown_cell}
+use Rattle.vx_tree.specs.Well.{shape, shapes, IsNode, IsWell}
+use Rattle.vx_tree.proofs.CellsLemmas.{rows_counted}
+use Rattle.vx_tree.specs.Refusals.{types_in}
+use Rattle.vx_tree.proofs.RefusalsLemmas.{types_back}
+use Rattle.vx_rows.specs.Arguments.{types_of_scalars, cells_of_scalars}
+use Rattle.vx_rows.specs.Nulls.{IsRowBy, validity_cells}
+use Rattle.vx_rows.specs.ValidRows.{null_unless}
+use Rattle.vx_rows.proofs.ValidRowsLemmas.{filled_cell}
+use Rattle.vx_native.proofs.NativesLemmas.{map_copies}
+
+-- ---- a row of a slice
+
+get_drop : (a i : ℕ) (cs : List Cell) → slice_get (drop a cs) i ≡ slice_get cs (a + i)
+get_drop zero i cs = let e : i ≡ zero + i = omega arith in ap (slice_get cs) e
+get_drop (suc a) i [] = refl
+get_drop (suc a) i (c ∷ cs) = let e : suc (a + i) ≡ suc a + i = omega arith in get_drop a i cs ∙ ap (slice_get (c ∷ cs)) e
+
+get_take : (n i : ℕ) (cs : List Cell) → i < n → slice_get (take n cs) i ≡ slice_get cs i
+get_take zero i cs h = absurd (omega arith)
+get_take (suc n) i [] h = refl
+get_take (suc n) zero (c ∷ cs) h = refl
+get_take (suc n) (suc i) (c ∷ cs) h = get_take n i cs (omega arith)
+
+pub slice_row : (t c : Tree) (a b i : ℕ) → t ≡ slice_of a b c → i < len t → slice_get (rows t) i ≡ slice_get (rows c) (a + i)
+slice_row t c a b i e h =
+    let l = ap len e in
+    ap (λ u. slice_get (rows u) i) e ∙ get_take (b - a) i (drop a (rows c)) (omega arith) ∙ get_drop a i (rows c)
+
+-- ---- of a constant
+
+pub constant_row : (t : Tree) (s : Typed) (i : ℕ) → t ≡ constant_of s (len t) → i < len t → slice_get (rows t) i ≡ Some (value s.value)
+constant_row t s i e h =
+    let copies = replicate (len t) (value s.value) in
+    let long = length-replicate (len t) (value s.value) in
+    ap (λ u. slice_get (rows u) i) e ∙ slice_get-get_or copies i fault (omega (arith, long)) ∙ ap Some (get_or-replicate (len t) i (value s.value) fault h)
+
+-- ---- of a filter
+
+pub filter_row : (t c : Tree) (bits : List Bool) (i p : ℕ) → t ≡ filter_of bits c → true_place bits i ≡ Some p → slice_get (rows t) i ≡ slice_get (rows c) p
+filter_row t c bits i p e place = ap (λ u. slice_get (rows u) i) e ∙ chosen-item bits (rows c) i ∙ ap (option_and_then (slice_get (rows c))) place
+
+pub filter_place : (t c : Tree) (bits : List Bool) (i : ℕ) → t ≡ filter_of bits c → i < len t → true_place bits i ≡ None → ⊥
+filter_place t c bits i e h none = let there = place_some bits i (subst (λ n. i < n) (ap len e) h) in absurd (cc (there.1, none))
+
+-- ---- of a test for null
+
+shown_value : (v : Value) → shown_cell (value v) ≡ value (boolean (not (is_null v)))
+shown_value null = refl
+shown_value _ = refl
+
+pub shown_row : (t c : Tree) (i : ℕ) (v : Value) → t ≡ validity_in c → slice_get (rows c) i ≡ Some (value v)
+    → slice_get (rows t) i ≡ Some (value (boolean (not (is_null v))))
+shown_row t c i v e h =
+    ap (λ u. slice_get (rows u) i) e ∙ slice_get-map shown_cell (rows c) i ∙ ap (option_map shown_cell) h ∙ ap Some (shown_value v)
+
+pub shown_fault : (t c : Tree) (i : ℕ) → t ≡ validity_in c → slice_get (rows c) i ≡ Some fault → slice_get (rows t) i ≡ Some fault
+shown_fault t c i e h = ap (λ u. slice_get (rows u) i) e ∙ slice_get-map shown_cell (rows c) i ∙ ap (option_map shown_cell) h
+
+-- ---- of a column
+
+valid_get : (vs cs : List Cell) (i : ℕ) (v c : Cell) → slice_get vs i ≡ Some v → slice_get cs i ≡ Some c
+    → slice_get (valid_cells vs cs) i ≡ Some (valid_cell v c)
+valid_get [] cs i v c h k = absurd (cc)
+valid_get (w ∷ vs) [] i v c h k = absurd (cc)
+valid_get (w ∷ vs) (d ∷ cs) zero v c h k =
+    let left : w ≡ v = cc in
+    let right : d ≡ c = cc in
+    λ i. Some (valid_cell (left i) (right i))
+valid_get (w ∷ vs) (d ∷ cs) (suc i) v c h k = valid_get vs cs i v c h k
+
+-- what a validity's tree tells of a row
+pub row_told : (validity : Option Tree) (t : Tree) (i : ℕ) (v stored : Cell) → validity ≡ Some t → slice_get (rows t) i ≡ Some v
+    → IsRowBy validity i stored (valid_cell v stored)
+row_told validity t i v stored is told =
+    subst (λ w. IsRowBy w i stored (valid_cell v stored)) (sym is) (λ cs there. valid_get (rows t) cs i v stored told there)
+
+-- what a truth value in it makes of a stored value
+pub row_known : (validity : Option Tree) (t : Tree) (i : ℕ) (b : Bool) (stored : Value) → validity ≡ Some t → slice_get (rows t) i ≡ Some (value (boolean b))
+    → IsRowBy validity i (value stored) (null_unless b (value stored))
+row_known validity t i b stored is told =
+    subst (IsRowBy validity i (value stored)) (filled_cell b stored) (row_told validity t i (value (boolean b)) (value stored) is told)
+
+-- ---- of a column of booleans
+
+pub bits_row : (t : Tree) (v : Option Tree) (bits : List Bool) (i : ℕ) (b : Bool) → t ≡ column (dtype t) (len t) (bool bits) v → v ≡ None → slice_get bits i ≡ Some b
+    → slice_get (rows t) i ≡ Some (value (boolean b))
+bits_row t v bits i b is none there =
+    ap (λ u. slice_get (rows u) i) (is ∙ ap (column (dtype t) (len t) (bool bits)) none) ∙ slice_get-map (λ x. value (boolean x)) bits i ∙ ap (option_map (λ x. value (boolean x))) there
+
+-- a constant
+pub constant_truths : (t : Tree) (s : Typed) (b : Bool) (bits : List Bool) → t ≡ constant_of s (len t) → s.value ≡ boolean b → bits ≡ replicate (len t) b
+    → rows t ≡ map (λ x. value (boolean x)) bits
+constant_truths t s b bits is truth made =
+    ap rows is ∙ ap (λ v. replicate (len t) (value v)) truth ∙ sym (map_copies (λ x. value (boolean x)) (len t) b)
+    ∙ ap (map (λ x. value (boolean x))) (sym made)
+
+-- ---- of a masked node
+
+-- a fault stays one, whatever the validity
+pub fault_cell : (v : Cell) → valid_cell v fault ≡ fault
+fault_cell (value (boolean true)) = refl
+fault_cell (value (boolean false)) = refl
+fault_cell _ = refl
+
+fault_stays : (vs cs : List Cell) (i : ℕ) → slice_get cs i ≡ Some fault → slice_get (valid_cells vs cs) i ≡ Some fault
+fault_stays [] cs i h = h
+fault_stays (v ∷ vs) [] i h = absurd (cc)
+fault_stays (v ∷ vs) (c ∷ cs) zero h = let is : c ≡ fault = cc in ap Some (ap (valid_cell v) is ∙ fault_cell v)
+fault_stays (v ∷ vs) (c ∷ cs) (suc i) h = fault_stays vs cs i h
+
+pub masked_rows : (t c : Tree) (v : Option Tree) → t ≡ masked_of c v → rows t ≡ valid_cells (validity_cells v) (rows c)
+masked_rows t c None e = ap rows e
+masked_rows t c (Some u) e = ap rows e
+
+pub masked_fault : (t c : Tree) (v : Option Tree) (i : ℕ) → t ≡ masked_of c v → slice_get (rows c) i ≡ Some fault → slice_get (rows t) i ≡ Some fault
+masked_fault t c v i e h = ap (λ cs. slice_get cs i) (masked_rows t c v e) ∙ fault_stays (validity_cells v) (rows c) i h
+
+-- ---- of booleans, read up to a row
+pub truths_more : (t : Tree) (i : ℕ) (v : Value) (bits : List Bool) (b : Bool) → IsWell t → i < len t → slice_get (rows t) i ≡ Some (value v) → v ≡ boolean b
+    → take i (rows t) ≡ map (λ b. value (boolean b)) bits → take (i + 1) (rows t) ≡ map (λ b. value (boolean b)) (bits ++ b ∷ [])
+truths_more t i v bits b well lt there is h =
+    take_more (rows t) i fault (omega (arith, rows_counted t well))
+    ∙ ap (λ cs. cs ++ get_or (rows t) i fault ∷ []) h
+    ∙ ap (λ c. map (λ b. value (boolean b)) bits ++ c ∷ []) (get_or_from_slice_get (rows t) i (value v) fault there ∙ ap value is)
+    ∙ sym (map-append (λ b. value (boolean b)) bits (b ∷ []))
+
+-- ---- of a function
+
+-- the slot holds a tree of which s is row i
+abbrev pub IsRead : ℕ → Option Tree → Typed → Type 0
+IsRead i None s = ⊥
+IsRead i (Some t) s = (slice_get (rows t) i ≡ Some (value s.value)) × (s.of_type ≡ dtype t)
+
+-- the slot holds a tree of n rows, lower than h
+abbrev pub IsBelow : ℕ → ℕ → Option Tree → Type 0
+IsBelow n h None = ⊥
+IsBelow n h (Some t) = (len t ≡ n) × (height t ≤ h)
+
+pub slot_below : (n : ℕ) (xs : List (Option Tree)) (tys : List DataType) (k : ℕ) (d : Option Tree) (h : ℕ) →
+    shapes (slots_of xs) ≡ map (λ s. Some (shape s n)) tys → slots_height (slots_of xs) ≤ h → k < length xs → IsBelow n h (get_or xs k d)
+slot_below n [] tys k d h e l lt = absurd (omega arith)
+slot_below n (None ∷ xs) [] k d h e l lt = absurd (cc)
+slot_below n (None ∷ xs) (ty ∷ tys) k d h e l lt = absurd (cc)
+slot_below n (Some t ∷ xs) [] k d h e l lt = absurd (cc)
+slot_below n (Some t ∷ xs) (ty ∷ tys) zero d h e l lt = let same : len t ≡ n = cc in (same, omega arith)
+slot_below n (Some t ∷ xs) (ty ∷ tys) (suc k) d h e l lt =
+    let later : shapes (slots_of xs) ≡ map (λ s. Some (shape s n)) tys = cc in
+    slot_below n xs tys k d h later (omega arith) (omega arith)
+
+pub all_read : (i k : ℕ) (xs : List (Option Tree)) (ss us : List Typed) → length xs ≤ k → us ≡ ss → AllZip (IsRead i) (take k xs) ss → AllZip (IsRead i) xs us
+all_read i k xs ss us le e h = rw (sym (take_all k xs le), e) h
+
+read_types : (i : ℕ) (xs : List (Option Tree)) (ss : List Typed) → AllZip (IsRead i) xs ss → types_in (shapes (slots_of xs)) ≡ types_of_scalars ss
+read_types i [] [] h = refl
+read_types i [] (s ∷ ss) h = absurd h
+read_types i (x ∷ xs) [] h = absurd h
+read_types i (None ∷ xs) (s ∷ ss) h = absurd h.0
+read_types i (Some t ∷ xs) (s ∷ ss) h = λ j. sym h.0.1 j ∷ read_types i xs ss h.1 j
+
+read_cells : (i : ℕ) (xs : List (Option Tree)) (ss : List Typed) → AllZip (IsRead i) xs ss → row_at (slots_rows (slots_of xs)) i ≡ cells_of_scalars ss
+read_cells i [] [] h = refl
+read_cells i [] (s ∷ ss) h = absurd h
+read_cells i (x ∷ xs) [] h = absurd h
+read_cells i (None ∷ xs) (s ∷ ss) h = absurd h.0
+read_cells i (Some t ∷ xs) (s ∷ ss) h = λ j. get_or_from_slice_get (rows t) i (value s.value) fault h.0.0 j ∷ read_cells i xs ss h.1 j
+
+-- a fault in any argument is a fault
+pub later_fault : (g : List Value → Cell) (c : Cell) (cs : List Cell) → ((g : List Value → Cell) → on_values g cs ≡ fault) → on_values g (c ∷ cs) ≡ fault
+later_fault g (value v) cs h = h (λ vs. g (v ∷ vs))
+later_fault g fault cs h = refl
+
+argument_fault : (i : ℕ) (xs : List (Option Tree)) (k : ℕ) (c : Tree) (g : List Value → Cell) →
+    k < length xs → Some c ≡ get_or xs k (Some c) → slice_get (rows c) i ≡ Some fault → on_values g (row_at (slots_rows (slots_of xs)) i) ≡ fault
+argument_fault i [] k c g lt e h = absurd (omega arith)
+argument_fault i (None ∷ xs) k c g lt e h = refl
+argument_fault i (Some t ∷ xs) zero c g lt e h =
+    let same : t ≡ c = cc in
+    ap (λ x. on_values g (x ∷ row_at (slots_rows (slots_of xs)) i)) (get_or_from_slice_get (rows t) i fault fault (ap (λ u. slice_get (rows u) i) same ∙ h))
+argument_fault i (Some t ∷ xs) (suc k) c g lt e h =
+    later_fault g (slice_index_or (rows t) i fault) (row_at (slots_rows (slots_of xs)) i) (λ g. argument_fault i xs k c g (omega arith) e h)
+
+module _ (t : Tree) (f : ScalarFnRef) (xs : List (Option Tree)) (i : ℕ)
+    (shown : t ≡ node (dtype t) (len t) (function f) (slots_of xs)) (well : IsNode (dtype t) (len t) (function f) (shapes (slots_of xs))) where
+  typed : return_type f (types_in (shapes (slots_of xs))) ≡ Some (dtype t)
+  typed = ap (return_type f) (ap types_in well.1 ∙ types_back (len t) well.0) ∙ well.2
+
+  row_is : i < len t → slice_get (rows t) i ≡ Some (apply f (dtype t) (row_at (slots_rows (slots_of xs)) i))
+  row_is lt =
+      let cell = λ (j : ℕ). apply f (dtype t) (row_at (slots_rows (slots_of xs)) j) in
+      let l = length-map-range_with_len cell 0 (len t) in
+      ap (λ u. slice_get (rows u) i) shown ∙ slice_get-get_or (map cell (range_with_len 0 (len t))) i fault (omega (arith, l))
+      ∙ ap Some (get_or-map-range_with_len cell 0 (len t) i i fault lt (omega arith))
+
+  pub child_below : (k : ℕ) (d : Option Tree) → k < length xs → IsBelow (len t) (slots_height (slots_of xs)) (get_or xs k d)
+  child_below k d lt = slot_below (len t) xs well.0 k d (slots_height (slots_of xs)) well.1 (omega arith) lt
+
+  pub child_faulted : (k : ℕ) (c : Tree) → i < len t → k < length xs → Some c ≡ get_or xs k (Some c) → slice_get (rows c) i ≡ Some fault
+      → slice_get (rows t) i ≡ Some fault
+  child_faulted k c lt there e h = row_is lt ∙ ap Some (argument_fault i xs k c (value_of f (dtype t)) there e h)
+
+  module _ (ss : List Typed) (read : AllZip (IsRead i) xs ss) where
+    types_are : return_type f (types_of_scalars ss) ≡ Some (dtype t)
+    types_are = ap (return_type f) (sym (read_types i xs ss read)) ∙ typed
+
+    pub function_taken : IsSome (return_type f (types_of_scalars ss))
+    function_taken = ap is_some types_are
+
+    cells_are : i < len t → slice_get (rows t) i ≡ Some (apply f (dtype t) (cells_of_scalars ss))
+    cells_are lt = row_is lt ∙ ap (λ cs. Some (apply f (dtype t) cs)) (read_cells i xs ss read)
+
+    pub function_row : (s : Typed) → i < len t → return_type f (types_of_scalars ss) ≡ Some s.of_type
+        → apply f s.of_type (cells_of_scalars ss) ≡ value s.value →
+        (slice_get (rows t) i ≡ Some (value s.value)) × (s.of_type ≡ dtype t)
+    function_row s lt r given =
+        let all = types_are in
+        let same : s.of_type ≡ dtype t = cc in
+        (cells_are lt ∙ ap (λ ty. Some (apply f ty (cells_of_scalars ss))) (sym same) ∙ ap Some given, same)
+
+    pub function_faulted : i < len t → ((ty : DataType) → return_type f (types_of_scalars ss) ≡ Some ty → apply f ty (cells_of_scalars ss) ≡ fault) →
+        slice_get (rows t) i ≡ Some fault
+    function_faulted lt h = cells_are lt ∙ ap Some (h (dtype t) types_are)

@@ -1,0 +1,6 @@
+pub mod ArgumentsLemmas
+pub mod CellsLemmas
+pub mod KeepsLemmas
+pub mod NullsLemmas
+pub mod StoredLemmas
+pub mod ValidRowsLemmas

@@ -1,0 +1,184 @@
+-- Columns with their validities as arguments.
+use Rattle.std.specs.Prelude.{slice_get}
+use Rattle.std.proofs.lemmas.List.{length-map}
+use Rattle.std.proofs.lemmas.Option.{slice_get-get_or}
+use Rattle.vx_value.specs.declared.error.VortexError.{VortexError}
+use Rattle.vx_value.specs.declared.error.VortexError.TheVariants.{OutOfMemory, Fault}
+use Rattle.vx_rows.proofs.CellsLemmas.{row_told}
+use Rattle.vx_rows.proofs.ValidRowsLemmas.{one_slot}
+use Rattle.std.proofs.Common.{◌≡◌, ◌⊎◌, inl, inr, ◌<◌, ℕ, zero, suc, ℤ, pos, List, [], ◌∷◌, map, length, get_or, Bool, true, false, Option, Some, None, refl, sym, ap, subst, ◌∙◌, arith}
+use Rattle.std.proofs.Math.Bool.{not}
+use Rattle.std.proofs.lemmas.List.{get_or-map, get_or-replicate}
+use Rattle.std.specs.Cmp.{unsigned_Decides}
+use Rattle.vx_value.specs.Types.{DataType, bool, primitive, nullability_of, same_type_Decides}
+use Rattle.vx_value.specs.Nullabilities.{with_nullability}
+use Rattle.vx_value.specs.View.{type_of}
+use Rattle.vx_value.specs.Typed.{Typed}
+use Rattle.vx_value.specs.IsOf.{is_null}
+use Rattle.vx_value.specs.Values.{Value, null, boolean, integer}
+use Rattle.vx_value.specs.Cell.{value, fault}
+use Rattle.vx_value.specs.Storage.{storage_of}
+use Rattle.vx_value.specs.declared.dtype.Storage.TheVariants as storage
+use Rattle.vx_value.specs.declared.dtype.Nullability.{Nullability}
+use Rattle.vx_value.specs.declared.dtype.Nullability.TheVariants.{NonNullable, Nullable}
+use Rattle.vx_value.specs.declared.dtype.PType.{PType}
+use Rattle.vx_tree.specs.Tree as enc
+use Rattle.vx_tree.specs.Tree.{Tree, slots_of, dtype, len, column, constant_of}
+use Rattle.vx_tree.specs.Cells.{rows, cells_at, valid_cells}
+use Rattle.vx_tree.specs.Well.{Shape, shape, shape_of, shapes, IsValidity, IsFlat, IsNodeOf}
+use Rattle.vx_tree.specs.Validities.{nullability_by, array_refusal, flat_refusal, HasRows}
+use Rattle.vx_tree.specs.Columns.{columnar_tree}
+use Rattle.vx_tree.specs.declared.columnar.Columnar.{Columnar}
+use Rattle.vx_tree.specs.declared.validity.Validity.{Validity}
+use Rattle.vx_tree.specs.declared.validity.Validity.TheVariants as validity
+use Rattle.vx_tree.proofs.ConditionsLemmas.{none_refused, none_unless}
+use Rattle.vx_mask.specs.Logic.{bit_row}
+use Rattle.vx_mask.specs.Operands.{bit_in, HasBits}
+use Rattle.vx_mask.specs.declared.operand.BitOperand.{BitOperand}
+use Rattle.vx_rows.specs.Arguments.{IsArgument, IsUnread, AreUnread, IsRepeated, AreStored, IsInRange, HasIntegers, type_of_rows, value_at, ptype_in, integer_in}
+use Rattle.vx_rows.specs.Nulls.{validity_cells}
+use Rattle.vx_rows.specs.ValidRows.{is_valid, HasValidity, nullability_in, AreTold, TellsRows, IsRepeatedValidity, null_unless}
+use Rattle.vx_rows.specs.declared.argument.ArgumentRows.{ArgumentRows}
+use Rattle.vx_rows.specs.declared.argument.ArgumentRows.TheVariants as stored
+use Rattle.vx_rows.specs.declared.argument.IntegerOperand.{IntegerOperand}
+use Rattle.vx_rows.specs.declared.valid.ValidRows.{ValidRows}
+
+-- ---- a validity of as many rows is taken
+
+rows_taken : (n : ℕ) (v : Validity) → HasRows v n → array_refusal n v ≡ None
+rows_taken n (validity.Array t) h =
+    none_refused _ _ (none_unless _ _ ((same_type_Decides (dtype t) (bool NonNullable)).1 h.1)) (none_unless _ _ ((unsigned_Decides (len t) n).1 h.2))
+rows_taken n _ h = refl
+
+pub flat_taken : (s ty : DataType) (n : ℕ) (v : Validity) → HasRows v n → ty ≡ with_nullability (nullability_by v) s → flat_refusal s ty n v ≡ None
+flat_taken s ty n v h typed =
+    none_refused _ _ (none_unless _ _ ((same_type_Decides ty (with_nullability (nullability_by v) s)).1 typed)) (rows_taken n v h)
+
+-- ---- a column's validity tells of its rows
+
+abbrev type_in : Shape → DataType
+type_in (shape ty n) = ty
+
+abbrev len_in : Shape → ℕ
+len_in (shape ty n) = n
+
+pub flat_tells : (of_type ty : DataType) (k n : ℕ) (v : Option Tree) → IsFlat of_type k ty n (shapes (slots_of (v ∷ []))) → TellsRows (nullability_of ty) n v
+flat_tells of_type ty k n None h = tt
+flat_tells of_type ty k n (Some t) h = by_nullability (nullability_of ty) h.0 (sym h.3) h.4
+  where
+    by_nullability : (m : Nullability) (s : Option Shape) → s ∷ [] ≡ Some (shape_of t) ∷ [] → IsValidity m n s
+        → (m ≡ Nullable) × (dtype t ≡ bool NonNullable) × (len t ≡ n)
+    by_nullability m None same h = absurd (cc)
+    by_nullability NonNullable (Some s) same h = absurd h
+    by_nullability Nullable (Some s) same h =
+        let is : shape_of t ≡ s = cc in
+        (refl, ap type_in (is ∙ h), ap len_in (is ∙ h))
+
+-- its cells by row
+told_row : {X : Type 0} (read : X → Value) (d : X) (bits : List Bool) (xs : List X) (i : ℕ) → i < length xs → length bits ≡ length xs
+    → get_or (valid_cells (map (λ b. value (boolean b)) bits) (map (λ x. value (read x)) xs)) i fault ≡ null_unless (bit_row bits i) (value (read (get_or xs i d)))
+told_row read d [] [] i lt e = absurd (omega arith)
+told_row read d [] (x ∷ xs) i lt e = absurd (omega arith)
+told_row read d (b ∷ bits) [] i lt e = absurd (omega arith)
+told_row read d (true ∷ bits) (x ∷ xs) zero lt e = refl
+told_row read d (false ∷ bits) (x ∷ xs) zero lt e = refl
+told_row read d (b ∷ bits) (x ∷ xs) (suc i) lt e = told_row read d bits xs i (omega arith) (omega arith)
+
+column_row : {X : Type 0} (read : X → Value) (d : X) (v : Option Tree) (valid : ValidRows) (n : ℕ) (xs : List X) (i : ℕ) → AreTold n v valid
+    → length xs ≡ n → i < n
+    → get_or (valid_cells (validity_cells v) (map (λ x. value (read x)) xs)) i fault ≡ null_unless (is_valid valid i) (value (read (get_or xs i d)))
+column_row read d None valid n xs i told long lt =
+    get_or-map (λ x. value (read x)) xs i d fault (omega arith) ∙ ap (λ b. null_unless b (value (read (get_or xs i d)))) (sym (told i))
+column_row read d (Some t) valid n xs i told long lt =
+    ap (λ cs. get_or (valid_cells cs (map (λ x. value (read x)) xs)) i fault) told.2
+    ∙ told_row read d told.0 xs i (omega arith) (told.1 ∙ sym long)
+    ∙ ap (λ b. null_unless b (value (read (get_or xs i d)))) (sym (told.3 i lt))
+
+-- ---- columns and constants as arguments
+
+module _ (c : Columnar) (v : Option Tree) (valid : ValidRows) (told : AreTold (len (columnar_tree c)) v valid) (same : nullability_in valid ≡ nullability_of (dtype (columnar_tree c)))
+    (sized : HasValidity valid (len (columnar_tree c))) (array : Tree) (is : array ≡ columnar_tree c) (well : IsNodeOf array) where
+  pub booleans_argument : (bs : BitOperand) (bits : List Bool) → ((i : ℕ) → bit_in bs i ≡ bit_row bits i) → ((n : ℕ) → length bits ≡ n → HasBits bs n)
+      → array ≡ column (dtype array) (len array) (enc.bool bits) v → IsArgument c (record { rows = stored.Bits bs; valid = valid })
+  booleans_argument bs bits read rows_of is_column =
+      let t = columnar_tree c in
+      let shown : t ≡ column (dtype t) (len t) (enc.bool bits) v = subst (λ x. x ≡ column (dtype x) (len x) (enc.bool bits) v) is is_column in
+      let flat : IsFlat (bool NonNullable) (length bits) (dtype t) (len t) (shapes (slots_of (v ∷ []))) = subst IsNodeOf shown (subst IsNodeOf is well) in
+      record {
+        typed = flat.1 ∙ ap bool (sym same);
+        shown = λ i lt. ap (λ u. get_or (rows u) i fault) shown
+            ∙ ap (λ css. get_or (valid_cells (cells_at css 0) (map (λ b. value (boolean b)) bits)) i fault) (one_slot v)
+            ∙ column_row boolean false v valid (len t) bits i told (sym flat.2) lt
+            ∙ ap (λ b. null_unless (is_valid valid i) (value (boolean b))) (sym (read i));
+        sized = (rows_of (len t) (sym flat.2), sized);
+      }
+
+  pub integers_argument : (zs : IntegerOperand) (p : PType) (ws : List ℤ) → ptype_in zs ≡ p → ((i : ℕ) → integer_in zs i ≡ get_or ws i (pos 0))
+      → ((n : ℕ) → length ws ≡ n → IsInRange zs.rows × HasIntegers zs.rows n) → type_of zs.dtype.now ≡ dtype (columnar_tree c)
+      → array ≡ column (dtype array) (len array) (enc.primitive p ws) v → IsArgument c (record { rows = stored.Integers zs; valid = valid })
+  integers_argument zs p ws kind read rows_of typed is_column =
+      let t = columnar_tree c in
+      let shown : t ≡ column (dtype t) (len t) (enc.primitive p ws) v = subst (λ x. x ≡ column (dtype x) (len x) (enc.primitive p ws) v) is is_column in
+      let flat : IsFlat (primitive p NonNullable) (length ws) (dtype t) (len t) (shapes (slots_of (v ∷ []))) = subst IsNodeOf shown (subst IsNodeOf is well) in
+      let there = rows_of (len t) (sym flat.2) in
+      record {
+        typed = sym typed;
+        shown = λ i lt. ap (λ u. get_or (rows u) i fault) shown
+            ∙ ap (λ css. get_or (valid_cells (cells_at css 0) (map (λ z. value (integer z)) ws)) i fault) (one_slot v)
+            ∙ column_row integer (pos 0) v valid (len t) ws i told (sym flat.2) lt
+            ∙ ap (λ z. null_unless (is_valid valid i) (value (integer z))) (sym (read i));
+        sized = (((refl, there.0, there.1, ap storage_of (typed ∙ flat.1) ∙ ap storage.Integers (sym kind)), ap nullability_of typed ∙ sym same), sized);
+      }
+
+-- a fault in the validity is one in the column
+flat_unread : {X : Type 0} (read : X → Value) (v : Option Tree) (xs : List X) (n : ℕ) (e : VortexError) → length xs ≡ n → AreUnread n v e →
+    (e ≡ OutOfMemory) ⊎ ((e ≡ Fault) × (i : ℕ) × (i < n) × (slice_get (valid_cells (validity_cells v) (map (λ x. value (read x)) xs)) i ≡ Some fault))
+flat_unread read None xs n e long h = inl h
+flat_unread read (Some t) xs n e long (inl m) = inl m
+flat_unread read (Some t) xs n e long (inr h) =
+    let i = h.1 in
+    let cs = map (λ x. value (read x)) xs in
+    let there : i < length cs = omega (arith, length-map xs (λ x. value (read x)), h.2) in
+    inr (h.0, i, h.2, row_told (Some t) t i fault (get_or cs i fault) refl h.3 cs (slice_get-get_or cs i fault there))
+
+module _ (c : Columnar) (v : Option Tree) (e : VortexError) (array : Tree) (is : array ≡ columnar_tree c) (well : IsNodeOf array) (unread : AreUnread (len (columnar_tree c)) v e) where
+  pub booleans_unread : (bits : List Bool) → array ≡ column (dtype array) (len array) (enc.bool bits) v → IsUnread (columnar_tree c) e
+  booleans_unread bits is_column =
+      let t = columnar_tree c in
+      let shown : t ≡ column (dtype t) (len t) (enc.bool bits) v = subst (λ x. x ≡ column (dtype x) (len x) (enc.bool bits) v) is is_column in
+      let flat : IsFlat (bool NonNullable) (length bits) (dtype t) (len t) (shapes (slots_of (v ∷ []))) = subst IsNodeOf shown (subst IsNodeOf is well) in
+      let cells = ap rows shown ∙ ap (λ css. valid_cells (cells_at css 0) (map (λ b. value (boolean b)) bits)) (one_slot v) in
+      elim (flat_unread boolean v bits (len t) e (sym flat.2) unread) [
+        | inl m ↦ inl m
+        | inr h ↦ inr (h.0, h.1, h.2, ap (λ cs. slice_get cs h.1) cells ∙ h.3)
+      ]
+
+  pub integers_unread : (p : PType) (ws : List ℤ) → array ≡ column (dtype array) (len array) (enc.primitive p ws) v → IsUnread (columnar_tree c) e
+  integers_unread p ws is_column =
+      let t = columnar_tree c in
+      let shown : t ≡ column (dtype t) (len t) (enc.primitive p ws) v = subst (λ x. x ≡ column (dtype x) (len x) (enc.primitive p ws) v) is is_column in
+      let flat : IsFlat (primitive p NonNullable) (length ws) (dtype t) (len t) (shapes (slots_of (v ∷ []))) = subst IsNodeOf shown (subst IsNodeOf is well) in
+      let cells = ap rows shown ∙ ap (λ css. valid_cells (cells_at css 0) (map (λ z. value (integer z)) ws)) (one_slot v) in
+      elim (flat_unread integer v ws (len t) e (sym flat.2) unread) [
+        | inl m ↦ inl m
+        | inr h ↦ inr (h.0, h.1, h.2, ap (λ cs. slice_get cs h.1) cells ∙ h.3)
+      ]
+
+null_is : (v : Value) → is_null v ≡ true → v ≡ null
+null_is null h = refl
+null_is _ h = absurd (cc)
+
+pub constant_argument : (c : Columnar) (s : Typed) (a : ArgumentRows) (valid : ValidRows) → columnar_tree c ≡ constant_of s (len (columnar_tree c)) → IsRepeated s a
+    → IsRepeatedValidity s (len (columnar_tree c)) valid → IsArgument c (record { rows = a; valid = valid })
+constant_argument c s a valid is stored valids =
+    let n = len (columnar_tree c) in
+    record {
+      typed = ap dtype is ∙ sym stored.typed ∙ ap (λ m. type_of_rows m a) (sym valids.1);
+      shown = λ i lt. ap (λ t. get_or (rows t) i fault) is ∙ get_or-replicate n i (value s.value) fault lt ∙ one i (is_null s.value) refl
+          ∙ ap (λ b. null_unless b (value (value_at a i))) (sym (valids.2 i));
+      sized = (subst (λ m. AreStored m a n) (sym valids.1) (stored.sized n), valids.0);
+    }
+  where
+    one : (i : ℕ) (b : Bool) → is_null s.value ≡ b → value s.value ≡ null_unless (not (is_null s.value)) (value (value_at a i))
+    one i true e = ap value (null_is s.value e) ∙ ap (λ b. null_unless (not b) (value (value_at a i))) (sym e)
+    one i false e = ap value (sym (stored.shown i e)) ∙ ap (λ b. null_unless (not b) (value (value_at a i))) (sym e)

@@ -1,0 +1,138 @@
+-- The arguments of a function: for each a type, and a value for each row.
+use Rattle.std.specs.Prelude.{◌≡◌, ◌⊎◌, ◌<◌, ℕ, ℤ, pos, List, [], ◌∷◌, map, length, true, false, Option, Some, None, slice_index_or, slice_get}
+use Rattle.vx_value.specs.Types as type
+use Rattle.vx_value.specs.Types.{DataType, nullability_of}
+use Rattle.vx_value.specs.Values.{Value, boolean, integer}
+use Rattle.vx_value.specs.Cell.{Cell, value, fault}
+use Rattle.vx_value.specs.View.{type_of}
+use Rattle.vx_value.specs.Storage.{storage_of}
+use Rattle.vx_value.specs.declared.dtype.Storage.TheVariants as storage
+use Rattle.vx_value.specs.Typed.{Typed}
+use Rattle.vx_value.specs.IsOf.{in_range, is_null}
+use Rattle.vx_value.specs.declared.dtype.Nullability.{Nullability}
+use Rattle.vx_value.specs.declared.dtype.Nullability.TheVariants.{NonNullable}
+use Rattle.vx_value.specs.declared.error.VortexError.{VortexError}
+use Rattle.vx_value.specs.declared.error.VortexError.TheVariants.{OutOfMemory, Fault}
+use Rattle.vx_value.specs.declared.dtype.PType.{PType}
+use Rattle.vx_mask.specs.Operands.{bit_in, HasBits}
+use Rattle.vx_native.specs.Natives.{values_of, ptype_of}
+use Rattle.vx_tree.specs.Tree.{Tree, dtype, len}
+use Rattle.vx_tree.specs.Cells.{rows}
+use Rattle.vx_tree.specs.Columns.{columnar_tree}
+use Rattle.vx_tree.specs.declared.columnar.Columnar.{Columnar}
+use Rattle.vx_rows.specs.declared.argument.IntegerOperand.{IntegerOperand}
+use Rattle.vx_rows.specs.declared.argument.IntegerRows.{IntegerRows}
+use Rattle.vx_rows.specs.declared.argument.IntegerRows.TheVariants as rows_in
+use Rattle.vx_rows.specs.declared.argument.Argument.{Argument}
+use Rattle.vx_rows.specs.declared.argument.ArgumentRows.{ArgumentRows}
+use Rattle.vx_rows.specs.declared.argument.ArgumentRows.TheVariants as stored
+use Rattle.vx_rows.specs.ValidRows.{is_valid, HasValidity, nullability_in, null_unless}
+
+-- the integer at row i, or 0 past the last one
+abbrev pub integer_at : IntegerRows → ℕ → ℤ
+integer_at (rows_in.Rows vs) i = slice_index_or (values_of vs.now) i (pos 0)
+integer_at (rows_in.Value p z) i = z
+
+abbrev pub ptype_at : IntegerRows → PType
+ptype_at (rows_in.Rows vs) = ptype_of vs.now
+ptype_at (rows_in.Value p z) = p
+
+-- the one for every row is in the range of its type
+abbrev pub IsInRange : IntegerRows → Type 0
+IsInRange (rows_in.Rows vs) = Unit {0}
+IsInRange (rows_in.Value p z) = in_range p z ≡ true
+
+-- there are n rows; one integer stands for any number of them
+abbrev pub HasIntegers : IntegerRows → ℕ → Type 0
+HasIntegers (rows_in.Rows vs) n = length (values_of vs.now) ≡ n
+HasIntegers (rows_in.Value p z) n = Unit {0}
+
+abbrev pub integer_in : IntegerOperand → ℕ → ℤ
+integer_in zs = integer_at zs.rows
+
+abbrev pub ptype_in : IntegerOperand → PType
+ptype_in zs = ptype_at zs.rows
+
+-- n integers of type p, which columns of their type store
+abbrev pub AreIntegers : PType → IntegerOperand → ℕ → Type 0
+AreIntegers p zs n = (ptype_in zs ≡ p) × IsInRange zs.rows × HasIntegers zs.rows n × (storage_of (type_of zs.dtype.now) ≡ storage.Integers p)
+
+-- the value that is stored in row i, also if the row is null: a line for each storage
+abbrev pub value_at : ArgumentRows → ℕ → Value
+value_at (stored.Bits bs) i = boolean (bit_in bs i)
+value_at (stored.Integers zs) i = integer (integer_in zs i)
+
+-- the type of the values: a line for each storage
+abbrev pub plain_type : ArgumentRows → DataType
+plain_type (stored.Bits bs) = type.bool NonNullable
+plain_type (stored.Integers zs) = type.primitive (ptype_in zs) NonNullable
+
+-- the type of a column of them, by its nullability
+abbrev pub type_of_rows : Nullability → ArgumentRows → DataType
+type_of_rows m (stored.Bits bs) = type.bool m
+type_of_rows m (stored.Integers zs) = type_of zs.dtype.now
+
+-- there are n of them, in a column of this nullability
+abbrev pub AreStored : Nullability → ArgumentRows → ℕ → Type 0
+AreStored m (stored.Bits bs) n = HasBits bs n
+AreStored m (stored.Integers zs) n = AreIntegers (ptype_in zs) zs n × (nullability_of (type_of zs.dtype.now) ≡ m)
+
+-- there are n of them
+abbrev pub HasStored : ArgumentRows → ℕ → Type 0
+HasStored (stored.Bits bs) n = HasBits bs n
+HasStored (stored.Integers zs) n = AreIntegers (ptype_in zs) zs n
+
+abbrev pub type_of_argument : Argument → DataType
+type_of_argument a = type_of_rows (nullability_in a.valid) a.rows
+
+-- it has n rows
+abbrev pub IsSized : ℕ → Argument → Type 0
+IsSized n a = AreStored (nullability_in a.valid) a.rows n × HasValidity a.valid n
+
+-- the cell at row i
+abbrev pub cell_at : Argument → ℕ → Cell
+cell_at a i = null_unless (is_valid a.valid i) (value (value_at a.rows i))
+
+-- a has the type and the rows of the column c
+pub record IsArgument (c : Columnar) (a : Argument) : Type 0 where
+  pub typed : dtype (columnar_tree c) ≡ type_of_argument a
+  pub shown : (i : ℕ) → i < len (columnar_tree c) → slice_index_or (rows (columnar_tree c)) i fault ≡ cell_at a i
+  pub sized : IsSized (len (columnar_tree c)) a
+
+-- why a tree's rows can't be read: out of memory, or one of them is a fault
+abbrev pub IsUnread : Tree → VortexError → Type 0
+IsUnread t e = (e ≡ OutOfMemory) ⊎ ((e ≡ Fault) × (i : ℕ) × (i < len t) × (slice_get (rows t) i ≡ Some fault))
+
+-- why the validity of n rows can't
+abbrev pub AreUnread : ℕ → Option Tree → VortexError → Type 0
+AreUnread n None e = e ≡ OutOfMemory
+AreUnread n (Some t) e = (e ≡ OutOfMemory) ⊎ ((e ≡ Fault) × (i : ℕ) × (i < n) × (slice_get (rows t) i ≡ Some fault))
+
+-- why one of the columns can't
+abbrev pub AnyUnread : List Columnar → VortexError → Type 0
+AnyUnread [] e = e ≡ OutOfMemory
+AnyUnread (c ∷ cs) e = IsUnread (columnar_tree c) e ⊎ AnyUnread cs e
+
+-- the rows of a constant
+pub record IsRepeated (s : Typed) (a : ArgumentRows) : Type 0 where
+  pub typed : type_of_rows (nullability_of s.of_type) a ≡ s.of_type
+  pub shown : (i : ℕ) → is_null s.value ≡ false → value_at a i ≡ s.value
+  pub sized : (n : ℕ) → AreStored (nullability_of s.of_type) a n
+
+abbrev pub types_of : List Argument → List DataType
+types_of args = map type_of_argument args
+
+-- the cells at row i
+abbrev pub row_of : List Argument → ℕ → List Cell
+row_of args i = map (λ a. cell_at a i) args
+
+-- the stored values at row i, of two arguments
+abbrev pub pair_at : ArgumentRows → ArgumentRows → ℕ → List Cell
+pair_at l r i = value (value_at l i) ∷ value (value_at r i) ∷ []
+
+-- of scalars
+abbrev pub types_of_scalars : List Typed → List DataType
+types_of_scalars ss = map (λ s. s.of_type) ss
+
+abbrev pub cells_of_scalars : List Typed → List Cell
+cells_of_scalars ss = map (λ s. value s.value) ss

@@ -1,0 +1,171 @@
+//! Columns as the arguments of a function.
+
+ghost use Rattle.std.specs.Prelude.{◌≡◌, ◌⊎◌, ◌≤◌, ◌<◌, IfOk, IfErr, true, Some, slice_get, length};
+ghost use Rattle.std.specs.List.{AllZip, AllByRecursion};
+ghost use Rattle.vx_value.specs.Types.{nullability_of};
+ghost use Rattle.vx_value.specs.IsOf.{is_of};
+ghost use Rattle.vx_value.specs.View.{type_of};
+ghost use Rattle.vx_tree.specs.ColumnTypes.{has_column};
+ghost use Rattle.vx_tree.specs.Columns.{columnar_tree};
+ghost use Rattle.vx_tree.specs.Tree.{constant_of};
+ghost use Rattle.vx_tree.specs.Cells.{rows};
+ghost use Rattle.vx_rows.specs.Arguments.{IsArgument, IsUnread, IsRepeated, AreUnread, AnyUnread, ptype_in};
+ghost use Rattle.vx_rows.specs.ValidRows.{HasValidity, AreTold, TellsRows, IsRepeatedValidity, nullability_in};
+ghost use Rattle.vx_rows.specs.declared.argument.ArgumentRows.TheVariants.{Integers};
+
+use crate::probe::truths_in;
+use crate::valid::ValidRows;
+use std::alloc::{AllocError, Global};
+use vx_mask::{BitBuffer, BitOperand};
+use vx_native::PrimitiveValues;
+use vx_tree::{ArrayKind, ArrayRef, Columnar};
+use vx_value::{DType, Nullability, PType, Scalar, Storage, VortexError, VortexResult};
+
+/// An argument: its rows, and which of them aren't null.
+#[derive(Drop)]
+pub struct Argument<'a> {
+    pub rows: ArgumentRows<'a>,
+    pub valid: ValidRows,
+}
+
+/// The rows of an argument, by how they are stored: a column, or one value for every row. Null rows store a value too.
+#[derive(Clone, Copy)]
+pub enum ArgumentRows<'a> {
+    Bits(BitOperand<'a>),
+    Integers(IntegerOperand<'a>),
+}
+
+/// Integers, and the type whose values they are.
+#[derive(Clone, Copy)]
+pub struct IntegerOperand<'a> {
+    pub dtype: &'a DType,
+    pub rows: IntegerRows<'a>,
+}
+
+/// Integers of one integer type.
+#[derive(Clone, Copy)]
+pub enum IntegerRows<'a> {
+    /// An integer for each row.
+    Rows(&'a PrimitiveValues),
+    /// One integer for every row, in the range of its type.
+    Value(PType, i128),
+}
+
+impl IntegerOperand<'_> {
+    /// Returns the type of the integers.
+    pub fn ptype(self) -> PType
+        ensures { result ≡ ptype_in self.entry }
+    {
+        match self.rows {
+            IntegerRows::Rows(values) => values.ptype(),
+            IntegerRows::Value(ptype, _) => ptype,
+        }
+    }
+}
+
+/// Returns the rows of `column`. `Fault` if a row has no value.
+pub fn argument_of(alloc: Global, column: &Columnar) -> VortexResult<Argument<'_>>
+    ensures ok { IfOk result (IsArgument column.now) }
+    ensures err { IfErr result (IsUnread (columnar_tree column.now)) }
+{
+    let dtype = column.dtype();
+    let len = column.len();
+    match column.as_array().kind() {
+        ArrayKind::Bool(bits, validity) => {
+            match valid_rows(alloc, validity, dtype.nullability(), len) {
+                Ok(valid) => Ok(Argument {
+                    rows: ArgumentRows::Bits(BitOperand::Bits(bits)),
+                    valid,
+                }),
+                Err(e) => Err(e),
+            }
+        }
+        ArrayKind::Primitive(values, validity) => {
+            match valid_rows(alloc, validity, dtype.nullability(), len) {
+                Ok(valid) => Ok(Argument {
+                    rows: integers_of(dtype, IntegerRows::Rows(values)),
+                    valid,
+                }),
+                Err(e) => Err(e),
+            }
+        }
+        ArrayKind::Constant(scalar) => Ok(Argument {
+            rows: repeated_rows(scalar),
+            valid: repeated_valid_rows(alloc, scalar, len)?,
+        }),
+        _ => unreachable!(),
+    }
+}
+
+/// Returns `rows`, the values of type `dtype`, as those of an argument.
+fn integers_of<'a>(dtype: &'a DType, rows: IntegerRows<'a>) -> ArgumentRows<'a>
+    ensures { result ≡ Integers (record { dtype = dtype.entry; rows = rows.entry }) }
+{
+    ArgumentRows::Integers(IntegerOperand { dtype, rows })
+}
+
+/// Returns the rows of a constant, each `scalar`; `false` or 0 stands under a null.
+#[tactic(auto, using(crate::proofs::StoredLemmas::stored_integer))]
+fn repeated_rows(scalar: &Scalar) -> ArgumentRows<'_>
+    requires { has_column scalar.now.of_type ≡ true }
+    ensures { IsRepeated scalar.now result }
+{
+    let dtype = scalar.dtype();
+    match dtype.storage() {
+        Storage::Bits => ArgumentRows::Bits(BitOperand::Bit(scalar.as_bool().unwrap_or(false))),
+        Storage::Integers(ptype) => {
+            let wide = scalar.as_integer().unwrap_or(0);
+            integers_of(dtype, IntegerRows::Value(ptype, wide))
+        }
+        _ => unreachable!(),
+    }
+}
+
+/// Returns the valid rows of a constant of `len` rows, each `scalar`.
+fn repeated_valid_rows(alloc: Global, scalar: &Scalar, len: usize) -> Result<ValidRows, AllocError>
+    ensures { IfOk result (IsRepeatedValidity scalar.now len) }
+{
+    let dtype = scalar.dtype();
+    if scalar.is_null() {
+        Ok(ValidRows::Bits(BitBuffer::repeat(alloc, false, len)?))
+    } else {
+        Ok(ValidRows::All(dtype.nullability()))
+    }
+}
+
+/// Returns the valid rows of a column of `len` rows from its validity. `Fault` if that has no value in a row.
+fn valid_rows(
+    alloc: Global,
+    validity: &Option<ArrayRef>,
+    nullability: Nullability,
+    len: usize,
+) -> VortexResult<ValidRows>
+    requires { TellsRows nullability len validity.now }
+    ensures told { IfOk result (AreTold len validity.now) }
+    ensures nullability { IfOk result (λ v. nullability_in v ≡ nullability) }
+    ensures sized { IfOk result (λ v. HasValidity v len) }
+    ensures err { IfErr result (AreUnread len validity.now) }
+{
+    let Some(child) = validity else {
+        return Ok(ValidRows::All(nullability));
+    };
+    match truths_in(alloc, child) {
+        Ok(bits) => Ok(ValidRows::from_bits(bits)),
+        Err(e) => Err(e),
+    }
+}
+
+/// Returns the rows of each of `columns`. `Fault` if a row of one has no value.
+pub fn arguments_of(alloc: Global, columns: &[Columnar]) -> VortexResult<Vec<Argument<'_>>>
+    ensures ok { IfOk result (λ v. AllZip IsArgument columns.now v.items) }
+    ensures err { IfErr result (AnyUnread columns.now) }
+{
+    let mut arguments = Vec::with_capacity(alloc, columns.len())?;
+    for column in columns {
+        match argument_of(alloc, column) {
+            Ok(argument) => arguments.push(argument)?,
+            Err(e) => return Err(e),
+        }
+    }
+    Ok(arguments)
+}

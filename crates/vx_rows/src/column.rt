@@ -1,0 +1,41 @@
+//! Columns of stored values.
+
+ghost use Rattle.std.specs.Prelude.{◌≡◌, length, IfOk, IfErr};
+ghost use Rattle.vx_native.specs.Natives.{values_of, ptype_of};
+ghost use Rattle.vx_tree.specs.Validities.{HasRows};
+ghost use Rattle.vx_tree.specs.Columns.{canonical_tree};
+ghost use Rattle.vx_rows.specs.Stored.{boolean_column, integer_column};
+
+use std::alloc::Global;
+use vx_mask::BitBuffer;
+use vx_native::PrimitiveValues;
+use vx_tree::{BoolArray, Canonical, PrimitiveArray, Validity};
+use vx_value::{DType, VortexError, VortexResult};
+
+/// Makes the column of `bits`, whose null rows `validity` tells. The only error is `OutOfMemory`.
+#[tactic(auto, using(crate::proofs::NullsLemmas::flat_taken))]
+pub fn bool_column(alloc: Global, bits: BitBuffer, validity: &Validity) -> VortexResult<Canonical>
+    requires { HasRows validity.now (length bits) }
+    ensures ok { IfOk result (λ c. canonical_tree c ≡ boolean_column bits validity.now) }
+    ensures err { IfErr result (λ e. e ≡ VortexError.OutOfMemory) }
+{
+    let dtype = DType::Bool(validity.nullability());
+    let column = BoolArray::try_new(alloc, dtype, bits, validity)?;
+    Ok(Canonical::Bool(column))
+}
+
+/// Makes the column of `values`, whose null rows `validity` tells. The only error is `OutOfMemory`.
+#[tactic(auto, using(crate::proofs::NullsLemmas::flat_taken))]
+pub fn primitive_column(
+    alloc: Global,
+    values: PrimitiveValues,
+    validity: &Validity,
+) -> VortexResult<Canonical>
+    requires { HasRows validity.now (length (values_of values)) }
+    ensures ok { IfOk result (λ c. canonical_tree c ≡ integer_column (ptype_of values) (values_of values) validity.now) }
+    ensures err { IfErr result (λ e. e ≡ VortexError.OutOfMemory) }
+{
+    let dtype = DType::Primitive(values.ptype(), validity.nullability());
+    let column = PrimitiveArray::try_new(alloc, dtype, values, validity)?;
+    Ok(Canonical::Primitive(column))
+}

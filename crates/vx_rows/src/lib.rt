@@ -1,0 +1,15 @@
+//! Reads the rows of trees: single rows, those that aren't null, and whole columns as the arguments of a function. Makes
+//! columns of stored values.
+#![tactic(auto)]
+
+mod argument;
+mod column;
+mod probe;
+mod valid;
+
+pub use argument::{
+    Argument, ArgumentRows, IntegerOperand, IntegerRows, argument_of, arguments_of,
+};
+pub use column::{bool_column, primitive_column};
+pub use probe::{execute_scalar, truths_in};
+pub use valid::ValidRows;

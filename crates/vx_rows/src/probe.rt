@@ -1,0 +1,231 @@
+//! Single rows of a tree.
+
+ghost use Rattle.std.specs.Prelude.{◌≡◌, ◌⊎◌, ◌≤◌, ◌<◌, IfOk, IfErr, OnOk, length, map, slice_get, Some};
+ghost use Rattle.vx_value.specs.Types as type;
+ghost use Rattle.vx_value.specs.Types.{nullability_of};
+ghost use Rattle.vx_value.specs.View.{type_of};
+ghost use Rattle.vx_value.specs.Values.{boolean, integer};
+ghost use Rattle.vx_value.specs.Cell.{value, fault};
+ghost use Rattle.vx_native.specs.Natives.{values_of, ptype_of};
+ghost use Rattle.vx_tree.specs.Tree.{node, function, dtype, len, slots_of};
+ghost use Rattle.vx_tree.specs.Cells.{rows};
+ghost use Rattle.vx_tree.specs.Well.{IsNode, shapes};
+ghost use Rattle.vx_rows.specs.Arguments.{IsUnread};
+ghost use Rattle.vx_rows.specs.Nulls.{TellsRow, IsRowBy};
+ghost use Rattle.vx_rows.specs.ValidRows.{null_unless};
+
+use std::alloc::Global;
+use vx_fn::{ScalarFnRef, apply_row};
+use vx_mask::{BitBuffer, BitBuilder};
+use vx_native::PrimitiveValues;
+use vx_tree::{ArrayKind, ArrayRef};
+use vx_value::{DType, Nullability, Scalar, ScalarKind, VortexError, VortexResult};
+
+/// Returns the value of row `index`, counted from 0. Takes no turns.
+///
+/// # Errors
+///
+/// `OutOfBounds` if `array` has no such row; `Fault` if that row has no value; `OutOfMemory`.
+#[inline]
+pub fn execute_scalar(alloc: Global, array: &ArrayRef, index: usize) -> VortexResult<Scalar>
+    ensures ok { IfOk result (λ s. (slice_get (rows array.now) index ≡ Some (value s.value)) × (s.of_type ≡ dtype array.now)) }
+    ensures bounds { OnOk result (index < len array.now) }
+    ensures err { IfErr result
+        (λ e. (e ≡ VortexError.OutOfMemory)
+        ⊎ ((e ≡ VortexError.OutOfBounds index index (len array.now)) × (len array.now ≤ index))
+        ⊎ ((e ≡ VortexError.Fault) × (slice_get (rows array.now) index ≡ Some fault))) }
+{
+    let len = array.len();
+    if index >= len {
+        return Err(VortexError::OutOfBounds {
+            start: index,
+            stop: index,
+            len,
+        });
+    }
+    match array.kind() {
+        ArrayKind::Bool(bits, None) => Ok(bool_at(bits, index, array.dtype())),
+        ArrayKind::Primitive(values, None) => Ok(integer_at(values, index, array.dtype())),
+        _ => scalar_at(alloc, array, index),
+    }
+}
+
+/// Returns the value of row `index`, which must exist, of any tree.
+#[cycle(scalar_at)]
+fn scalar_at(alloc: Global, array: &ArrayRef, index: usize) -> VortexResult<Scalar>
+    requires { index < len array.now }
+    ensures ok { IfOk result (λ s. (slice_get (rows array.now) index ≡ Some (value s.value)) × (s.of_type ≡ dtype array.now)) }
+    ensures err { IfErr result
+        (λ e. (e ≡ VortexError.OutOfMemory)
+        ⊎ ((e ≡ VortexError.Fault) × (slice_get (rows array.now) index ≡ Some fault))) }
+{
+    let dtype = array.dtype();
+    match array.kind() {
+        ArrayKind::Bool(bits, validity) => {
+            unless_null(alloc, validity, index, bool_at(bits, index, dtype))
+        }
+        ArrayKind::Primitive(values, validity) => {
+            unless_null(alloc, validity, index, integer_at(values, index, dtype))
+        }
+        ArrayKind::Constant(scalar) => Ok(scalar.clone()?),
+        ArrayKind::Slice(child, start, _) => scalar_at(alloc, child, start + index),
+        ArrayKind::Filter(child, mask) => {
+            let Some(place) = mask.rank(index) else {
+                unreachable!()
+            };
+            scalar_at(alloc, child, place)
+        }
+        ArrayKind::Masked(child, validity) => match scalar_at(alloc, child, index) {
+            Ok(scalar) => unless_null(alloc, validity, index, scalar.into_nullable()),
+            Err(e) => Err(e),
+        },
+        ArrayKind::ScalarFnValidity(child) => match scalar_at(alloc, child, index) {
+            Ok(scalar) => Ok(Scalar::bool(!scalar.is_null(), Nullability::NonNullable)),
+            Err(e) => Err(e),
+        },
+        ArrayKind::ScalarFn(scalar_fn, slots) => function_at(alloc, array, scalar_fn, slots, index),
+    }
+}
+
+/// Returns row `index` of a column that stores `stored` there and has `validity` in its slot: null if the row is null, else
+/// `stored`.
+#[inline]
+#[cycle(scalar_at)]
+fn unless_null(
+    alloc: Global,
+    validity: &Option<ArrayRef>,
+    index: usize,
+    stored: Scalar,
+) -> VortexResult<Scalar>
+    requires { TellsRow stored.of_type validity.now index }
+    ensures ok { IfOk result (λ s. IsRowBy validity.now index (value stored.value) (value s.value)) }
+    ensures typed { IfOk result (λ s. s.of_type ≡ stored.of_type) }
+    ensures err { IfErr result
+        (λ e. (e ≡ VortexError.OutOfMemory)
+        ⊎ ((e ≡ VortexError.Fault) × IsRowBy validity.now index (value stored.value) fault)) }
+{
+    let Some(child) = validity else {
+        return Ok(stored);
+    };
+    if let ArrayKind::Bool(bits, None) = child.kind() {
+        return kept_or_null(stored, bits.value(index));
+    }
+    match scalar_at(alloc, child, index) {
+        Ok(valid) => kept_or_null(stored, is_true(&valid)),
+        Err(e) => Err(e),
+    }
+}
+
+/// Returns `stored` if its row is `valid`, else null of its type, which must be nullable. The only error is `OutOfMemory`.
+#[inline]
+fn kept_or_null(stored: Scalar, valid: bool) -> VortexResult<Scalar>
+    requires { nullability_of stored.of_type ≡ Nullability.Nullable }
+    ensures ok { IfOk result (λ s. value s.value ≡ null_unless valid (value stored.value)) }
+    ensures typed { IfOk result (λ s. s.of_type ≡ stored.of_type) }
+    ensures err { IfErr result (λ e. e ≡ VortexError.OutOfMemory) }
+{
+    if valid {
+        Ok(stored)
+    } else {
+        Ok(Scalar::null(stored.dtype().clone()?))
+    }
+}
+
+/// Returns the value of `scalar`, which must be a non-nullable boolean.
+fn is_true(scalar: &Scalar) -> bool
+    requires { scalar.now.of_type ≡ type.bool Nullability.NonNullable }
+    ensures { scalar.now.value ≡ boolean result }
+{
+    match scalar.kind() {
+        ScalarKind::Bool(bit, _) => bit,
+        _ => unreachable!(),
+    }
+}
+
+/// Returns the value of row `index` of `array`, which applies `scalar_fn` to `slots`.
+#[cycle(scalar_at)]
+fn function_at(
+    alloc: Global,
+    array: &ArrayRef,
+    scalar_fn: &ScalarFnRef,
+    slots: &[Option<ArrayRef>],
+    index: usize,
+) -> VortexResult<Scalar>
+    requires index { index < len array.now }
+    requires shape { array.now ≡ node (dtype array.now) (len array.now) (function scalar_fn.now) (slots_of slots.now) }
+    requires well { IsNode (dtype array.now) (len array.now) (function scalar_fn.now) (shapes (slots_of slots.now)) }
+    ensures ok { IfOk result (λ s. (slice_get (rows array.now) index ≡ Some (value s.value)) × (s.of_type ≡ dtype array.now)) }
+    ensures err { IfErr result
+        (λ e. (e ≡ VortexError.OutOfMemory)
+        ⊎ ((e ≡ VortexError.Fault) × (slice_get (rows array.now) index ≡ Some fault))) }
+{
+    let mut scalars = Vec::with_capacity(alloc, slots.len())?;
+    for slot in slots {
+        let Some(child) = slot else { unreachable!() };
+        match scalar_at(alloc, child, index) {
+            Ok(scalar) => scalars.push(scalar)?,
+            Err(e) => return Err(e),
+        }
+    }
+    match apply_row(scalar_fn, scalars.as_slice()) {
+        Ok(scalar) => Ok(scalar),
+        Err(e) => Err(e),
+    }
+}
+
+/// Returns the boolean that a column of type `dtype` stores in row `index`.
+#[inline]
+fn bool_at(bits: &BitBuffer, index: usize, dtype: &DType) -> Scalar
+    requires { index < length bits.now }
+    ensures row { slice_get (map (λ b. value (boolean b)) bits.now) index ≡ Some (value result.value) }
+    ensures typed { result.of_type ≡ type.bool (nullability_of (type_of dtype.now)) }
+{
+    Scalar::bool(bits.value(index), dtype.nullability())
+}
+
+/// Returns the integer that a column of type `dtype` stores in row `index`.
+#[inline]
+fn integer_at(values: &PrimitiveValues, index: usize, dtype: &DType) -> Scalar
+    requires { index < length (values_of values.now) }
+    ensures row { slice_get (map (λ z. value (integer z)) (values_of values.now)) index ≡ Some (value result.value) }
+    ensures typed { result.of_type ≡ type.primitive (ptype_of values.now) (nullability_of (type_of dtype.now)) }
+{
+    Scalar::primitive(values.wide_at(index), values.ptype(), dtype.nullability())
+}
+
+/// Returns the rows of `array`, which must be non-nullable booleans. Shares those of a column without a validity, and repeats a
+/// constant. `Fault` if a row has no value.
+pub fn truths_in(alloc: Global, array: &ArrayRef) -> VortexResult<BitBuffer>
+    requires { dtype array.now ≡ type.bool Nullability.NonNullable }
+    ensures ok { IfOk result (λ bits. rows array.now ≡ map (λ b. value (boolean b)) bits) }
+    ensures sized { IfOk result (λ bits. length bits ≡ len array.now) }
+    ensures err { IfErr result (IsUnread array.now) }
+{
+    array.well();
+    match array.kind() {
+        ArrayKind::Bool(bits, None) => Ok(bits.clone()?),
+        ArrayKind::Constant(scalar) => {
+            Ok(BitBuffer::repeat(alloc, is_true(scalar), array.len())?)
+        }
+        _ => read_truths(alloc, array),
+    }
+}
+
+/// Reads the rows of `array`, which must be non-nullable booleans, one by one. `Fault` if a row has no value.
+#[tactic(auto, using(crate::proofs::CellsLemmas::truths_more))]
+fn read_truths(alloc: Global, array: &ArrayRef) -> VortexResult<BitBuffer>
+    requires { dtype array.now ≡ type.bool Nullability.NonNullable }
+    ensures ok { IfOk result (λ bits. rows array.now ≡ map (λ b. value (boolean b)) bits) }
+    ensures sized { IfOk result (λ bits. length bits ≡ len array.now) }
+    ensures err { IfErr result (IsUnread array.now) }
+{
+    array.well();
+    let mut bits = BitBuilder::with_capacity(alloc, array.len())?;
+    for index in 0..array.len() {
+        match scalar_at(alloc, array, index) {
+            Ok(scalar) => bits.push(is_true(&scalar))?,
+            Err(e) => return Err(e),
+        }
+    }
+    Ok(bits.finish(alloc)?)
+}
