@@ -1,4 +1,4 @@
-use Rattle.std.proofs.Common.{ap, sym}
+use Rattle.std.proofs.Common.{ap}
 use Rattle.vx_mask.specs.Masks.{bits_in}
 use Rattle.vx_native.specs.Natives.{values_of, ptype_of}
 use Rattle.vx_tree.specs.TreeView.{data_of}
