@@ -9,7 +9,6 @@ ghost use Rattle.vx_fn.specs.Arithmetic.{calculated};
 ghost use Rattle.vx_fn.specs.declared.function.Operator.{Operator as OperatorOf};
 ghost use Rattle.vx_fn.specs.declared.function.Operator.TheVariants.{Add, Sub, Mul, Div};
 ghost use Rattle.vx_fn.specs.declared.function.ScalarFnRef.TheVariants.{Binary};
-ghost use Rattle.vx_tree.specs.Validities.{HasRows as HasRowsOf};
 ghost use Rattle.vx_native.specs.Natives.{values_of, ptype_of};
 ghost use Rattle.vx_tree.specs.Columns.{canonical_tree};
 ghost use Rattle.vx_tree.specs.Tree.{dtype};
@@ -25,9 +24,9 @@ use num_traits::{CheckedAdd, CheckedDiv, CheckedMul, CheckedSub};
 use std::alloc::Global;
 use std::marker::PhantomData;
 use vx_native::{NativeInteger, PrimitiveValues};
-use vx_rows::{IntegerOperand, ValidRows};
-use vx_tree::{Canonical, PrimitiveArray, Validity};
-use vx_value::{DType, VortexError, VortexResult};
+use vx_rows::{IntegerOperand, ValidRows, primitive_column};
+use vx_tree::Canonical;
+use vx_value::{VortexError, VortexResult};
 
 /// An arithmetic operator.
 pub(crate) trait Arithmetic {

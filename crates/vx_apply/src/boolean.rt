@@ -10,7 +10,6 @@ ghost use Rattle.vx_apply.specs.Bits.{bit_by};
 ghost use Rattle.vx_value.specs.Cell.{value};
 ghost use Rattle.vx_value.specs.Values.{boolean};
 ghost use Rattle.vx_fn.specs.declared.function.ScalarFnRef.TheVariants.{Binary, Not};
-ghost use Rattle.vx_tree.specs.Validities.{HasRows};
 ghost use Rattle.vx_tree.specs.Columns.{canonical_tree};
 ghost use Rattle.vx_tree.specs.Tree.{dtype};
 ghost use Rattle.vx_rows.specs.Arguments.{types_of, value_at, pair_at, IsSized};
@@ -23,9 +22,9 @@ use vx_fn::Operator;
 use vx_mask::{
     BitAnd, BitBuffer, BitEq, BitGt, BitGte, BitLt, BitLte, BitNotEq, BitOperand, BitOr,
 };
-use vx_rows::{Argument, ArgumentRows, ValidRows};
-use vx_tree::{BoolArray, Canonical, Validity};
-use vx_value::{DType, Nullability, VortexError, VortexResult};
+use vx_rows::{Argument, ArgumentRows, ValidRows, bool_column};
+use vx_tree::Canonical;
+use vx_value::{Nullability, VortexError, VortexResult};
 
 /// Makes the column of `bits`, `len` rows, that are null unless they are `valid`. The only error is `OutOfMemory`.
 pub(crate) fn valid_bools(

@@ -1,13 +1,9 @@
 //! Columns as the arguments of a function.
 
-ghost use Rattle.std.specs.Prelude.{◌≡◌, ◌⊎◌, ◌≤◌, ◌<◌, IfOk, IfErr, true, Some, slice_get, length};
-ghost use Rattle.std.specs.List.{AllZip, AllByRecursion};
-ghost use Rattle.vx_value.specs.Types.{nullability_of};
-ghost use Rattle.vx_value.specs.IsOf.{is_of};
-ghost use Rattle.vx_value.specs.View.{type_of};
+ghost use Rattle.std.specs.Prelude.{◌≡◌, ◌<◌, IfOk, IfErr, true, Some};
+ghost use Rattle.std.specs.List.{AllZip};
 ghost use Rattle.vx_tree.specs.ColumnTypes.{has_column};
 ghost use Rattle.vx_tree.specs.Columns.{columnar_tree};
-ghost use Rattle.vx_tree.specs.Tree.{constant_of};
 ghost use Rattle.vx_tree.specs.Cells.{rows};
 ghost use Rattle.vx_rows.specs.Arguments.{IsArgument, IsUnread, IsRepeated, AreUnread, AnyUnread, ptype_in};
 ghost use Rattle.vx_rows.specs.ValidRows.{HasValidity, AreTold, TellsRows, IsRepeatedValidity, nullability_in};
@@ -19,7 +15,7 @@ use std::alloc::{AllocError, Global};
 use vx_mask::{BitBuffer, BitOperand};
 use vx_native::PrimitiveValues;
 use vx_tree::{ArrayKind, ArrayRef, Columnar};
-use vx_value::{DType, Nullability, PType, Scalar, Storage, VortexError, VortexResult};
+use vx_value::{DType, Nullability, PType, Scalar, Storage, VortexResult};
 
 /// An argument: its rows, and which of them aren't null.
 #[derive(Drop)]

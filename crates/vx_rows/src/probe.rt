@@ -43,9 +43,14 @@ pub fn execute_scalar(alloc: Global, array: &ArrayRef, index: usize) -> VortexRe
             len,
         });
     }
+    let dtype = array.dtype();
     match array.kind() {
-        ArrayKind::Bool(bits, None) => Ok(bool_at(bits, index, array.dtype())),
-        ArrayKind::Primitive(values, None) => Ok(integer_at(values, index, array.dtype())),
+        ArrayKind::Bool(bits, validity) => {
+            unless_null(alloc, validity, index, bool_at(bits, index, dtype))
+        }
+        ArrayKind::Primitive(values, validity) => {
+            unless_null(alloc, validity, index, integer_at(values, index, dtype))
+        }
         _ => scalar_at(alloc, array, index),
     }
 }

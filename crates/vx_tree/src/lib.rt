@@ -13,7 +13,7 @@ mod validity;
 
 pub use array::{
     Array, ArrayId, ArrayKind, ArrayParts, ArrayRef, ArraySlots, ArrayVTable, ArrayView, Encoded,
-    Encoding, IntoArray, Node, VTable,
+    Encoding, EncodingVariant, IntoArray, Node, VTable,
 };
 pub use arrays::boolean::{Bool, BoolArray, BoolData};
 pub use arrays::constant::{Constant, ConstantArray, ConstantData};

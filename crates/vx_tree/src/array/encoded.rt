@@ -20,7 +20,10 @@ use crate::arrays::slice::{Slice, SliceData};
 /// Tags of encodings, with the type of the node data. (own: the original has the type in `VTable`)
 pub trait Encoded {
     type TypedArrayData: Drop;
+}
 
+/// Encodings whose data a variant of `Encoding` holds. (own)
+pub trait EncodingVariant: Encoded {
     // which node data are of the encoding, and what its typed data stands for
     ghost is_kind: { Data → Bool };
 
@@ -56,7 +59,9 @@ macro_rules! payload {
 
 impl Encoded for Constant {
     type TypedArrayData = ConstantData;
+}
 
+impl EncodingVariant for Constant {
     ghost is_kind = { is_constant };
 
     ghost stands_for = { λ d. constant d.scalar };
@@ -78,7 +83,9 @@ impl Encoded for Constant {
 
 impl Encoded for Slice {
     type TypedArrayData = SliceData;
+}
 
+impl EncodingVariant for Slice {
     ghost is_kind = { is_slice };
 
     ghost stands_for = { λ d. slice d.range.start d.range.end };
@@ -100,7 +107,9 @@ impl Encoded for Slice {
 
 impl Encoded for Filter {
     type TypedArrayData = FilterData;
+}
 
+impl EncodingVariant for Filter {
     ghost is_kind = { is_filter };
 
     ghost stands_for = { λ d. filter (bits_in d.mask) };
@@ -122,7 +131,9 @@ impl Encoded for Filter {
 
 impl Encoded for Masked {
     type TypedArrayData = MaskedData;
+}
 
+impl EncodingVariant for Masked {
     ghost is_kind = { is_masked };
 
     ghost stands_for = { λ _. masked };
@@ -144,7 +155,9 @@ impl Encoded for Masked {
 
 impl Encoded for ScalarFnValidity {
     type TypedArrayData = EmptyArrayData;
+}
 
+impl EncodingVariant for ScalarFnValidity {
     ghost is_kind = { is_validity };
 
     ghost stands_for = { λ _. is_valid };
@@ -166,7 +179,9 @@ impl Encoded for ScalarFnValidity {
 
 impl Encoded for ScalarFn {
     type TypedArrayData = ScalarFnData;
+}
 
+impl EncodingVariant for ScalarFn {
     ghost is_kind = { is_function };
 
     ghost stands_for = { λ d. function d.scalar_fn };
@@ -188,7 +203,9 @@ impl Encoded for ScalarFn {
 
 impl Encoded for Bool {
     type TypedArrayData = BoolData;
+}
 
+impl EncodingVariant for Bool {
     ghost is_kind = { is_bool };
 
     ghost stands_for = { λ d. bool d.bits };
@@ -210,7 +227,9 @@ impl Encoded for Bool {
 
 impl Encoded for Primitive {
     type TypedArrayData = PrimitiveData;
+}
 
+impl EncodingVariant for Primitive {
     ghost is_kind = { is_primitive };
 
     ghost stands_for = { λ d. primitive (ptype_of d.values) (values_of d.values) };

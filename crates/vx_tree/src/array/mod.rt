@@ -8,7 +8,7 @@ mod typed;
 mod view;
 mod vtable;
 
-pub use encoded::Encoded;
+pub use encoded::{Encoded, EncodingVariant};
 pub use kind::ArrayKind;
 pub(crate) use node::know_well;
 pub use node::{ArrayRef, ArraySlots, Encoding, Node};

@@ -8,7 +8,7 @@ ghost use Rattle.vx_tree.specs.Tree.{slots_of, id_of};
 ghost use Rattle.vx_tree.specs.Well.{shapes};
 ghost use Rattle.vx_tree.specs.Refusals.{refusal};
 
-use crate::array::{ArrayParts, Encoded};
+use crate::array::{ArrayParts, EncodingVariant};
 use std::alloc::Global;
 use vx_value::{Id, VortexResult};
 
@@ -16,7 +16,7 @@ use vx_value::{Id, VortexResult};
 pub type ArrayId = Id;
 
 /// Encodings, named by their tags.
-pub trait VTable: Encoded + Drop + Sized {
+pub trait VTable: EncodingVariant + Drop + Sized {
     // the id that a tag names
     ghost named: { Self → ArrayIdOf };
 
