@@ -57,14 +57,14 @@ at_keep (c ∷ cs) [] k h = absurd h
 at_keep (c ∷ cs) (d ∷ ds) zero h = h.0
 at_keep (c ∷ cs) (d ∷ ds) (suc k) h = at_keep cs ds k h.1
 
-take_keep : (k : ℕ) (cs ds : List Cell) → RowsKeep cs ds → RowsKeep (take k cs) (take k ds)
+pub take_keep : (k : ℕ) (cs ds : List Cell) → RowsKeep cs ds → RowsKeep (take k cs) (take k ds)
 take_keep zero cs ds h = tt
 take_keep (suc k) [] [] h = tt
 take_keep (suc k) [] (d ∷ ds) h = absurd h
 take_keep (suc k) (c ∷ cs) [] h = absurd h
 take_keep (suc k) (c ∷ cs) (d ∷ ds) h = (h.0, take_keep k cs ds h.1)
 
-drop_keep : (k : ℕ) (cs ds : List Cell) → RowsKeep cs ds → RowsKeep (drop k cs) (drop k ds)
+pub drop_keep : (k : ℕ) (cs ds : List Cell) → RowsKeep cs ds → RowsKeep (drop k cs) (drop k ds)
 drop_keep zero cs ds h = h
 drop_keep (suc k) [] [] h = tt
 drop_keep (suc k) [] (d ∷ ds) h = absurd h
@@ -97,7 +97,7 @@ map_keep f g [] h = tt
 map_keep f g (i ∷ is) h = (h i, map_keep f g is h)
 
 -- of a mask
-chosen_keep : (bits : List Bool) (cs ds : List Cell) → RowsKeep cs ds → RowsKeep (chosen bits cs) (chosen bits ds)
+pub chosen_keep : (bits : List Bool) (cs ds : List Cell) → RowsKeep cs ds → RowsKeep (chosen bits cs) (chosen bits ds)
 unfolding chosen
 chosen_keep [] cs ds h = tt
 chosen_keep (b ∷ bits) [] [] h = tt

@@ -10,3 +10,5 @@ pub mod CallsLemmas
 pub mod CostLemmas
 pub mod ColumnsLemmas
 pub mod ValiditiesLemmas
+pub mod TypedLemmas
+pub mod NodeValiditiesLemmas

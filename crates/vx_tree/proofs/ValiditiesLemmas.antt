@@ -41,7 +41,7 @@ set_again : (m : Nullability) (s : DataType) → with_nullability (nullability_o
 set_again m type.null = refl
 set_again m _ = refl
 
-nullable_set : (s : DataType) → nullability_of (with_nullability Nullable s) ≡ Nullable
+pub nullable_set : (s : DataType) → nullability_of (with_nullability Nullable s) ≡ Nullable
 nullable_set type.null = refl
 nullable_set _ = refl
 
@@ -121,11 +121,11 @@ pub whole : (t : Tree) → IsClean t → HasNoFault (rows t)
 whole (node ty n d ss) h = h.0
 
 -- a clean tree's range is clean
-part_clean : (a b : ℕ) (t : Tree) → IsClean t → IsClean (slice_of a b t)
+pub part_clean : (a b : ℕ) (t : Tree) → IsClean t → IsClean (slice_of a b t)
 part_clean a b t h = (whole_take (b - a) (drop a (rows t)) (whole_drop a (rows t) (whole t h)), (h, tt))
 
 -- the cells of a validity's slot
-abbrev told : Option Tree → List Cell
+abbrev pub told : Option Tree → List Cell
 told None = []
 told (Some t) = rows t
 
@@ -134,7 +134,7 @@ abbrev IsTold : ℕ → Option Tree → Type 0
 IsTold n None = Unit {0}
 IsTold n (Some t) = length (rows t) ≡ n
 
-told_rows : (v : Option Tree) → slots_rows (slots_of (v ∷ [])) ≡ told v ∷ []
+pub told_rows : (v : Option Tree) → slots_rows (slots_of (v ∷ [])) ≡ told v ∷ []
 told_rows None = refl
 told_rows (Some t) = refl
 

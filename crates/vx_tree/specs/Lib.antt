@@ -23,3 +23,4 @@ pub mod Cost
 pub mod Columns
 pub mod Validities
 pub mod Rows
+pub mod NodeValidities

@@ -13,6 +13,7 @@ ghost use Rattle.vx_tree.specs.Keeps.{Keeps, KeepsExactly};
 ghost use Rattle.vx_tree.specs.Cost.{cost, reach, slots_sum};
 ghost use Rattle.vx_tree.specs.Columns.{IsColumn};
 ghost use Rattle.vx_tree.specs.Validities.{HasRows, nullability_by, child_of, validity_of, valid_rows};
+ghost use Rattle.vx_tree.specs.NodeValidities.{node_validity, IsValidityFor};
 ghost use Rattle.vx_tree.specs.declared.validity.Validity.{Validity};
 ghost use Rattle.vx_fn.specs.declared.function.ScalarFnRef.{ScalarFnRef as ScalarFnOf};
 
@@ -67,4 +68,9 @@ pub fn column_laws()
     ensures known { (t : Tree) → IsWell t → is_columnar (datum t) ≡ true → IsColumn t }
     ensures canonical_columns { (d : Data) → is_canonical d ≡ true → is_columnar d ≡ true }
     ensures canonical_open { (d : Data) → is_canonical d ≡ true → is_constant d ≡ false }
+{}
+
+/// States that the validity of a tree tells which of its rows are null. (own)
+pub fn node_validity_laws()
+    ensures { (t : Tree) → IsWell t → IsValidityFor t (node_validity t) }
 {}

@@ -8,6 +8,7 @@ mod column_types;
 mod columnar;
 mod laws;
 mod matcher;
+mod node_validity;
 mod slicing;
 mod validity;
 
@@ -27,7 +28,8 @@ pub use canonical::Canonical;
 pub use column_types::has_column;
 pub use columnar::Columnar;
 pub use laws::{
-    choice_laws, column_laws, execution_bounds, keeping_laws, refused_exactly, validity_laws,
+    choice_laws, column_laws, execution_bounds, keeping_laws, node_validity_laws, refused_exactly,
+    validity_laws,
 };
 pub use matcher::{AnyArray, AnyCanonical, AnyColumnar, AnyScalarFn, Matcher};
 pub use slicing::slice_canonical;
