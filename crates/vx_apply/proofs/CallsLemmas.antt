@@ -1,5 +1,5 @@
 -- The rows of columns, as the arguments of a call show them.
-use Rattle.std.proofs.Common.{◌≡◌, ◌⊎◌, inl, inr, arith, ℕ, zero, suc, ◌<◌, ◌+◌, List, [], ◌∷◌, length, map, take, get_or, ◌++◌, true, Some, refl, sym, ◌∙◌, ap, subst}
+use Rattle.std.proofs.Common.{◌≡◌, ◌⊎◌, inl, inr, ℕ, ◌<◌, List, [], ◌∷◌, map, get_or, true, Some, refl, sym, ◌∙◌, ap, subst}
 use Rattle.std.specs.Cmp.{unsigned_Decides, first_so, second_so}
 use Rattle.std.specs.List.{AllZip, AllByRecursion}
 use Rattle.vx_value.specs.Types.{DataType}
@@ -22,7 +22,7 @@ use Rattle.vx_value.specs.declared.error.VortexError.{VortexError}
 use Rattle.vx_value.specs.declared.error.VortexError.TheVariants.{OutOfMemory, Fault}
 use Rattle.vx_fn.specs.Apply.{on_values}
 use Rattle.vx_rows.proofs.CellsLemmas.{later_fault}
-use Rattle.vx_rows.specs.Arguments.{IsUnread, AnyUnread, IsArgument, IsSized, type_of_argument, cell_at, types_of, row_of, types_of_scalars, cells_of_scalars}
+use Rattle.vx_rows.specs.Arguments.{AnyUnread, IsArgument, IsSized, type_of_argument, cell_at, types_of, row_of, types_of_scalars, cells_of_scalars}
 use Rattle.vx_rows.specs.declared.argument.Argument.{Argument}
 use Rattle.std.proofs.lemmas.List.{get_or-replicate}
 

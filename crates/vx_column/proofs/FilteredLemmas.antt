@@ -5,7 +5,7 @@ use Rattle.std.proofs.lemmas.List.{length-map, length-replicate}
 use Rattle.vx_value.specs.Types.{DataType, bool, nullability_of}
 use Rattle.vx_value.specs.Nullabilities.{with_nullability}
 use Rattle.vx_value.specs.Values.{Value, boolean}
-use Rattle.vx_value.specs.Cell.{Cell, value, fault}
+use Rattle.vx_value.specs.Cell.{Cell, value}
 use Rattle.vx_value.specs.declared.dtype.Nullability.{Nullability}
 use Rattle.vx_value.specs.declared.dtype.Nullability.TheVariants.{NonNullable, Nullable}
 use Rattle.vx_mask.specs.Places.{true_count, chosen}
@@ -20,6 +20,7 @@ use Rattle.vx_tree.specs.Validities.{nullability_by, without_nulls, child_of, va
 use Rattle.vx_tree.specs.declared.validity.Validity.{Validity}
 use Rattle.vx_tree.specs.declared.validity.Validity.TheVariants as validity
 use Rattle.vx_tree.proofs.KeepsLemmas.{rows_equal}
+use Rattle.vx_tree.proofs.NodeValiditiesLemmas.{chosen_clean}
 use Rattle.vx_tree.proofs.CellsLemmas.{rows_counted}
 use Rattle.vx_tree.proofs.ValiditiesLemmas.{told_back, whole, no_child, same_nullability}
 use Rattle.vx_column.specs.Filtered.{IsChoice}
@@ -38,14 +39,6 @@ chosen_valid (b ∷ bits) [] (c ∷ cs) h = absurd (omega arith)
 chosen_valid (b ∷ bits) (v ∷ vs) [] h = absurd (omega arith)
 chosen_valid (true ∷ bits) (v ∷ vs) (c ∷ cs) h = ap (λ l. valid_cell v c ∷ l) (chosen_valid bits vs cs (omega arith))
 chosen_valid (false ∷ bits) (v ∷ vs) (c ∷ cs) h = chosen_valid bits vs cs (omega arith)
-
-chosen_clean : (bits : List Bool) (cs : List Cell) → HasNoFault cs → HasNoFault (chosen bits cs)
-unfolding chosen
-chosen_clean [] cs h = tt
-chosen_clean (b ∷ bits) [] h = tt
-chosen_clean (b ∷ bits) (fault ∷ cs) h = absurd h
-chosen_clean (true ∷ bits) (value v ∷ cs) h = chosen_clean bits cs h
-chosen_clean (false ∷ bits) (value v ∷ cs) h = chosen_clean bits cs h
 
 -- a clean tree's filter is clean
 filter_clean : (bits : List Bool) (t : Tree) → IsClean t → IsClean (filter_of bits t)

@@ -2,4 +2,3 @@ pub mod FilteredLemmas
 pub mod MaskedLemmas
 pub mod RepeatedLemmas
 pub mod ShownLemmas
-pub mod TypedLemmas

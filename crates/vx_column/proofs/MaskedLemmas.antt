@@ -1,8 +1,6 @@
 -- Columns with some of their rows made null: the two validities joined.
-use Rattle.std.proofs.Common.{◌≡◌, ℕ, suc, ◌+◌, List, [], ◌∷◌, length, map, get_or, Bool, true, false, ◌&&◌, Option, Some, None}
+use Rattle.std.proofs.Common.{◌≡◌, ℕ, suc, ◌+◌, List, [], ◌∷◌, length, map, Bool, true, false, ◌&&◌, Option, Some}
 use Rattle.std.proofs.Common.{refl, sym, ap, subst, ◌∙◌, arith}
-use Rattle.std.specs.Prelude.{option_map}
-use Rattle.std.specs.Cmp.{unsigned_Decides}
 use Rattle.std.specs.List.{range_with_len}
 use Rattle.std.proofs.lemmas.List.{length-map}
 use Rattle.vx_value.specs.Types.{DataType, bool, nullability_of}
@@ -11,20 +9,16 @@ use Rattle.vx_value.specs.Values.{Value, boolean}
 use Rattle.vx_value.specs.Cell.{Cell, value, fault}
 use Rattle.vx_value.specs.declared.dtype.Nullability.{Nullability}
 use Rattle.vx_value.specs.declared.dtype.Nullability.TheVariants.{NonNullable, Nullable}
-use Rattle.vx_fn.specs.Apply.{apply}
-use Rattle.vx_fn.specs.ReturnTypes.{return_type}
 use Rattle.vx_fn.specs.declared.function.Operator.TheVariants.{And}
 use Rattle.vx_fn.specs.declared.function.ScalarFnRef.TheVariants.{Binary}
 use Rattle.vx_tree.specs.Tree.{Tree, Data, slots_of, dtype, len, column, call_of, masked_of}
 use Rattle.vx_tree.specs.Well.{shapes, IsFlat}
 use Rattle.vx_tree.specs.Cells.{rows, node_cells, cells_at, valid_cell, valid_cells, HasNoFault}
 use Rattle.vx_tree.specs.Keeps.{KeepsExactly}
-use Rattle.vx_tree.specs.Calls.{call_refusal, called, row_refusal}
 use Rattle.vx_tree.specs.Validities.{nullability_by, child_of, HasRows}
 use Rattle.vx_tree.specs.declared.validity.Validity.{Validity}
 use Rattle.vx_tree.specs.declared.validity.Validity.TheVariants as validity
 use Rattle.vx_tree.proofs.CellsLemmas.{rows_counted}
-use Rattle.vx_tree.proofs.ConditionsLemmas.{none_refused, none_unless}
 use Rattle.vx_tree.proofs.KeepsLemmas.{rows_equal}
 use Rattle.vx_tree.proofs.ValiditiesLemmas.{whole}
 use Rattle.vx_mask.specs.Logic.{bit_row}
@@ -36,48 +30,10 @@ use Rattle.vx_rows.proofs.ValidRowsLemmas.{child_told, filled_clean}
 use Rattle.vx_rows.specs.Nulls.{validity_cells}
 use Rattle.vx_rows.proofs.CellsLemmas.{fault_cell, masked_rows}
 use Rattle.vx_column.proofs.FilteredLemmas.{column_cells}
-use Rattle.vx_column.proofs.TypedLemmas.{CellFits, AllFit, rows_fit}
+use Rattle.vx_tree.proofs.TypedLemmas.{CellFits, AllFit, rows_fit}
+use Rattle.vx_tree.proofs.NodeValiditiesLemmas.{and_cell, and_cells, and_rows, and_clean}
 
--- ---- the conjunction of two trees of booleans
-
-module _ (t u : Tree) (n : ℕ) (first : HasRows (validity.Array t) n) (second : HasRows (validity.Array u) n) where
-  returned : return_type (Binary And) (map dtype (t ∷ u ∷ [])) ≡ Some (bool NonNullable)
-  returned = λ i. return_type (Binary And) (first.1 i ∷ second.1 i ∷ [])
-
-  pub and_taken : call_refusal (Binary And) (t ∷ u ∷ []) n ≡ None
-  and_taken =
-      none_refused _ _ refl
-      (none_refused _ _ (none_unless _ _ (λ i. (unsigned_Decides (len t) n).1 first.2 i && ((unsigned_Decides (len u) n).1 second.2 i && true)))
-      (ap row_refusal returned))
-
-  pub and_made : called (Binary And) (t ∷ u ∷ []) n ≡ Some (call_of (Binary And) (bool NonNullable) n (t ∷ u ∷ []))
-  and_made = ap (option_map (λ ty. call_of (Binary And) ty n (t ∷ u ∷ []))) returned
-
--- ---- its cells
-
-abbrev and_cell : Cell → Cell → Cell
-and_cell c d = apply (Binary And) (bool NonNullable) (c ∷ d ∷ [])
-
-abbrev and_cells : List Cell → List Cell → List Cell
-and_cells [] ds = []
-and_cells (c ∷ cs) [] = []
-and_cells (c ∷ cs) (d ∷ ds) = and_cell c d ∷ and_cells cs ds
-
-and_from : (s : ℕ) (cs ds : List Cell) (f : ℕ → Cell) → length cs ≡ length ds → ((i : ℕ) → f (s + i) ≡ and_cell (get_or cs i fault) (get_or ds i fault))
-    → map f (range_with_len s (length cs)) ≡ and_cells cs ds
-and_from s [] ds f long h = refl
-and_from s (c ∷ cs) [] f long h = absurd (omega arith)
-and_from s (c ∷ cs) (d ∷ ds) f long h =
-    let here : s ≡ s + 0 = omega arith in
-    let first : f s ≡ and_cell c d = ap f here ∙ h 0 in
-    let later : (i : ℕ) → s + 1 + i ≡ s + suc i = λ i. omega arith in
-    λ j. first j ∷ and_from (s + 1) cs ds f (omega arith) (λ i. ap f (later i) ∙ h (suc i)) j
-
-and_rows : (t u : Tree) (n : ℕ) → length (rows t) ≡ n → length (rows u) ≡ n
-    → rows (call_of (Binary And) (bool NonNullable) n (t ∷ u ∷ [])) ≡ and_cells (rows t) (rows u)
-and_rows t u n first second =
-    let f = λ (i : ℕ). and_cell (get_or (rows t) i fault) (get_or (rows u) i fault) in
-    ap (λ k. map f (range_with_len 0 k)) (sym first) ∙ and_from 0 (rows t) (rows u) f (first ∙ sym second) (λ i. ap f (omega arith))
+-- ---- the cells of a conjunction
 
 both_cell : (c d x : Cell) → CellFits (bool NonNullable) c → CellFits (bool NonNullable) d → valid_cell d (valid_cell c x) ≡ valid_cell (and_cell c d) x
 both_cell fault d x h k = fault_cell d
@@ -97,13 +53,6 @@ both_cells [] (d ∷ ds) xs e l h k = absurd (omega arith)
 both_cells (c ∷ cs) [] xs e l h k = absurd (omega arith)
 both_cells (c ∷ cs) (d ∷ ds) [] e l h k = absurd (omega arith)
 both_cells (c ∷ cs) (d ∷ ds) (x ∷ xs) e l h k = λ j. both_cell c d x h.0 k.0 j ∷ both_cells cs ds xs (omega arith) (omega arith) h.1 k.1 j
-
-and_clean : (cs ds : List Cell) → HasNoFault cs → HasNoFault ds → HasNoFault (and_cells cs ds)
-and_clean [] ds h k = tt
-and_clean (c ∷ cs) [] h k = tt
-and_clean (value v ∷ cs) (value w ∷ ds) h k = and_clean cs ds h k
-and_clean (value v ∷ cs) (fault ∷ ds) h k = absurd k
-and_clean (fault ∷ cs) (d ∷ ds) h k = absurd h
 
 -- ---- the rows that two validities both tell
 

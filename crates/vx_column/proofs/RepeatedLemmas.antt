@@ -6,9 +6,8 @@ use Rattle.std.proofs.lemmas.Result.{IfOk-weaker}
 use Rattle.vx_value.specs.Types as type
 use Rattle.vx_value.specs.Types.{DataType, nullability_of, is_nullable}
 use Rattle.vx_value.specs.Storage.{storage_of}
-use Rattle.vx_value.specs.declared.dtype.Storage.{Storage}
 use Rattle.vx_value.specs.declared.dtype.Storage.TheVariants.{Bits, Integers}
-use Rattle.vx_value.specs.IsOf.{is_of, is_stored, is_null, in_range}
+use Rattle.vx_value.specs.IsOf.{is_of, is_null}
 use Rattle.vx_value.specs.Parts.{boolean_in, integer_in}
 use Rattle.vx_value.specs.Values as of
 use Rattle.vx_value.specs.Values.{Value, boolean, integer}
@@ -18,9 +17,8 @@ use Rattle.vx_value.specs.declared.dtype.Nullability.{Nullability}
 use Rattle.vx_value.specs.declared.dtype.Nullability.TheVariants.{NonNullable, Nullable}
 use Rattle.vx_value.specs.declared.dtype.PType.{PType}
 use Rattle.vx_value.specs.declared.error.VortexError.{VortexError}
-use Rattle.vx_value.proofs.DefaultsLemmas.{zero_in_range}
-use Rattle.vx_tree.specs.Tree.{Tree, Data, node, bool, primitive, dtype, len, slots, slots_of, column, constant_of}
-use Rattle.vx_tree.specs.Cells.{rows, slots_rows, node_cells, cells_at, valid_cells, HasNoFault, IsClean, AreClean}
+use Rattle.vx_tree.specs.Tree.{Tree, Data, bool, primitive, slots_of, column, constant_of}
+use Rattle.vx_tree.specs.Cells.{rows, slots_rows, node_cells, cells_at, valid_cells, AreClean}
 use Rattle.vx_tree.specs.Columns.{canonical_tree}
 use Rattle.vx_tree.specs.Keeps.{KeepsExactly}
 use Rattle.vx_tree.specs.Validities.{nullability_by, without_nulls, child_of, HasRows}

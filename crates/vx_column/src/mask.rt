@@ -14,12 +14,9 @@ ghost use Rattle.vx_tree.specs.declared.validity.Validity.TheVariants.{Array};
 ghost use Rattle.vx_column.specs.Masked.{TellsAll, IsBoth};
 
 use std::alloc::Global;
-use vx_fn::{Operator, ScalarFnRef};
 use vx_mask::{BitAnd, BitBuffer, BitOperand};
 use vx_rows::{ValidRows, bool_column, primitive_column};
-use vx_tree::{
-    ArrayKind, ArrayRef, Canonical, IntoArray, ScalarFnArray, Validity, validity_to_child,
-};
+use vx_tree::{ArrayKind, ArrayRef, Canonical, Validity, and_lazily, validity_to_child};
 use vx_value::{Nullability, VortexError, VortexResult};
 
 /// Returns the rows of `column`, null where `validity` says so, as a nullable column that shares its values. `validity` must be
@@ -110,26 +107,4 @@ fn plain_bits(array: &ArrayRef) -> Option<&BitBuffer>
         ArrayKind::Bool(bits, None) => Some(bits),
         _ => None,
     }
-}
-
-/// Makes the lazy conjunction of two arrays, which must be non-nullable booleans, `len` rows each. The only error is
-/// `OutOfMemory`.
-#[tactic(auto, using(crate::proofs::MaskedLemmas::and_taken, crate::proofs::MaskedLemmas::and_made))]
-fn and_lazily(
-    alloc: Global,
-    first: ArrayRef,
-    second: ArrayRef,
-    len: usize,
-) -> VortexResult<ArrayRef>
-    requires first { HasRows (Array first) len }
-    requires second { HasRows (Array second) len }
-    ensures ok { IfOk result (λ a. a ≡ call_of (Binary Operator.And) (bool Nullability.NonNullable) len (first ∷ second ∷ [])) }
-    ensures err { IfErr result (λ e. e ≡ VortexError.OutOfMemory) }
-{
-    let mut children = Vec::with_capacity(alloc, 2)?;
-    children.push(first)?;
-    children.push(second)?;
-    let function = ScalarFnRef::Binary(Operator::And);
-    let both = ScalarFnArray::try_new_with_len(alloc, function, children, len)?;
-    Ok(both.into_array())
 }

@@ -29,6 +29,7 @@ use Rattle.vx_rows.specs.Nulls.{IsRowBy, validity_cells}
 use Rattle.vx_rows.specs.ValidRows.{null_unless}
 use Rattle.vx_rows.proofs.ValidRowsLemmas.{filled_cell}
 use Rattle.vx_native.proofs.NativesLemmas.{map_copies}
+use Rattle.vx_tree.proofs.NodeValiditiesLemmas.{shown_value}
 
 -- ---- a row of a slice
 
@@ -65,10 +66,6 @@ pub filter_place : (t c : Tree) (bits : List Bool) (i : ℕ) → t ≡ filter_of
 filter_place t c bits i e h none = let there = place_some bits i (subst (λ n. i < n) (ap len e) h) in absurd (cc (there.1, none))
 
 -- ---- of a test for null
-
-shown_value : (v : Value) → shown_cell (value v) ≡ value (boolean (not (is_null v)))
-shown_value null = refl
-shown_value _ = refl
 
 pub shown_row : (t c : Tree) (i : ℕ) (v : Value) → t ≡ validity_in c → slice_get (rows c) i ≡ Some (value v)
     → slice_get (rows t) i ≡ Some (value (boolean (not (is_null v))))

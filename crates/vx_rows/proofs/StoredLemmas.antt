@@ -1,5 +1,5 @@
 -- What a column stores of a value.
-use Rattle.std.proofs.Common.{◌≡◌, ℤ, pos, Bool, true, false, refl, sym, ◌∙◌, ap}
+use Rattle.std.proofs.Common.{◌≡◌, pos, true, false, refl, sym, ◌∙◌, ap}
 use Rattle.std.specs.Prelude.{unwrap_or}
 use Rattle.vx_value.specs.Types.{nullability_of}
 use Rattle.vx_value.specs.Storage.{storage_of}

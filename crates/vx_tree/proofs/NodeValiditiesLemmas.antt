@@ -246,7 +246,7 @@ record Tells (t : Tree) (v : Validity) : Type 0 where
   told : RowsKeep (map shown_cell (rows t)) (valid_rows v (len t))
   clean : IsClean t → IsCleanValidity v
 
-shown_value : (w : Value) → shown_cell (value w) ≡ value (boolean (not (is_null w)))
+pub shown_value : (w : Value) → shown_cell (value w) ≡ value (boolean (not (is_null w)))
 shown_value null = refl
 shown_value _ = refl
 
@@ -344,7 +344,7 @@ slice_tells c v a b h k w =
       clean = λ d. part_kept_clean v a b (w.clean d.1.0);
     }
 
-chosen_clean : (bits : List Bool) (cs : List Cell) → HasNoFault cs → HasNoFault (chosen bits cs)
+pub chosen_clean : (bits : List Bool) (cs : List Cell) → HasNoFault cs → HasNoFault (chosen bits cs)
 unfolding chosen
 chosen_clean [] cs h = tt
 chosen_clean (b ∷ bits) [] h = tt

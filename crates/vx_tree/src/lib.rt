@@ -32,6 +32,7 @@ pub use laws::{
     validity_laws,
 };
 pub use matcher::{AnyArray, AnyCanonical, AnyColumnar, AnyScalarFn, Matcher};
+pub use node_validity::and_lazily;
 pub use slicing::slice_canonical;
 pub use validity::{Validity, child_to_validity, validity_nchildren, validity_to_child};
 pub use vx_native::PrimitiveValues;

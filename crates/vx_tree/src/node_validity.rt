@@ -111,7 +111,7 @@ fn join(alloc: Global, first: Validity, second: Validity, len: usize) -> VortexR
         (Validity::AllInvalid, _) => Ok(Validity::AllInvalid),
         (_, Validity::AllInvalid) => Ok(Validity::AllInvalid),
         (Validity::Array(first), Validity::Array(second)) => {
-            and_lazily(alloc, first, second, len)
+            Ok(Validity::Array(and_lazily(alloc, first, second, len)?))
         }
         (Validity::Array(first), _) => Ok(Validity::Array(first)),
         (_, Validity::Array(second)) => Ok(Validity::Array(second)),
@@ -119,18 +119,18 @@ fn join(alloc: Global, first: Validity, second: Validity, len: usize) -> VortexR
     }
 }
 
-/// Returns the lazy conjunction of two arrays, which must be non-nullable booleans, `len` rows each. The only error is
-/// `OutOfMemory`.
+/// Makes the lazy conjunction of two arrays, which must be non-nullable booleans, `len` rows each. The only error is
+/// `OutOfMemory`. (own)
 #[tactic(auto, using(crate::proofs::NodeValiditiesLemmas::and_taken, crate::proofs::NodeValiditiesLemmas::and_made))]
-fn and_lazily(
+pub fn and_lazily(
     alloc: Global,
     first: ArrayRef,
     second: ArrayRef,
     len: usize,
-) -> VortexResult<Validity>
+) -> VortexResult<ArrayRef>
     requires first { HasRows (ValidityArray first) len }
     requires second { HasRows (ValidityArray second) len }
-    ensures ok { IfOk result (λ v. v ≡ ValidityArray (both_of len first second)) }
+    ensures ok { IfOk result (λ a. a ≡ both_of len first second) }
     ensures err { IfErr result (λ e. e ≡ VortexError.OutOfMemory) }
 {
     let mut children = Vec::with_capacity(alloc, 2)?;
@@ -138,7 +138,7 @@ fn and_lazily(
     children.push(second)?;
     let function = ScalarFnRef::Binary(Operator::And);
     let both = ScalarFnArray::try_new_with_len(alloc, function, children, len)?;
-    Ok(Validity::Array(both.into_array()))
+    Ok(both.into_array())
 }
 
 /// Returns the lazy test of `array`'s rows for null. The only error is `OutOfMemory`.
