@@ -468,6 +468,29 @@ fn validities_and_their_children(rt: HostRuntime) -> Result<(), Fail> {
     Ok(())
 }
 
+fn is_lazy(validity: &Validity, id: Id, len: usize) -> bool {
+    match validity {
+        Validity::Array(array) => {
+            array.encoding_id() == id && array.len() == len && array.dtype() == &BOOL
+        }
+        _ => false,
+    }
+}
+
+#[test]
+fn nodes_tell_their_validity(rt: HostRuntime) -> Result<(), Fail> {
+    let alloc = rt.alloc();
+    let plain = column(alloc, &[1, 2, 3])?.into_array();
+    assert!(rt; matches!(plain.validity(alloc)?, Validity::NonNullable));
+    let constant = sevens(alloc, Nullability::Nullable, 3)?.into_array();
+    assert!(rt; matches!(constant.validity(alloc)?, Validity::AllValid));
+    let arguments = vec![in alloc; constant.clone()?, constant]?;
+    let sum = ScalarFnArray::try_new(alloc, ADD, arguments)?.into_array();
+    let slice = SliceArray::try_new(alloc, sum, 1..3)?.into_array();
+    assert!(rt; is_lazy(&slice.validity(alloc)?, Id::Slice, 2));
+    Ok(())
+}
+
 #[test]
 fn types_with_columns(rt: HostRuntime) {
     assert!(rt; has_column(&BOOL) && has_column(&U8) && has_column(&NULLABLE));
