@@ -1,0 +1,79 @@
+//! Building columns of bytes row by row.
+
+ghost use Rattle.std.specs.Prelude.{◌≡◌, ◌↔◌, ◌∷◌, [], ◌++◌, IsTrue, IfOk, OnOk, OnErr, length};
+
+use crate::view::View;
+use crate::views::BinaryViews;
+use std::alloc::{AllocError, Global};
+use std::marker::Model;
+use vx_value::ByteBuffer;
+
+/// Builds a `BinaryViews` with one data buffer. (own)
+#[derive(Debug, Drop)]
+pub struct BinaryBuilder {
+    views: Vec<View>,
+    bytes: Vec<u8>,
+}
+
+impl Model for BinaryBuilder {
+    ghost use Rattle.std.specs.Prelude.{List, ℕ, [], ◌∷◌};
+    ghost use Rattle.vx_views.specs.Views.{AllLieIn, rows_of};
+
+    ghost Value = { List (List ℕ) };
+
+    ghost view = { λ b. rows_of (b.bytes.items ∷ []) b.views.items };
+
+    ghost invariant = { λ b. AllLieIn (b.bytes.items ∷ []) b.views.items };
+}
+
+impl BinaryBuilder {
+    /// Makes an empty builder with room for the views of `len` rows. Fails only if there is no memory for them.
+    pub fn with_capacity(alloc: Global, len: usize) -> Result<BinaryBuilder, AllocError>
+        ensures { IfOk result (λ b. b ≡ []) }
+    {
+        Ok(BinaryBuilder {
+            views: Vec::with_capacity(alloc, len)?,
+            bytes: Vec::new(alloc),
+        })
+    }
+
+    /// Returns the number of rows.
+    pub fn len(&self) -> usize
+        ensures { result ≡ length self.now }
+    {
+        self.views.len()
+    }
+
+    /// Checks whether there are no rows.
+    pub fn is_empty(&self) -> bool
+        ensures { IsTrue result ↔ (length self.now ≡ 0) }
+    {
+        self.views.is_empty()
+    }
+
+    /// Appends a row, copying its bytes. Fails only if there is no memory for the bytes or the view; the rows are then
+    /// unchanged.
+    #[tactic(auto, using(crate::proofs::ViewsLemmas::rows_more, crate::proofs::ViewsLemmas::rows_push, crate::proofs::ViewsLemmas::lie_in_more, crate::proofs::ViewsLemmas::lie_in_push))]
+    pub fn push(&mut self, bytes: &[u8]) -> Result<(), AllocError>
+        ensures ok { OnOk result (self.new ≡ self.old ++ bytes.now ∷ []) }
+        ensures err { OnErr result (self.new ≡ self.old) }
+    {
+        let start = self.bytes.len();
+        self.bytes.extend_from_slice(bytes)?;
+        self.views.push(View {
+            buffer: 0,
+            start,
+            size: bytes.len(),
+        })?;
+        Ok(())
+    }
+
+    /// Returns the rows as a column with one data buffer, without copying them. Fails only if there is no memory for the
+    /// list of one buffer or the reference counts.
+    pub fn finish(self, alloc: Global) -> Result<BinaryViews, AllocError>
+        ensures { IfOk result (λ column. column ≡ self) }
+    {
+        let BinaryBuilder { views, bytes } = self;
+        BinaryViews::of_one_buffer(alloc, views, ByteBuffer::from_vec(alloc, bytes)?)
+    }
+}
