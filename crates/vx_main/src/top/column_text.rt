@@ -8,8 +8,8 @@ ghost use Rattle.vx_tree.specs.Columns.{IsLawful};
 ghost use Rattle.vx_main.specs.Output.{Shows, IsUnread, head_lines};
 
 use std::alloc::{AllocError, Global};
-use vx_rows::execute_scalar;
 use vx_json::push_row;
+use vx_rows::execute_scalar;
 use vx_tree::ArrayRef;
 use vx_value::{Scalar, VortexResult, type_text};
 
