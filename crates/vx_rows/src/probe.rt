@@ -43,13 +43,14 @@ pub fn execute_scalar(alloc: Global, array: &ArrayRef, index: usize) -> VortexRe
             len,
         });
     }
-    let dtype = array.dtype();
     match array.kind() {
         ArrayKind::Bool(bits, validity) => {
-            unless_null(alloc, validity, index, bool_at(bits, index, dtype))
+            let stored = bool_at(bits, index, array.dtype());
+            unless_null(alloc, validity, index, stored)
         }
         ArrayKind::Primitive(values, validity) => {
-            unless_null(alloc, validity, index, integer_at(values, index, dtype))
+            let stored = integer_at(values, index, array.dtype());
+            unless_null(alloc, validity, index, stored)
         }
         _ => scalar_at(alloc, array, index),
     }

@@ -5,13 +5,17 @@ ghost use Rattle.vx_value.specs.View.{type_of};
 ghost use Rattle.vx_value.specs.Types as type;
 ghost use Rattle.vx_value.specs.declared.dtype.Nullability.TheVariants.{NonNullable};
 ghost use Rattle.vx_value.specs.declared.id.Id.TheVariants as id;
+ghost use Rattle.vx_tree.specs.Tree as enc;
 ghost use Rattle.vx_tree.specs.Tree.{bool, is_bool, column, len, datum, slice_of};
 ghost use Rattle.vx_tree.specs.Keeps.{KeepsExactly};
 ghost use Rattle.vx_tree.specs.Validities.{child_of, flat_refusal};
 ghost use Rattle.vx_tree.specs.Columns.{canonical_tree, bool_column, empty_of};
 
-use crate::array::{Array, ArrayId, ArrayKind, ArrayParts, ArrayRef, VTable};
+use crate::array::{
+    Array, ArrayId, ArrayKind, ArrayParts, ArrayRef, Encoded, Encoding, EncodingVariant, VTable,
+};
 use crate::arrays::column::{check_column, flat_column, flat_slice};
+use crate::arrays::payload;
 use crate::canonical::Canonical;
 use crate::validity::Validity;
 use std::alloc::Global;
@@ -147,5 +151,27 @@ impl Canonical {
         } else {
             None
         }
+    }
+}
+
+impl Encoded for Bool {
+    type TypedArrayData = BoolData;
+}
+
+impl EncodingVariant for Bool {
+    fn wrap(payload: BoolData) -> Encoding {
+        Encoding::Bool(payload)
+    }
+
+    ghost stands_for = { λ d. enc.bool d.bits };
+
+    ghost is_kind = { is_bool };
+
+    fn project(encoding: &Encoding) -> Option<&BoolData> {
+        payload!(encoding, Bool)
+    }
+
+    fn into_data(encoding: Encoding) -> Option<BoolData> {
+        payload!(encoding, Bool)
     }
 }

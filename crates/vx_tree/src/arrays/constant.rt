@@ -3,9 +3,10 @@
 ghost use Rattle.std.specs.Prelude.{◌≡◌, ◌⊎◌, IfOk, IfErr, OnOk, true, false};
 ghost use Rattle.vx_value.specs.declared.id.Id.TheVariants as id;
 ghost use Rattle.vx_tree.specs.ColumnTypes.{has_column};
-ghost use Rattle.vx_tree.specs.Tree.{constant, constant_of};
+ghost use Rattle.vx_tree.specs.Tree.{constant, constant_of, is_constant};
 
-use crate::array::{Array, ArrayId, ArrayParts, VTable};
+use crate::array::{Array, ArrayId, ArrayParts, Encoded, Encoding, EncodingVariant, VTable};
+use crate::arrays::payload;
 use crate::arrays::types::is_same_type;
 use crate::column_types::has_column;
 use std::alloc::Global;
@@ -87,5 +88,27 @@ impl ConstantArray {
             Vec::new(alloc),
         );
         Ok(Array::from_parts_unchecked(alloc, parts)?)
+    }
+}
+
+impl Encoded for Constant {
+    type TypedArrayData = ConstantData;
+}
+
+impl EncodingVariant for Constant {
+    fn wrap(payload: ConstantData) -> Encoding {
+        Encoding::Constant(payload)
+    }
+
+    ghost stands_for = { λ d. constant d.scalar };
+
+    ghost is_kind = { is_constant };
+
+    fn project(encoding: &Encoding) -> Option<&ConstantData> {
+        payload!(encoding, Constant)
+    }
+
+    fn into_data(encoding: Encoding) -> Option<ConstantData> {
+        payload!(encoding, Constant)
     }
 }

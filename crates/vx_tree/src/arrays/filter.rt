@@ -4,10 +4,13 @@ ghost use Rattle.std.specs.Prelude.{◌≡◌, ◌⊎◌, ◌≢◌, ◌==◌, I
 ghost use Rattle.vx_value.specs.declared.id.Id.TheVariants as id;
 ghost use Rattle.vx_mask.specs.Masks.{bits_in};
 ghost use Rattle.vx_mask.specs.Places.{true_count};
-ghost use Rattle.vx_tree.specs.Tree.{len, filter, filter_of};
+ghost use Rattle.vx_tree.specs.Tree.{len, filter, filter_of, is_filter};
 
-use crate::array::{Array, ArrayId, ArrayParts, ArrayRef, VTable};
+use crate::array::{
+    Array, ArrayId, ArrayParts, ArrayRef, Encoded, Encoding, EncodingVariant, VTable,
+};
 use crate::arrays::child::only_child;
+use crate::arrays::payload;
 use crate::arrays::types::is_same_type;
 use std::alloc::Global;
 use vx_mask::Mask;
@@ -141,5 +144,27 @@ impl FilterArray {
     {
         check_mask(child.len(), &mask)?;
         FilterArray::new(alloc, child, mask)
+    }
+}
+
+impl Encoded for Filter {
+    type TypedArrayData = FilterData;
+}
+
+impl EncodingVariant for Filter {
+    fn wrap(payload: FilterData) -> Encoding {
+        Encoding::Filter(payload)
+    }
+
+    ghost stands_for = { λ d. filter (bits_in d.mask) };
+
+    ghost is_kind = { is_filter };
+
+    fn project(encoding: &Encoding) -> Option<&FilterData> {
+        payload!(encoding, Filter)
+    }
+
+    fn into_data(encoding: Encoding) -> Option<FilterData> {
+        payload!(encoding, Filter)
     }
 }

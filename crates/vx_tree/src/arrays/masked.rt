@@ -4,13 +4,16 @@ ghost use Rattle.std.specs.Prelude.{◌≡◌, ℕ, ◌∷◌, [], MatchResult, 
 ghost use Rattle.vx_value.specs.Types.{DataType};
 ghost use Rattle.vx_value.specs.declared.id.Id.TheVariants as id;
 ghost use Rattle.vx_value.specs.declared.dtype.Nullability.TheVariants.{Nullable};
-ghost use Rattle.vx_tree.specs.Tree.{len, masked, masked_of, slots_of};
+ghost use Rattle.vx_tree.specs.Tree.{len, masked, masked_of, slots_of, is_masked};
 ghost use Rattle.vx_tree.specs.Well.{shape_of, shapes};
 ghost use Rattle.vx_tree.specs.Refusals.{masked_refusal};
 ghost use Rattle.vx_tree.specs.Validities.{HasRows, nullability_by, child_of};
 
-use crate::array::{Array, ArrayId, ArrayParts, ArrayRef, VTable};
+use crate::array::{
+    Array, ArrayId, ArrayParts, ArrayRef, Encoded, Encoding, EncodingVariant, VTable,
+};
 use crate::arrays::column::{check_validity_len, check_validity_type};
+use crate::arrays::payload;
 use crate::arrays::types::is_same_type;
 use crate::validity::{Validity, validity_to_child};
 use std::alloc::Global;
@@ -90,5 +93,27 @@ impl MaskedArray {
         slots.push(validity)?;
         let parts = ArrayParts::new(Masked, dtype, len, MaskedData, slots);
         Ok(Array::from_parts_unchecked(alloc, parts)?)
+    }
+}
+
+impl Encoded for Masked {
+    type TypedArrayData = MaskedData;
+}
+
+impl EncodingVariant for Masked {
+    fn wrap(payload: MaskedData) -> Encoding {
+        Encoding::Masked(payload)
+    }
+
+    ghost stands_for = { λ _. masked };
+
+    ghost is_kind = { is_masked };
+
+    fn project(encoding: &Encoding) -> Option<&MaskedData> {
+        payload!(encoding, Masked)
+    }
+
+    fn into_data(encoding: Encoding) -> Option<MaskedData> {
+        payload!(encoding, Masked)
     }
 }

@@ -11,3 +11,15 @@ pub mod scalar_fn;
 pub mod scalar_fn_validity;
 pub mod slice;
 pub(crate) mod types;
+
+/// Evaluates to the data of an `Encoding` of this variant, `Some(data)`; returns `None` from the function if it is of another.
+macro_rules! payload {
+    ($encoding:expr, $variant:ident) => {{
+        let $crate::array::Encoding::$variant(data) = $encoding else {
+            return None;
+        };
+        Some(data)
+    }};
+}
+
+pub(crate) use payload;

@@ -11,8 +11,11 @@ ghost use Rattle.vx_tree.specs.Keeps.{KeepsExactly};
 ghost use Rattle.vx_tree.specs.Validities.{child_of, flat_refusal};
 ghost use Rattle.vx_tree.specs.Columns.{canonical_tree, primitive_column, empty_of};
 
-use crate::array::{Array, ArrayId, ArrayKind, ArrayParts, ArrayRef, VTable};
+use crate::array::{
+    Array, ArrayId, ArrayKind, ArrayParts, ArrayRef, Encoded, Encoding, EncodingVariant, VTable,
+};
 use crate::arrays::column::{check_column, flat_column, flat_slice};
+use crate::arrays::payload;
 use crate::canonical::Canonical;
 use crate::validity::Validity;
 use std::alloc::Global;
@@ -152,5 +155,27 @@ impl Canonical {
         } else {
             None
         }
+    }
+}
+
+impl Encoded for Primitive {
+    type TypedArrayData = PrimitiveData;
+}
+
+impl EncodingVariant for Primitive {
+    fn wrap(payload: PrimitiveData) -> Encoding {
+        Encoding::Primitive(payload)
+    }
+
+    ghost stands_for = { λ d. primitive (ptype_of d.values) (values_of d.values) };
+
+    ghost is_kind = { is_primitive };
+
+    fn project(encoding: &Encoding) -> Option<&PrimitiveData> {
+        payload!(encoding, Primitive)
+    }
+
+    fn into_data(encoding: Encoding) -> Option<PrimitiveData> {
+        payload!(encoding, Primitive)
     }
 }

@@ -2,14 +2,17 @@
 
 ghost use Rattle.std.specs.Prelude.{◌≡◌, ◌⊎◌, ◌++◌, map, IfOk, IfErr, OnOk, Some, None, true, false};
 ghost use Rattle.vx_value.specs.View.{type_of};
-ghost use Rattle.vx_tree.specs.Tree.{function, slots_of, filled_slots};
+ghost use Rattle.vx_tree.specs.Tree.{function, slots_of, filled_slots, is_function};
 ghost use Rattle.vx_tree.specs.Well.{shapes};
 ghost use Rattle.vx_tree.specs.Refusals.{arity_refusal, slots_refusal, types_refusal, lengths_refusal, result_refusal, column_type_refusal};
 ghost use Rattle.vx_tree.specs.Refusals.{all_present, all_long, types_in, is_present, is_long, type_in};
 ghost use Rattle.vx_tree.specs.Calls.{call_refusal, inferred_refusal, called, inferred};
 ghost use Rattle.vx_fn.specs.ReturnTypes.{return_type};
 
-use crate::array::{Array, ArrayId, ArrayParts, ArrayRef, VTable};
+use crate::array::{
+    Array, ArrayId, ArrayParts, ArrayRef, Encoded, Encoding, EncodingVariant, VTable,
+};
+use crate::arrays::payload;
 use crate::arrays::types::is_same_type;
 use crate::column_types::has_column;
 use std::alloc::{AllocError, Global};
@@ -283,5 +286,27 @@ impl ScalarFnArray {
             slots,
         };
         Ok(Array::from_parts_unchecked(alloc, parts)?)
+    }
+}
+
+impl Encoded for ScalarFn {
+    type TypedArrayData = ScalarFnData;
+}
+
+impl EncodingVariant for ScalarFn {
+    fn wrap(payload: ScalarFnData) -> Encoding {
+        Encoding::ScalarFn(payload)
+    }
+
+    ghost stands_for = { λ d. function d.scalar_fn };
+
+    ghost is_kind = { is_function };
+
+    fn project(encoding: &Encoding) -> Option<&ScalarFnData> {
+        payload!(encoding, ScalarFn)
+    }
+
+    fn into_data(encoding: Encoding) -> Option<ScalarFnData> {
+        payload!(encoding, ScalarFn)
     }
 }

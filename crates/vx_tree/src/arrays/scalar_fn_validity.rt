@@ -2,10 +2,13 @@
 
 ghost use Rattle.std.specs.Prelude.{◌≡◌, IfOk, IfErr, Some};
 ghost use Rattle.vx_value.specs.declared.id.Id.TheVariants as id;
-ghost use Rattle.vx_tree.specs.Tree.{validity_in};
+ghost use Rattle.vx_tree.specs.Tree.{validity_in, is_valid, is_validity};
 
-use crate::array::{Array, ArrayId, ArrayParts, ArrayRef, VTable};
+use crate::array::{
+    Array, ArrayId, ArrayParts, ArrayRef, Encoded, Encoding, EncodingVariant, VTable,
+};
 use crate::arrays::child::only_child;
+use crate::arrays::payload;
 use crate::arrays::types::{BOOLEANS, is_same_type};
 use std::alloc::Global;
 use std::fmt;
@@ -65,5 +68,27 @@ impl ScalarFnValidityArray {
         let dtype = DType::Bool(Nullability::NonNullable);
         let parts = ArrayParts::new(ScalarFnValidity, dtype, len, EmptyArrayData, slots);
         Ok(Array::from_parts_unchecked(alloc, parts)?)
+    }
+}
+
+impl Encoded for ScalarFnValidity {
+    type TypedArrayData = EmptyArrayData;
+}
+
+impl EncodingVariant for ScalarFnValidity {
+    fn wrap(payload: EmptyArrayData) -> Encoding {
+        Encoding::ScalarFnValidity(payload)
+    }
+
+    ghost stands_for = { λ _. is_valid };
+
+    ghost is_kind = { is_validity };
+
+    fn project(encoding: &Encoding) -> Option<&EmptyArrayData> {
+        payload!(encoding, ScalarFnValidity)
+    }
+
+    fn into_data(encoding: Encoding) -> Option<EmptyArrayData> {
+        payload!(encoding, ScalarFnValidity)
     }
 }

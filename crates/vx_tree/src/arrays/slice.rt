@@ -2,10 +2,13 @@
 
 ghost use Rattle.std.specs.Prelude.{◌≡◌, ◌⊎◌, ◌-◌, ◌≤◌, ◌==◌, IfOk, IfErr, OnOk, Some};
 ghost use Rattle.vx_value.specs.declared.id.Id.TheVariants as id;
-ghost use Rattle.vx_tree.specs.Tree.{len, slice, slice_of};
+ghost use Rattle.vx_tree.specs.Tree.{len, slice, slice_of, is_slice};
 
-use crate::array::{Array, ArrayId, ArrayParts, ArrayRef, VTable};
+use crate::array::{
+    Array, ArrayId, ArrayParts, ArrayRef, Encoded, Encoding, EncodingVariant, VTable,
+};
 use crate::arrays::child::only_child;
+use crate::arrays::payload;
 use crate::arrays::types::is_same_type;
 use std::alloc::Global;
 use std::ops::Range;
@@ -136,5 +139,27 @@ impl SliceArray {
     {
         check_range(range.start, range.end, child.len())?;
         SliceArray::new(alloc, child, range)
+    }
+}
+
+impl Encoded for Slice {
+    type TypedArrayData = SliceData;
+}
+
+impl EncodingVariant for Slice {
+    fn wrap(payload: SliceData) -> Encoding {
+        Encoding::Slice(payload)
+    }
+
+    ghost stands_for = { λ d. slice d.range.start d.range.end };
+
+    ghost is_kind = { is_slice };
+
+    fn project(encoding: &Encoding) -> Option<&SliceData> {
+        payload!(encoding, Slice)
+    }
+
+    fn into_data(encoding: Encoding) -> Option<SliceData> {
+        payload!(encoding, Slice)
     }
 }
