@@ -20,8 +20,7 @@ pub trait EncodingVariant: Encoded {
 
     /// Returns `payload` as the data of a node. (own)
     fn wrap(payload: Self::TypedArrayData) -> Encoding
-        ensures value { data_of result ≡ stands_for payload }
-        ensures which { is_kind (data_of result) ≡ true };
+        ensures { data_of result ≡ stands_for payload };
 
     /// Returns the typed data of `encoding`, or `None` if it is of another encoding. (own)
     fn project(encoding: &Encoding) -> Option<&Self::TypedArrayData>
@@ -32,4 +31,7 @@ pub trait EncodingVariant: Encoded {
     fn into_data(encoding: Encoding) -> Option<Self::TypedArrayData>
         ensures which { is_some result ≡ is_kind (data_of encoding) }
         ensures value { IfSome result (λ d. stands_for d ≡ data_of encoding) };
+
+    // what it stands for is of the encoding
+    ghost kind_of: { (d : Self.TypedArrayData) → is_kind (stands_for d) ≡ true };
 }

@@ -1,6 +1,6 @@
 //! Boolean columns.
 
-ghost use Rattle.std.specs.Prelude.{◌≡◌, ◌⊎◌, ◌≤◌, IfOk, IfErr, OnOk, Some, None, is_ok, length, option_map};
+ghost use Rattle.std.specs.Prelude.{◌≡◌, ◌⊎◌, ◌≤◌, IfOk, IfErr, OnOk, Some, None, is_ok, length, option_map, refl};
 ghost use Rattle.vx_value.specs.View.{type_of};
 ghost use Rattle.vx_value.specs.Types as type;
 ghost use Rattle.vx_value.specs.declared.dtype.Nullability.TheVariants.{NonNullable};
@@ -174,4 +174,6 @@ impl EncodingVariant for Bool {
     fn into_data(encoding: Encoding) -> Option<BoolData> {
         payload!(encoding, Bool)
     }
+
+    ghost kind_of = { λ d. refl };
 }

@@ -1,6 +1,6 @@
 //! Arrays that repeat one value.
 
-ghost use Rattle.std.specs.Prelude.{◌≡◌, ◌⊎◌, IfOk, IfErr, OnOk, true, false};
+ghost use Rattle.std.specs.Prelude.{◌≡◌, ◌⊎◌, IfOk, IfErr, OnOk, true, false, refl};
 ghost use Rattle.vx_value.specs.declared.id.Id.TheVariants as id;
 ghost use Rattle.vx_tree.specs.ColumnTypes.{has_column};
 ghost use Rattle.vx_tree.specs.Tree.{constant, constant_of, is_constant};
@@ -111,4 +111,6 @@ impl EncodingVariant for Constant {
     fn into_data(encoding: Encoding) -> Option<ConstantData> {
         payload!(encoding, Constant)
     }
+
+    ghost kind_of = { λ d. refl };
 }

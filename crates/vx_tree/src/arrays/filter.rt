@@ -1,6 +1,6 @@
 //! Lazy filters of other arrays.
 
-ghost use Rattle.std.specs.Prelude.{◌≡◌, ◌⊎◌, ◌≢◌, ◌==◌, IfOk, IfErr, OnOk, Some, length};
+ghost use Rattle.std.specs.Prelude.{◌≡◌, ◌⊎◌, ◌≢◌, ◌==◌, IfOk, IfErr, OnOk, Some, length, refl};
 ghost use Rattle.vx_value.specs.declared.id.Id.TheVariants as id;
 ghost use Rattle.vx_mask.specs.Masks.{bits_in};
 ghost use Rattle.vx_mask.specs.Places.{true_count};
@@ -167,4 +167,6 @@ impl EncodingVariant for Filter {
     fn into_data(encoding: Encoding) -> Option<FilterData> {
         payload!(encoding, Filter)
     }
+
+    ghost kind_of = { λ d. refl };
 }

@@ -1,6 +1,6 @@
 //! Arrays some of whose rows are made null.
 
-ghost use Rattle.std.specs.Prelude.{◌≡◌, ℕ, ◌∷◌, [], MatchResult, IfOk, IfErr, Some, None, option_map};
+ghost use Rattle.std.specs.Prelude.{◌≡◌, ℕ, ◌∷◌, [], MatchResult, IfOk, IfErr, Some, None, option_map, refl};
 ghost use Rattle.vx_value.specs.Types.{DataType};
 ghost use Rattle.vx_value.specs.declared.id.Id.TheVariants as id;
 ghost use Rattle.vx_value.specs.declared.dtype.Nullability.TheVariants.{Nullable};
@@ -116,4 +116,6 @@ impl EncodingVariant for Masked {
     fn into_data(encoding: Encoding) -> Option<MaskedData> {
         payload!(encoding, Masked)
     }
+
+    ghost kind_of = { λ d. refl };
 }

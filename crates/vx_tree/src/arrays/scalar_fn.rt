@@ -1,6 +1,6 @@
 //! Lazy functions of other arrays.
 
-ghost use Rattle.std.specs.Prelude.{◌≡◌, ◌⊎◌, ◌++◌, map, IfOk, IfErr, OnOk, Some, None, true, false};
+ghost use Rattle.std.specs.Prelude.{◌≡◌, ◌⊎◌, ◌++◌, map, IfOk, IfErr, OnOk, Some, None, true, false, refl};
 ghost use Rattle.vx_value.specs.View.{type_of};
 ghost use Rattle.vx_tree.specs.Tree.{function, slots_of, filled_slots, is_function};
 ghost use Rattle.vx_tree.specs.Well.{shapes};
@@ -309,4 +309,6 @@ impl EncodingVariant for ScalarFn {
     fn into_data(encoding: Encoding) -> Option<ScalarFnData> {
         payload!(encoding, ScalarFn)
     }
+
+    ghost kind_of = { λ d. refl };
 }

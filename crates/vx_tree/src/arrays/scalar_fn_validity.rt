@@ -1,6 +1,6 @@
 //! Lazy tests for null.
 
-ghost use Rattle.std.specs.Prelude.{◌≡◌, IfOk, IfErr, Some};
+ghost use Rattle.std.specs.Prelude.{◌≡◌, IfOk, IfErr, Some, refl};
 ghost use Rattle.vx_value.specs.declared.id.Id.TheVariants as id;
 ghost use Rattle.vx_tree.specs.Tree.{validity_in, is_valid, is_validity};
 
@@ -91,4 +91,6 @@ impl EncodingVariant for ScalarFnValidity {
     fn into_data(encoding: Encoding) -> Option<EmptyArrayData> {
         payload!(encoding, ScalarFnValidity)
     }
+
+    ghost kind_of = { λ d. refl };
 }

@@ -1,6 +1,6 @@
 //! Lazy slices of other arrays.
 
-ghost use Rattle.std.specs.Prelude.{◌≡◌, ◌⊎◌, ◌-◌, ◌≤◌, ◌==◌, IfOk, IfErr, OnOk, Some};
+ghost use Rattle.std.specs.Prelude.{◌≡◌, ◌⊎◌, ◌-◌, ◌≤◌, ◌==◌, IfOk, IfErr, OnOk, Some, refl};
 ghost use Rattle.vx_value.specs.declared.id.Id.TheVariants as id;
 ghost use Rattle.vx_tree.specs.Tree.{len, slice, slice_of, is_slice};
 
@@ -162,4 +162,6 @@ impl EncodingVariant for Slice {
     fn into_data(encoding: Encoding) -> Option<SliceData> {
         payload!(encoding, Slice)
     }
+
+    ghost kind_of = { λ d. refl };
 }
