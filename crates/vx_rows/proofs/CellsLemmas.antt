@@ -18,8 +18,8 @@ use Rattle.vx_mask.proofs.PlacesLemmas.{place_some}
 use Rattle.vx_fn.specs.Apply.{apply, on_values, value_of}
 use Rattle.vx_fn.specs.ReturnTypes.{return_type}
 use Rattle.vx_fn.specs.declared.function.ScalarFnRef.{ScalarFnRef}
-use Rattle.vx_tree.specs.Tree.{Tree, node, function, bool, column, constant_of, slots_of, dtype, len, height, slots_height, slice_of, filter_of, masked_of, validity_in}
-use Rattle.vx_tree.specs.Cells.{row_at, rows, slots_rows, valid_cell, valid_cells, shown_cell}
+use Rattle.vx_tree.specs.Tree.{Tree, Data, node, function, bool, column, constant_of, slots_of, dtype, len, height, slots_height, slice_of, filter_of, masked_of, validity_in}
+use Rattle.vx_tree.specs.Cells.{row_at, rows, node_cells, cells_at, slots_rows, valid_cell, valid_cells, shown_cell}
 use Rattle.vx_tree.specs.Well.{shape, shapes, IsNode, IsWell}
 use Rattle.vx_tree.proofs.CellsLemmas.{rows_counted}
 use Rattle.vx_tree.specs.Refusals.{types_in}
@@ -27,7 +27,7 @@ use Rattle.vx_tree.proofs.RefusalsLemmas.{types_back}
 use Rattle.vx_rows.specs.Arguments.{types_of_scalars, cells_of_scalars}
 use Rattle.vx_rows.specs.Nulls.{IsRowBy, validity_cells}
 use Rattle.vx_rows.specs.ValidRows.{null_unless}
-use Rattle.vx_rows.proofs.ValidRowsLemmas.{filled_cell}
+use Rattle.vx_rows.proofs.ValidRowsLemmas.{filled_cell, one_slot}
 use Rattle.vx_native.proofs.NativesLemmas.{map_copies}
 use Rattle.vx_tree.proofs.NodeValiditiesLemmas.{shown_value}
 
@@ -112,6 +112,23 @@ pub constant_truths : (t : Tree) (s : Typed) (b : Bool) (bits : List Bool) → t
 constant_truths t s b bits is truth made =
     ap rows is ∙ ap (λ v. replicate (len t) (value v)) truth ∙ sym (map_copies (λ x. value (boolean x)) (len t) b)
     ∙ ap (map (λ x. value (boolean x))) (sym made)
+
+-- a row that is null, of a column of any values
+pub null_row : {X : Type 0} (read : X → Value) (of_items : List X → Data) (d : X)
+    → ((ty : DataType) (n : ℕ) (xs : List X) (css : List (List Cell)) → node_cells ty n (of_items xs) css ≡ valid_cells (cells_at css 0) (map (λ x. value (read x)) xs))
+    → (t : Tree) (v : Option Tree) (xs : List X) (i : ℕ) (b : Bool) (s : Typed) → t ≡ column (dtype t) (len t) (of_items xs) v → length xs ≡ len t → i < len t
+    → ((w : Value) → IsRowBy v i (value w) (null_unless b (value w))) → b ≡ false → s ≡ record { of_type = dtype t; value = null }
+    → (slice_get (rows t) i ≡ Some (value s.value)) × (s.of_type ≡ dtype t)
+null_row read of_items d cells t v xs i b s is long lt told none made =
+    let stored = map (λ x. value (read x)) xs in
+    let w = read (get_or xs i d) in
+    let there : slice_get stored i ≡ Some (value w) =
+    slice_get-map (λ x. value (read x)) xs i ∙ ap (option_map (λ x. value (read x))) (slice_get-get_or xs i d (omega (arith, long))) in
+    let shown : rows t ≡ valid_cells (validity_cells v) stored =
+    ap rows is ∙ cells (dtype t) (len t) xs (slots_rows (slots_of (v ∷ []))) ∙ ap (λ css. valid_cells (cells_at css 0) stored) (one_slot v) in (
+      ap (λ cs. slice_get cs i) shown ∙ told w stored there ∙ ap (λ x. Some (null_unless x (value w))) none ∙ ap (λ x. Some (value x.value)) (sym made),
+      ap (λ x. x.of_type) made,
+    )
 
 -- ---- of a masked node
 

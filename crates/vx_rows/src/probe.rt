@@ -1,10 +1,10 @@
 //! Single rows of a tree.
 
-ghost use Rattle.std.specs.Prelude.{◌≡◌, ◌⊎◌, ◌≤◌, ◌<◌, IfOk, IfErr, OnOk, length, map, slice_get, Some};
+ghost use Rattle.std.specs.Prelude.{◌≡◌, ◌⊎◌, ◌≤◌, ◌<◌, IfOk, IfErr, IfSome, OnOk, length, map, slice_get, Some, false};
 ghost use Rattle.vx_value.specs.Types as type;
 ghost use Rattle.vx_value.specs.Types.{nullability_of};
 ghost use Rattle.vx_value.specs.View.{type_of};
-ghost use Rattle.vx_value.specs.Values.{boolean, integer};
+ghost use Rattle.vx_value.specs.Values.{Value, boolean, integer};
 ghost use Rattle.vx_value.specs.Cell.{value, fault};
 ghost use Rattle.vx_native.specs.Natives.{values_of, ptype_of};
 ghost use Rattle.vx_tree.specs.Tree.{node, function, dtype, len, slots_of};
@@ -43,16 +43,37 @@ pub fn execute_scalar(alloc: Global, array: &ArrayRef, index: usize) -> VortexRe
             len,
         });
     }
+    let dtype = array.dtype();
     match array.kind() {
-        ArrayKind::Bool(bits, validity) => {
-            let stored = bool_at(bits, index, array.dtype());
-            unless_null(alloc, validity, index, stored)
-        }
-        ArrayKind::Primitive(values, validity) => {
-            let stored = integer_at(values, index, array.dtype());
-            unless_null(alloc, validity, index, stored)
-        }
+        ArrayKind::Bool(bits, validity) => match stored_validity(dtype, validity, index) {
+            Some(true) => Ok(bool_at(bits, index, dtype)),
+            Some(false) => Ok(Scalar::null(dtype.clone()?)),
+            None => scalar_at(alloc, array, index),
+        },
+        ArrayKind::Primitive(values, validity) => match stored_validity(dtype, validity, index) {
+            Some(true) => Ok(integer_at(values, index, dtype)),
+            Some(false) => Ok(Scalar::null(dtype.clone()?)),
+            None => scalar_at(alloc, array, index),
+        },
         _ => scalar_at(alloc, array, index),
+    }
+}
+
+/// Returns whether row `index` of a column of type `dtype` with `validity` in its slot isn't null, if no row is or bits tell it; else
+/// `None`.
+#[inline]
+fn stored_validity(dtype: &DType, validity: &Option<ArrayRef>, index: usize) -> Option<bool>
+    requires { TellsRow (type_of dtype.now) validity.now index }
+    ensures nullable { IfSome result (λ b. b ≡ false → nullability_of (type_of dtype.now) ≡ Nullability.Nullable) }
+    ensures row { IfSome result (λ b. (v : Value) → IsRowBy validity.now index (value v) (null_unless b (value v))) }
+{
+    let Some(child) = validity else {
+        return Some(true);
+    };
+    if let ArrayKind::Bool(bits, None) = child.kind() {
+        Some(bits.value(index))
+    } else {
+        None
     }
 }
 

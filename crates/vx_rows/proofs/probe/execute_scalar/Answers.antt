@@ -1,0 +1,30 @@
+use Rattle.std.proofs.Common.{◌≡◌, ◌<◌, false, pos, refl, sym, subst, arith, rules}
+use Rattle.vx_value.specs.Values.{null, boolean, integer}
+use Rattle.vx_native.specs.Natives.{values_of, ptype_of}
+use Rattle.vx_tree.specs.Tree as enc
+use Rattle.vx_tree.specs.Tree.{dtype, len}
+use Rattle.vx_tree.specs.Well.{IsNodeOf}
+use Rattle.vx_rows.proofs.CellsLemmas.{null_row}
+use Rattle.vx_rows.proofs.probe.execute_scalar.Goals as goal
+
+pub returns-in_ok-clone-in-Some-false-clause-ok : goal.returns-in_ok-clone-in-Some-false-clause-ok
+returns-in_ok-clone-in-Some-false-clause-ok c =
+    let t = c.args.array.now in
+    let flat = subst IsNodeOf c.in-Bool.ensures.0 c.in-Bool.ensures.1 in
+    let within : c.args.index < len t = omega arith in
+    let made : c.null.result ≡ record { of_type = dtype t; value = null } = search rules in
+    null_row boolean enc.bool false (λ ty n xs css. refl) t c.in-Bool.validity.now c.in-Bool.bits.now c.args.index c.in-Some-false.field-0 c.null.result
+    c.in-Bool.ensures.0 (sym flat.2) within c.in-Some-false.ensures.row c.in-Some-false.field-0-test made
+
+pub returns-in_ok-clone-in-Some-false-stored_validity-clause-ok :
+    goal.returns-in_ok-clone-in-Some-false-stored_validity-clause-ok
+returns-in_ok-clone-in-Some-false-stored_validity-clause-ok c =
+    let t = c.args.array.now in
+    let values = c.in-Primitive.values.now in
+    let flat = subst IsNodeOf c.in-Primitive.ensures.0 c.in-Primitive.ensures.1 in
+    let null_here = c.in-Some-false-stored_validity in
+    let scalar = c.null-in-Some-false-stored_validity.result in
+    let within : c.args.index < len t = omega arith in
+    let made : scalar ≡ record { of_type = dtype t; value = null } = search rules in
+    null_row integer (enc.primitive (ptype_of values)) (pos 0) (λ ty n xs css. refl) t c.in-Primitive.validity.now (values_of values) c.args.index null_here.field-0
+    scalar c.in-Primitive.ensures.0 (sym flat.2) within null_here.ensures.row null_here.field-0-test made
