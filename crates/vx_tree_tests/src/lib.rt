@@ -1,7 +1,9 @@
-//! Tests of vx_mask and vx_tree: what their contracts and the program don't show.
+//! Tests of vx_mask, vx_views and vx_tree: what their contracts and the program don't show.
 #![tactic(auto)]
 
 #[cfg(test)]
 mod buffers;
 #[cfg(test)]
 mod trees;
+#[cfg(test)]
+mod views;

@@ -4,6 +4,8 @@ ghost use Rattle.std.specs.Prelude.{◌≡◌, ◌<◌, ◌≤◌, ◌↔◌, �
 ghost use Rattle.std.specs.Option.{option_copied};
 ghost use Rattle.vx_mask.specs.Masks.{bits_in};
 ghost use Rattle.vx_mask.specs.Places.{chosen};
+ghost use Rattle.std.specs.List.{AllPass};
+ghost use Rattle.std.specs.Str.{is_utf8};
 ghost use Rattle.vx_views.specs.Views.{AllLieIn, rows_of};
 
 use crate::view::{View, all_lie_in};
@@ -117,6 +119,26 @@ impl BinaryViews {
         }
     }
 
+    /// Returns the views of the rows, and the data buffers that they are views into. (own)
+    pub fn parts(&self) -> (&[View], &[ByteBuffer])
+        ensures rows { self.now ≡ rows_of result.1.now result.0.now }
+        ensures within { AllLieIn result.1.now result.0.now }
+    {
+        (self.views.as_slice(), self.buffers.as_slice())
+    }
+
+    /// Checks whether the bytes of each row are UTF-8. (own)
+    pub fn is_utf8(&self) -> bool
+        ensures { IsTrue result ↔ AllPass is_utf8 self.now }
+    {
+        for index in 0..self.len() {
+            if !is_text(self.value(index)) {
+                return false;
+            }
+        }
+        true
+    }
+
     /// Returns the rows at `range`, which share the views and the data. Fails only if they can't be shared once more.
     #[tactic(auto, using(crate::proofs::ViewsLemmas::rows_part, crate::proofs::ViewsLemmas::lie_in_part))]
     pub fn slice(&self, range: Range<usize>) -> Result<BinaryViews, AllocError>
@@ -142,6 +164,14 @@ impl BinaryViews {
             buffers: self.buffers.clone()?,
         })
     }
+}
+
+/// Checks whether `bytes` are UTF-8.
+#[tactic(auto, using(vx_value::proofs::BytesLemmas::is_text, vx_value::proofs::BytesLemmas::is_no_text))]
+fn is_text(bytes: &[u8]) -> bool
+    ensures { result ≡ is_utf8 bytes.now }
+{
+    str::from_utf8(bytes).is_ok()
 }
 
 /// Shares the views and the data. Fails only if they can't be shared once more.
