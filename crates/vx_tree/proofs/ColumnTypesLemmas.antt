@@ -1,6 +1,6 @@
 -- The types of trees: there are columns of each.
-use Rattle.std.proofs.Common.{◌≡◌, ◌⊎◌, inl, inr, ℕ, List, [], ◌∷◌, Option, Some, length, ap, subst, sym, refl, true}
-use Rattle.vx_value.specs.Types.{DataType, primitive, bool, nullability_of}
+use Rattle.std.proofs.Common.{◌≡◌, ◌⊎◌, inl, inr, ℕ, List, [], ◌∷◌, Option, Some, length, ap, subst, sym, ◌∙◌, refl, true}
+use Rattle.vx_value.specs.Types.{DataType, primitive, bool, utf8, binary, nullability_of}
 use Rattle.vx_value.specs.Nullabilities.{with_nullability}
 use Rattle.vx_value.specs.Storage.{storage_of}
 use Rattle.vx_value.specs.declared.dtype.Nullability.{Nullability}
@@ -11,6 +11,7 @@ use Rattle.vx_tree.specs.ColumnTypes.{has_column}
 use Rattle.vx_tree.specs.Tree as enc
 use Rattle.vx_tree.specs.Tree.{Tree, Data, node, no_slots, absent, slot, dtype}
 use Rattle.vx_tree.specs.Well.{Shape, shape, shapes, IsNode, IsWell}
+use Rattle.vx_tree.proofs.BytesLemmas.{bytes_columns}
 
 -- the type of a column, by how it stores its values
 pub column_of_bits : (ty : DataType) → storage_of ty ≡ Bits → ty ≡ bool (nullability_of ty)
@@ -25,6 +26,8 @@ column_of_integers p _ h = absurd (cc)
 other_nullability : (m : Nullability) (ty : DataType) → has_column ty ≡ true → has_column (with_nullability m ty) ≡ true
 other_nullability m (bool n) h = refl
 other_nullability m (primitive p n) h = refl
+other_nullability m (utf8 n) h = refl
+other_nullability m (binary n) h = refl
 other_nullability m _ h = absurd (cc)
 
 -- there are columns of a node's type, or there are if there are of the first slot's: a line for each encoding
@@ -39,6 +42,7 @@ node_typed ty n enc.is_valid ss w = inl (ap has_column w.2)
 node_typed ty n (enc.function f) ss w = inl w.3
 node_typed ty n (enc.bool bs) ss w = inl (ap has_column w.1)
 node_typed ty n (enc.primitive p zs) ss w = inl (ap has_column w.1)
+node_typed ty n (enc.views rs) ss w = inl (ap has_column w.0.1 ∙ (bytes_columns (nullability_of ty) (storage_of ty)).0)
 
 -- so there are of the type of every tree
 pub well_typed : (t : Tree) → IsWell t → has_column (dtype t) ≡ true

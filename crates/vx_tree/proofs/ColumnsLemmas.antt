@@ -1,16 +1,18 @@
 -- Which encodings are columns, and what every column is.
 use Rattle.std.proofs.Common.{◌≡◌, ℕ, [], replicate, true, false}
-use Rattle.std.proofs.Common.{refl, sym, ap, subst, inl, inr, arith}
+use Rattle.std.proofs.Common.{refl, sym, ap, subst, ◌∙◌, inl, inr, arith}
 use Rattle.std.proofs.lemmas.Bool.{or_left}
 use Rattle.std.proofs.lemmas.List.{length-replicate}
-use Rattle.vx_value.specs.Types.{DataType}
+use Rattle.vx_value.specs.Types.{DataType, nullability_of}
+use Rattle.vx_value.specs.Storage.{storage_of}
 use Rattle.vx_value.specs.Typed.{Typed}
 use Rattle.vx_value.specs.Cell.{value}
 use Rattle.vx_tree.specs.Tree as enc
 use Rattle.vx_tree.specs.Tree.{Tree, Data, Slots, node, no_slots, absent, slot, column, datum, id_of, constant_of, slice_of}
-use Rattle.vx_tree.specs.Tree.{is_bool, is_primitive, is_constant, is_canonical, is_columnar}
+use Rattle.vx_tree.specs.Tree.{is_constant, is_canonical, is_columnar}
 use Rattle.vx_tree.specs.Well.{IsWell, shapes}
 use Rattle.vx_tree.specs.Columns.{IsColumn, canonical_id}
+use Rattle.vx_tree.proofs.BytesLemmas.{bytes_columns}
 use Rattle.vx_tree.proofs.CostLemmas.{column_cost}
 
 pub canonical_columnar : (d : Data) → is_canonical d ≡ true → is_columnar d ≡ true
@@ -49,4 +51,6 @@ column_known (node ty n (enc.constant v) ss) w h =
     subst IsColumn (λ i. node (sym w.0.0 i) n (enc.constant v) (sym (no_shapes ss w.0.3) i)) (constant_known v n)
 column_known (node ty n (enc.bool bs) ss) w h = canonical_known ty n _ ss refl (sym (ap canonical_id w.0.1))
 column_known (node ty n (enc.primitive p zs) ss) w h = canonical_known ty n _ ss refl (sym (ap canonical_id w.0.1))
+column_known (node ty n (enc.views rs) ss) w h =
+    canonical_known ty n _ ss refl (sym (ap canonical_id w.0.0.1 ∙ (bytes_columns (nullability_of ty) (storage_of ty)).1))
 column_known _ w h = absurd (cc)

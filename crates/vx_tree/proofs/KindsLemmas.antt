@@ -93,6 +93,10 @@ module _ (n : Node) (well : IsNodeOf (tree_of n)) where
       (tree_of n ≡ column (type_of n.dtype) n.len (enc.primitive p zs) v) × IsNodeOf (tree_of n)
   kind_primitive p zs s v e g = let h = of_data (enc.primitive p zs) e in (column_is (enc.primitive p zs) s v h.0 e h.3 g, well)
 
+  pub kind_views : (rs : List (List ℕ)) (s v : Option Tree) → data_of n.encoding ≡ enc.views rs → v ≡ get_or n.slots.items 0 s →
+      (tree_of n ≡ column (type_of n.dtype) n.len (enc.views rs) v) × IsNodeOf (tree_of n)
+  kind_views rs s v e g = let h = of_data (enc.views rs) e in (column_is (enc.views rs) s v h.0.0 e h.0.3 g, well)
+
   -- the slots, as a reference shows them
   pub kind_function : (f : ScalarFnRef) (shown : List (Option Tree)) → data_of n.encoding ≡ enc.function f → shown ≡ n.slots.items →
       (tree_of n ≡ node (type_of n.dtype) n.len (enc.function f) (slots_of shown)) × IsNode (type_of n.dtype) n.len (enc.function f) (shapes (slots_of shown))

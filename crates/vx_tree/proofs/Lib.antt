@@ -2,6 +2,7 @@ pub mod SlotsLemmas
 pub mod ColumnTypesLemmas
 pub mod KindsLemmas
 pub mod CellsLemmas
+pub mod BytesLemmas
 pub mod ChoicesLemmas
 pub mod KeepsLemmas
 pub mod ConditionsLemmas

@@ -8,7 +8,7 @@ use Rattle.vx_value.specs.Types as type
 use Rattle.vx_value.specs.Types.{DataType, nullability_of, is_nullable}
 use Rattle.vx_value.specs.Nullabilities.{with_nullability}
 use Rattle.vx_value.specs.IsOf.{is_null}
-use Rattle.vx_value.specs.Values.{Value, null, boolean, integer}
+use Rattle.vx_value.specs.Values.{Value, null, boolean, integer, bytes}
 use Rattle.vx_value.specs.Typed.{Typed}
 use Rattle.vx_value.specs.Cell.{Cell, value, fault}
 use Rattle.vx_value.specs.declared.dtype.Nullability.{Nullability}
@@ -21,6 +21,8 @@ use Rattle.vx_fn.specs.ReturnTypes.{return_type}
 use Rattle.vx_fn.specs.declared.function.Operator.TheVariants.{And}
 use Rattle.vx_fn.specs.declared.function.ScalarFnRef.{ScalarFnRef}
 use Rattle.vx_fn.specs.declared.function.ScalarFnRef.TheVariants.{Binary}
+use Rattle.vx_value.specs.Storage.{storage_of}
+use Rattle.vx_tree.specs.ColumnTypes.{bytes_type}
 use Rattle.vx_tree.specs.Tree as enc
 use Rattle.vx_tree.specs.Tree.{Tree, Data, Slots, node, no_slots, absent, slot, slots_of, dtype, len, datum, column, constant_of, slice_of, filter_of, masked_of, validity_in, call_of}
 use Rattle.vx_tree.specs.Well.{shape, shape_of, shapes, IsValidity, IsFlat, IsNode, IsWell, AreWell}
@@ -547,6 +549,9 @@ data_tells ty n (enc.bool bs) xs h w e f =
 data_tells ty n (enc.primitive p zs) xs h w e f =
     column_node (type.primitive p NonNullable) ty (length zs) n (enc.primitive p zs) (map (λ z. value (integer z)) zs) xs (λ css. refl) (length-map zs (λ z. value (integer z)))
     (stored_valid integer (λ z. refl) zs) h w e
+data_tells ty n (enc.views rs) xs h w e f =
+    column_node (bytes_type (storage_of ty)) ty (length rs) n (enc.views rs) (map (λ r. value (bytes r)) rs) xs (λ css. refl) (length-map rs (λ r. value (bytes r)))
+    (stored_valid bytes (λ r. refl) rs) h.0 w e
 
 node_tells : (ty : DataType) (n : ℕ) (d : Data) (ss : Slots) (m : Nullability) → nullability_of ty ≡ m → IsWell (node ty n d ss) → FirstTells ss
     → Tells (node ty n d ss) (if_nullable m (data_validity ty n d ss (first_validity ss)))

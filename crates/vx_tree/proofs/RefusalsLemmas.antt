@@ -7,6 +7,8 @@ use Rattle.std.proofs.lemmas.List.Recursion.{and_push, and_fails_at}
 use Rattle.std.specs.Cmp.{unsigned_Decides, first_so, second_so}
 use Rattle.std.specs.Prelude.{◌==◌, option_map}
 use Rattle.vx_value.specs.Types.{DataType, bool, primitive, nullability_of, same_type_Decides}
+use Rattle.vx_value.specs.Storage.{storage_of}
+use Rattle.vx_tree.specs.ColumnTypes.{bytes_type}
 use Rattle.vx_value.specs.Nullabilities.{with_nullability}
 use Rattle.vx_value.specs.declared.dtype.Nullability.{Nullability}
 use Rattle.vx_value.specs.declared.dtype.Nullability.TheVariants.{NonNullable, Nullable}
@@ -289,6 +291,10 @@ decided ty n enc.is_valid ss = (λ i. test_kept ty n ss, test_taken ty n ss)
 decided ty n (enc.function f) ss = (λ i. function_kept i ty n f ss, function_taken ty n f ss)
 decided ty n (enc.bool bs) ss = (λ i. column_kept ty n (bool NonNullable) _ ss, column_taken ty n (bool NonNullable) _ ss)
 decided ty n (enc.primitive p zs) ss = (λ i. column_kept ty n (primitive p NonNullable) _ ss, column_taken ty n (primitive p NonNullable) _ ss)
+decided ty n (enc.views rs) ss = (
+  λ i h. (column_kept ty n (bytes_type (storage_of ty)) _ ss (first_none _ _ h), unless_none _ _ (second_none _ _ h)),
+  λ h. none_refused _ _ (column_taken ty n (bytes_type (storage_of ty)) _ ss h.0) (none_unless _ _ h.1),
+)
 
 pub node_unless_refused : (i : Id) (ty : DataType) (n : ℕ) (d : Data) (ss : List (Option Shape)) →
     refusal i ty n d ss ≡ None → IsNode ty n d ss

@@ -5,7 +5,7 @@ use Rattle.std.specs.List.{range_with_len}
 use Rattle.vx_value.specs.Types as type
 use Rattle.vx_value.specs.Types.{DataType, nullability_of, is_nullable}
 use Rattle.vx_value.specs.Nullabilities.{with_nullability, union, same_but_nullability, same_but_nullability_Decides}
-use Rattle.vx_value.specs.Values.{Value, null, boolean, integer, decimal}
+use Rattle.vx_value.specs.Values.{Value, null, boolean, integer, decimal, bytes}
 use Rattle.vx_value.specs.IsOf.{is_of, in_range}
 use Rattle.vx_value.specs.Casts.{sized, cast_to, into}
 use Rattle.vx_value.specs.Decimals.{has_digits}
@@ -34,6 +34,10 @@ use Rattle.vx_fn.specs.declared.function.ScalarFnRef.TheVariants as function
 use Rattle.vx_fn.proofs.BinaryLemmas.{null_first, null_second}
 use Rattle.vx_fn.proofs.LogicLemmas.{Knows, and_knows, or_knows}
 use Rattle.vx_fn.proofs.MeaningsLemmas.{nullable_by_argument, nullable_before}
+use Rattle.vx_value.specs.Storage.{storage_of}
+use Rattle.vx_value.specs.declared.dtype.Storage.{Storage}
+use Rattle.vx_value.specs.declared.dtype.Storage.TheVariants.{Text}
+use Rattle.vx_tree.specs.ColumnTypes.{bytes_type}
 use Rattle.vx_tree.specs.Tree as enc
 use Rattle.vx_tree.specs.Tree.{Tree, Data, Slots, node, no_slots, absent, slot, dtype}
 use Rattle.vx_tree.specs.Cells.{rows, slots_rows, node_cells, cells_at, row_at, valid_cell, valid_cells, shown_cell}
@@ -373,6 +377,10 @@ row_fits (cs ∷ css) (s ∷ tys) n i h = (cell_at i cs h.0, row_fits css tys n 
     cell_at zero (c ∷ cs) h = h.0
     cell_at (suc i) (c ∷ cs) h = cell_at i cs h.1
 
+bytes_other : (s : Storage) → is_other (bytes_type s) ≡ true
+bytes_other Text = refl
+bytes_other _ = refl
+
 -- a line for each encoding
 node_fits : (ty : DataType) (n : ℕ) (d : Data) (css : List (List Cell)) (ss : List (Option Shape)) → IsNode ty n d ss → SlotsFit css ss → AllFit ty (node_cells ty n d css)
 node_fits ty n (enc.constant v) css ss h k = copies_fit n ty (value v.value) (constant_fits v.value ty h.2)
@@ -392,6 +400,9 @@ node_fits ty n (enc.bool bs) css ss h k =
 node_fits ty n (enc.primitive p zs) css ss h k =
     column_fits ty (nullability_of ty) n h.0 css (map (λ z. value (integer z)) zs) refl h.4 (subst (SlotsFit css) h.3 k)
     (map_fits (λ z. value (integer z)) zs ty (λ z. ap is_other h.1))
+node_fits ty n (enc.views rs) css ss h k =
+    column_fits ty (nullability_of ty) n h.0.0 css (map (λ r. value (bytes r)) rs) refl h.0.4 (subst (SlotsFit css) h.0.3 k)
+    (map_fits (λ r. value (bytes r)) rs ty (λ r. ap is_other h.0.1 ∙ other_kept (nullability_of ty) _ ∙ bytes_other (storage_of ty)))
 
 mutual
   pub rows_fit : (t : Tree) → IsWell t → AllFit (dtype t) (rows t)

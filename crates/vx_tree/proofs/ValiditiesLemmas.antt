@@ -236,19 +236,19 @@ told_counted of_type ty k n (Some t) h w = rows_counted t w.0 ∙ flat_long of_t
 module _ {X : Type 0} (of_type : DataType) (read : X → Value) (of_items : List X → Data)
     (cells : (ty : DataType) (n : ℕ) (xs : List X) (css : List (List Cell))
     → node_cells ty n (of_items xs) css ≡ valid_cells (cells_at css 0) (map (λ x. value (read x)) xs))
-    (flat : (ty : DataType) (n : ℕ) (xs : List X) (ss : List (Option Shape)) → IsNode ty n (of_items xs) ss → IsFlat of_type (length xs) ty n ss)
-    (node_of : (ty : DataType) (n : ℕ) (xs : List X) (ss : List (Option Shape)) → IsFlat of_type (length xs) ty n ss → IsNode ty n (of_items xs) ss)
     (a b : ℕ) (xs ys : List X) (v : Option Tree) (t : Tree) (shown : t ≡ column (dtype t) (len t) (of_items xs) v) (well : IsWell t)
-    (within : b ≤ len t) (range : ys ≡ slice_range xs a b) where
+    (within : b ≤ len t) (range : ys ≡ slice_range xs a b)
+    (flat : (ss : List (Option Shape)) → IsNode (dtype t) (len t) (of_items xs) ss → IsFlat of_type (length xs) (dtype t) (len t) ss)
+    (node_of : (ty : DataType) (n : ℕ) (ss : List (Option Shape)) → IsFlat of_type (length ys) ty n ss → IsNode ty n (of_items ys) ss) where
   is_flat : IsFlat of_type (length xs) (dtype t) (len t) (shapes (slots_of (v ∷ [])))
-  is_flat = flat (dtype t) (len t) xs (shapes (slots_of (v ∷ []))) (subst IsWell shown well).0
+  is_flat = flat (shapes (slots_of (v ∷ []))) (subst IsWell shown well).0
 
   counted : b - a ≡ length ys
   counted = sym (ap length range ∙ length-take-le (b - a) (drop a xs) (omega (arith, length-drop a xs, is_flat.2)))
 
   pub flat_ready : (s : DataType) × (k : ℕ) × IsFlat s k (dtype t) (len t) (shapes (slots_of (v ∷ [])))
       × ((ty : DataType) (n : ℕ) (ss : List (Option Shape)) → IsFlat s (b - a) ty n ss → IsNode ty n (of_items ys) ss)
-  flat_ready = (of_type, length xs, is_flat, λ ty n ss h. node_of ty n ys ss (subst (λ k. IsFlat of_type k ty n ss) counted h))
+  flat_ready = (of_type, length xs, is_flat, λ ty n ss h. node_of ty n ss (subst (λ k. IsFlat of_type k ty n ss) counted h))
 
   pub flat_sliced : (u : Tree) → (w : Option Tree) × IsValidityPart a b v w × (u ≡ column (dtype t) (b - a) (of_items ys) w) → KeepsExactly (slice_of a b t) u
   flat_sliced u h =

@@ -2,7 +2,7 @@
 use Rattle.std.specs.Prelude.{ℕ, zero, suc, true, false, ◌-◌, List, [], ◌∷◌, take, drop, map, replicate, slice_index_or}
 use Rattle.std.specs.List.{range_with_len}
 use Rattle.vx_value.specs.Types.{DataType}
-use Rattle.vx_value.specs.Values.{null, boolean, integer}
+use Rattle.vx_value.specs.Values.{null, boolean, integer, bytes}
 use Rattle.vx_value.specs.Cell.{Cell, value, fault}
 use Rattle.vx_mask.specs.Places.{chosen}
 use Rattle.vx_fn.specs.Apply.{apply}
@@ -47,6 +47,7 @@ node_cells ty n enc.is_valid css = map shown_cell (cells_at css 0)
 node_cells ty n (enc.function f) css = map (λ i. apply f ty (row_at css i)) (range_with_len 0 n)
 node_cells ty n (enc.bool bs) css = valid_cells (cells_at css 0) (map (λ b. value (boolean b)) bs)
 node_cells ty n (enc.primitive p zs) css = valid_cells (cells_at css 0) (map (λ z. value (integer z)) zs)
+node_cells ty n (enc.views rs) css = valid_cells (cells_at css 0) (map (λ r. value (bytes r)) rs)
 
 abbrev mutual
   pub rows : Tree → List Cell

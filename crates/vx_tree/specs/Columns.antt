@@ -5,7 +5,7 @@ use Rattle.vx_value.specs.Values.{Value}
 use Rattle.vx_value.specs.Cell.{Cell, value}
 use Rattle.vx_value.specs.Storage.{storage_of}
 use Rattle.vx_value.specs.declared.dtype.Storage.{Storage}
-use Rattle.vx_value.specs.declared.dtype.Storage.TheVariants.{Integers}
+use Rattle.vx_value.specs.declared.dtype.Storage.TheVariants.{Integers, Text, Bytes}
 use Rattle.vx_value.specs.declared.id.Id.{Id}
 use Rattle.vx_value.specs.declared.id.Id.TheVariants as id
 use Rattle.vx_tree.specs.Tree as enc
@@ -13,13 +13,15 @@ use Rattle.vx_tree.specs.Tree.{Tree, Data, column, dtype, datum, id_of, is_canon
 use Rattle.vx_tree.specs.Cells.{rows}
 use Rattle.vx_tree.specs.Cost.{cost}
 use Rattle.vx_tree.specs.declared.canonical.Canonical.{Canonical}
-use Rattle.vx_tree.specs.declared.canonical.Canonical.TheVariants.{Bool, Primitive}
+use Rattle.vx_tree.specs.declared.canonical.Canonical.TheVariants.{Bool, Primitive, VarBinView}
 use Rattle.vx_tree.specs.declared.columnar.Columnar.{Columnar}
 use Rattle.vx_tree.specs.declared.columnar.Columnar.TheVariants as columnar
 
 -- the canonical encoding of a type that has columns, by how they store its values
 abbrev pub stored_id : Storage → Id
 stored_id (Integers p) = id.Primitive
+stored_id Text = id.VarBinView
+stored_id Bytes = id.VarBinView
 stored_id _ = id.Bool
 
 abbrev pub canonical_id : DataType → Id
@@ -38,8 +40,9 @@ pub record IsColumn (t : Tree) : Type 0 where
 abbrev pub canonical_tree : Canonical → Tree
 canonical_tree (Bool t) = t
 canonical_tree (Primitive t) = t
+canonical_tree (VarBinView t) = t
 
--- the column if it is one of booleans, and if it is one of integers
+-- the column if it is one of booleans, of integers, and of text or bytes
 abbrev pub bool_column : Canonical → Option Tree
 bool_column (Bool t) = Some t
 bool_column _ = None
@@ -48,6 +51,10 @@ abbrev pub primitive_column : Canonical → Option Tree
 primitive_column (Primitive t) = Some t
 primitive_column _ = None
 
+abbrev pub varbinview_column : Canonical → Option Tree
+varbinview_column (VarBinView t) = Some t
+varbinview_column _ = None
+
 abbrev pub columnar_tree : Columnar → Tree
 columnar_tree (columnar.Canonical c) = canonical_tree c
 columnar_tree (columnar.Constant t) = t
@@ -55,6 +62,8 @@ columnar_tree (columnar.Constant t) = t
 -- the column without rows of a type that has columns, by how they store its values
 abbrev pub no_rows : Storage → Data
 no_rows (Integers p) = enc.primitive p []
+no_rows Text = enc.views []
+no_rows Bytes = enc.views []
 no_rows _ = enc.bool []
 
 abbrev pub empty_of : DataType → Tree

@@ -13,4 +13,5 @@ slot_names enc.is_valid = codes "child" ∷ []
 slot_names (enc.function f) = argument_names f
 slot_names (enc.bool bs) = codes "validity" ∷ []
 slot_names (enc.primitive p zs) = codes "validity" ∷ []
+slot_names (enc.views rs) = codes "validity" ∷ []
 slot_names _ = []

@@ -17,7 +17,8 @@ use Rattle.vx_mask.specs.Places.{true_count}
 use Rattle.vx_fn.specs.Functions.{arity, function_id}
 use Rattle.vx_fn.specs.ReturnTypes.{return_type}
 use Rattle.vx_fn.specs.declared.function.ScalarFnRef.{ScalarFnRef}
-use Rattle.vx_tree.specs.ColumnTypes.{has_column}
+use Rattle.vx_value.specs.Storage.{storage_of}
+use Rattle.vx_tree.specs.ColumnTypes.{has_column, bytes_type, are_bytes_of}
 use Rattle.vx_tree.specs.Tree as enc
 use Rattle.vx_tree.specs.Tree.{Tree, Data, dtype, len}
 use Rattle.vx_tree.specs.Well.{Shape, shape}
@@ -41,6 +42,11 @@ column_refusal ty n of_type k (s ∷ []) =
     (first_of_both (validity_type_refusal 0 (nullability_of ty) s)
     (first_of_both (unless (n == k) (InvalidArgument NodeLen)) (validity_len_refusal 0 n s)))
 column_refusal ty n of_type k (s ∷ r ∷ ss) = Some (InvalidArgument SlotCount)
+
+-- of a column of rows of bytes: last, that they are of its type
+abbrev pub views_refusal : DataType → ℕ → List (List ℕ) → List (Option Shape) → Option VortexError
+views_refusal ty n rs ss =
+    first_of_both (column_refusal ty n (bytes_type (storage_of ty)) (length rs) ss) (unless (are_bytes_of (storage_of ty) rs) (InvalidArgument BadValue))
 
 abbrev pub constant_refusal : DataType → Typed → List (Option Shape) → Option VortexError
 constant_refusal ty v [] =
@@ -150,3 +156,4 @@ refusal i ty n enc.is_valid ss = of_child (validity_refusal ty n) ss
 refusal i ty n (enc.function f) ss = function_refusal i ty n f ss
 refusal i ty n (enc.bool bs) ss = column_refusal ty n (type.bool NonNullable) (length bs) ss
 refusal i ty n (enc.primitive p zs) ss = column_refusal ty n (type.primitive p NonNullable) (length zs) ss
+refusal i ty n (enc.views rs) ss = views_refusal ty n rs ss

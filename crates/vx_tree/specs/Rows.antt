@@ -1,6 +1,7 @@
 -- The column of rows, null among them: what it stores, and its validity, by one definition.
-use Rattle.std.specs.Prelude.{ℤ, pos, List, length, map, Bool, false, Option, Some, None, is_some}
+use Rattle.std.specs.Prelude.{ℕ, ℤ, pos, List, [], length, map, Bool, false, Option, Some, None, is_some}
 use Rattle.vx_value.specs.Types as type
+use Rattle.vx_value.specs.Types.{DataType}
 use Rattle.vx_value.specs.declared.dtype.Nullability.{Nullability}
 use Rattle.vx_value.specs.declared.dtype.PType.{PType}
 use Rattle.vx_tree.specs.Tree as enc
@@ -18,3 +19,7 @@ boolean_rows m rows = column (type.bool m) (length rows) (enc.bool (map (item_or
 
 abbrev pub integer_rows : Nullability → PType → List (Option ℤ) → Tree
 integer_rows m p rows = column (type.primitive p m) (length rows) (enc.primitive p (map (item_or (pos 0)) rows)) (child_by (map is_some rows))
+
+-- of text or bytes, by the type: no bytes stand under a null
+abbrev pub bytes_rows : DataType → List (Option (List ℕ)) → Tree
+bytes_rows ty rows = column ty (length rows) (enc.views (map (item_or []) rows)) (child_by (map is_some rows))

@@ -26,6 +26,8 @@ pub data Data : Type 0 where
   function : ScalarFnRef → Data
   bool : List Bool → Data
   primitive : PType → List ℤ → Data
+  -- rows of text or of bytes, each as its bytes
+  views : List (List ℕ) → Data
 
 mutual
   pub data Tree : Type 0 where
@@ -116,6 +118,7 @@ id_of is_valid = id.ScalarFnValidity
 id_of (function f) = function_id f
 id_of (bool bs) = id.Bool
 id_of (primitive p zs) = id.Primitive
+id_of (views rs) = id.VarBinView
 
 -- which encoding a node has
 abbrev pub is_constant : Data → Bool
@@ -150,9 +153,13 @@ abbrev pub is_primitive : Data → Bool
 is_primitive (primitive p zs) = true
 is_primitive _ = false
 
+abbrev pub is_views : Data → Bool
+is_views (views rs) = true
+is_views _ = false
+
 -- the encodings that hold their rows themselves
 abbrev pub is_canonical : Data → Bool
-is_canonical d = is_bool d || is_primitive d
+is_canonical d = is_bool d || is_primitive d || is_views d
 
 -- the canonical encodings, and those that repeat one value
 abbrev pub is_columnar : Data → Bool
@@ -170,6 +177,7 @@ data_parts =
     or part (coded_list coded_bool) filter
     or part coded_unit (λ u. masked)
     or part coded_unit (λ u. is_valid)
+    or part (coded_list (coded_list coded_ℕ)) views
     or no_part
 
 abbrev pub data_split : Data → data_parts.holds
@@ -181,6 +189,7 @@ data_split (primitive p zs) = inr (inr (inr (inr (inl (p, zs)))))
 data_split (filter bits) = inr (inr (inr (inr (inr (inl bits)))))
 data_split masked = inr (inr (inr (inr (inr (inr (inl tt))))))
 data_split is_valid = inr (inr (inr (inr (inr (inr (inr (inl tt)))))))
+data_split (views rs) = inr (inr (inr (inr (inr (inr (inr (inr (inl rs))))))))
 
 pub data_back : (d : Data) → data_parts.make (data_split d) ≡ d
 data_back (constant v) = refl

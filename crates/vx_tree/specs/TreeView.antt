@@ -17,6 +17,7 @@ data_of (encoding.ScalarFnValidity v) = enc.is_valid
 data_of (encoding.ScalarFn f) = enc.function f.scalar_fn
 data_of (encoding.Bool b) = enc.bool b.bits
 data_of (encoding.Primitive p) = enc.primitive (ptype_of p.values) (values_of p.values)
+data_of (encoding.VarBinView v) = enc.views v.rows
 
 abbrev pub tree_of : Node → Tree
 tree_of n = node (type_of n.dtype) n.len (data_of n.encoding) (slots_of n.slots.items)

@@ -8,8 +8,10 @@ use Rattle.vx_value.specs.declared.dtype.Nullability.{Nullability}
 use Rattle.vx_value.specs.declared.dtype.Nullability.TheVariants.{NonNullable, Nullable}
 use Rattle.vx_value.specs.declared.error.VortexError.{VortexError}
 use Rattle.vx_value.specs.declared.error.VortexError.TheVariants.{InvalidArgument}
-use Rattle.vx_value.specs.declared.error.ArgKind.TheVariants.{SlotType, SlotLen, BadType}
+use Rattle.vx_value.specs.declared.error.ArgKind.TheVariants.{SlotType, SlotLen, BadType, BadValue}
 use Rattle.vx_mask.specs.Masks.{is_all_true, is_all_false}
+use Rattle.vx_value.specs.Storage.{storage_of}
+use Rattle.vx_tree.specs.ColumnTypes.{bytes_type, are_bytes_of}
 use Rattle.vx_tree.specs.Conditions.{first_of_both, unless}
 use Rattle.vx_tree.specs.Tree.{Tree, Data, constant, dtype, len, datum, booleans, constant_of, slice_of}
 use Rattle.vx_tree.specs.Cells.{rows}
@@ -82,6 +84,11 @@ array_refusal n _ = None
 abbrev pub flat_refusal : DataType → DataType → ℕ → Validity → Option VortexError
 flat_refusal of_type ty n v =
     first_of_both (unless (same_type ty (with_nullability (nullability_by v) of_type)) (InvalidArgument BadType)) (array_refusal n v)
+
+-- why no column of these rows of bytes has the type ty and this validity
+abbrev pub bytes_refusal : DataType → List (List ℕ) → Validity → Option VortexError
+bytes_refusal ty rs v =
+    first_of_both (flat_refusal (bytes_type (storage_of ty)) ty (length rs) v) (unless (are_bytes_of (storage_of ty) rs) (InvalidArgument BadValue))
 
 -- the tree in a validity's slot for the rows from a to b
 abbrev pub IsValidityPart : ℕ → ℕ → Option Tree → Option Tree → Type 0

@@ -9,6 +9,7 @@ ghost use Rattle.vx_tree.specs.Columns.{canonical_tree, empty_of};
 use crate::array::{ArrayRef, Encoding, IntoArray};
 use crate::arrays::boolean::BoolArray;
 use crate::arrays::primitive::PrimitiveArray;
+use crate::arrays::varbinview::VarBinViewArray;
 use std::alloc::Global;
 use vx_value::{ArgKind, DType, Storage, VortexError, VortexResult};
 
@@ -17,6 +18,7 @@ use vx_value::{ArgKind, DType, Storage, VortexError, VortexResult};
 pub enum Canonical {
     Bool(BoolArray),
     Primitive(PrimitiveArray),
+    VarBinView(VarBinViewArray),
 }
 
 impl Canonical {
@@ -33,6 +35,7 @@ impl Canonical {
         match dtype.storage() {
             Storage::Bits => Canonical::empty_bool(alloc, nullability),
             Storage::Integers(ptype) => Canonical::empty_primitive(alloc, ptype, nullability),
+            Storage::Text | Storage::Bytes => Canonical::empty_varbinview(alloc, dtype),
             _ => Err(VortexError::InvalidArgument(ArgKind::BadType)),
         }
     }
@@ -46,6 +49,7 @@ impl Canonical {
         match array.encoding() {
             Encoding::Bool(_) => Canonical::from_bool(array),
             Encoding::Primitive(_) => Canonical::from_primitive(array),
+            Encoding::VarBinView(_) => Canonical::from_varbinview(array),
             _ => Err(array),
         }
     }
@@ -59,6 +63,7 @@ impl Canonical {
         match self {
             Canonical::Bool(column) => column.as_array(),
             Canonical::Primitive(column) => column.as_array(),
+            Canonical::VarBinView(column) => column.as_array(),
         }
     }
 
@@ -91,6 +96,7 @@ impl IntoArray for Canonical {
         match self {
             Canonical::Bool(column) => column.into_array(),
             Canonical::Primitive(column) => column.into_array(),
+            Canonical::VarBinView(column) => column.into_array(),
         }
     }
 }

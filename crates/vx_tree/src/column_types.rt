@@ -6,7 +6,7 @@ ghost use Rattle.vx_tree.specs.ColumnTypes.{has_column, is_column_stored};
 
 use vx_value::{DType, Storage};
 
-/// Checks whether there are columns of type `dtype`: its values are booleans or integers. (own)
+/// Checks whether there are columns of type `dtype`: its values are booleans, integers, texts or bytes. (own)
 pub fn has_column(dtype: &DType) -> bool
     ensures { result ≡ has_column (type_of dtype.now) }
 {
@@ -17,5 +17,8 @@ pub fn has_column(dtype: &DType) -> bool
 fn is_column_stored(storage: Storage) -> bool
     ensures { result ≡ is_column_stored storage }
 {
-    matches!(storage, Storage::Bits | Storage::Integers(_))
+    matches!(
+        storage,
+        Storage::Bits | Storage::Integers(_) | Storage::Text | Storage::Bytes
+    )
 }

@@ -8,6 +8,7 @@ use crate::arrays::boolean::Bool;
 use crate::arrays::constant::Constant;
 use crate::arrays::primitive::Primitive;
 use crate::arrays::scalar_fn::ScalarFn;
+use crate::arrays::varbinview::VarBinView;
 
 /// Tests on the root of a tree.
 pub trait Matcher {
@@ -38,7 +39,7 @@ impl Matcher for AnyCanonical {
     ghost fits = { λ t. is_canonical (datum t) };
 
     fn matches(array: &ArrayRef) -> bool {
-        Bool::matches(array) || Primitive::matches(array)
+        Bool::matches(array) || Primitive::matches(array) || VarBinView::matches(array)
     }
 }
 

@@ -24,5 +24,6 @@ pub fn slice_canonical(
     match column {
         Canonical::Bool(column) => column.slice(alloc, range),
         Canonical::Primitive(column) => column.slice(alloc, range),
+        Canonical::VarBinView(column) => column.slice(alloc, range),
     }
 }

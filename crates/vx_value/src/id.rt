@@ -22,6 +22,7 @@ pub enum Id {
     Cast,
     Bool,
     Primitive,
+    VarBinView,
 }
 
 /// Evaluates `$by` on `$value` and the text of each id: one line an id.
@@ -45,6 +46,7 @@ macro_rules! by_texts {
             Cast = "vortex.cast",
             Bool = "vortex.bool",
             Primitive = "vortex.primitive",
+            VarBinView = "vortex.varbinview",
         )
     };
 }

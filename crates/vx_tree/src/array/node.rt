@@ -13,6 +13,7 @@ use crate::arrays::primitive::PrimitiveData;
 use crate::arrays::scalar_fn::ScalarFnData;
 use crate::arrays::scalar_fn_validity::EmptyArrayData;
 use crate::arrays::slice::SliceData;
+use crate::arrays::varbinview::VarBinViewData;
 use std::alloc::{AllocError, Global};
 use std::marker::Model;
 use std::rc::Rc;
@@ -32,6 +33,7 @@ pub enum Encoding {
     ScalarFn(ScalarFnData),
     Bool(BoolData),
     Primitive(PrimitiveData),
+    VarBinView(VarBinViewData),
 }
 
 /// The parts of a node, which needn't make a well-formed tree. (own)
@@ -97,6 +99,7 @@ impl Clone for Encoding {
             Encoding::ScalarFn(data) => Ok(Encoding::ScalarFn(data.clone()?)),
             Encoding::Bool(data) => Ok(Encoding::Bool(data.clone()?)),
             Encoding::Primitive(data) => Ok(Encoding::Primitive(data.clone()?)),
+            Encoding::VarBinView(data) => Ok(Encoding::VarBinView(data.clone()?)),
         }
     }
 }

@@ -93,10 +93,30 @@ pub(crate) fn check_validity_len(
     }
 }
 
-/// Makes the column of `payload`, `len` values of the non-nullable type `of_type`. `dtype` must be that type with the
-/// nullability of `validity`, else `InvalidArgument` with `BadType`; then `validity` must be one of `len` rows, else
-/// `InvalidArgument` with `SlotType` or `SlotLen`.
-#[tactic(auto, using(crate::proofs::ConditionsLemmas::in_turn, crate::proofs::ValiditiesLemmas::flat_made))]
+/// Checks that a column of `len` values of the non-nullable type `of_type` may have the type `dtype` and this validity.
+///
+/// `dtype` must be that type with the nullability of `validity`, else `InvalidArgument` with `BadType`; then `validity` must be one
+/// of `len` rows, else `InvalidArgument` with `SlotType` or `SlotLen`.
+#[tactic(auto, using(crate::proofs::ConditionsLemmas::in_turn))]
+pub(crate) fn check_flat_column(
+    dtype: &DType,
+    of_type: &DType,
+    len: usize,
+    validity: &Validity,
+) -> VortexResult<()>
+    ensures valid { OnOk result (flat_refusal (type_of of_type.now) (type_of dtype.now) len validity.now ≡ None) }
+    ensures refused { IfErr result (λ e. (e ≡ VortexError.OutOfMemory)
+        ⊎ (flat_refusal (type_of of_type.now) (type_of dtype.now) len validity.now ≡ Some e)) }
+{
+    if !is_same_type(dtype, &of_type.with_nullability(validity.nullability())?) {
+        return Err(VortexError::InvalidArgument(ArgKind::BadType));
+    }
+    check_validity(validity, len)
+}
+
+/// Makes the column of `payload`, `len` values of the non-nullable type `of_type`, if it may have the type `dtype` and this
+/// validity, as `check_flat_column` says.
+#[tactic(auto, using(crate::proofs::ValiditiesLemmas::flat_made))]
 pub(crate) fn flat_column<V: VTable>(
     alloc: Global,
     vtable: V,
@@ -112,10 +132,7 @@ pub(crate) fn flat_column<V: VTable>(
     ensures refused { IfErr result (λ e. (e ≡ VortexError.OutOfMemory)
         ⊎ (flat_refusal (type_of of_type.now) (type_of dtype) len validity.now ≡ Some e)) }
 {
-    if !is_same_type(&dtype, &of_type.with_nullability(validity.nullability())?) {
-        return Err(VortexError::InvalidArgument(ArgKind::BadType));
-    }
-    check_validity(validity, len)?;
+    check_flat_column(&dtype, of_type, len, validity)?;
     let child = validity_to_child(alloc, validity, len)?;
     let slots = only_slot(alloc, child)?;
     let parts = ArrayParts::new(vtable, dtype, len, payload, slots);

@@ -11,6 +11,7 @@ pub mod scalar_fn;
 pub mod scalar_fn_validity;
 pub mod slice;
 pub(crate) mod types;
+pub mod varbinview;
 
 /// Evaluates to the data of an `Encoding` of this variant, `Some(data)`; returns `None` from the function if it is of another.
 macro_rules! payload {

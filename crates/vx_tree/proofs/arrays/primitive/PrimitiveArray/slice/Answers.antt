@@ -15,9 +15,9 @@ flat_slice-requires-clause-flat c =
     let p = ptype_of c.in-Primitive.values.now in
     let within = subst (λ x. c.args.range.end ≤ len x) (sym c.as_array-array.ensures.of) c.requires.1 in
     rw c.in_ok-values.ensures.kind
-    (flat_ready (primitive p NonNullable) integer (enc.primitive p) (λ ty n xs css. refl) (λ ty n xs ss h. h) (λ ty n xs ss h. h) c.args.range.start c.args.range.end
+    (flat_ready (primitive p NonNullable) integer (enc.primitive p) (λ ty n xs css. refl) c.args.range.start c.args.range.end
     (values_of c.in-Primitive.values.now) (values_of c.in_ok-values.values) c.in-Primitive.validity.now t c.in-Primitive.ensures.0 c.well.ensures.formed
-    within c.in_ok-values.ensures.values)
+    within c.in_ok-values.ensures.values (λ ss h. h) (λ ty n ss h. h))
 
 pub returns-clause-ok : goal.returns-clause-ok
 returns-clause-ok c =
@@ -26,6 +26,6 @@ returns-clause-ok c =
     let within = subst (λ x. c.args.range.end ≤ len x) (sym c.as_array-array.ensures.of) c.requires.1 in
     let part = rw c.in_ok-values.ensures.kind at c.in_ok-column.ensures.ok in
     subst (λ x. KeepsExactly (slice_of c.args.range.start c.args.range.end x) c.in_ok-column.column) c.as_array-array.ensures.of
-    (flat_sliced (primitive p NonNullable) integer (enc.primitive p) (λ ty n xs css. refl) (λ ty n xs ss h. h) (λ ty n xs ss h. h) c.args.range.start c.args.range.end
+    (flat_sliced (primitive p NonNullable) integer (enc.primitive p) (λ ty n xs css. refl) c.args.range.start c.args.range.end
     (values_of c.in-Primitive.values.now) (values_of c.in_ok-values.values) c.in-Primitive.validity.now t c.in-Primitive.ensures.0 c.well.ensures.formed
-    within c.in_ok-values.ensures.values c.in_ok-column.column part)
+    within c.in_ok-values.ensures.values (λ ss h. h) (λ ty n ss h. h) c.in_ok-column.column part)

@@ -1,0 +1,59 @@
+-- Columns of text and bytes, by how their type's values are stored.
+use Rattle.std.proofs.Common.{◌≡◌, ◌↔◌, ℕ, zero, suc, ◌-◌, List, [], ◌∷◌, take, drop, slice_range, Bool, true, false, IsTrue, Option, length, refl, sym, ap, subst, ◌∙◌}
+use Rattle.std.specs.List.{AllPass, list_all}
+use Rattle.std.specs.Str.{is_utf8}
+use Rattle.std.proofs.lemmas.List.Sums.{AllPass-from_list_all, list_all-from_AllPass}
+use Rattle.std.proofs.lemmas.Bool.{and_from}
+use Rattle.std.specs.Cmp.{first_so, second_so}
+use Rattle.vx_value.specs.Types.{DataType, nullability_of}
+use Rattle.vx_value.specs.Nullabilities.{with_nullability}
+use Rattle.vx_value.specs.Storage.{storage_of}
+use Rattle.vx_value.specs.declared.dtype.Nullability.{Nullability}
+use Rattle.vx_value.specs.declared.dtype.Storage.{Storage}
+use Rattle.vx_value.specs.declared.dtype.Storage.TheVariants.{Text}
+use Rattle.vx_value.specs.declared.id.Id.TheVariants.{VarBinView}
+use Rattle.vx_tree.specs.ColumnTypes.{has_column, bytes_type, are_bytes_of}
+use Rattle.vx_tree.specs.Columns.{canonical_id}
+use Rattle.vx_tree.specs.Tree.{views}
+use Rattle.vx_tree.specs.Well.{Shape, IsFlat, IsNode}
+
+-- what its type is, whatever the nullability: there are columns of it, and their encoding
+pub bytes_columns : (m : Nullability) (s : Storage) → (has_column (with_nullability m (bytes_type s)) ≡ true) × (canonical_id (with_nullability m (bytes_type s)) ≡ VarBinView)
+bytes_columns m Text = (refl, refl)
+bytes_columns m _ = (refl, refl)
+
+-- a type of text or bytes is told by how it is stored, and so are its rows
+bytes_again : (s : Storage) (ty : DataType) (rows : List (List ℕ)) → ty ≡ with_nullability (nullability_of ty) (bytes_type s)
+    → (bytes_type (storage_of ty) ≡ bytes_type s) × (are_bytes_of (storage_of ty) rows ≡ are_bytes_of s rows)
+bytes_again Text ty rows h = (ap (λ t. bytes_type (storage_of t)) h, ap (λ t. are_bytes_of (storage_of t) rows) h)
+bytes_again _ ty rows h = (ap (λ t. bytes_type (storage_of t)) h, ap (λ t. are_bytes_of (storage_of t) rows) h)
+
+pub bytes_node : (s : Storage) (rows : List (List ℕ)) → are_bytes_of s rows ≡ true
+    → (ty : DataType) (n : ℕ) (ss : List (Option Shape)) → IsFlat (bytes_type s) (length rows) ty n ss → IsNode ty n (views rows) ss
+bytes_node s rows h ty n ss flat =
+    let again = bytes_again s ty rows flat.1 in
+    (subst (λ r. IsFlat r (length rows) ty n ss) (sym again.0) flat, again.1 ∙ h)
+
+all_dropped : (k : ℕ) (xs : List (List ℕ)) → list_all is_utf8 xs ≡ true → list_all is_utf8 (drop k xs) ≡ true
+all_dropped zero xs h = h
+all_dropped (suc k) [] h = refl
+all_dropped (suc k) (x ∷ xs) h = all_dropped k xs (second_so (is_utf8 x) _ h)
+
+all_taken : (k : ℕ) (xs : List (List ℕ)) → list_all is_utf8 xs ≡ true → list_all is_utf8 (take k xs) ≡ true
+all_taken zero xs h = refl
+all_taken (suc k) [] h = refl
+all_taken (suc k) (x ∷ xs) h = and_from (is_utf8 x) _ (first_so (is_utf8 x) _ h) (all_taken k xs (second_so (is_utf8 x) _ h))
+
+-- a range of rows of a type is of it too
+pub bytes_part : (s : Storage) (xs ys : List (List ℕ)) (a b : ℕ) → are_bytes_of s xs ≡ true → ys ≡ slice_range xs a b → are_bytes_of s ys ≡ true
+bytes_part Text xs ys a b h range = ap (list_all is_utf8) range ∙ all_taken (b - a) (drop a xs) (all_dropped a xs h)
+bytes_part _ xs ys a b h range = refl
+
+-- the check of each row
+pub all_text : (b : Bool) (rows : List (List ℕ)) → (IsTrue b ↔ AllPass is_utf8 rows) → b ≡ list_all is_utf8 rows
+all_text true rows h = sym (list_all-from_AllPass is_utf8 rows (h.0 refl))
+all_text false rows h = by_all (list_all is_utf8 rows) refl
+  where
+    by_all : (b : Bool) → list_all is_utf8 rows ≡ b → false ≡ b
+    by_all true e = h.1 (AllPass-from_list_all is_utf8 rows e)
+    by_all false e = refl

@@ -1,0 +1,231 @@
+//! Columns of text and of bytes.
+
+ghost use Rattle.std.specs.Prelude.{◌≡◌, ◌⊎◌, ◌≤◌, ◌∷◌, [], MatchResult, IfOk, IfErr, OnOk, Some, None, is_ok, length, option_map, refl};
+ghost use Rattle.vx_value.specs.View.{type_of};
+ghost use Rattle.vx_value.specs.Storage.{storage_of};
+ghost use Rattle.vx_value.specs.declared.id.Id.TheVariants as id;
+ghost use Rattle.vx_tree.specs.ColumnTypes.{bytes_type, are_bytes_of};
+ghost use Rattle.vx_tree.specs.Tree.{views, is_views, column, len, datum, slice_of};
+ghost use Rattle.vx_tree.specs.Keeps.{KeepsExactly};
+ghost use Rattle.vx_tree.specs.Conditions.{unless};
+ghost use Rattle.vx_tree.specs.Validities.{child_of, bytes_refusal};
+ghost use Rattle.vx_tree.specs.Columns.{canonical_tree, varbinview_column, empty_of};
+
+use crate::array::{
+    Array, ArrayId, ArrayKind, ArrayParts, ArrayRef, Encoded, Encoding, EncodingVariant, VTable,
+};
+use crate::arrays::column::{check_column, check_flat_column, flat_column, flat_slice};
+use crate::arrays::payload;
+use crate::canonical::Canonical;
+use crate::validity::Validity;
+use std::alloc::Global;
+use std::ops::Range;
+use vx_value::{ArgKind, ByteBuffer, DType, Id, Nullability, Storage, VortexError, VortexResult};
+use vx_views::BinaryViews;
+
+/// The tag of the encoding of text and bytes.
+#[derive(Clone, Copy, Debug)]
+pub struct VarBinView;
+
+/// A column of text or of bytes.
+pub type VarBinViewArray = Array<VarBinView>;
+
+/// The data of a column of text or bytes: the bytes of each row, also if the row is null. Those of text are UTF-8.
+#[derive(Clone, Debug, Drop)]
+pub struct VarBinViewData {
+    pub rows: BinaryViews,
+}
+
+impl VTable for VarBinView {
+    ghost named = { λ _. id.VarBinView };
+
+    fn id(&self) -> ArrayId {
+        Id::VarBinView
+    }
+
+    fn tag(_payload: &VarBinViewData) -> VarBinView {
+        VarBinView
+    }
+
+    #[tactic(auto, using(crate::proofs::ConditionsLemmas::in_turn))]
+    fn validate(_alloc: Global, parts: &ArrayParts<VarBinView>) -> VortexResult<()> {
+        let storage = parts.dtype.storage();
+        let rows = &parts.payload.rows;
+        check_column(parts, &bytes_type(storage), rows.len())?;
+        check_bytes(storage, rows)
+    }
+}
+
+/// Returns the non-nullable type of rows of bytes that are stored so: text, else bytes.
+fn bytes_type(storage: Storage) -> DType
+    ensures { type_of result ≡ bytes_type storage }
+{
+    match storage {
+        Storage::Text => DType::Utf8(Nullability::NonNullable),
+        _ => DType::Binary(Nullability::NonNullable),
+    }
+}
+
+/// Checks that `rows` are values that are stored so: that each is UTF-8 if they are text.
+fn check_bytes(storage: Storage, rows: &BinaryViews) -> VortexResult<()>
+    ensures { MatchResult result
+        (λ _. unless (are_bytes_of storage rows.now) (VortexError.InvalidArgument ArgKind.BadValue) ≡ None)
+        (λ e. unless (are_bytes_of storage rows.now) (VortexError.InvalidArgument ArgKind.BadValue) ≡ Some e) }
+{
+    if are_bytes_of(storage, rows) {
+        Ok(())
+    } else {
+        Err(VortexError::InvalidArgument(ArgKind::BadValue))
+    }
+}
+
+/// Checks whether `rows` are values that are stored so.
+fn are_bytes_of(storage: Storage, rows: &BinaryViews) -> bool
+    ensures { result ≡ are_bytes_of storage rows.now }
+{
+    match storage {
+        Storage::Text => rows.is_utf8(),
+        _ => true,
+    }
+}
+
+impl VarBinViewArray {
+    /// Makes the column of `rows`, whose null rows `validity` tells. What a null row's bytes are doesn't count, but that those of
+    /// text are UTF-8.
+    ///
+    /// The first condition that fails gives the error: `InvalidArgument` with `BadType` exactly if `dtype` isn't one of text or
+    /// bytes with the nullability of `validity`, with `SlotType` exactly if the validity's array isn't one of non-nullable
+    /// booleans, with `SlotLen` exactly if it hasn't as many rows as there are rows of bytes, and with `BadValue` exactly if
+    /// `dtype` is one of text and a row isn't UTF-8.
+    #[tactic(auto, using(crate::proofs::ConditionsLemmas::in_turn))]
+    pub fn try_new(
+        alloc: Global,
+        dtype: DType,
+        rows: BinaryViews,
+        validity: &Validity,
+    ) -> VortexResult<VarBinViewArray>
+        ensures ok { IfOk result (λ a. a ≡ column (type_of dtype) (length rows) (views rows) (child_of validity.now (length rows))) }
+        ensures valid { OnOk result (bytes_refusal (type_of dtype) rows validity.now ≡ None) }
+        ensures refused { IfErr result (λ e. (e ≡ VortexError.OutOfMemory) ⊎ (bytes_refusal (type_of dtype) rows validity.now ≡ Some e)) }
+    {
+        let storage = dtype.storage();
+        check_flat_column(&dtype, &bytes_type(storage), rows.len(), validity)?;
+        check_bytes(storage, &rows)?;
+        VarBinViewArray::new_unchecked(alloc, dtype, rows, validity)
+    }
+
+    /// Makes the column of `rows`, which `try_new` must not refuse. Doesn't read the rows. The only error is `OutOfMemory`.
+    pub fn new_unchecked(
+        alloc: Global,
+        dtype: DType,
+        rows: BinaryViews,
+        validity: &Validity,
+    ) -> VortexResult<VarBinViewArray>
+        requires { bytes_refusal (type_of dtype) rows validity.now ≡ None }
+        ensures ok { IfOk result (λ a. a ≡ column (type_of dtype) (length rows) (views rows) (child_of validity.now (length rows))) }
+        ensures err { IfErr result (λ e. e ≡ VortexError.OutOfMemory) }
+    {
+        let of_type = bytes_type(dtype.storage());
+        let len = rows.len();
+        flat_column(
+            alloc,
+            VarBinView,
+            dtype,
+            &of_type,
+            len,
+            VarBinViewData { rows },
+            validity,
+        )
+    }
+
+    /// Returns the rows in `range`, which must be in order and in bounds, as a column that shares its storage. The only
+    /// error is `OutOfMemory`. (own)
+    pub(crate) fn slice(&self, alloc: Global, range: Range<usize>) -> VortexResult<Canonical>
+        requires { (range.start ≤ range.end) × (range.end ≤ len self.now) }
+        ensures ok { IfOk result (λ c. KeepsExactly (slice_of range.start range.end self.now) (canonical_tree c)) }
+        ensures err { IfErr result (λ e. e ≡ VortexError.OutOfMemory) }
+    {
+        let array = self.as_array();
+        array.well();
+        let ArrayKind::VarBinView(rows, validity) = array.kind() else {
+            unreachable!()
+        };
+        let (start, end) = (range.start, range.end);
+        let rows = rows.slice(range)?;
+        let payload = VarBinViewData { rows };
+        let column = flat_slice(alloc, VarBinView, payload, array, validity, start..end)?;
+        Ok(Canonical::VarBinView(column))
+    }
+}
+
+impl Canonical {
+    /// Makes the column of type `dtype`, one of text or bytes, without rows. The only error is `OutOfMemory`. (own)
+    pub(crate) fn empty_varbinview(alloc: Global, dtype: &DType) -> VortexResult<Canonical>
+        requires { (storage_of (type_of dtype.now) ≡ Storage.Text) ⊎ (storage_of (type_of dtype.now) ≡ Storage.Bytes) }
+        ensures ok { IfOk result (λ c. canonical_tree c ≡ empty_of (type_of dtype.now)) }
+        ensures err { IfErr result (λ e. e ≡ VortexError.OutOfMemory) }
+    {
+        let rows = BinaryViews::repeat(alloc, ByteBuffer::empty(), 0)?;
+        let validity = Validity::from(dtype.nullability());
+        let column = VarBinViewArray::new_unchecked(alloc, dtype.clone()?, rows, &validity)?;
+        Ok(Canonical::VarBinView(column))
+    }
+
+    /// Returns `array` as a column. Hands it back if it isn't a column of text or bytes. (own)
+    pub(crate) fn from_varbinview(array: ArrayRef) -> Result<Canonical, ArrayRef>
+        ensures which { is_ok result ≡ is_views (datum array) }
+        ensures ok { IfOk result (λ c. canonical_tree c ≡ array) }
+        ensures err { IfErr result (λ a. a ≡ array) }
+    {
+        match VarBinViewArray::try_from_array_ref(array) {
+            Ok(column) => Ok(Canonical::VarBinView(column)),
+            Err(array) => Err(array),
+        }
+    }
+
+    /// Returns the column if it is one of text or bytes, else `None`.
+    pub fn as_varbinview(&self) -> Option<&VarBinViewArray>
+        ensures { option_map (λ c. c.now) result ≡ varbinview_column self.now }
+    {
+        if let Canonical::VarBinView(column) = self {
+            Some(column)
+        } else {
+            None
+        }
+    }
+
+    /// Returns the column by value if it is one of text or bytes, else `None`.
+    pub fn into_varbinview(self) -> Option<VarBinViewArray>
+        ensures { result ≡ varbinview_column self }
+    {
+        if let Canonical::VarBinView(column) = self {
+            Some(column)
+        } else {
+            None
+        }
+    }
+}
+
+impl Encoded for VarBinView {
+    type TypedArrayData = VarBinViewData;
+}
+
+impl EncodingVariant for VarBinView {
+    fn wrap(payload: VarBinViewData) -> Encoding {
+        Encoding::VarBinView(payload)
+    }
+
+    ghost stands_for = { λ d. views d.rows };
+
+    ghost is_kind = { is_views };
+
+    fn project(encoding: &Encoding) -> Option<&VarBinViewData> {
+        payload!(encoding, VarBinView)
+    }
+
+    fn into_data(encoding: Encoding) -> Option<VarBinViewData> {
+        payload!(encoding, VarBinView)
+    }
+
+    ghost kind_of = { λ d. refl };
+}
