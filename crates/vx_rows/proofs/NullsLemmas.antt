@@ -10,23 +10,25 @@ use Rattle.std.proofs.Common.{◌≡◌, ◌⊎◌, inl, inr, ◌<◌, ℕ, zero
 use Rattle.std.proofs.Math.Bool.{not}
 use Rattle.std.proofs.lemmas.List.{get_or-map, get_or-replicate}
 use Rattle.std.specs.Cmp.{unsigned_Decides}
-use Rattle.vx_value.specs.Types.{DataType, bool, primitive, nullability_of, same_type_Decides}
+use Rattle.vx_value.specs.Types.{DataType, bool, utf8, binary, nullability_of, same_type_Decides}
 use Rattle.vx_value.specs.Nullabilities.{with_nullability}
 use Rattle.vx_value.specs.View.{type_of}
 use Rattle.vx_value.specs.Typed.{Typed}
 use Rattle.vx_value.specs.IsOf.{is_null}
-use Rattle.vx_value.specs.Values.{Value, null, boolean, integer}
-use Rattle.vx_value.specs.Cell.{value, fault}
+use Rattle.vx_value.specs.Values.{Value, null, boolean, integer, bytes}
+use Rattle.vx_value.specs.Cell.{Cell, value, fault}
 use Rattle.vx_value.specs.Storage.{storage_of}
+use Rattle.vx_value.specs.declared.dtype.Storage.{Storage}
 use Rattle.vx_value.specs.declared.dtype.Storage.TheVariants as storage
 use Rattle.vx_value.specs.declared.dtype.Nullability.{Nullability}
 use Rattle.vx_value.specs.declared.dtype.Nullability.TheVariants.{NonNullable, Nullable}
 use Rattle.vx_value.specs.declared.dtype.PType.{PType}
 use Rattle.vx_tree.specs.Tree as enc
-use Rattle.vx_tree.specs.Tree.{Tree, slots_of, dtype, len, column, constant_of}
-use Rattle.vx_tree.specs.Cells.{rows, cells_at, valid_cells}
+use Rattle.vx_tree.specs.ColumnTypes.{bytes_type, are_bytes_of}
+use Rattle.vx_tree.specs.Tree.{Tree, Data, slots_of, dtype, len, column, constant_of}
+use Rattle.vx_tree.specs.Cells.{rows, slots_rows, node_cells, cells_at, valid_cells}
 use Rattle.vx_tree.specs.Well.{Shape, shape, shape_of, shapes, IsValidity, IsFlat, IsNodeOf}
-use Rattle.vx_tree.specs.Validities.{nullability_by, array_refusal, flat_refusal, HasRows}
+use Rattle.vx_tree.specs.Validities.{nullability_by, array_refusal, flat_refusal, bytes_refusal, HasRows}
 use Rattle.vx_tree.specs.Columns.{columnar_tree}
 use Rattle.vx_tree.specs.declared.columnar.Columnar.{Columnar}
 use Rattle.vx_tree.specs.declared.validity.Validity.{Validity}
@@ -35,11 +37,12 @@ use Rattle.vx_tree.proofs.ConditionsLemmas.{none_refused, none_unless}
 use Rattle.vx_mask.specs.Logic.{bit_row}
 use Rattle.vx_mask.specs.Operands.{bit_in, HasBits}
 use Rattle.vx_mask.specs.declared.operand.BitOperand.{BitOperand}
-use Rattle.vx_rows.specs.Arguments.{IsArgument, IsUnread, AreUnread, IsRepeated, AreStored, IsInRange, HasIntegers, type_of_rows, value_at, ptype_in, integer_in}
+use Rattle.vx_rows.specs.Arguments.{IsArgument, IsUnread, AreUnread, IsRepeated, AreStored, IsInRange, HasIntegers, type_of_rows, value_at, ptype_in, integer_in, bytes_in, AreBytes}
 use Rattle.vx_rows.specs.Nulls.{validity_cells}
 use Rattle.vx_rows.specs.ValidRows.{is_valid, HasValidity, nullability_in, AreTold, TellsRows, IsRepeatedValidity, null_unless}
 use Rattle.vx_rows.specs.declared.argument.ArgumentRows.{ArgumentRows}
 use Rattle.vx_rows.specs.declared.argument.ArgumentRows.TheVariants as stored
+use Rattle.vx_rows.specs.declared.argument.BytesOperand.{BytesOperand}
 use Rattle.vx_rows.specs.declared.argument.IntegerOperand.{IntegerOperand}
 use Rattle.vx_rows.specs.declared.valid.ValidRows.{ValidRows}
 
@@ -53,6 +56,15 @@ rows_taken n _ h = refl
 pub flat_taken : (s ty : DataType) (n : ℕ) (v : Validity) → HasRows v n → ty ≡ with_nullability (nullability_by v) s → flat_refusal s ty n v ≡ None
 flat_taken s ty n v h typed =
     none_refused _ _ (none_unless _ _ ((same_type_Decides ty (with_nullability (nullability_by v) s)).1 typed)) (rows_taken n v h)
+
+-- and the column of rows of bytes with one
+pub bytes_taken : (st : Storage) (ty : DataType) (rs : List (List ℕ)) (v : Validity) → HasRows v (length rs) → are_bytes_of st rs ≡ true
+    → ty ≡ with_nullability (nullability_by v) (bytes_type st) → bytes_refusal ty rs v ≡ None
+bytes_taken storage.Text ty rs v h k e =
+    subst (λ t. bytes_refusal t rs v ≡ None) (sym e) (none_refused _ _ (flat_taken (utf8 NonNullable) (utf8 (nullability_by v)) (length rs) v h refl) (none_unless _ _ k))
+bytes_taken _ ty rs v h k e =
+    subst (λ t. bytes_refusal t rs v ≡ None) (sym e)
+    (none_refused _ _ (flat_taken (binary NonNullable) (binary (nullability_by v)) (length rs) v h refl) refl)
 
 -- ---- a column's validity tells of its rows
 
@@ -96,38 +108,66 @@ column_row read d (Some t) valid n xs i told long lt =
 
 -- ---- columns and constants as arguments
 
+-- what the cells of a column of values are, each read from an item
+abbrev pub AreCells : {X : Type 0} → (X → Value) → (List X → Data) → Type 0
+AreCells {X = X} read of_items =
+    (ty : DataType) (n : ℕ) (xs : List X) (css : List (List Cell)) → node_cells ty n (of_items xs) css ≡ valid_cells (cells_at css 0) (map (λ x. value (read x)) xs)
+
 module _ (c : Columnar) (v : Option Tree) (valid : ValidRows) (told : AreTold (len (columnar_tree c)) v valid) (same : nullability_in valid ≡ nullability_of (dtype (columnar_tree c)))
     (sized : HasValidity valid (len (columnar_tree c))) (array : Tree) (is : array ≡ columnar_tree c) (well : IsNodeOf array) where
+  -- the column, as it is stored
+  shown_by : (d : Data) → array ≡ column (dtype array) (len array) d v → columnar_tree c ≡ column (dtype (columnar_tree c)) (len (columnar_tree c)) d v
+  shown_by d = subst (λ x. x ≡ column (dtype x) (len x) d v) is
+
+  flat_by : (d : Data) → array ≡ column (dtype array) (len array) d v → IsNodeOf (column (dtype (columnar_tree c)) (len (columnar_tree c)) d v)
+  flat_by d h = subst IsNodeOf (shown_by d h) (subst IsNodeOf is well)
+
+  -- and each of its rows
+  rows_by : {X : Type 0} (read : X → Value) (d : X) (of_items : List X → Data) → AreCells read of_items → (xs : List X) → length xs ≡ len (columnar_tree c)
+      → array ≡ column (dtype array) (len array) (of_items xs) v → (i : ℕ) → i < len (columnar_tree c)
+      → get_or (rows (columnar_tree c)) i fault ≡ null_unless (is_valid valid i) (value (read (get_or xs i d)))
+  rows_by read d of_items cells xs long is_column i lt =
+      let t = columnar_tree c in
+      ap (λ u. get_or (rows u) i fault) (shown_by (of_items xs) is_column)
+      ∙ ap (λ cs. get_or cs i fault) (cells (dtype t) (len t) xs (slots_rows (slots_of (v ∷ []))))
+      ∙ ap (λ css. get_or (valid_cells (cells_at css 0) (map (λ x. value (read x)) xs)) i fault) (one_slot v)
+      ∙ column_row read d v valid (len t) xs i told long lt
+
   pub booleans_argument : (bs : BitOperand) (bits : List Bool) → ((i : ℕ) → bit_in bs i ≡ bit_row bits i) → ((n : ℕ) → length bits ≡ n → HasBits bs n)
       → array ≡ column (dtype array) (len array) (enc.bool bits) v → IsArgument c (record { rows = stored.Bits bs; valid = valid })
   booleans_argument bs bits read rows_of is_column =
-      let t = columnar_tree c in
-      let shown : t ≡ column (dtype t) (len t) (enc.bool bits) v = subst (λ x. x ≡ column (dtype x) (len x) (enc.bool bits) v) is is_column in
-      let flat : IsFlat (bool NonNullable) (length bits) (dtype t) (len t) (shapes (slots_of (v ∷ []))) = subst IsNodeOf shown (subst IsNodeOf is well) in
+      let flat = flat_by (enc.bool bits) is_column in
       record {
         typed = flat.1 ∙ ap bool (sym same);
-        shown = λ i lt. ap (λ u. get_or (rows u) i fault) shown
-            ∙ ap (λ css. get_or (valid_cells (cells_at css 0) (map (λ b. value (boolean b)) bits)) i fault) (one_slot v)
-            ∙ column_row boolean false v valid (len t) bits i told (sym flat.2) lt
+        shown = λ i lt. rows_by boolean false enc.bool (λ ty n xs css. refl) bits (sym flat.2) is_column i lt
             ∙ ap (λ b. null_unless (is_valid valid i) (value (boolean b))) (sym (read i));
-        sized = (rows_of (len t) (sym flat.2), sized);
+        sized = (rows_of (len (columnar_tree c)) (sym flat.2), sized);
       }
 
   pub integers_argument : (zs : IntegerOperand) (p : PType) (ws : List ℤ) → ptype_in zs ≡ p → ((i : ℕ) → integer_in zs i ≡ get_or ws i (pos 0))
       → ((n : ℕ) → length ws ≡ n → IsInRange zs.rows × HasIntegers zs.rows n) → type_of zs.dtype.now ≡ dtype (columnar_tree c)
       → array ≡ column (dtype array) (len array) (enc.primitive p ws) v → IsArgument c (record { rows = stored.Integers zs; valid = valid })
   integers_argument zs p ws kind read rows_of typed is_column =
-      let t = columnar_tree c in
-      let shown : t ≡ column (dtype t) (len t) (enc.primitive p ws) v = subst (λ x. x ≡ column (dtype x) (len x) (enc.primitive p ws) v) is is_column in
-      let flat : IsFlat (primitive p NonNullable) (length ws) (dtype t) (len t) (shapes (slots_of (v ∷ []))) = subst IsNodeOf shown (subst IsNodeOf is well) in
-      let there = rows_of (len t) (sym flat.2) in
+      let flat = flat_by (enc.primitive p ws) is_column in
+      let there = rows_of (len (columnar_tree c)) (sym flat.2) in
       record {
         typed = sym typed;
-        shown = λ i lt. ap (λ u. get_or (rows u) i fault) shown
-            ∙ ap (λ css. get_or (valid_cells (cells_at css 0) (map (λ z. value (integer z)) ws)) i fault) (one_slot v)
-            ∙ column_row integer (pos 0) v valid (len t) ws i told (sym flat.2) lt
+        shown = λ i lt. rows_by integer (pos 0) (enc.primitive p) (λ ty n xs css. refl) ws (sym flat.2) is_column i lt
             ∙ ap (λ z. null_unless (is_valid valid i) (value (integer z))) (sym (read i));
         sized = (((refl, there.0, there.1, ap storage_of (typed ∙ flat.1) ∙ ap storage.Integers (sym kind)), ap nullability_of typed ∙ sym same), sized);
+      }
+
+  pub bytes_argument : (bs : BytesOperand) (rs : List (List ℕ)) → ((i : ℕ) → bytes_in bs i ≡ get_or rs i []) → bs.storage ≡ storage_of (dtype (columnar_tree c))
+      → ((n : ℕ) → length rs ≡ n → are_bytes_of bs.storage rs ≡ true → AreBytes bs n) → array ≡ column (dtype array) (len array) (enc.views rs) v
+      → IsArgument c (record { rows = stored.Bytes bs; valid = valid })
+  bytes_argument bs rs read kind rows_of is_column =
+      let t = columnar_tree c in
+      let flat = flat_by (enc.views rs) is_column in
+      record {
+        typed = flat.0.1 ∙ (λ i. with_nullability (sym same i) (bytes_type (sym kind i)));
+        shown = λ i lt. rows_by bytes [] enc.views (λ ty n xs css. refl) rs (sym flat.0.2) is_column i lt
+            ∙ ap (λ r. null_unless (is_valid valid i) (value (bytes r))) (sym (read i));
+        sized = (rows_of (len t) (sym flat.0.2) (ap (λ st. are_bytes_of st rs) kind ∙ flat.1), sized);
       }
 
 -- a fault in the validity is one in the column
@@ -141,27 +181,17 @@ flat_unread read (Some t) xs n e long (inr h) =
     let there : i < length cs = omega (arith, length-map xs (λ x. value (read x)), h.2) in
     inr (h.0, i, h.2, row_told (Some t) t i fault (get_or cs i fault) refl h.3 cs (slice_get-get_or cs i fault there))
 
-module _ (c : Columnar) (v : Option Tree) (e : VortexError) (array : Tree) (is : array ≡ columnar_tree c) (well : IsNodeOf array) (unread : AreUnread (len (columnar_tree c)) v e) where
-  pub booleans_unread : (bits : List Bool) → array ≡ column (dtype array) (len array) (enc.bool bits) v → IsUnread (columnar_tree c) e
-  booleans_unread bits is_column =
+module _ (c : Columnar) (v : Option Tree) (e : VortexError) (array : Tree) (is : array ≡ columnar_tree c) (unread : AreUnread (len (columnar_tree c)) v e) where
+  pub column_unread : {X : Type 0} (read : X → Value) (of_items : List X → Data) → AreCells read of_items → (xs : List X) → length xs ≡ len array
+      → array ≡ column (dtype array) (len array) (of_items xs) v → IsUnread (columnar_tree c) e
+  column_unread read of_items cells xs long is_column =
       let t = columnar_tree c in
-      let shown : t ≡ column (dtype t) (len t) (enc.bool bits) v = subst (λ x. x ≡ column (dtype x) (len x) (enc.bool bits) v) is is_column in
-      let flat : IsFlat (bool NonNullable) (length bits) (dtype t) (len t) (shapes (slots_of (v ∷ []))) = subst IsNodeOf shown (subst IsNodeOf is well) in
-      let cells = ap rows shown ∙ ap (λ css. valid_cells (cells_at css 0) (map (λ b. value (boolean b)) bits)) (one_slot v) in
-      elim (flat_unread boolean v bits (len t) e (sym flat.2) unread) [
+      let shown : t ≡ column (dtype t) (len t) (of_items xs) v = subst (λ x. x ≡ column (dtype x) (len x) (of_items xs) v) is is_column in
+      let told = ap rows shown ∙ cells (dtype t) (len t) xs (slots_rows (slots_of (v ∷ [])))
+      ∙ ap (λ css. valid_cells (cells_at css 0) (map (λ x. value (read x)) xs)) (one_slot v) in
+      elim (flat_unread read v xs (len t) e (long ∙ ap len is) unread) [
         | inl m ↦ inl m
-        | inr h ↦ inr (h.0, h.1, h.2, ap (λ cs. slice_get cs h.1) cells ∙ h.3)
-      ]
-
-  pub integers_unread : (p : PType) (ws : List ℤ) → array ≡ column (dtype array) (len array) (enc.primitive p ws) v → IsUnread (columnar_tree c) e
-  integers_unread p ws is_column =
-      let t = columnar_tree c in
-      let shown : t ≡ column (dtype t) (len t) (enc.primitive p ws) v = subst (λ x. x ≡ column (dtype x) (len x) (enc.primitive p ws) v) is is_column in
-      let flat : IsFlat (primitive p NonNullable) (length ws) (dtype t) (len t) (shapes (slots_of (v ∷ []))) = subst IsNodeOf shown (subst IsNodeOf is well) in
-      let cells = ap rows shown ∙ ap (λ css. valid_cells (cells_at css 0) (map (λ z. value (integer z)) ws)) (one_slot v) in
-      elim (flat_unread integer v ws (len t) e (sym flat.2) unread) [
-        | inl m ↦ inl m
-        | inr h ↦ inr (h.0, h.1, h.2, ap (λ cs. slice_get cs h.1) cells ∙ h.3)
+        | inr h ↦ inr (h.0, h.1, h.2, ap (λ cs. slice_get cs h.1) told ∙ h.3)
       ]
 
 null_is : (v : Value) → is_null v ≡ true → v ≡ null

@@ -2,11 +2,13 @@
 use Rattle.std.specs.Prelude.{◌≡◌, ◌⊎◌, ◌<◌, ℕ, ℤ, pos, List, [], ◌∷◌, map, length, true, false, Option, Some, None, slice_index_or, slice_get}
 use Rattle.vx_value.specs.Types as type
 use Rattle.vx_value.specs.Types.{DataType, nullability_of}
-use Rattle.vx_value.specs.Values.{Value, boolean, integer}
+use Rattle.vx_value.specs.Values.{Value, boolean, integer, bytes}
 use Rattle.vx_value.specs.Cell.{Cell, value, fault}
 use Rattle.vx_value.specs.View.{type_of}
 use Rattle.vx_value.specs.Storage.{storage_of}
+use Rattle.vx_value.specs.declared.dtype.Storage.{Storage}
 use Rattle.vx_value.specs.declared.dtype.Storage.TheVariants as storage
+use Rattle.vx_value.specs.Nullabilities.{with_nullability}
 use Rattle.vx_value.specs.Typed.{Typed}
 use Rattle.vx_value.specs.IsOf.{in_range, is_null}
 use Rattle.vx_value.specs.declared.dtype.Nullability.{Nullability}
@@ -16,6 +18,7 @@ use Rattle.vx_value.specs.declared.error.VortexError.TheVariants.{OutOfMemory, F
 use Rattle.vx_value.specs.declared.dtype.PType.{PType}
 use Rattle.vx_mask.specs.Operands.{bit_in, HasBits}
 use Rattle.vx_native.specs.Natives.{values_of, ptype_of}
+use Rattle.vx_tree.specs.ColumnTypes.{bytes_type, are_bytes_of}
 use Rattle.vx_tree.specs.Tree.{Tree, dtype, len}
 use Rattle.vx_tree.specs.Cells.{rows}
 use Rattle.vx_tree.specs.Columns.{columnar_tree}
@@ -23,6 +26,9 @@ use Rattle.vx_tree.specs.declared.columnar.Columnar.{Columnar}
 use Rattle.vx_rows.specs.declared.argument.IntegerOperand.{IntegerOperand}
 use Rattle.vx_rows.specs.declared.argument.IntegerRows.{IntegerRows}
 use Rattle.vx_rows.specs.declared.argument.IntegerRows.TheVariants as rows_in
+use Rattle.vx_rows.specs.declared.argument.BytesOperand.{BytesOperand}
+use Rattle.vx_rows.specs.declared.argument.BytesRows.{BytesRows}
+use Rattle.vx_rows.specs.declared.argument.BytesRows.TheVariants as bytes_rows
 use Rattle.vx_rows.specs.declared.argument.Argument.{Argument}
 use Rattle.vx_rows.specs.declared.argument.ArgumentRows.{ArgumentRows}
 use Rattle.vx_rows.specs.declared.argument.ArgumentRows.TheVariants as stored
@@ -57,30 +63,51 @@ ptype_in zs = ptype_at zs.rows
 abbrev pub AreIntegers : PType → IntegerOperand → ℕ → Type 0
 AreIntegers p zs n = (ptype_in zs ≡ p) × IsInRange zs.rows × HasIntegers zs.rows n × (storage_of (type_of zs.dtype.now) ≡ storage.Integers p)
 
+-- the bytes at row i, none past the last one
+abbrev pub bytes_at : BytesRows → ℕ → List ℕ
+bytes_at (bytes_rows.Rows rs) i = slice_index_or rs.now i []
+bytes_at (bytes_rows.Value bs) i = bs.now
+
+abbrev pub bytes_in : BytesOperand → ℕ → List ℕ
+bytes_in bs = bytes_at bs.rows
+
+-- n rows of bytes that are values that are stored so
+abbrev pub HasBytes : Storage → BytesRows → ℕ → Type 0
+HasBytes st (bytes_rows.Rows rs) n = (length rs.now ≡ n) × (are_bytes_of st rs.now ≡ true)
+HasBytes st (bytes_rows.Value bs) n = are_bytes_of st (bs.now ∷ []) ≡ true
+
+abbrev pub AreBytes : BytesOperand → ℕ → Type 0
+AreBytes bs = HasBytes bs.storage bs.rows
+
 -- the value that is stored in row i, also if the row is null: a line for each storage
 abbrev pub value_at : ArgumentRows → ℕ → Value
 value_at (stored.Bits bs) i = boolean (bit_in bs i)
 value_at (stored.Integers zs) i = integer (integer_in zs i)
+value_at (stored.Bytes bs) i = bytes (bytes_in bs i)
 
 -- the type of the values: a line for each storage
 abbrev pub plain_type : ArgumentRows → DataType
 plain_type (stored.Bits bs) = type.bool NonNullable
 plain_type (stored.Integers zs) = type.primitive (ptype_in zs) NonNullable
+plain_type (stored.Bytes bs) = bytes_type bs.storage
 
 -- the type of a column of them, by its nullability
 abbrev pub type_of_rows : Nullability → ArgumentRows → DataType
 type_of_rows m (stored.Bits bs) = type.bool m
 type_of_rows m (stored.Integers zs) = type_of zs.dtype.now
+type_of_rows m (stored.Bytes bs) = with_nullability m (bytes_type bs.storage)
 
 -- there are n of them, in a column of this nullability
 abbrev pub AreStored : Nullability → ArgumentRows → ℕ → Type 0
 AreStored m (stored.Bits bs) n = HasBits bs n
 AreStored m (stored.Integers zs) n = AreIntegers (ptype_in zs) zs n × (nullability_of (type_of zs.dtype.now) ≡ m)
+AreStored m (stored.Bytes bs) n = AreBytes bs n
 
 -- there are n of them
 abbrev pub HasStored : ArgumentRows → ℕ → Type 0
 HasStored (stored.Bits bs) n = HasBits bs n
 HasStored (stored.Integers zs) n = AreIntegers (ptype_in zs) zs n
+HasStored (stored.Bytes bs) n = AreBytes bs n
 
 abbrev pub type_of_argument : Argument → DataType
 type_of_argument a = type_of_rows (nullability_in a.valid) a.rows

@@ -1,14 +1,20 @@
 -- Columns by what they store and by their validity.
-use Rattle.std.specs.Prelude.{ℤ, List, length, Bool}
+use Rattle.std.specs.Prelude.{ℕ, ℤ, List, length, Bool}
 use Rattle.vx_value.specs.Types as type
 use Rattle.vx_value.specs.declared.dtype.PType.{PType}
-use Rattle.vx_tree.specs.Tree.{Tree, column, bool, primitive}
+use Rattle.vx_value.specs.Nullabilities.{with_nullability}
+use Rattle.vx_value.specs.declared.dtype.Storage.{Storage}
+use Rattle.vx_tree.specs.ColumnTypes.{bytes_type}
+use Rattle.vx_tree.specs.Tree.{Tree, column, bool, primitive, views}
 use Rattle.vx_tree.specs.Validities.{nullability_by, child_of}
 use Rattle.vx_tree.specs.declared.validity.Validity.{Validity}
 
--- of booleans, and of integers
+-- of booleans, of integers, and of text or bytes, by how they are stored
 abbrev pub boolean_column : List Bool → Validity → Tree
 boolean_column bs v = column (type.bool (nullability_by v)) (length bs) (bool bs) (child_of v (length bs))
 
 abbrev pub integer_column : PType → List ℤ → Validity → Tree
 integer_column p zs v = column (type.primitive p (nullability_by v)) (length zs) (primitive p zs) (child_of v (length zs))
+
+abbrev pub bytes_column : Storage → List (List ℕ) → Validity → Tree
+bytes_column st rs v = column (with_nullability (nullability_by v) (bytes_type st)) (length rs) (views rs) (child_of v (length rs))

@@ -1,13 +1,13 @@
 //! Columns as the arguments of a function.
 
-ghost use Rattle.std.specs.Prelude.{◌≡◌, ◌<◌, IfOk, IfErr, true, Some};
+ghost use Rattle.std.specs.Prelude.{◌≡◌, ◌<◌, ℕ, IfOk, IfErr, true, Some};
 ghost use Rattle.std.specs.List.{AllZip};
 ghost use Rattle.vx_tree.specs.ColumnTypes.{has_column};
 ghost use Rattle.vx_tree.specs.Columns.{columnar_tree};
 ghost use Rattle.vx_tree.specs.Cells.{rows};
-ghost use Rattle.vx_rows.specs.Arguments.{IsArgument, IsUnread, IsRepeated, AreUnread, AnyUnread, ptype_in};
+ghost use Rattle.vx_rows.specs.Arguments.{IsArgument, IsUnread, IsRepeated, AreUnread, AnyUnread, AreBytes, ptype_in, bytes_in};
 ghost use Rattle.vx_rows.specs.ValidRows.{HasValidity, AreTold, TellsRows, IsRepeatedValidity, nullability_in};
-ghost use Rattle.vx_rows.specs.declared.argument.ArgumentRows.TheVariants.{Integers};
+ghost use Rattle.vx_rows.specs.declared.argument.ArgumentRows.TheVariants.{Integers, Bytes};
 
 use crate::probe::truths_in;
 use crate::valid::ValidRows;
@@ -16,6 +16,7 @@ use vx_mask::{BitBuffer, BitOperand};
 use vx_native::PrimitiveValues;
 use vx_tree::{ArrayKind, ArrayRef, Columnar};
 use vx_value::{DType, Nullability, PType, Scalar, Storage, VortexResult};
+use vx_views::BinaryViews;
 
 /// An argument: its rows, and which of them aren't null.
 #[derive(Drop)]
@@ -29,6 +30,7 @@ pub struct Argument<'a> {
 pub enum ArgumentRows<'a> {
     Bits(BitOperand<'a>),
     Integers(IntegerOperand<'a>),
+    Bytes(BytesOperand<'a>),
 }
 
 /// Integers, and the type whose values they are.
@@ -45,6 +47,35 @@ pub enum IntegerRows<'a> {
     Rows(&'a PrimitiveValues),
     /// One integer for every row, in the range of its type.
     Value(PType, i128),
+}
+
+/// Rows of bytes, and how their values are stored: as text if they are text, else as bytes.
+#[derive(Clone, Copy)]
+pub struct BytesOperand<'a> {
+    pub storage: Storage,
+    pub rows: BytesRows<'a>,
+}
+
+/// Rows of bytes.
+#[derive(Clone, Copy)]
+pub enum BytesRows<'a> {
+    /// Bytes for each row.
+    Rows(&'a BinaryViews),
+    /// The same bytes for every row.
+    Value(&'a [u8]),
+}
+
+impl BytesOperand<'_> {
+    /// Returns the bytes of row `index`, which must exist.
+    pub fn value(&self, index: usize) -> &[u8]
+        requires { (n : ℕ) × (index < n) × AreBytes self.now n }
+        ensures { result.now ≡ bytes_in self.now index }
+    {
+        match self.rows {
+            BytesRows::Rows(rows) => rows.value(index),
+            BytesRows::Value(bytes) => bytes,
+        }
+    }
 }
 
 impl IntegerOperand<'_> {
@@ -85,6 +116,15 @@ pub fn argument_of(alloc: Global, column: &Columnar) -> VortexResult<Argument<'_
                 Err(e) => Err(e),
             }
         }
+        ArrayKind::VarBinView(rows, validity) => {
+            match valid_rows(alloc, validity, dtype.nullability(), len) {
+                Ok(valid) => Ok(Argument {
+                    rows: bytes_of(dtype.storage(), BytesRows::Rows(rows)),
+                    valid,
+                }),
+                Err(e) => Err(e),
+            }
+        }
         ArrayKind::Constant(scalar) => Ok(Argument {
             rows: repeated_rows(scalar),
             valid: repeated_valid_rows(alloc, scalar, len)?,
@@ -100,7 +140,14 @@ fn integers_of<'a>(dtype: &'a DType, rows: IntegerRows<'a>) -> ArgumentRows<'a>
     ArgumentRows::Integers(IntegerOperand { dtype, rows })
 }
 
-/// Returns the rows of a constant, each `scalar`; `false` or 0 stands under a null.
+/// Returns `rows`, of values that are stored so, as those of an argument.
+fn bytes_of(storage: Storage, rows: BytesRows<'_>) -> ArgumentRows<'_>
+    ensures { result ≡ Bytes (record { storage = storage; rows = rows.entry }) }
+{
+    ArgumentRows::Bytes(BytesOperand { storage, rows })
+}
+
+/// Returns the rows of a constant, each `scalar`; `false`, 0 or no bytes stand under a null.
 #[tactic(auto, using(crate::proofs::StoredLemmas::stored_integer))]
 fn repeated_rows(scalar: &Scalar) -> ArgumentRows<'_>
     requires { has_column scalar.now.of_type ≡ true }
@@ -112,6 +159,10 @@ fn repeated_rows(scalar: &Scalar) -> ArgumentRows<'_>
         Storage::Integers(ptype) => {
             let wide = scalar.as_integer().unwrap_or(0);
             integers_of(dtype, IntegerRows::Value(ptype, wide))
+        }
+        Storage::Text | Storage::Bytes => {
+            let bytes = scalar.as_bytes().unwrap_or(&[]);
+            bytes_of(dtype.storage(), BytesRows::Value(bytes))
         }
         _ => unreachable!(),
     }

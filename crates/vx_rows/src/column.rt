@@ -1,16 +1,18 @@
 //! Columns of stored values.
 
-ghost use Rattle.std.specs.Prelude.{◌≡◌, length, IfOk, IfErr};
+ghost use Rattle.std.specs.Prelude.{◌≡◌, length, true, IfOk, IfErr};
 ghost use Rattle.vx_native.specs.Natives.{values_of, ptype_of};
+ghost use Rattle.vx_tree.specs.ColumnTypes.{are_bytes_of};
 ghost use Rattle.vx_tree.specs.Validities.{HasRows};
 ghost use Rattle.vx_tree.specs.Columns.{canonical_tree};
-ghost use Rattle.vx_rows.specs.Stored.{boolean_column, integer_column};
+ghost use Rattle.vx_rows.specs.Stored.{boolean_column, integer_column, bytes_column};
 
 use std::alloc::Global;
 use vx_mask::BitBuffer;
 use vx_native::PrimitiveValues;
-use vx_tree::{BoolArray, Canonical, PrimitiveArray, Validity};
-use vx_value::{DType, VortexError, VortexResult};
+use vx_tree::{BoolArray, Canonical, PrimitiveArray, Validity, VarBinViewArray, bytes_type};
+use vx_value::{DType, Storage, VortexError, VortexResult};
+use vx_views::BinaryViews;
 
 /// Makes the column of `bits`, whose null rows `validity` tells. The only error is `OutOfMemory`.
 #[tactic(auto, using(crate::proofs::NullsLemmas::flat_taken))]
@@ -38,4 +40,22 @@ pub fn primitive_column(
     let dtype = DType::Primitive(values.ptype(), validity.nullability());
     let column = PrimitiveArray::try_new(alloc, dtype, values, validity)?;
     Ok(Canonical::Primitive(column))
+}
+
+/// Makes the column of `rows`, of values that are stored so, whose null rows `validity` tells. The only error is `OutOfMemory`.
+#[tactic(auto, using(crate::proofs::NullsLemmas::bytes_taken))]
+pub fn varbinview_column(
+    alloc: Global,
+    storage: Storage,
+    rows: BinaryViews,
+    validity: &Validity,
+) -> VortexResult<Canonical>
+    requires sized { HasRows validity.now (length rows) }
+    requires stored { are_bytes_of storage rows ≡ true }
+    ensures ok { IfOk result (λ c. canonical_tree c ≡ bytes_column storage rows validity.now) }
+    ensures err { IfErr result (λ e. e ≡ VortexError.OutOfMemory) }
+{
+    let dtype = bytes_type(storage).with_nullability(validity.nullability())?;
+    let column = VarBinViewArray::new_unchecked(alloc, dtype, rows, validity)?;
+    Ok(Canonical::VarBinView(column))
 }

@@ -8,8 +8,9 @@ mod probe;
 mod valid;
 
 pub use argument::{
-    Argument, ArgumentRows, IntegerOperand, IntegerRows, argument_of, arguments_of,
+    Argument, ArgumentRows, BytesOperand, BytesRows, IntegerOperand, IntegerRows, argument_of,
+    arguments_of,
 };
-pub use column::{bool_column, primitive_column};
+pub use column::{bool_column, primitive_column, varbinview_column};
 pub use probe::{execute_scalar, truths_in};
 pub use valid::ValidRows;

@@ -1,10 +1,11 @@
 //! Single rows of a tree.
 
-ghost use Rattle.std.specs.Prelude.{◌≡◌, ◌⊎◌, ◌≤◌, ◌<◌, IfOk, IfErr, IfSome, OnOk, length, map, slice_get, Some, false};
+ghost use Rattle.std.specs.Prelude.{◌≡◌, ◌⊎◌, ◌≤◌, ◌<◌, IfOk, IfErr, IfSome, OnOk, [], length, map, slice_get, slice_index_or, Some, true, false};
 ghost use Rattle.vx_value.specs.Types as type;
 ghost use Rattle.vx_value.specs.Types.{nullability_of};
 ghost use Rattle.vx_value.specs.View.{type_of};
-ghost use Rattle.vx_value.specs.Values.{Value, boolean, integer};
+ghost use Rattle.vx_value.specs.Values.{Value, boolean, integer, bytes};
+ghost use Rattle.vx_value.specs.IsOf.{is_of};
 ghost use Rattle.vx_value.specs.Cell.{value, fault};
 ghost use Rattle.vx_native.specs.Natives.{values_of, ptype_of};
 ghost use Rattle.vx_tree.specs.Tree.{node, function, dtype, len, slots_of};
@@ -19,7 +20,10 @@ use vx_fn::{ScalarFnRef, apply_row};
 use vx_mask::{BitBuffer, BitBuilder};
 use vx_native::PrimitiveValues;
 use vx_tree::{ArrayKind, ArrayRef};
-use vx_value::{DType, Nullability, Scalar, ScalarKind, VortexError, VortexResult};
+use vx_value::{
+    ByteBuffer, DType, Nullability, Scalar, ScalarKind, ScalarValue, VortexError, VortexResult,
+};
+use vx_views::BinaryViews;
 
 /// Returns the value of row `index`, counted from 0. Takes no turns.
 ///
@@ -43,6 +47,23 @@ pub fn execute_scalar(alloc: Global, array: &ArrayRef, index: usize) -> VortexRe
             len,
         });
     }
+    match array.kind() {
+        ArrayKind::Bool(bits, None) => Ok(bool_at(bits, index, array.dtype())),
+        ArrayKind::Primitive(values, None) => Ok(integer_at(values, index, array.dtype())),
+        _ => row_at(alloc, array, index),
+    }
+}
+
+/// Returns the value of row `index`, which must exist: of a column by the bits that tell its valid rows, of any other tree by
+/// recursion. It isn't inlined, so that the rows of a column without a validity take fewer instructions.
+#[inline(never)]
+fn row_at(alloc: Global, array: &ArrayRef, index: usize) -> VortexResult<Scalar>
+    requires { index < len array.now }
+    ensures ok { IfOk result (λ s. (slice_get (rows array.now) index ≡ Some (value s.value)) × (s.of_type ≡ dtype array.now)) }
+    ensures err { IfErr result
+        (λ e. (e ≡ VortexError.OutOfMemory)
+        ⊎ ((e ≡ VortexError.Fault) × (slice_get (rows array.now) index ≡ Some fault))) }
+{
     let dtype = array.dtype();
     match array.kind() {
         ArrayKind::Bool(bits, validity) => match stored_validity(dtype, validity, index) {
@@ -93,6 +114,10 @@ fn scalar_at(alloc: Global, array: &ArrayRef, index: usize) -> VortexResult<Scal
         }
         ArrayKind::Primitive(values, validity) => {
             unless_null(alloc, validity, index, integer_at(values, index, dtype))
+        }
+        ArrayKind::VarBinView(rows, validity) => {
+            let stored = bytes_at(alloc, rows, index, dtype)?;
+            unless_null(alloc, validity, index, stored)
         }
         ArrayKind::Constant(scalar) => Ok(scalar.clone()?),
         ArrayKind::Slice(child, start, _) => scalar_at(alloc, child, start + index),
@@ -218,6 +243,18 @@ fn integer_at(values: &PrimitiveValues, index: usize, dtype: &DType) -> Scalar
     ensures typed { result.of_type ≡ type.primitive (ptype_of values.now) (nullability_of (type_of dtype.now)) }
 {
     Scalar::primitive(values.wide_at(index), values.ptype(), dtype.nullability())
+}
+
+/// Returns the bytes that a column of type `dtype`, one of text or bytes, stores in row `index`. The only error is `OutOfMemory`.
+fn bytes_at(alloc: Global, rows: &BinaryViews, index: usize, dtype: &DType) -> VortexResult<Scalar>
+    requires index { index < length rows.now }
+    requires typed { is_of (type_of dtype.now) (bytes (slice_index_or rows.now index [])) ≡ true }
+    ensures row { IfOk result (λ s. slice_get (map (λ r. value (bytes r)) rows.now) index ≡ Some (value s.value)) }
+    ensures typed { IfOk result (λ s. s.of_type ≡ type_of dtype.now) }
+    ensures err { IfErr result (λ e. e ≡ VortexError.OutOfMemory) }
+{
+    let bytes = ByteBuffer::copy_from(alloc, rows.value(index))?;
+    Scalar::try_new(dtype.clone()?, Some(ScalarValue::Bytes(bytes)))
 }
 
 /// Returns the rows of `array`, which must be non-nullable booleans. Shares those of a column without a validity, and repeats a

@@ -24,7 +24,7 @@ pub use arrays::primitive::{Primitive, PrimitiveArray, PrimitiveData};
 pub use arrays::scalar_fn::{ScalarFn, ScalarFnArray, ScalarFnData};
 pub use arrays::scalar_fn_validity::{EmptyArrayData, ScalarFnValidity, ScalarFnValidityArray};
 pub use arrays::slice::{Slice, SliceArray, SliceData, SliceDataParts};
-pub use arrays::varbinview::{VarBinView, VarBinViewArray, VarBinViewData};
+pub use arrays::varbinview::{VarBinView, VarBinViewArray, VarBinViewData, bytes_type};
 pub use canonical::Canonical;
 pub use column_types::has_column;
 pub use columnar::Columnar;

@@ -56,8 +56,8 @@ impl VTable for VarBinView {
     }
 }
 
-/// Returns the non-nullable type of rows of bytes that are stored so: text, else bytes.
-fn bytes_type(storage: Storage) -> DType
+/// Returns the non-nullable type of rows of bytes that are stored so: text if they are stored as text, else bytes. (own)
+pub fn bytes_type(storage: Storage) -> DType
     ensures { type_of result ≡ bytes_type storage }
 {
     match storage {

@@ -1,11 +1,16 @@
-use Rattle.std.proofs.Common.{refl, ap, subst, ◌∙◌}
+use Rattle.std.proofs.Common.{refl, sym, ap, subst, ◌∙◌}
 use Rattle.vx_value.specs.Types.{nullability_of}
+use Rattle.vx_value.specs.Storage.{storage_of}
+use Rattle.vx_value.specs.Values.{boolean, integer, bytes}
+use Rattle.vx_tree.specs.Tree as enc
+use Rattle.vx_tree.specs.Well.{IsNodeOf}
 use Rattle.vx_mask.specs.declared.operand.BitOperand.TheVariants.{Bits}
 use Rattle.vx_native.specs.Natives.{values_of, ptype_of}
 use Rattle.vx_rows.specs.Arguments.{AreUnread}
 use Rattle.vx_rows.specs.ValidRows.{HasValidity, AreTold}
+use Rattle.vx_rows.specs.declared.argument.BytesRows.TheVariants.{Rows as RowsOfBytes}
 use Rattle.vx_rows.specs.declared.argument.IntegerRows.TheVariants.{Rows}
-use Rattle.vx_rows.proofs.NullsLemmas.{booleans_argument, integers_argument, booleans_unread, integers_unread}
+use Rattle.vx_rows.proofs.NullsLemmas.{booleans_argument, integers_argument, bytes_argument, column_unread}
 use Rattle.vx_rows.proofs.argument.argument_of.Goals as goal
 
 pub returns-in-Ok-clause-ok : goal.returns-in-Ok-clause-ok
@@ -19,8 +24,10 @@ returns-in-Ok-clause-ok c =
 pub returns-in-Err-clause-err : goal.returns-in-Err-clause-err
 returns-in-Err-clause-err c =
     let e = c.in-Err.e in
-    booleans_unread c.args.column.now c.in-Bool.validity.now e c.as_array.result.now c.as_array.ensures.of c.in-Bool.ensures.1
-    (subst (λ n. AreUnread n c.in-Bool.validity.now e) c.len-len.ensures c.in-Err.ensures.err) c.in-Bool.bits.now c.in-Bool.ensures.0
+    let flat = subst IsNodeOf c.in-Bool.ensures.0 c.in-Bool.ensures.1 in
+    column_unread c.args.column.now c.in-Bool.validity.now e c.as_array.result.now c.as_array.ensures.of
+    (subst (λ n. AreUnread n c.in-Bool.validity.now e) c.len-len.ensures c.in-Err.ensures.err) boolean enc.bool (λ ty n xs css. refl) c.in-Bool.bits.now
+    (sym flat.2) c.in-Bool.ensures.0
 
 pub returns-in-Ok-valid_rows-clause-ok : goal.returns-in-Ok-valid_rows-clause-ok
 returns-in-Ok-valid_rows-clause-ok c =
@@ -36,6 +43,28 @@ returns-in-Ok-valid_rows-clause-ok c =
 pub returns-in-Err-valid_rows-clause-err : goal.returns-in-Err-valid_rows-clause-err
 returns-in-Err-valid_rows-clause-err c =
     let e = c.in-Err-valid_rows.e in
-    integers_unread c.args.column.now c.in-Primitive.validity.now e c.as_array.result.now c.as_array.ensures.of c.in-Primitive.ensures.1
-    (subst (λ n. AreUnread n c.in-Primitive.validity.now e) c.len-len.ensures c.in-Err-valid_rows.ensures.err) (ptype_of c.in-Primitive.values.now)
-    (values_of c.in-Primitive.values.now) c.in-Primitive.ensures.0
+    let flat = subst IsNodeOf c.in-Primitive.ensures.0 c.in-Primitive.ensures.1 in
+    column_unread c.args.column.now c.in-Primitive.validity.now e c.as_array.result.now c.as_array.ensures.of
+    (subst (λ n. AreUnread n c.in-Primitive.validity.now e) c.len-len.ensures c.in-Err-valid_rows.ensures.err) integer
+    (enc.primitive (ptype_of c.in-Primitive.values.now)) (λ ty n xs css. refl) (values_of c.in-Primitive.values.now) (sym flat.2) c.in-Primitive.ensures.0
+
+pub returns-in-Ok-valid_rows-2-clause-ok : goal.returns-in-Ok-valid_rows-2-clause-ok
+returns-in-Ok-valid_rows-2-clause-ok c =
+    let there = c.in-Ok-valid_rows-2 in
+    let valid = there.valid in
+    let rows = c.in-VarBinView.rows in
+    let kind = c.storage.ensures ∙ ap storage_of c.dtype-dtype.ensures in
+    rw c.bytes_of.ensures
+    (bytes_argument c.args.column.now c.in-VarBinView.validity.now valid (subst (λ n. AreTold n c.in-VarBinView.validity.now valid) c.len-len.ensures there.ensures.told)
+    (there.ensures.nullability ∙ c.nullability-in-VarBinView.ensures ∙ ap nullability_of c.dtype-dtype.ensures)
+    (subst (HasValidity valid) c.len-len.ensures there.ensures.sized)
+    c.as_array.result.now c.as_array.ensures.of c.in-VarBinView.ensures.1 (record { storage = c.storage.result; rows = RowsOfBytes rows }) rows.now
+    (λ i. refl) kind (λ n e k. (e, k)) c.in-VarBinView.ensures.0)
+
+pub returns-in-Err-valid_rows-2-clause-err : goal.returns-in-Err-valid_rows-2-clause-err
+returns-in-Err-valid_rows-2-clause-err c =
+    let there = c.in-Err-valid_rows-2 in
+    let flat = subst IsNodeOf c.in-VarBinView.ensures.0 c.in-VarBinView.ensures.1 in
+    column_unread c.args.column.now c.in-VarBinView.validity.now there.e c.as_array.result.now c.as_array.ensures.of
+    (subst (λ n. AreUnread n c.in-VarBinView.validity.now there.e) c.len-len.ensures there.ensures.err) bytes enc.views (λ ty n xs css. refl) c.in-VarBinView.rows.now
+    (sym flat.0.2) c.in-VarBinView.ensures.0

@@ -5,7 +5,7 @@ use Rattle.vx_tree.specs.Tree as enc
 use Rattle.vx_tree.specs.Tree.{dtype, len}
 use Rattle.vx_tree.specs.Well.{IsNodeOf}
 use Rattle.vx_rows.proofs.CellsLemmas.{null_row}
-use Rattle.vx_rows.proofs.probe.execute_scalar.Goals as goal
+use Rattle.vx_rows.proofs.probe.row_at.Goals as goal
 
 pub returns-in_ok-clone-in-Some-false-clause-ok : goal.returns-in_ok-clone-in-Some-false-clause-ok
 returns-in_ok-clone-in-Some-false-clause-ok c =
