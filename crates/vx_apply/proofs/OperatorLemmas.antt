@@ -20,6 +20,9 @@ use Rattle.vx_fn.specs.declared.function.Operator.{Operator}
 use Rattle.vx_fn.specs.declared.function.Operator.TheVariants as operator
 use Rattle.vx_fn.specs.declared.function.ScalarFnRef.TheVariants.{Binary}
 use Rattle.vx_fn.proofs.BinaryLemmas.{result_type}
+use Rattle.vx_value.specs.declared.dtype.Storage.{Storage}
+use Rattle.vx_value.specs.declared.dtype.Storage.TheVariants.{Text}
+use Rattle.vx_tree.specs.ColumnTypes.{bytes_type}
 use Rattle.vx_tree.proofs.ColumnTypesLemmas.{column_of_integers}
 use Rattle.vx_apply.specs.Bits.{bit_by}
 use Rattle.vx_rows.specs.Arguments.{type_of_argument, type_of_rows, plain_type, types_of, ptype_in, IsSized, AreStored, HasStored}
@@ -108,6 +111,18 @@ same_for_integers : (op : Operator) (p : PType) (m : Nullability) → operator_t
 same_for_integers operator.Eq p m = refl
 same_for_integers _ p m = refl
 
+same_for_bytes : (op : Operator) (st : Storage) (m : Nullability) → operator_type op (with_nullability m (bytes_type st)) ≡ operator_type op (bytes_type st)
+same_for_bytes operator.Eq Text m = refl
+same_for_bytes _ Text m = refl
+same_for_bytes operator.Eq _ m = refl
+same_for_bytes _ _ m = refl
+
+-- the type of text or bytes with other nullabilities
+bytes_again : (k m : Nullability) (st : Storage) → (with_nullability k (with_nullability m (bytes_type st)) ≡ with_nullability k (bytes_type st))
+    × (nullability_of (with_nullability m (bytes_type st)) ≡ m) × (with_nullability NonNullable (bytes_type st) ≡ bytes_type st)
+bytes_again k m Text = (refl, refl, refl)
+bytes_again k m _ = (refl, refl, refl)
+
 module _ (n : ℕ) (a : Argument) (sized : IsSized n a) where
   pub argument_type : type_of_argument a ≡ with_nullability (nullability_in a.valid) (plain_type a.rows)
   argument_type = by_rows a.rows sized.0
@@ -115,6 +130,7 @@ module _ (n : ℕ) (a : Argument) (sized : IsSized n a) where
       by_rows : (r : ArgumentRows) → AreStored (nullability_in a.valid) r n → type_of_rows (nullability_in a.valid) r ≡ with_nullability (nullability_in a.valid) (plain_type r)
       by_rows (stored.Bits bs) h = refl
       by_rows (stored.Integers zs) h = column_of_integers (ptype_in zs) (type_of zs.dtype.now) h.0.3 ∙ ap (primitive (ptype_in zs)) h.1
+      by_rows (stored.Bytes bs) h = refl
 
   pub has_stored : HasStored a.rows n
   has_stored = by_rows a.rows sized.0
@@ -122,22 +138,27 @@ module _ (n : ℕ) (a : Argument) (sized : IsSized n a) where
       by_rows : (r : ArgumentRows) → AreStored (nullability_in a.valid) r n → HasStored r n
       by_rows (stored.Bits bs) h = h
       by_rows (stored.Integers zs) h = h.0
+      by_rows (stored.Bytes bs) h = h
 
 plain_again : (m : Nullability) (r : ArgumentRows) → with_nullability NonNullable (with_nullability m (plain_type r)) ≡ plain_type r
 plain_again m (stored.Bits bs) = refl
 plain_again m (stored.Integers zs) = refl
+plain_again m (stored.Bytes bs) = (bytes_again NonNullable m bs.storage).0 ∙ (bytes_again NonNullable NonNullable bs.storage).2
 
 pub set_again : (k m : Nullability) (r : ArgumentRows) → with_nullability k (with_nullability m (plain_type r)) ≡ with_nullability k (plain_type r)
 set_again k m (stored.Bits bs) = refl
 set_again k m (stored.Integers zs) = refl
+set_again k m (stored.Bytes bs) = (bytes_again k m bs.storage).0
 
 nullability_again : (m : Nullability) (r : ArgumentRows) → nullability_of (with_nullability m (plain_type r)) ≡ m
 nullability_again m (stored.Bits bs) = refl
 nullability_again m (stored.Integers zs) = refl
+nullability_again m (stored.Bytes bs) = (bytes_again NonNullable m bs.storage).1
 
 operator_again : (op : Operator) (m : Nullability) (r : ArgumentRows) → operator_type op (with_nullability m (plain_type r)) ≡ operator_type op (plain_type r)
 operator_again op m (stored.Bits bs) = same_for_bools op m
 operator_again op m (stored.Integers zs) = same_for_integers op (ptype_in zs) m
+operator_again op m (stored.Bytes bs) = same_for_bytes op bs.storage m
 
 taken_before : {A B : Type 0} (f : A → B) (o : Option A) (b : B) → option_map f o ≡ Some b → IsSome o
 taken_before f None b e = absurd (cc)

@@ -1,12 +1,15 @@
 -- What a cast makes of the rows of an argument.
 use Rattle.std.specs.Prelude.{◌≡◌, ℕ, ℤ, pos, length, slice_index_or}
 use Rattle.vx_value.specs.Types.{DataType, bool, primitive, nullability_of}
+use Rattle.vx_value.specs.Nullabilities.{with_nullability}
+use Rattle.vx_value.specs.Storage.{storage_of}
 use Rattle.vx_value.specs.Values.{integer}
 use Rattle.vx_value.specs.Cell.{Cell}
 use Rattle.vx_value.specs.Casts.{to_integer}
 use Rattle.vx_value.specs.declared.dtype.PType.{PType}
 use Rattle.vx_value.specs.declared.error.VortexError.{VortexError}
 use Rattle.vx_native.specs.Natives.{values_of}
+use Rattle.vx_tree.specs.ColumnTypes.{bytes_type}
 use Rattle.vx_tree.specs.Tree.{Tree}
 use Rattle.vx_apply.specs.Operands.{IsFaultyRow, IsCalculated}
 use Rattle.vx_rows.specs.ValidRows.{is_valid, HasValidity}
@@ -22,6 +25,7 @@ converted p z i = to_integer p (integer (z i))
 abbrev pub IsCastTarget : ArgumentRows → DataType → Type 0
 IsCastTarget (stored.Bits bs) t = t ≡ bool (nullability_of t)
 IsCastTarget (stored.Integers zs) t = (p : PType) × (t ≡ primitive p (nullability_of t))
+IsCastTarget (stored.Bytes bs) t = t ≡ with_nullability (nullability_of t) (bytes_type (storage_of t))
 
 -- the integer at row i, or 0 past the last one
 abbrev pub value_in : Conversion → ℕ → ℤ

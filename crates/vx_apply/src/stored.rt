@@ -76,5 +76,6 @@ pub(crate) fn stored_column(
             let values = integer_rows(alloc, integers, len)?;
             valid_integers(alloc, values, valid, len)
         }
+        ArgumentRows::Bytes(_) => unreachable!(),
     }
 }
