@@ -2,7 +2,14 @@
 use Rattle.std.proofs.Common.{◌≡◌, ℕ, zero, suc, List, [], ◌∷◌, length, map, replicate, Bool, true, false, Option, Some, None}
 use Rattle.std.proofs.Common.{refl, sym, ap, subst, ◌∙◌, arith}
 use Rattle.std.proofs.lemmas.List.{length-map, length-replicate}
+use Rattle.std.specs.List.{list_all}
+use Rattle.std.specs.Str.{is_utf8}
+use Rattle.std.specs.Cmp.{first_so, second_so}
+use Rattle.std.proofs.lemmas.Bool.{and_from}
 use Rattle.vx_value.specs.Types.{DataType, bool, nullability_of}
+use Rattle.vx_value.specs.declared.dtype.Storage.{Storage}
+use Rattle.vx_value.specs.declared.dtype.Storage.TheVariants.{Text}
+use Rattle.vx_tree.specs.ColumnTypes.{are_bytes_of}
 use Rattle.vx_value.specs.Nullabilities.{with_nullability}
 use Rattle.vx_value.specs.Values.{Value, boolean}
 use Rattle.vx_value.specs.Cell.{Cell, value}
@@ -185,3 +192,21 @@ booleans_filtered bits bs kept t is typed well long e =
     let flat : IsFlat (bool NonNullable) (length bs) (dtype t) (len t) (shapes (slots_of (None ∷ []))) = subst IsNodeOf is well in
     subst (λ x. KeepsExactly (filter_of bits x) (booleans kept)) (sym whole_is)
     (filtered_exactly boolean enc.bool (λ ty n xs css. refl) bits bs kept None None (bool NonNullable) (len t) (sym flat.2) long e (choice_none bits))
+
+-- ---- rows of bytes
+
+all_chosen : (bits : List Bool) (rs : List (List ℕ)) → list_all is_utf8 rs ≡ true → list_all is_utf8 (chosen bits rs) ≡ true
+unfolding chosen
+all_chosen [] rs h = refl
+all_chosen (b ∷ bits) [] h = by_bit b
+  where
+    by_bit : (b : Bool) → list_all is_utf8 (chosen (b ∷ bits) []) ≡ true
+    by_bit true = refl
+    by_bit false = refl
+all_chosen (true ∷ bits) (r ∷ rs) h = and_from (is_utf8 r) _ (first_so (is_utf8 r) _ h) (all_chosen bits rs (second_so (is_utf8 r) _ h))
+all_chosen (false ∷ bits) (r ∷ rs) h = all_chosen bits rs (second_so (is_utf8 r) _ h)
+
+-- those that are chosen are of their type too
+pub bytes_chosen : (st : Storage) (bits : List Bool) (rs kept : List (List ℕ)) → are_bytes_of st rs ≡ true → kept ≡ chosen bits rs → are_bytes_of st kept ≡ true
+bytes_chosen Text bits rs kept h made = ap (list_all is_utf8) made ∙ all_chosen bits rs h
+bytes_chosen _ bits rs kept h made = refl

@@ -11,6 +11,9 @@ use Rattle.vx_value.specs.declared.dtype.Nullability.{Nullability}
 use Rattle.vx_value.specs.declared.dtype.Nullability.TheVariants.{NonNullable, Nullable}
 use Rattle.vx_fn.specs.declared.function.Operator.TheVariants.{And}
 use Rattle.vx_fn.specs.declared.function.ScalarFnRef.TheVariants.{Binary}
+use Rattle.vx_value.specs.declared.dtype.Storage.{Storage}
+use Rattle.vx_value.specs.declared.dtype.Storage.TheVariants.{Text}
+use Rattle.vx_tree.specs.ColumnTypes.{bytes_type}
 use Rattle.vx_tree.specs.Tree.{Tree, Data, slots_of, dtype, len, column, call_of, masked_of}
 use Rattle.vx_tree.specs.Well.{shapes, IsFlat}
 use Rattle.vx_tree.specs.Cells.{rows, node_cells, cells_at, valid_cell, valid_cells, HasNoFault}
@@ -150,3 +153,8 @@ module _ {X : Type 0} (read : X → Value) (of_items : List X → Data)
       subst (KeepsExactly (masked_of t c)) shown
       (subst (λ x. KeepsExactly (masked_of x c) (column (with_nullability Nullable of_type) (length xs) (of_items xs) (child_of w (length xs)))) (sym whole_is)
       (masked_exactly xs v c (child_of w (length xs)) (dtype t) flat.1 (subst (λ n. IsBoth n v c (child_of w n)) flat.2 both)))
+
+-- text and bytes keep their type, whatever the nullability
+pub bytes_set : (st : Storage) (m : Nullability) → with_nullability Nullable (with_nullability m (bytes_type st)) ≡ with_nullability Nullable (bytes_type st)
+bytes_set Text m = refl
+bytes_set _ m = refl

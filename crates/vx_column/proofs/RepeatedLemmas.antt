@@ -1,14 +1,16 @@
 -- A column of one value, repeated.
-use Rattle.std.proofs.Common.{◌≡◌, ℕ, zero, suc, ℤ, pos, Bool, true, false, List, [], ◌∷◌, length, map, replicate, Result, IfOk, refl, sym, ◌∙◌, ap, subst}
+use Rattle.std.proofs.Common.{◌≡◌, ◌⊎◌, ℕ, zero, suc, ℤ, pos, Bool, true, false, List, [], ◌∷◌, length, map, replicate, Result, IfOk, refl, sym, ◌∙◌, ap, subst}
 use Rattle.std.specs.Prelude.{unwrap_or, if◌then◌else◌}
 use Rattle.std.proofs.lemmas.List.{length-replicate}
 use Rattle.std.proofs.lemmas.Result.{IfOk-weaker}
 use Rattle.vx_value.specs.Types as type
 use Rattle.vx_value.specs.Types.{DataType, nullability_of, is_nullable}
 use Rattle.vx_value.specs.Storage.{storage_of}
-use Rattle.vx_value.specs.declared.dtype.Storage.TheVariants.{Bits, Integers}
+use Rattle.vx_value.specs.declared.dtype.Storage.{Storage}
+use Rattle.vx_value.specs.declared.dtype.Storage.TheVariants.{Bits, Integers, Text, Bytes}
+use Rattle.vx_value.specs.Nullabilities.{with_nullability}
 use Rattle.vx_value.specs.IsOf.{is_of, is_null}
-use Rattle.vx_value.specs.Parts.{boolean_in, integer_in}
+use Rattle.vx_value.specs.Parts.{boolean_in, integer_in, bytes_in}
 use Rattle.vx_value.specs.Values as of
 use Rattle.vx_value.specs.Values.{Value, boolean, integer}
 use Rattle.vx_value.specs.Typed.{Typed}
@@ -17,7 +19,11 @@ use Rattle.vx_value.specs.declared.dtype.Nullability.{Nullability}
 use Rattle.vx_value.specs.declared.dtype.Nullability.TheVariants.{NonNullable, Nullable}
 use Rattle.vx_value.specs.declared.dtype.PType.{PType}
 use Rattle.vx_value.specs.declared.error.VortexError.{VortexError}
-use Rattle.vx_tree.specs.Tree.{Tree, Data, bool, primitive, slots_of, column, constant_of}
+use Rattle.std.specs.Str.{is_utf8}
+use Rattle.std.specs.Cmp.{first_so}
+use Rattle.std.proofs.lemmas.Bool.{and_from}
+use Rattle.vx_tree.specs.ColumnTypes.{bytes_type, are_bytes_of}
+use Rattle.vx_tree.specs.Tree.{Tree, Data, bool, primitive, views, slots_of, column, constant_of}
 use Rattle.vx_tree.specs.Cells.{rows, slots_rows, node_cells, cells_at, valid_cells, AreClean}
 use Rattle.vx_tree.specs.Columns.{canonical_tree}
 use Rattle.vx_tree.specs.Keeps.{KeepsExactly}
@@ -28,9 +34,9 @@ use Rattle.vx_tree.specs.declared.validity.Validity.TheVariants.{AllInvalid}
 use Rattle.vx_tree.proofs.ColumnTypesLemmas.{column_of_bits, column_of_integers}
 use Rattle.vx_tree.proofs.ValiditiesLemmas.{no_child, same_nullability}
 use Rattle.vx_native.proofs.NativesLemmas.{map_copies}
-use Rattle.vx_rows.specs.Stored.{boolean_column, integer_column}
+use Rattle.vx_rows.specs.Stored.{boolean_column, integer_column, bytes_column}
 use Rattle.vx_rows.proofs.KeepsLemmas.{same_exactly, any_rows, copies_clean}
-use Rattle.vx_rows.proofs.StoredLemmas.{stored_boolean, stored_number}
+use Rattle.vx_rows.proofs.StoredLemmas.{column_of_bytes, stored_boolean, stored_number, stored_as_bytes}
 use Rattle.vx_column.specs.Expanded.{repeated_validity}
 
 nullable_null : (m : Nullability) → is_nullable m ≡ true → m ≡ Nullable
@@ -106,3 +112,23 @@ module _ (s : Typed) (n : ℕ) (typed : is_of s.of_type s.value ≡ true) (v : V
       IfOk-weaker r _ _
       (λ c new. repeated_exactly integer (primitive p) (λ ty n xs css. refl) z s n (canonical_tree c)
       (λ k. ap integer valued ∙ stored_number p (nullability_of s.of_type) (storage_of s.of_type) s.value stored typed k) (new ∙ is)) column_made
+
+  pub bytes_repeated : (st : Storage) (x : List ℕ) (rs : List (List ℕ)) → storage_of s.of_type ≡ st → (st ≡ Text) ⊎ (st ≡ Bytes)
+      → x ≡ unwrap_or (bytes_in s.value) [] → rs ≡ replicate n x →
+      IfOk r (λ c. canonical_tree c ≡ bytes_column st rs v) → IfOk r (λ c. KeepsExactly (constant_of s n) (canonical_tree c))
+  bytes_repeated st x rs stored known valued made column_made =
+      let long : length rs ≡ n = ap length made ∙ length-replicate n x in
+      let there = subst (λ y. (y ≡ Text) ⊎ (y ≡ Bytes)) (sym stored) known in
+      let of_type : with_nullability (nullability_by v) (bytes_type st) ≡ s.of_type =
+      (λ i. with_nullability (nullability i) (bytes_type (sym stored i))) ∙ column_of_bytes s.of_type there in
+      let is : bytes_column st rs v ≡ column s.of_type n (views (replicate n x)) (child_of (repeated_validity s) n) =
+      λ i. column (of_type i) (long i) (views (made i)) (child_of (told i) (long i)) in
+      IfOk-weaker r _ _
+      (λ c new. repeated_exactly of.bytes views (λ ty n xs css. refl) x s n (canonical_tree c)
+      (λ k. ap of.bytes valued ∙ stored_as_bytes (nullability_of s.of_type) (storage_of s.of_type) s.value there typed k) (new ∙ is)) column_made
+
+-- one row's bytes, repeated, are of its type
+pub bytes_copies : (st : Storage) (n : ℕ) (x : List ℕ) → are_bytes_of st (x ∷ []) ≡ true → are_bytes_of st (replicate n x) ≡ true
+bytes_copies Text zero x h = refl
+bytes_copies Text (suc n) x h = and_from (is_utf8 x) _ (first_so (is_utf8 x) true h) (bytes_copies Text n x h)
+bytes_copies _ n x h = refl

@@ -19,7 +19,7 @@ use Rattle.vx_rows.proofs.KeepsLemmas.{same_exactly}
 shown_stored : (a : ArgumentRows) (i : ℕ) (b : Bool) → shown_cell (null_unless b (value (value_at a i))) ≡ value (boolean b)
 shown_stored a i false = refl
 shown_stored (stored.Bits bs) i true = refl
-shown_stored (stored.Integers zs) i true = refl
+shown_stored _ i true = refl
 
 shown_cells : (cs : List Cell) (bits : List Bool) → length cs ≡ length bits
     → ((i : ℕ) → i < length cs → shown_cell (get_or cs i fault) ≡ value (boolean (bit_row bits i))) → map shown_cell cs ≡ map (λ b. value (boolean b)) bits

@@ -10,12 +10,13 @@ ghost use Rattle.vx_column.specs.Expanded.{repeated_validity};
 use std::alloc::Global;
 use vx_mask::BitBuffer;
 use vx_native::PrimitiveValues;
-use vx_rows::{bool_column, primitive_column};
+use vx_rows::{bool_column, primitive_column, varbinview_column};
 use vx_tree::{ArrayView, Canonical, Constant, Validity};
-use vx_value::{Scalar, Storage, VortexError, VortexResult};
+use vx_value::{ByteBuffer, Scalar, Storage, VortexError, VortexResult};
+use vx_views::BinaryViews;
 
-/// Expands `array` to a canonical column. The rows take one allocation, which is made before any is written. The only
-/// error is `OutOfMemory`.
+/// Expands `array` to a canonical column. The rows take one allocation, which is made before any is written; the bytes of a text or
+/// a binary value stand once. The only error is `OutOfMemory`.
 pub fn constant_canonicalize(
     alloc: Global,
     array: ArrayView<'_, Constant>,
@@ -32,7 +33,7 @@ pub fn constant_canonicalize(
     }
 }
 
-/// Makes the column of `len` rows, each `scalar`; `false` or 0 stands under a null. The only error is `OutOfMemory`.
+/// Makes the column of `len` rows, each `scalar`; `false`, 0 or no bytes stand under a null. The only error is `OutOfMemory`.
 #[tactic(auto, using(vx_rows::proofs::StoredLemmas::stored_integer, crate::proofs::RepeatedLemmas::repeated_rows))]
 fn repeat(alloc: Global, scalar: &Scalar, len: usize) -> VortexResult<Canonical>
     requires { has_column scalar.now.of_type ≡ true }
@@ -50,6 +51,11 @@ fn repeat(alloc: Global, scalar: &Scalar, len: usize) -> VortexResult<Canonical>
             let wide = scalar.as_integer().unwrap_or(0);
             let values = PrimitiveValues::repeat(alloc, ptype, wide, len)?;
             primitive_column(alloc, values, &validity)
+        }
+        Storage::Text | Storage::Bytes => {
+            let bytes = ByteBuffer::copy_from(alloc, scalar.as_bytes().unwrap_or(&[]))?;
+            let rows = BinaryViews::repeat(alloc, bytes, len)?;
+            varbinview_column(alloc, scalar.dtype().storage(), rows, &validity)
         }
         _ => unreachable!(),
     }

@@ -15,7 +15,7 @@ ghost use Rattle.vx_column.specs.Masked.{TellsAll, IsBoth};
 
 use std::alloc::Global;
 use vx_mask::{BitAnd, BitBuffer, BitOperand};
-use vx_rows::{ValidRows, bool_column, primitive_column};
+use vx_rows::{ValidRows, bool_column, primitive_column, varbinview_column};
 use vx_tree::{ArrayKind, ArrayRef, Canonical, Validity, and_lazily, validity_to_child};
 use vx_value::{Nullability, VortexError, VortexResult};
 
@@ -44,6 +44,10 @@ pub fn mask_validity_canonical(
         ArrayKind::Primitive(values, own) => {
             let both = both_valid(alloc, own, child, len)?;
             primitive_column(alloc, values.clone()?, &both)
+        }
+        ArrayKind::VarBinView(rows, own) => {
+            let both = both_valid(alloc, own, child, len)?;
+            varbinview_column(alloc, array.dtype().storage(), rows.clone()?, &both)
         }
         _ => unreachable!(),
     }

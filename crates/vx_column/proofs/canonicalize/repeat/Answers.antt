@@ -1,10 +1,16 @@
-use Rattle.std.proofs.Common.{◌≡◌, FitsSigned, replicate, sym, ap, ◌∙◌, rules}
+use Rattle.std.proofs.Common.{◌≡◌, ◌⊎◌, [], ◌∷◌, FitsSigned, replicate, sym, ap, subst, ◌∙◌, rules}
+use Rattle.std.specs.Prelude.{unwrap_or}
 use Rattle.std.proofs.Math.Facts.{to_z-of_z}
 use Rattle.std.specs.Int.{w128}
 use Rattle.vx_value.specs.Storage.{storage_of}
-use Rattle.vx_value.specs.declared.dtype.Storage.TheVariants.{Bits, Integers}
+use Rattle.vx_value.specs.declared.dtype.Storage.TheVariants.{Bits, Integers, Text, Bytes}
+use Rattle.vx_value.specs.Types.{nullability_of}
+use Rattle.vx_value.specs.IsOf.{is_stored}
+use Rattle.vx_value.specs.Parts.{bytes_in}
+use Rattle.vx_tree.specs.ColumnTypes.{are_bytes_of}
+use Rattle.vx_rows.proofs.StoredLemmas.{bytes_kept}
 use Rattle.vx_native.specs.Natives.{values_of, ptype_of}
-use Rattle.vx_column.proofs.RepeatedLemmas.{bools_repeated, integers_repeated}
+use Rattle.vx_column.proofs.RepeatedLemmas.{bools_repeated, integers_repeated, bytes_repeated, bytes_copies}
 use Rattle.vx_column.proofs.canonicalize.repeat.Goals as goal
 
 pub returns-in-Bits-clause-ok : goal.returns-in-Bits-clause-ok
@@ -27,3 +33,26 @@ returns-in-Integers-clause-ok c =
     integers_repeated s c.args.len typed c.repeated_validity-validity.result c.repeated_validity-validity.ensures c.primitive_column.result
     c.in-Integers.ptype (ptype_of made.values) c.unwrap_or-wide.result (values_of made.values) stored (cc) made.ensures.kind
     (made.ensures.values ∙ ap (replicate c.args.len) (to_z-of_z fits)) c.primitive_column.ensures.ok
+
+pub varbinview_column-requires-clause-stored : goal.varbinview_column-requires-clause-stored
+varbinview_column-requires-clause-stored c =
+    let s = c.args.scalar.now in
+    let st = c.storage-in-Text.result in
+    let kind : storage_of s.of_type ≡ st = ap storage_of (sym c.dtype-in-Text.ensures.dtype) ∙ sym c.storage-in-Text.ensures in
+    let same = c.storage.ensures ∙ ap storage_of c.dtype.ensures.dtype ∙ kind in
+    let known = subst (λ x. (x ≡ Text) ⊎ (x ≡ Bytes)) same c.in-Text.is in
+    let valued : c.in_ok-bytes-in-Text.bytes ≡ unwrap_or (bytes_in s.value) [] = search rules in
+    let kept = ap (λ x. is_stored (nullability_of s.of_type) x s.value) (sym kind) ∙ c.dtype.ensures.typed in
+    let one = ap (λ x. are_bytes_of st (x ∷ [])) valued ∙ bytes_kept (nullability_of s.of_type) st s.value known kept in
+    ap (are_bytes_of st) c.in_ok-rows-in-Text.ensures ∙ bytes_copies st c.args.len c.in_ok-bytes-in-Text.bytes one
+
+pub returns-in-Text-clause-ok : goal.returns-in-Text-clause-ok
+returns-in-Text-clause-ok c =
+    let s = c.args.scalar.now in
+    let st = c.storage-in-Text.result in
+    let kind : storage_of s.of_type ≡ st = ap storage_of (sym c.dtype-in-Text.ensures.dtype) ∙ sym c.storage-in-Text.ensures in
+    let same = c.storage.ensures ∙ ap storage_of c.dtype.ensures.dtype ∙ kind in
+    let known = subst (λ x. (x ≡ Text) ⊎ (x ≡ Bytes)) same c.in-Text.is in
+    let valued : c.in_ok-bytes-in-Text.bytes ≡ unwrap_or (bytes_in s.value) [] = search rules in
+    bytes_repeated s c.args.len c.dtype.ensures.typed c.repeated_validity-validity.result c.repeated_validity-validity.ensures c.varbinview_column.result st
+    c.in_ok-bytes-in-Text.bytes c.in_ok-rows-in-Text.rows kind known valued c.in_ok-rows-in-Text.ensures c.varbinview_column.ensures.ok

@@ -1,16 +1,19 @@
 use Rattle.std.proofs.Common.{refl, sym, ap, subst, ◌∙◌}
 use Rattle.std.proofs.lemmas.Result.{IfOk-weaker}
 use Rattle.vx_value.specs.Types.{bool, primitive, nullability_of}
-use Rattle.vx_value.specs.Values.{boolean, integer}
+use Rattle.vx_value.specs.Values.{boolean, integer, bytes}
+use Rattle.vx_value.specs.Storage.{storage_of}
+use Rattle.vx_tree.specs.ColumnTypes.{bytes_type, are_bytes_of}
+use Rattle.vx_rows.specs.Stored.{bytes_column}
 use Rattle.vx_value.specs.declared.dtype.Nullability.TheVariants.{NonNullable}
 use Rattle.vx_mask.specs.Masks.{bits_in}
 use Rattle.vx_native.specs.Natives.{values_of, ptype_of}
 use Rattle.vx_tree.specs.Tree as enc
-use Rattle.vx_tree.specs.Tree.{len, filter_of}
+use Rattle.vx_tree.specs.Tree.{dtype, len, filter_of}
 use Rattle.vx_tree.specs.Well.{IsNodeOf}
 use Rattle.vx_tree.specs.Keeps.{KeepsExactly}
 use Rattle.vx_tree.specs.Columns.{canonical_tree}
-use Rattle.vx_column.proofs.FilteredLemmas.{rows_chosen, column_filtered}
+use Rattle.vx_column.proofs.FilteredLemmas.{rows_chosen, bytes_chosen, column_filtered}
 use Rattle.vx_column.proofs.filter.filter_canonical.Goals as goal
 
 pub bool_column-requires : goal.bool_column-requires
@@ -56,3 +59,35 @@ returns-in_ok-filter-in-Primitive-clause-ok c =
     (column_filtered integer (enc.primitive p) (λ ty n xs css. refl) (primitive p NonNullable) bits (values_of c.in-Primitive.values.now) (values_of kept.field-0)
     c.in-Primitive.validity.now validity.validity t (canonical_tree u) c.in-Primitive.ensures.0 flat long kept.ensures.values same validity.ensures.chosen made))
     column_made
+
+pub varbinview_column-requires-clause-sized : goal.varbinview_column-requires-clause-sized
+varbinview_column-requires-clause-sized c =
+    let flat = subst IsNodeOf c.in-VarBinView.ensures.0 c.in-VarBinView.ensures.1 in
+    rows_chosen (bits_in c.args.mask.now) c.in-VarBinView.rows.now c.in_ok-filter-in-VarBinView.field-0 c.as_array-array.result.now _
+    c.in_ok-validity-in-VarBinView.validity (sym flat.0.2) c.requires c.as_array-array.ensures.of c.in_ok-filter-in-VarBinView.ensures
+    c.in_ok-validity-in-VarBinView.ensures.sized
+
+pub varbinview_column-requires-clause-stored : goal.varbinview_column-requires-clause-stored
+varbinview_column-requires-clause-stored c =
+    let flat = subst IsNodeOf c.in-VarBinView.ensures.0 c.in-VarBinView.ensures.1 in
+    let kind = c.storage-storage.ensures ∙ ap storage_of c.dtype-in-VarBinView.ensures in
+    bytes_chosen c.storage-storage.result (bits_in c.args.mask.now) c.in-VarBinView.rows.now c.in_ok-filter-in-VarBinView.field-0
+    (ap (λ st. are_bytes_of st c.in-VarBinView.rows.now) kind ∙ flat.1) c.in_ok-filter-in-VarBinView.ensures
+
+pub returns-in_ok-filter-in-VarBinView-clause-ok : goal.returns-in_ok-filter-in-VarBinView-clause-ok
+returns-in_ok-filter-in-VarBinView-clause-ok c =
+    let bits = bits_in c.args.mask.now in
+    let t = c.as_array-array.result.now in
+    let st = storage_of (dtype t) in
+    let validity = c.in_ok-validity-in-VarBinView in
+    let kept = c.in_ok-filter-in-VarBinView.field-0 in
+    let flat = subst IsNodeOf c.in-VarBinView.ensures.0 c.in-VarBinView.ensures.1 in
+    let kind = c.storage-storage.ensures ∙ ap storage_of c.dtype-in-VarBinView.ensures in
+    let long = c.requires ∙ ap len (sym c.as_array-array.ensures.of) in
+    let same = validity.ensures.nullability ∙ c.nullability-nullability.ensures ∙ ap nullability_of c.dtype.ensures in
+    IfOk-weaker c.varbinview_column.result _ _
+    (λ u made. subst (λ x. KeepsExactly (filter_of bits x) (canonical_tree u)) c.as_array-array.ensures.of
+    (column_filtered bytes enc.views (λ ty n xs css. refl) (bytes_type st) bits c.in-VarBinView.rows.now kept c.in-VarBinView.validity.now validity.validity t
+    (canonical_tree u) c.in-VarBinView.ensures.0 flat.0 long c.in_ok-filter-in-VarBinView.ensures same validity.ensures.chosen
+    (made ∙ ap (λ x. bytes_column x kept validity.validity) kind)))
+    c.varbinview_column.ensures.ok

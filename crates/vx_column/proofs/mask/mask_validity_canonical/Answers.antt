@@ -1,18 +1,20 @@
 use Rattle.std.proofs.Common.{◌≡◌, refl, ap, subst, ◌∙◌, rules}
 use Rattle.std.proofs.lemmas.Result.{IfOk-weaker}
 use Rattle.vx_value.specs.Types.{bool, primitive}
-use Rattle.vx_value.specs.Values.{boolean, integer}
+use Rattle.vx_value.specs.Values.{boolean, integer, bytes}
+use Rattle.vx_value.specs.Storage.{storage_of}
+use Rattle.vx_tree.specs.ColumnTypes.{bytes_type, are_bytes_of}
 use Rattle.vx_value.specs.declared.dtype.Nullability.TheVariants.{NonNullable}
 use Rattle.vx_native.specs.Natives.{values_of, ptype_of}
 use Rattle.vx_tree.specs.Tree as enc
-use Rattle.vx_tree.specs.Tree.{len, masked_of}
+use Rattle.vx_tree.specs.Tree.{dtype, len, masked_of}
 use Rattle.vx_tree.specs.Well.{IsNodeOf}
 use Rattle.vx_tree.specs.Keeps.{KeepsExactly}
 use Rattle.vx_tree.specs.Columns.{canonical_tree}
 use Rattle.vx_tree.specs.Validities.{child_of}
-use Rattle.vx_rows.specs.Stored.{boolean_column, integer_column}
+use Rattle.vx_rows.specs.Stored.{boolean_column, integer_column, bytes_column}
 use Rattle.vx_column.specs.Masked.{IsBoth}
-use Rattle.vx_column.proofs.MaskedLemmas.{column_masked}
+use Rattle.vx_column.proofs.MaskedLemmas.{bytes_set, column_masked}
 use Rattle.vx_column.proofs.mask.mask_validity_canonical.Goals as goal
 
 pub returns-in_ok-clone-in-Bool-clause-ok : goal.returns-in_ok-clone-in-Bool-clause-ok
@@ -53,3 +55,31 @@ returns-in_ok-clone-in-Primitive-clause-ok c =
     (column_masked integer (enc.primitive p) (λ ty n xs css. refl) (primitive p NonNullable) (λ m. refl) (values_of values) own w validity.both t (canonical_tree u)
     c.in-Primitive.ensures.0 flat validity.ensures.nullable both (made ∙ (λ i. integer_column (shared.0 i) (shared.1 i) validity.both))))
     c.primitive_column.ensures.ok
+
+pub varbinview_column-requires-clause-stored : goal.varbinview_column-requires-clause-stored
+varbinview_column-requires-clause-stored c =
+    let flat = subst IsNodeOf c.in-VarBinView.ensures.0 c.in-VarBinView.ensures.1 in
+    let kind = c.storage.ensures ∙ ap storage_of c.dtype.ensures in
+    let shared : c.in_ok-clone-in-VarBinView.field-0 ≡ c.in-VarBinView.rows.now = search rules in
+    (λ i. are_bytes_of (kind i) (shared i)) ∙ flat.1
+
+pub returns-in_ok-clone-in-VarBinView-clause-ok : goal.returns-in_ok-clone-in-VarBinView-clause-ok
+returns-in_ok-clone-in-VarBinView-clause-ok c =
+    let t = c.as_array-array.result.now in
+    let of = c.as_array-array.ensures.of in
+    let rows = c.in-VarBinView.rows.now in
+    let st = storage_of (dtype t) in
+    let own = c.in-VarBinView.own.now in
+    let w = child_of c.args.validity.now (len (canonical_tree c.args.column.now)) in
+    let validity = c.in_ok-both-in-VarBinView in
+    let flat = subst IsNodeOf c.in-VarBinView.ensures.0 c.in-VarBinView.ensures.1 in
+    let kind = c.storage.ensures ∙ ap storage_of c.dtype.ensures in
+    let shared : c.in_ok-clone-in-VarBinView.field-0 ≡ rows = search rules in
+    let child : c.in_ok-child.child ≡ w = c.in_ok-child.ensures.ok ∙ ap (child_of c.args.validity.now) (c.len-len.ensures ∙ ap len of) in
+    let both = subst (λ n. IsBoth n own w (child_of validity.both n)) c.len-len.ensures
+    (subst (λ x. IsBoth c.len-len.result own x (child_of validity.both c.len-len.result)) child validity.ensures.both) in
+    IfOk-weaker c.varbinview_column.result _ _
+    (λ u made. subst (λ x. KeepsExactly (masked_of x w) (canonical_tree u)) of
+    (column_masked bytes enc.views (λ ty n xs css. refl) (bytes_type st) (bytes_set st) rows own w validity.both t (canonical_tree u) c.in-VarBinView.ensures.0 flat.0
+    validity.ensures.nullable both (made ∙ (λ i. bytes_column (kind i) (shared i) validity.both))))
+    c.varbinview_column.ensures.ok
