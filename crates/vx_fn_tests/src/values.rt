@@ -243,7 +243,7 @@ static ERROR_TEXTS: [(VortexError, &str); 17] = [
     (VortexError::InvalidArgument(ArgKind::BadValue), "bad value"),
 ];
 
-static IDS: [(&str, Option<Id>); 20] = [
+static IDS: [(&str, Option<Id>); 21] = [
     ("vortex.constant", Some(Id::Constant)),
     ("vortex.slice", Some(Id::Slice)),
     ("vortex.filter", Some(Id::Filter)),
@@ -260,6 +260,7 @@ static IDS: [(&str, Option<Id>); 20] = [
     ("vortex.cast", Some(Id::Cast)),
     ("vortex.bool", Some(Id::Bool)),
     ("vortex.primitive", Some(Id::Primitive)),
+    ("vortex.varbinview", Some(Id::VarBinView)),
     ("", None),
     ("vortex", None),
     ("vortex.slices", None),

@@ -5,11 +5,11 @@ use std::test::Fail;
 use vx_fn::{Operator, ScalarFnRef};
 use vx_mask::{BitBuffer, Buffer, Mask};
 use vx_tree::{
-    AnyCanonical, AnyColumnar, Array, ArrayKind, ArrayParts, ArrayRef, ArrayView, BoolArray,
-    Canonical, Columnar, Constant, ConstantArray, ConstantData, Filter, FilterArray, FilterData,
-    IntoArray, Primitive, PrimitiveArray, PrimitiveData, PrimitiveValues, ScalarFn, ScalarFnArray,
-    ScalarFnData, Slice, SliceArray, SliceData, Validity, child_to_validity, has_column,
-    slice_canonical, validity_nchildren, validity_to_child,
+    AnyCanonical, AnyColumnar, Array, ArrayKind, ArrayParts, ArrayRef, ArrayView, BinaryViews,
+    BoolArray, Canonical, Columnar, Constant, ConstantArray, ConstantData, Filter, FilterArray,
+    FilterData, IntoArray, Primitive, PrimitiveArray, PrimitiveData, PrimitiveValues, ScalarFn,
+    ScalarFnArray, ScalarFnData, Slice, SliceArray, SliceData, Validity, VarBinViewArray,
+    child_to_validity, has_column, slice_canonical, validity_nchildren, validity_to_child,
 };
 use vx_value::{
     ArgKind, ByteBuffer, DType, DecimalDType, DecimalValue, Id, Nullability, PType, Scalar,
@@ -322,13 +322,9 @@ fn constants_of_types_without_columns(rt: HostRuntime) -> Result<(), Fail> {
         unscaled: 1,
         scale: 2,
     });
-    let text = ScalarValue::Bytes(ByteBuffer::copy_from(alloc, b"a")?);
-    let bytes = ScalarValue::Bytes(ByteBuffer::copy_from(alloc, b"a")?);
     let null = ConstantArray::new(alloc, Scalar::null(DType::Null), 1);
     assert!(rt; is_refused(null, ArgKind::BadType));
     assert!(rt; is_refused(constant_of(alloc, decimal, digits), ArgKind::BadType));
-    assert!(rt; is_refused(constant_of(alloc, UTF8, text), ArgKind::BadType));
-    assert!(rt; is_refused(constant_of(alloc, BINARY, bytes), ArgKind::BadType));
     Ok(())
 }
 
@@ -367,8 +363,8 @@ fn rest_len(alloc: Global, column: &Canonical) -> Option<usize> {
 fn canonical_columns(rt: HostRuntime) -> Result<(), Fail> {
     let alloc = rt.alloc();
     assert!(rt; is_empty_column(alloc, &I32) && is_empty_column(alloc, &BOOL));
-    assert!(rt; is_empty_column(alloc, &NULLABLE));
-    assert!(rt; is_refused(Canonical::empty(alloc, &UTF8), ArgKind::BadType));
+    assert!(rt; is_empty_column(alloc, &NULLABLE) && is_empty_column(alloc, &UTF8));
+    assert!(rt; is_refused(Canonical::empty(alloc, &DType::Null), ArgKind::BadType));
     let flags = Canonical::Bool(booleans(alloc, 3)?);
     assert!(rt; flags.as_bool().is_some() && flags.as_primitive().is_none());
     assert!(rt; flags.clone()?.into_primitive().is_none());
@@ -379,6 +375,37 @@ fn canonical_columns(rt: HostRuntime) -> Result<(), Fail> {
     assert!(rt; numbers.clone()?.into_bool().is_none());
     assert!(rt; rest_len(alloc, &numbers) == Some(2));
     assert!(rt; numbers.into_primitive().is_some());
+    Ok(())
+}
+
+// A column of two rows, each `bytes`.
+fn bytes_column(
+    alloc: Global,
+    dtype: DType,
+    bytes: &[u8],
+    validity: &Validity,
+) -> VortexResult<VarBinViewArray> {
+    let rows = BinaryViews::repeat(alloc, ByteBuffer::copy_from(alloc, bytes)?, 2)?;
+    VarBinViewArray::try_new(alloc, dtype, rows, validity)
+}
+
+#[test]
+fn columns_of_text_and_bytes(rt: HostRuntime) -> Result<(), Fail> {
+    let alloc = rt.alloc();
+    let none = Validity::NonNullable;
+    let no_text = bytes_column(alloc, UTF8, b"\xff", &none);
+    assert!(rt; is_refused(no_text, ArgKind::BadValue));
+    assert!(rt; bytes_column(alloc, BINARY, b"\xff", &none).is_ok());
+    let numbers = bytes_column(alloc, I32, b"a", &none);
+    assert!(rt; is_refused(numbers, ArgKind::BadType));
+    let flags = Validity::Array(booleans(alloc, 1)?.into_array());
+    let nullable = DType::Utf8(Nullability::Nullable);
+    let short = bytes_column(alloc, nullable, b"\xff", &flags);
+    assert!(rt; is_refused(short, ArgKind::SlotLen { slot: 0 }));
+    let text = Canonical::VarBinView(bytes_column(alloc, UTF8, b"a", &none)?);
+    assert!(rt; text.as_varbinview().is_some() && text.as_bool().is_none());
+    assert!(rt; rest_len(alloc, &text) == Some(1));
+    assert!(rt; text.into_varbinview().is_some());
     Ok(())
 }
 
@@ -494,7 +521,7 @@ fn nodes_tell_their_validity(rt: HostRuntime) -> Result<(), Fail> {
 #[test]
 fn types_with_columns(rt: HostRuntime) {
     assert!(rt; has_column(&BOOL) && has_column(&U8) && has_column(&NULLABLE));
-    assert!(rt; !has_column(&UTF8) && !has_column(&DType::Null));
+    assert!(rt; has_column(&UTF8) && !has_column(&DType::Null));
 }
 
 #[test]
