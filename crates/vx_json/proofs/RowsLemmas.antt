@@ -1,5 +1,5 @@
 -- Columns of rows: those of rows that are all there, and those by values and a validity.
-use Rattle.std.proofs.Common.{◌≡◌, ℤ, pos, List, [], ◌∷◌, length, map, Bool, true, false, Option, Some, None, refl, sym, ap, ◌∙◌}
+use Rattle.std.proofs.Common.{◌≡◌, ℕ, ℤ, pos, List, [], ◌∷◌, length, map, Bool, true, false, Option, Some, None, refl, sym, ap, ◌∙◌}
 use Rattle.std.proofs.lemmas.List.{length-map}
 use Rattle.std.proofs.lemmas.Option.{same_Some}
 use Rattle.std.specs.Prelude.{option_map, is_some, if◌then◌else◌}
@@ -10,7 +10,7 @@ use Rattle.vx_value.specs.declared.dtype.PType.{PType}
 use Rattle.vx_mask.specs.Masks.{is_all_true, is_all_false}
 use Rattle.vx_tree.specs.Tree as enc
 use Rattle.vx_tree.specs.Tree.{Tree, Data, column, booleans, integers}
-use Rattle.vx_tree.specs.Rows.{item_or, boolean_rows, integer_rows}
+use Rattle.vx_tree.specs.Rows.{item_or, boolean_rows, integer_rows, bytes_rows}
 use Rattle.vx_tree.specs.Validities.{child_by, truths}
 
 -- of rows that are all there
@@ -36,6 +36,9 @@ booleans_there bs = column_there false (type.bool NonNullable) enc.bool bs
 
 pub integers_there : (p : PType) (zs : List ℤ) → integer_rows NonNullable p (map Some zs) ≡ integers p zs
 integers_there p zs = column_there (pos 0) (type.primitive p NonNullable) (enc.primitive p) zs
+
+pub bytes_there : (ty : DataType) (rs : List (List ℕ)) → bytes_rows ty (map Some rs) ≡ column ty (length rs) (enc.views rs) None
+bytes_there ty rs = column_there [] ty enc.views rs
 
 -- what rows hold and whether each is there are as long
 pub both_long : {A : Type 0} (d : A) (read : Option (List (Option A))) (xs : List A) (valid : List Bool) →

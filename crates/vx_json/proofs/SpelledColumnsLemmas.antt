@@ -1,28 +1,32 @@
 -- The validities that are spelled are those of their columns.
-use Rattle.std.proofs.Common.{◌≡◌, ℕ, List, length, map, Bool, true, false, Option, Some, None, refl, sym, ap, subst, ◌∙◌}
+use Rattle.std.proofs.Common.{◌≡◌, ℕ, List, [], length, map, Bool, true, false, Option, Some, None, refl, sym, ap, subst, ◌∙◌}
+use Rattle.std.proofs.lemmas.List.{length-map}
 use Rattle.std.proofs.lemmas.Option.{same_Some}
 use Rattle.std.specs.Cmp.{unsigned_Decides}
-use Rattle.std.specs.Prelude.{ℤ, option_map, option_and_then, if◌then◌else◌}
-use Rattle.serde_json.specs.Data.{Items}
+use Rattle.std.specs.Prelude.{ℤ, is_some, option_map, option_and_then, if◌then◌else◌}
+use Rattle.serde_json.specs.Data.{Items, Data as Json}
 use Rattle.serde_json.specs.Find.{as_bool}
 use Rattle.vx_value.specs.Types as type
-use Rattle.vx_value.specs.Types.{DataType, same_type_Decides}
+use Rattle.vx_value.specs.Types.{DataType, nullability_of, same_type_Decides}
 use Rattle.vx_value.specs.Nullabilities.{with_nullability}
 use Rattle.vx_value.specs.declared.dtype.Nullability.{Nullability}
 use Rattle.vx_value.specs.declared.dtype.Nullability.TheVariants.{NonNullable, Nullable}
 use Rattle.vx_value.specs.declared.dtype.Storage.{Storage}
-use Rattle.vx_value.specs.declared.dtype.Storage.TheVariants.{Bits, Integers}
+use Rattle.vx_value.specs.declared.dtype.Storage.TheVariants.{Bits, Integers, Text, Bytes}
 use Rattle.vx_mask.specs.Masks.{is_all_true, is_all_false}
-use Rattle.vx_tree.specs.Tree.{Tree, dtype, len, booleans, integers}
-use Rattle.vx_tree.specs.Rows.{boolean_rows, integer_rows}
+use Rattle.vx_tree.specs.ColumnTypes.{bytes_type}
+use Rattle.vx_tree.specs.Tree.{Tree, dtype, len, column, views, booleans, integers}
+use Rattle.vx_tree.specs.Rows.{item_or, boolean_rows, integer_rows, bytes_rows}
 use Rattle.vx_tree.specs.Validities.{HasRows, nullability_by, child_of, child_by, truths, array_refusal, flat_refusal}
 use Rattle.vx_tree.specs.declared.validity.Validity.{Validity}
 use Rattle.vx_tree.specs.declared.validity.Validity.TheVariants as validity
 use Rattle.vx_tree.proofs.ConditionsLemmas.{none_refused, none_unless}
-use Rattle.vx_json.specs.SpelledValues.{integer_spelled, all_read}
-use Rattle.vx_json.specs.SpelledColumns.{rows_stored, values_stored}
+use Rattle.vx_json.specs.SpelledValues.{integer_spelled, bytes_spelled, all_read}
+use Rattle.vx_json.specs.SpelledColumns.{rows_stored, values_stored, flat_of}
+use Rattle.vx_json.specs.SpelledNulls.{validity_spelled}
+use Rattle.vx_json.specs.declared.nulls.Nulls.{Nulls}
 use Rattle.vx_json.specs.declared.nulls.Nulls.TheVariants.{Absent}
-use Rattle.vx_json.proofs.RowsLemmas.{booleans_there, integers_there}
+use Rattle.vx_json.proofs.RowsLemmas.{booleans_there, integers_there, bytes_there, both_long}
 use Rattle.vx_json.proofs.SpelledValuesLemmas.{mapped_read}
 
 -- a validity of the nullability and the rows of a column isn't refused
@@ -60,6 +64,40 @@ pub bits_fit : (s : DataType) (bits : List Bool) (n : ℕ) (v : Validity) → ch
     flat_refusal s (with_nullability Nullable s) n v ≡ None
 bits_fit s bits n v h nullable long = not_refused s Nullable n v nullable (subst (λ k. array_refusal k v ≡ None) long (bits_kept bits v h))
 
+-- a type of text or bytes has the nullability that it is given
+bytes_nullability : (s : Storage) (m : Nullability) → nullability_of (with_nullability m (bytes_type s)) ≡ m
+bytes_nullability Text m = refl
+bytes_nullability _ m = refl
+
+pub bytes_flat : (s : Storage) (m : Nullability) (rs : List (List ℕ)) (nulls : Nulls) (v : Validity) → validity_spelled m (length rs) nulls ≡ Some v →
+    flat_of (with_nullability m (bytes_type s)) (length rs) (views rs) nulls
+    ≡ Some (column (with_nullability m (bytes_type s)) (length rs) (views rs) (child_of v (length rs)))
+bytes_flat s m rs nulls v h =
+    let told : Validity → Tree = λ w. column (with_nullability m (bytes_type s)) (length rs) (views rs) (child_of w (length rs)) in
+    ap (λ k. option_map told (validity_spelled k (length rs) nulls)) (bytes_nullability s m) ∙ ap (option_map told) h
+
+-- rows of bytes are the column of what they hold and of a validity that tells whether each is there
+pub bytes_column_by : (ty : DataType) (read : Option (List (Option (List ℕ)))) (rs : List (List ℕ)) (valid : List Bool) (v : Validity) →
+    option_map (map (item_or [])) read ≡ Some rs → option_map (map is_some) read ≡ Some valid → child_of v (length valid) ≡ child_by valid →
+    option_map (bytes_rows ty) read ≡ Some (column ty (length rs) (views rs) (child_of v (length rs)))
+bytes_column_by ty None rs valid v e h told = absurd (cc)
+bytes_column_by ty (Some rows) rs valid v e h told =
+    let held = same_Some _ _ e in
+    let long = both_long [] (Some rows) rs valid e h in
+    let child : child_by (map is_some rows) ≡ child_of v (length rs) = ap child_by (same_Some _ _ h) ∙ sym told ∙ ap (child_of v) long in
+    let counted : length rows ≡ length rs = sym (length-map rows (item_or [])) ∙ ap length held in
+    ap Some (λ i. column ty (counted i) (views (held i)) (child i))
+
+bytes_are_values : (ty : DataType) (read : Json → Option (List ℕ)) (ds : Items) →
+    option_map (bytes_rows ty) (all_read (λ d. option_map Some (read d)) ds)
+    ≡ option_and_then (λ rs. Some (column ty (length rs) (views rs) None)) (all_read read ds)
+bytes_are_values ty read ds = ap (option_map (bytes_rows ty)) (mapped_read Some read ds) ∙ by_read (all_read read ds)
+  where
+    by_read : (o : Option (List (List ℕ))) →
+        option_map (bytes_rows ty) (option_map (map Some) o) ≡ option_and_then (λ rs. Some (column ty (length rs) (views rs) None)) o
+    by_read None = refl
+    by_read (Some rs) = ap Some (bytes_there ty rs)
+
 -- a column of a non-nullable type by its rows is one by its values
 pub rows_are_values : (s : Storage) (ds : Items) → rows_stored NonNullable s ds ≡ values_stored NonNullable s Absent ds
 rows_are_values Bits ds = ap (option_map (boolean_rows NonNullable)) (mapped_read Some as_bool ds) ∙ by_read (all_read as_bool ds)
@@ -72,4 +110,6 @@ rows_are_values (Integers p) ds = ap (option_map (integer_rows NonNullable p)) (
     by_read : (o : Option (List ℤ)) → option_map (integer_rows NonNullable p) (option_map (map Some) o) ≡ option_and_then (λ zs. Some (integers p zs)) o
     by_read None = refl
     by_read (Some zs) = ap Some (integers_there p zs)
+rows_are_values Text ds = bytes_are_values (type.utf8 NonNullable) (bytes_spelled Text) ds
+rows_are_values Bytes ds = bytes_are_values (type.binary NonNullable) (bytes_spelled Bytes) ds
 rows_are_values _ ds = refl

@@ -1,6 +1,6 @@
 -- The target of a cast.
-use Rattle.std.proofs.Common.{◌≡◌, true, Option, Some, None, sym, ap, ◌∙◌, refl}
-use Rattle.std.specs.Prelude.{option_map, option_and_then}
+use Rattle.std.proofs.Common.{◌≡◌, true, Option, Some, sym, ap, ◌∙◌, refl}
+use Rattle.std.specs.Prelude.{option_and_then}
 use Rattle.vx_value.specs.Types.{DataType}
 use Rattle.vx_value.specs.View.{type_of}
 use Rattle.vx_value.specs.declared.dtype.DType.{DType}
@@ -11,6 +11,8 @@ use Rattle.vx_json.specs.SpelledFunctions.{declared}
 declared_again : (t : DType) → has_column (type_of t) ≡ true → declared (type_of t) ≡ Some t
 declared_again (dtype.Bool m) h = refl
 declared_again (dtype.Primitive p m) h = refl
+declared_again (dtype.Utf8 m) h = refl
+declared_again (dtype.Binary m) h = refl
 declared_again _ h = absurd (cc)
 
 -- a type with columns is the one that its text names

@@ -62,6 +62,18 @@ module _ {A : Type 0} (read : Data → Option A) (vs : List Value) (i : ℕ) (do
   pub read_all : length vs ≤ i → all_read read (items_view vs) ≡ Some done
   read_all h = so_far ∙ ap (λ ws. option_map (λ l. done ++ l) (all_read read (items_view ws))) (drop_all i vs h) ∙ ap Some (append-nil done)
 
+-- past the last, a list of which each item is read and then mapped
+pub mapped_all : {A B : Type 0} (f : A → B) (read : Data → Option A) (vs : List Value) (i : ℕ) (done : List B) →
+    IsReadTo (λ d. option_map f (read d)) vs i done → length vs ≤ i → option_map (map f) (all_read read (items_view vs)) ≡ Some done
+mapped_all f read vs i done so_far h = sym (mapped_read f read (items_view vs)) ∙ read_all (λ d. option_map f (read d)) vs i done so_far h
+
+-- with an item that isn't read, the list isn't
+pub mapped_none : {A B : Type 0} (f : A → B) (read : Data → Option A) (vs : List Value) (i : ℕ) (done : List B) →
+    IsReadTo (λ d. option_map f (read d)) vs i done →
+    (v : Value) → i < length vs → v ≡ slice_index_or vs i v → read (view v) ≡ None → all_read read (items_view vs) ≡ None
+mapped_none f read vs i done so_far v h p e =
+    unmapped_none f read (items_view vs) (read_none (λ d. option_map f (read d)) vs i done so_far v h p (ap (option_map f) e))
+
 -- of a row that is read, whether it is there
 pub there : {A B : Type 0} (f : Option A → B) (read : Data → Option A) (d : Data) (b : B) → option_map f (or_null Nullable read d) ≡ Some b →
     option_map is_some (or_null Nullable read d) ≡ Some (not (is_null d))

@@ -43,6 +43,8 @@ between d = keyed 5 d (option_map function.Between (between_options d))
 abbrev pub declared : DataType → Option DType
 declared (type.bool m) = Some (dtype.Bool m)
 declared (type.primitive p m) = Some (dtype.Primitive p m)
+declared (type.utf8 m) = Some (dtype.Utf8 m)
+declared (type.binary m) = Some (dtype.Binary m)
 declared _ = None
 
 -- `cast` has its target under `type`

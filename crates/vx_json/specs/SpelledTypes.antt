@@ -2,7 +2,7 @@
 use Rattle.std.specs.Prelude.{ℕ, ◌-◌, List, [], ◌∷◌, length, take, drop, if◌then◌else◌, Option, option_map, option_and_then, codes, bytes_eq, Bool}
 use Rattle.std.specs.Map.{lookup}
 use Rattle.serde_json.specs.Data.{Data}
-use Rattle.vx_value.specs.Types.{DataType, bool, primitive}
+use Rattle.vx_value.specs.Types.{DataType, bool, primitive, utf8, binary}
 use Rattle.vx_value.specs.declared.dtype.Nullability.{Nullability}
 use Rattle.vx_value.specs.declared.dtype.Nullability.TheVariants.{NonNullable, Nullable}
 use Rattle.vx_value.specs.declared.dtype.PType.TheVariants.{U8, U16, U32, U64, I8, I16, I32, I64}
@@ -20,6 +20,8 @@ named_types =
     ∷ (codes "i16", primitive I16)
     ∷ (codes "i32", primitive I32)
     ∷ (codes "i64", primitive I64)
+    ∷ (codes "utf8", utf8)
+    ∷ (codes "binary", binary)
     ∷ []
 
 -- the type of the name, with this nullability

@@ -4,20 +4,24 @@ ghost use Rattle.std.specs.Prelude.{◌≡◌, length, Some, None, option_map, o
 ghost use Rattle.serde_json.specs.View.{view, items_view};
 ghost use Rattle.serde_json.specs.Find.{as_bool};
 ghost use Rattle.vx_value.specs.View.{type_of};
+ghost use Rattle.vx_value.specs.Nullabilities.{with_nullability};
 ghost use Rattle.vx_value.specs.Storage.{storage_of};
-ghost use Rattle.vx_tree.specs.Rows.{boolean_rows, integer_rows};
+ghost use Rattle.vx_tree.specs.Tree.{views};
+ghost use Rattle.vx_tree.specs.ColumnTypes.{bytes_type};
+ghost use Rattle.vx_tree.specs.Rows.{boolean_rows, integer_rows, bytes_rows};
 ghost use Rattle.vx_json.specs.Refused.{IsRefused};
-ghost use Rattle.vx_json.specs.SpelledValues.{integer_spelled, or_null, all_read};
-ghost use Rattle.vx_json.specs.SpelledColumns.{column_of_rows, rows_stored, col_spelled, column_of_values, values_stored, flat_spelled};
+ghost use Rattle.vx_json.specs.SpelledValues.{integer_spelled, bytes_spelled, or_null, all_read};
+ghost use Rattle.vx_json.specs.SpelledColumns.{column_of_rows, rows_stored, col_spelled, column_of_values, values_stored, flat_of, flat_spelled};
 
 use crate::BAD_VALUE;
+use crate::bytes::{byte_rows, nullable_byte_rows};
 use crate::fields::{check_keys, items};
 use crate::nulls::Nulls;
 use crate::types::type_at;
 use crate::values::{booleans, integers, nullable_booleans, nullable_integers};
 use serde_json::Value;
 use std::alloc::Global;
-use vx_tree::{ArrayRef, BoolArray, IntoArray, PrimitiveArray, Validity};
+use vx_tree::{ArrayRef, BoolArray, IntoArray, PrimitiveArray, Validity, VarBinViewArray};
 use vx_value::{DType, Nullability, PType, Storage, VortexResult};
 
 /// Reads a column by its rows.
@@ -51,6 +55,7 @@ fn nullable_column(alloc: Global, storage: Storage, list: &Vec<Value>) -> Vortex
     match storage {
         Storage::Bits => nullable_bool_column(alloc, list),
         Storage::Integers(ptype) => nullable_primitive_column(alloc, ptype, list),
+        Storage::Text | Storage::Bytes => nullable_bytes_column(alloc, storage, list),
         _ => Err(BAD_VALUE),
     }
 }
@@ -84,6 +89,34 @@ fn nullable_primitive_column(
     Ok(PrimitiveArray::try_new(alloc, dtype, values, &validity)?.into_array())
 }
 
+/// Returns the type of text or bytes that are stored so: text, else bytes.
+fn bytes_type(storage: Storage, nullability: Nullability) -> DType
+    ensures { type_of result ≡ with_nullability nullability (bytes_type storage) }
+{
+    match storage {
+        Storage::Text => DType::Utf8(nullability),
+        _ => DType::Binary(nullability),
+    }
+}
+
+/// Reads a nullable column of the text or bytes in `list`, which are stored so, null among them.
+#[tactic(auto, using(crate::proofs::SpelledColumnsLemmas::bytes_column_by))]
+fn nullable_bytes_column(
+    alloc: Global,
+    storage: Storage,
+    list: &Vec<Value>,
+) -> VortexResult<ArrayRef>
+    ensures ok { IfOk result (λ t. option_map (bytes_rows (with_nullability Nullability.Nullable (bytes_type storage)))
+        (all_read (or_null Nullability.Nullable (bytes_spelled storage)) (items_view list.now.items)) ≡ Some t) }
+    ensures err { IfErr result (IsRefused
+        (all_read (or_null Nullability.Nullable (bytes_spelled storage)) (items_view list.now.items) ≡ None)) }
+{
+    let (rows, valid) = nullable_byte_rows(alloc, storage, list)?;
+    let validity = Validity::from_bits(alloc, valid)?;
+    let dtype = bytes_type(storage, Nullability::Nullable);
+    Ok(VarBinViewArray::new_unchecked(alloc, dtype, rows, &validity)?.into_array())
+}
+
 /// Reads a column by its values, which are never null, and by `nulls`, which is what its `validity` spells.
 pub(crate) fn flat(alloc: Global, value: &Value, nulls: &Nulls) -> VortexResult<ArrayRef>
     ensures ok { IfOk result (λ t. flat_spelled (view value.now) nulls.now ≡ Some t) }
@@ -106,9 +139,11 @@ fn column_of_values(
     ensures err { IfErr result (IsRefused (column_of_values nulls.now (type_of dtype.now) (items_view list.now.items) ≡ None)) }
 {
     let nullability = dtype.nullability();
-    match dtype.storage() {
+    let storage = dtype.storage();
+    match storage {
         Storage::Bits => bool_column(alloc, nullability, list, nulls),
         Storage::Integers(ptype) => primitive_column(alloc, ptype, nullability, list, nulls),
+        Storage::Text | Storage::Bytes => bytes_column(alloc, storage, nullability, list, nulls),
         _ => Err(BAD_VALUE),
     }
 }
@@ -144,4 +179,26 @@ fn primitive_column(
     let validity = nulls.validity(nullability, values.len())?;
     let dtype = DType::Primitive(ptype, nullability);
     Ok(PrimitiveArray::try_new(alloc, dtype, values, &validity)?.into_array())
+}
+
+/// Reads a column of the text or bytes in `list`, which are stored so.
+#[tactic(auto, using(crate::proofs::SpelledColumnsLemmas::bytes_flat))]
+fn bytes_column(
+    alloc: Global,
+    storage: Storage,
+    nullability: Nullability,
+    list: &Vec<Value>,
+    nulls: &Nulls,
+) -> VortexResult<ArrayRef>
+    ensures ok { IfOk result (λ t. option_and_then
+        (λ rows. flat_of (with_nullability nullability (bytes_type storage)) (length rows) (views rows) nulls.now)
+        (all_read (bytes_spelled storage) (items_view list.now.items)) ≡ Some t) }
+    ensures err { IfErr result (IsRefused (option_and_then
+        (λ rows. flat_of (with_nullability nullability (bytes_type storage)) (length rows) (views rows) nulls.now)
+        (all_read (bytes_spelled storage) (items_view list.now.items)) ≡ None)) }
+{
+    let rows = byte_rows(alloc, storage, list)?;
+    let validity = nulls.validity(nullability, rows.len())?;
+    let dtype = bytes_type(storage, nullability);
+    Ok(VarBinViewArray::new_unchecked(alloc, dtype, rows, &validity)?.into_array())
 }

@@ -1,6 +1,7 @@
 //! Reads trees from JSON, and writes rows as text.
 #![tactic(auto)]
 
+mod bytes;
 mod columns;
 mod fields;
 mod functions;

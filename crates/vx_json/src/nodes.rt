@@ -28,7 +28,7 @@ pub(crate) fn constant(alloc: Global, value: &Value) -> VortexResult<ArrayRef>
     check_keys(value, 4)?;
     let dtype = type_at(value).ok_or(BAD_VALUE)?;
     let spelled = value.get("value").ok_or(BAD_VALUE)?;
-    let scalar = scalar(dtype, spelled).ok_or(BAD_VALUE)?;
+    let scalar = scalar(alloc, dtype, spelled)?;
     let len = number(value, "len").ok_or(BAD_VALUE)?;
     Ok(ConstantArray::new(alloc, scalar, len as usize)?.into_array())
 }

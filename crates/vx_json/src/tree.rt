@@ -5,6 +5,8 @@
 //! `validity` may be absent, `{"enc":"constant","type":"bool","value":true,"len":3}`, `{"enc":"slice","start":0,"stop":1,"child":{..}}`,
 //! `{"enc":"filter","mask":[true,false],"child":{..}}`, `{"enc":"masked","child":{..},"validity":{..}}`, of which `validity` may be
 //! absent, `{"enc":"is_valid","child":{..}}` and `{"enc":"fn","fn":"add","args":[{..},{..}]}`.
+//!
+//! A value of type `utf8` is a string, and one of type `binary` a string of two lower-case hexadecimal digits for each byte.
 
 ghost use Rattle.std.specs.Prelude.{◌≡◌, ◌⊎◌, Some, None, IfOk, IfErr};
 ghost use Rattle.serde_json.specs.View.{view, items_view};

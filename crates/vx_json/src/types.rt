@@ -25,6 +25,8 @@ fn type_named(name: &str, nullability: Nullability) -> Option<DType>
         "i16" => PType::I16,
         "i32" => PType::I32,
         "i64" => PType::I64,
+        "utf8" => return Some(DType::Utf8(nullability)),
+        "binary" => return Some(DType::Binary(nullability)),
         _ => return None,
     };
     Some(DType::Primitive(ptype, nullability))

@@ -10,11 +10,12 @@ ghost use Rattle.vx_json.specs.Refused.{IsRefused};
 ghost use Rattle.vx_json.specs.SpelledValues.{integer_spelled, value_spelled, or_null, all_read};
 
 use crate::BAD_VALUE;
+use crate::bytes::bytes;
 use serde_json::Value;
 use std::alloc::Global;
 use vx_mask::{BitBuffer, BitBuilder, Buffer};
 use vx_native::{NativeInteger, PrimitiveValues, by_type, native_of};
-use vx_value::{DType, Nullability, PType, Scalar, ScalarValue, Storage, VortexResult};
+use vx_value::{ByteBuffer, DType, Nullability, PType, Scalar, ScalarValue, Storage, VortexResult};
 
 /// Reads an integer in the range of `i64` or `u64`.
 fn integer(value: &Value) -> Option<i128>
@@ -167,18 +168,23 @@ pub(crate) fn nullable_booleans(
     Ok((bits.finish(alloc)?, valid.finish(alloc)?))
 }
 
-/// Reads a boolean or an integer of type `dtype`, or null if the type is nullable. Returns `None` for a type of another kind.
-pub(crate) fn scalar(dtype: DType, value: &Value) -> Option<Scalar>
-    ensures value { option_map (λ s. s.value) result ≡ value_spelled (type_of dtype) (view value.now) }
-    ensures typed { IfSome result (λ s. s.of_type ≡ type_of dtype) }
+/// Reads a value of type `dtype`, or null if the type is nullable. `InvalidArgument(BadValue)` if it isn't one.
+pub(crate) fn scalar(alloc: Global, dtype: DType, value: &Value) -> VortexResult<Scalar>
+    ensures ok { IfOk result (λ s. value_spelled (type_of dtype) (view value.now) ≡ Some s.value) }
+    ensures typed { IfOk result (λ s. s.of_type ≡ type_of dtype) }
+    ensures err { IfErr result (IsRefused (value_spelled (type_of dtype) (view value.now) ≡ None)) }
 {
     if value.is_null() {
-        return Scalar::try_new(dtype, None).ok();
+        return Scalar::try_new(dtype, None);
     }
     let value = match dtype.storage() {
-        Storage::Bits => ScalarValue::Bool(value.as_bool()?),
-        Storage::Integers(_) => ScalarValue::Integer(integer(value)?),
-        _ => return None,
+        Storage::Bits => ScalarValue::Bool(value.as_bool().ok_or(BAD_VALUE)?),
+        Storage::Integers(_) => ScalarValue::Integer(integer(value).ok_or(BAD_VALUE)?),
+        storage => {
+            let mut decoded = Vec::new(alloc);
+            let bytes = bytes(storage, value, &mut decoded)?;
+            ScalarValue::Bytes(ByteBuffer::copy_from(alloc, bytes)?)
+        }
     };
-    Scalar::try_new(dtype, Some(value)).ok()
+    Scalar::try_new(dtype, Some(value))
 }

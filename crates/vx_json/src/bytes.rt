@@ -1,0 +1,130 @@
+//! Values of text and of bytes, and lists of them.
+
+ghost use Rattle.std.specs.Prelude.{◌≡◌, ◌∷◌, [], true, map, Some, None, is_some, option_map, IfOk, IfErr, OnOk};
+ghost use Rattle.std.specs.List.{list_any};
+ghost use Rattle.std.specs.Char.{is_ascii_uppercase};
+ghost use Rattle.serde_json.specs.View.{view, items_view};
+ghost use Rattle.vx_tree.specs.ColumnTypes.{are_bytes_of};
+ghost use Rattle.vx_tree.specs.Rows.{item_or};
+ghost use Rattle.vx_json.specs.Refused.{IsRefused};
+ghost use Rattle.vx_json.specs.SpelledValues.{hex_bytes, bytes_spelled, or_null, all_read};
+
+use crate::BAD_VALUE;
+use serde_json::Value;
+use std::alloc::Global;
+use vx_mask::{BitBuffer, BitBuilder};
+use vx_value::{Nullability, Storage, VortexResult};
+use vx_views::{BinaryBuilder, BinaryViews};
+
+/// Checks whether there is a capital letter among `digits`.
+fn has_capitals(digits: &str) -> bool
+    ensures { result ≡ list_any is_ascii_uppercase digits.now }
+{
+    digits
+        .as_bytes()
+        .iter()
+        .any(|digit| digit.is_ascii_uppercase())
+}
+
+/// Puts the bytes of which `digits` has two hexadecimal digits each, without capital letters, into `decoded`, whose memory is used
+/// again. `InvalidArgument(BadValue)` if it hasn't.
+#[tactic(auto, using(crate::proofs::SpelledBytesLemmas::halved))]
+fn decode(digits: &str, decoded: &mut Vec<u8>) -> VortexResult<()>
+    ensures ok { OnOk result (hex_bytes digits.now ≡ Some decoded.new.items) }
+    ensures err { IfErr result (IsRefused (hex_bytes digits.now ≡ None)) }
+{
+    if has_capitals(digits) {
+        return Err(BAD_VALUE);
+    }
+    decoded.resize(digits.len() / 2, 0)?;
+    match hex::decode_to_slice(digits, decoded.as_mut_slice()) {
+        Ok(()) => Ok(()),
+        Err(_) => Err(BAD_VALUE),
+    }
+}
+
+/// Reads the bytes of a value that is stored so: those of a string, or those of its digits, which are put into `decoded`.
+/// `InvalidArgument(BadValue)` if it isn't one.
+#[tactic(auto, using(vx_value::proofs::BytesLemmas::is_text))]
+pub(crate) fn bytes<'v>(
+    storage: Storage,
+    value: &'v Value,
+    decoded: &'v mut Vec<u8>,
+) -> VortexResult<&'v [u8]>
+    ensures ok { IfOk result (λ bytes. bytes_spelled storage (view value.now) ≡ Some bytes.now) }
+    ensures typed { IfOk result (λ bytes. are_bytes_of storage (bytes.now ∷ []) ≡ true) }
+    ensures err { IfErr result (IsRefused (bytes_spelled storage (view value.now) ≡ None)) }
+{
+    let text = value.as_str().ok_or(BAD_VALUE)?;
+    match storage {
+        Storage::Text => Ok(text.as_bytes()),
+        Storage::Bytes => {
+            decode(text, decoded)?;
+            Ok(decoded.as_slice())
+        }
+        _ => Err(BAD_VALUE),
+    }
+}
+
+/// Reads a list of values that are stored so. `InvalidArgument(BadValue)` if an item isn't one.
+#[tactic(auto, using(crate::proofs::SpelledBytesLemmas::typed_more))]
+pub(crate) fn byte_rows(
+    alloc: Global,
+    storage: Storage,
+    list: &Vec<Value>,
+) -> VortexResult<BinaryViews>
+    ensures ok { IfOk result (λ rows. all_read (bytes_spelled storage) (items_view list.now.items) ≡ Some rows) }
+    ensures typed { IfOk result (λ rows. are_bytes_of storage rows ≡ true) }
+    ensures err { IfErr result (IsRefused (all_read (bytes_spelled storage) (items_view list.now.items) ≡ None)) }
+{
+    let mut rows = BinaryBuilder::with_capacity(alloc, list.len())?;
+    let mut decoded = Vec::new(alloc);
+    for value in list {
+        rows.push(bytes(storage, value, &mut decoded)?)?;
+    }
+    Ok(rows.finish(alloc)?)
+}
+
+/// Reads the bytes of a value that is stored so, as `bytes` does. Null is read as no bytes.
+#[tactic(auto, using(crate::proofs::SpelledBytesLemmas::typed_none))]
+fn bytes_or_none<'v>(
+    storage: Storage,
+    value: &'v Value,
+    decoded: &'v mut Vec<u8>,
+) -> VortexResult<&'v [u8]>
+    ensures ok { IfOk result (λ bytes. option_map (item_or []) (or_null Nullability.Nullable (bytes_spelled storage) (view value.now)) ≡ Some bytes.now) }
+    ensures typed { IfOk result (λ bytes. are_bytes_of storage (bytes.now ∷ []) ≡ true) }
+    ensures err { IfErr result (IsRefused (or_null Nullability.Nullable (bytes_spelled storage) (view value.now) ≡ None)) }
+{
+    if value.is_null() {
+        Ok(&[])
+    } else {
+        bytes(storage, value, decoded)
+    }
+}
+
+/// Reads a list of values that are stored so, null among them. Returns their bytes, none for null, and whether each isn't null.
+/// `InvalidArgument(BadValue)` if an item is neither.
+#[tactic(auto, using(crate::proofs::SpelledBytesLemmas::typed_more))]
+pub(crate) fn nullable_byte_rows(
+    alloc: Global,
+    storage: Storage,
+    list: &Vec<Value>,
+) -> VortexResult<(BinaryViews, BitBuffer)>
+    ensures values { IfOk result (λ rows. option_map (map (item_or []))
+        (all_read (or_null Nullability.Nullable (bytes_spelled storage)) (items_view list.now.items)) ≡ Some rows.0) }
+    ensures valid { IfOk result (λ rows. option_map (map is_some)
+        (all_read (or_null Nullability.Nullable (bytes_spelled storage)) (items_view list.now.items)) ≡ Some rows.1) }
+    ensures typed { IfOk result (λ rows. are_bytes_of storage rows.0 ≡ true) }
+    ensures err { IfErr result (IsRefused
+        (all_read (or_null Nullability.Nullable (bytes_spelled storage)) (items_view list.now.items) ≡ None)) }
+{
+    let mut rows = BinaryBuilder::with_capacity(alloc, list.len())?;
+    let mut valid = BitBuilder::with_capacity(alloc, list.len())?;
+    let mut decoded = Vec::new(alloc);
+    for value in list {
+        rows.push(bytes_or_none(storage, value, &mut decoded)?)?;
+        valid.push(!value.is_null())?;
+    }
+    Ok((rows.finish(alloc)?, valid.finish(alloc)?))
+}
