@@ -1,7 +1,7 @@
-use Rattle.std.proofs.Common.{◌≡◌, ◌≤◌, true, refl, sym, subst, ◌∙◌}
+use Rattle.std.proofs.Common.{◌≤◌, refl, sym, subst}
 use Rattle.vx_value.specs.Values.{bytes}
 use Rattle.vx_value.specs.Storage.{storage_of}
-use Rattle.vx_tree.specs.ColumnTypes.{bytes_type, are_bytes_of}
+use Rattle.vx_tree.specs.ColumnTypes.{bytes_type}
 use Rattle.vx_tree.specs.Tree as enc
 use Rattle.vx_tree.specs.Tree.{dtype, len, slice_of}
 use Rattle.vx_tree.specs.Well.{IsNodeOf}
