@@ -1,5 +1,5 @@
 -- What a column stores of a value.
-use Rattle.std.proofs.Common.{◌≡◌, ◌⊎◌, ℕ, List, [], ◌∷◌, pos, Bool, true, false, refl, sym, ◌∙◌, ap, subst, inl, inr}
+use Rattle.std.proofs.Common.{◌≡◌, ◌⊎◌, ℕ, List, [], ◌∷◌, pos, true, false, refl, sym, ◌∙◌, ap, subst, inl, inr}
 use Rattle.std.specs.Prelude.{unwrap_or}
 use Rattle.vx_value.specs.Types.{DataType, utf8, binary, nullability_of}
 use Rattle.vx_value.specs.Nullabilities.{with_nullability}

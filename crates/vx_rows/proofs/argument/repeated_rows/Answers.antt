@@ -2,7 +2,6 @@ use Rattle.std.proofs.Common.{◌≡◌, ◌⊎◌, [], ap, sym, ◌∙◌, subs
 use Rattle.std.specs.Prelude.{unwrap_or}
 use Rattle.vx_value.specs.Storage.{storage_of}
 use Rattle.vx_value.specs.Parts.{bytes_in}
-use Rattle.vx_value.specs.IsOf.{is_of}
 use Rattle.vx_value.specs.declared.dtype.Storage.TheVariants.{Text, Bytes}
 use Rattle.vx_rows.specs.declared.argument.BytesRows.TheVariants.{Value}
 use Rattle.vx_rows.proofs.StoredLemmas.{bytes_repeated}

@@ -1,7 +1,6 @@
-use Rattle.std.proofs.Common.{get_or, inl, inr, arith, Some, sym, ap, subst, ◌∙◌, ◌≡◌, rules, true, false}
+use Rattle.std.proofs.Common.{get_or, inl, inr, arith, Some, sym, ap, subst, ◌∙◌, ◌≡◌, rules}
 use Rattle.std.proofs.lemmas.Result.{IfOk-weaker}
 use Rattle.vx_rows.specs.Nulls.{IsRowBy}
-use Rattle.vx_value.specs.Values.{boolean}
 use Rattle.vx_value.specs.Cell.{value, fault}
 use Rattle.vx_mask.specs.Masks.{bits_in}
 use Rattle.vx_mask.proofs.PlacesLemmas.{place_is}
