@@ -1,8 +1,9 @@
 //! Values of text and of bytes, and lists of them.
 
-ghost use Rattle.std.specs.Prelude.{◌≡◌, ◌∷◌, [], true, map, Some, None, is_some, option_map, IfOk, IfErr, OnOk};
+ghost use Rattle.std.specs.Prelude.{◌≡◌, ◌≢◌, ℕ, List, ◌∷◌, [], true, map, Some, None, is_some, option_map, IfOk, IfErr, OnOk};
 ghost use Rattle.std.specs.List.{list_any};
 ghost use Rattle.std.specs.Char.{is_ascii_uppercase};
+ghost use Rattle.hex.specs.Hex.{IsBytes, encode_lower};
 ghost use Rattle.serde_json.specs.View.{view, items_view};
 ghost use Rattle.vx_tree.specs.ColumnTypes.{are_bytes_of};
 ghost use Rattle.vx_tree.specs.Rows.{item_or};
@@ -32,6 +33,8 @@ fn has_capitals(digits: &str) -> bool
 fn decode(digits: &str, decoded: &mut Vec<u8>) -> VortexResult<()>
     ensures ok { OnOk result (hex_bytes digits.now ≡ Some decoded.new.items) }
     ensures err { IfErr result (IsRefused (hex_bytes digits.now ≡ None)) }
+    ensures written { OnOk result (encode_lower decoded.new.items ≡ digits.now) }
+    ensures unwritten { IfErr result (IsRefused ((bytes : List ℕ) → IsBytes bytes → encode_lower bytes ≢ digits.now)) }
 {
     if has_capitals(digits) {
         return Err(BAD_VALUE);

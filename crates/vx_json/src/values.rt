@@ -1,6 +1,6 @@
 //! Single values of a type, and lists of them.
 
-ghost use Rattle.std.specs.Prelude.{◌≡◌, pos, false, map, Some, None, is_some, option_map, option_and_then, IfOk, IfErr, IfSome};
+ghost use Rattle.std.specs.Prelude.{◌≡◌, pos, false, map, Some, None, is_some, option_map, option_and_then, IfOk, IfErr};
 ghost use Rattle.serde_json.specs.View.{view, items_view};
 ghost use Rattle.serde_json.specs.Find.{as_bool, as_number, as_integer};
 ghost use Rattle.vx_value.specs.View.{type_of};

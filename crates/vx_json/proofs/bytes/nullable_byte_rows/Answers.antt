@@ -38,10 +38,12 @@ pub returns-clause-values : goal.returns-clause-values
 returns-clause-values c =
     let past = rw c.deref-value-items.ensures.value at c.loop-value-test.false in
     let read = or_null Nullable (bytes_spelled c.args.storage) in
-    mapped_all (item_or []) read c.args.list.now.items c.loop-value.value-index c.loop-value.rows c.loop-value.invariant.values past ∙ ap Some (sym c.in_ok-finish.ensures)
+    mapped_all (item_or []) read c.args.list.now.items c.loop-value.value-index c.loop-value.rows c.loop-value.invariant.values past
+    ∙ ap Some (sym c.in_ok-finish.ensures)
 
 pub returns-clause-valid : goal.returns-clause-valid
 returns-clause-valid c =
     let past = rw c.deref-value-items.ensures.value at c.loop-value-test.false in
     let read = or_null Nullable (bytes_spelled c.args.storage) in
-    mapped_all is_some read c.args.list.now.items c.loop-value.value-index c.loop-value.valid c.loop-value.invariant.valid past ∙ ap Some (sym c.in_ok-finish-2.ensures)
+    mapped_all is_some read c.args.list.now.items c.loop-value.value-index c.loop-value.valid c.loop-value.invariant.valid past
+    ∙ ap Some (sym c.in_ok-finish-2.ensures)
