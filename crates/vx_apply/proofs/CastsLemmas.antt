@@ -2,8 +2,9 @@
 use Rattle.std.proofs.Common.{◌≡◌, ◌<◌, ◌+◌, ℕ, suc, ℤ, Bool, true, false, List, [], ◌∷◌, length, map, get_or, pos, Option, Some, None, inl, inr, refl, sym, ap, ◌∙◌, subst, if◌then◌else◌, arith}
 use Rattle.std.specs.Prelude.{is_some, nat_lt, MatchOption, option_map}
 use Rattle.std.proofs.lemmas.Bool.Decides.{nat_tests}
-use Rattle.vx_value.specs.Types.{DataType, bool, primitive, nullability_of, is_nullable}
+use Rattle.vx_value.specs.Types.{DataType, bool, primitive, utf8, binary, nullability_of, is_nullable}
 use Rattle.vx_value.specs.Nullabilities.{with_nullability}
+use Rattle.vx_value.specs.Storage.{storage_of}
 use Rattle.vx_value.specs.View.{type_of}
 use Rattle.vx_value.specs.Values.{Value, null, boolean, integer}
 use Rattle.vx_value.specs.Cell.{value, fault}
@@ -13,6 +14,8 @@ use Rattle.vx_value.specs.declared.dtype.DType.{DType}
 use Rattle.vx_value.specs.declared.dtype.PType.{PType}
 use Rattle.vx_value.specs.declared.dtype.Nullability.{Nullability}
 use Rattle.vx_value.specs.declared.dtype.Nullability.TheVariants.{NonNullable, Nullable}
+use Rattle.vx_value.specs.declared.dtype.Storage.{Storage}
+use Rattle.vx_value.specs.declared.dtype.Storage.TheVariants.{Text}
 use Rattle.vx_value.specs.declared.error.VortexError.{VortexError}
 use Rattle.vx_mask.specs.Logic.{bit_row}
 use Rattle.vx_mask.specs.Operands.{bit_in}
@@ -22,7 +25,7 @@ use Rattle.vx_fn.specs.Apply.{apply}
 use Rattle.vx_fn.specs.ReturnTypes.{return_type}
 use Rattle.vx_fn.specs.declared.function.ScalarFnRef.TheVariants.{Cast}
 use Rattle.vx_fn.proofs.CastLemmas.{cast_taken}
-use Rattle.vx_tree.specs.ColumnTypes.{has_column}
+use Rattle.vx_tree.specs.ColumnTypes.{has_column, bytes_type}
 use Rattle.vx_tree.specs.Tree.{Tree, dtype}
 use Rattle.vx_tree.specs.Cells.{HasNoFault}
 use Rattle.vx_rows.specs.Arguments.{IsSized, type_of_argument, types_of, row_of, plain_type, value_at}
@@ -43,11 +46,19 @@ use Rattle.std.specs.List.{range_with_len}
 
 -- ---- which casts there are
 
+bytes_target : (m : Nullability) (st : Storage) (t : DataType) → has_cast (with_nullability m (bytes_type st)) t ≡ true
+    → t ≡ with_nullability (nullability_of t) (bytes_type (storage_of t))
+bytes_target m st (utf8 k) h = refl
+bytes_target m st (binary k) h = refl
+bytes_target m Text _ h = absurd (cc)
+bytes_target m _ _ h = absurd (cc)
+
 cast_target : (r : ArgumentRows) (m : Nullability) (t : DataType) → has_cast (with_nullability m (plain_type r)) t ≡ true → has_column t ≡ true → IsCastTarget r t
 cast_target (stored.Bits bs) m (bool k) h column = refl
 cast_target (stored.Bits bs) m _ h column = absurd (cc)
 cast_target (stored.Integers zs) m (primitive p k) h column = (p, refl)
 cast_target (stored.Integers zs) m _ h column = absurd (cc)
+cast_target (stored.Bytes bs) m t h column = bytes_target m bs.storage t h
 
 -- ---- rows
 
@@ -97,6 +108,16 @@ bits_kept (stored.Bits cs) bs t valid n u is target nullability h = (
   made_by valid _ _ n u (λ i lt here. sym (ap (λ s. cast_to s (boolean (bit_in cs i))) target)) h.1,
 )
 bits_kept (stored.Integers zs) bs t valid n u is target nullability h = absurd (cc)
+bits_kept (stored.Bytes ys) bs t valid n u is target nullability h = absurd (cc)
+
+-- what is cast to a type by name
+pub cast_made : (ty : Nullability → DataType) (r s : ArgumentRows) (t : DataType) (k : Nullability) (valid : ValidRows) (n : ℕ) (u : Tree) → r ≡ s → t ≡ ty k
+    → nullability_of (ty k) ≡ k → nullability_in valid ≡ nullability_of t → (dtype u ≡ ty (nullability_in valid)) × IsMade valid (λ i. cast_to (ty k) (value_at s i)) n u
+    → (dtype u ≡ t) × IsMade valid (λ i. cast_to t (value_at r i)) n u
+cast_made ty r s t k valid n u is typed own nullability h = (
+  h.0 ∙ ap ty (nullability ∙ ap nullability_of typed ∙ own) ∙ sym typed,
+  made_by valid _ _ n u (λ i lt here. λ j. cast_to (sym typed j) (value_at (sym is j) i)) h.1,
+)
 
 -- an integer in another type
 pub converted_row : {U : Type 0} (read : U → ℤ) (p : PType) (wide z : ℤ) (r : Option U) → option_map read r ≡ (if in_range p wide then Some wide else None) → wide ≡ z

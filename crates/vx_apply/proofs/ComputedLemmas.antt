@@ -37,10 +37,13 @@ pub rows_more : {T C : Type 0} (read : T → C) (f : ℕ → C) (out : List T) (
 rows_more read f out i r h e =
     rw (map-append read out (r ∷ []), map-range_with_len_more f 0 i i (omega arith), h, e) refl
 
--- one more bit that is made by f
+-- one more item that is made by f
+pub items_more : {X : Type 0} (f : ℕ → X) (out : List X) (i : ℕ) (r : X) → out ≡ map f (range_with_len 0 i) → r ≡ f i → out ++ r ∷ [] ≡ map f (range_with_len 0 (i + 1))
+items_more f out i r h e = rw (map-range_with_len_more f 0 i i (omega arith), h, e) refl
+
 pub bits_more : (f : ℕ → Bool) (out : List Bool) (i : ℕ) (r : Bool) → out ≡ map f (range_with_len 0 i) → r ≡ f i
     → out ++ r ∷ [] ≡ map f (range_with_len 0 (i + 1))
-bits_more f out i r h e = rw (map-range_with_len_more f 0 i i (omega arith), h, e) refl
+bits_more = items_more
 
 -- of the rows at the true bits
 pub calculated_more : {T : Type 0} (read : T → ℤ) (bits : List Bool) (cell : ℕ → Cell) (out : List T) (i : ℕ) (x : T) (b : Bool) →

@@ -11,3 +11,4 @@ pub mod OperandsLemmas
 pub mod OperatorLemmas
 pub mod PassingLemmas
 pub mod SelectLemmas
+pub mod ViewsLemmas

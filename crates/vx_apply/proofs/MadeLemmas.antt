@@ -4,13 +4,17 @@ use Rattle.std.specs.List.{range_with_len}
 use Rattle.std.proofs.lemmas.List.FromFn.{get_or-map-range_with_len, length-map-range_with_len}
 use Rattle.std.proofs.lemmas.Simd.{map-map}
 use Rattle.vx_value.specs.Types.{DataType, bool, primitive}
-use Rattle.vx_value.specs.Values.{Value, boolean, integer}
+use Rattle.vx_value.specs.Nullabilities.{with_nullability}
+use Rattle.vx_value.specs.Values.{Value, boolean, integer, bytes}
 use Rattle.vx_value.specs.Cell.{Cell, value}
 use Rattle.vx_value.specs.declared.dtype.PType.{PType}
+use Rattle.vx_value.specs.declared.dtype.Nullability.{Nullability}
+use Rattle.vx_value.specs.declared.dtype.Storage.{Storage}
 use Rattle.vx_mask.proofs.Lists.{same_below}
 use Rattle.vx_fn.specs.Apply.{apply}
 use Rattle.vx_fn.specs.ReturnTypes.{return_type}
 use Rattle.vx_fn.specs.declared.function.ScalarFnRef.{ScalarFnRef}
+use Rattle.vx_tree.specs.ColumnTypes.{bytes_type}
 use Rattle.vx_tree.specs.Tree as enc
 use Rattle.vx_tree.specs.Tree.{Tree, Data, dtype, slots_of, column, is_canonical}
 use Rattle.vx_tree.specs.Cells.{slots_rows, node_cells, cells_at, valid_cells}
@@ -18,7 +22,7 @@ use Rattle.vx_tree.specs.Validities.{nullability_by, child_of}
 use Rattle.vx_tree.specs.declared.validity.Validity.{Validity}
 use Rattle.vx_rows.specs.Arguments.{types_of, row_of}
 use Rattle.vx_apply.specs.Computed.{IsMade, IsComputed}
-use Rattle.vx_rows.specs.Stored.{boolean_column, integer_column}
+use Rattle.vx_rows.specs.Stored.{boolean_column, integer_column, bytes_column}
 use Rattle.vx_rows.specs.Nulls.{validity_cells}
 use Rattle.vx_rows.specs.ValidRows.{is_valid, HasValidity, nullability_in, child_in, IsValidityOf, null_unless}
 use Rattle.vx_rows.specs.declared.argument.Argument.{Argument}
@@ -58,39 +62,39 @@ computed_by f args valid stored n u typed h same = record {
 }
 
 module _ (valid : ValidRows) (n : ℕ) (sized : HasValidity valid n) (v : Validity) (told : IsValidityOf valid n v) where
+  -- items that are stored in a column
   made : {X : Type 0} (read : X → Value) (of_items : List X → Data)
       → ((ty : DataType) (k : ℕ) (xs : List X) (css : List (List Cell)) → node_cells ty k (of_items xs) css ≡ valid_cells (cells_at css 0) (map (λ x. value (read x)) xs))
-      → ((xs : List X) → is_canonical (of_items xs) ≡ true) → (ty : DataType) (xs : List X) (g : ℕ → X) → xs ≡ map g (range_with_len 0 n)
-      → IsMade valid (λ i. value (read (g i))) n (column ty (length xs) (of_items xs) (child_of v (length xs)))
-  made read of_items cells canonical ty xs g are =
+      → ((xs : List X) → is_canonical (of_items xs) ≡ true) → (ty : Nullability → DataType) (xs : List X) (g : ℕ → X) (u : Tree) → xs ≡ map g (range_with_len 0 n)
+      → u ≡ column (ty (nullability_by v)) (length xs) (of_items xs) (child_of v (length xs))
+      → (dtype u ≡ ty (nullability_in valid)) × IsMade valid (λ i. value (read (g i))) n u
+  made read of_items cells canonical ty xs g u are new =
       let long : length xs ≡ n = ap length are ∙ length-map-range_with_len g 0 n in
       let child : child_of v (length xs) ≡ child_in valid = ap (child_of v) long ∙ told.1 in
       let stored : map (λ x. value (read x)) xs ≡ map (λ i. value (read (g i))) (range_with_len 0 n) =
       ap (map (λ x. value (read x))) are ∙ map-map (λ x. value (read x)) g (range_with_len 0 n) in
-      let whole : IsMade valid (λ i. value (read (g i))) n (column ty (length xs) (of_items xs) (child_in valid)) =
+      let whole : IsMade valid (λ i. value (read (g i))) n (column (ty (nullability_by v)) (length xs) (of_items xs) (child_in valid)) =
       record {
         counted = long;
-        shown = cells ty (length xs) xs (slots_rows (slots_of (child_in valid ∷ [])))
+        shown = cells (ty (nullability_by v)) (length xs) xs (slots_rows (slots_of (child_in valid ∷ [])))
             ∙ ap (λ css. valid_cells (cells_at css 0) (map (λ x. value (read x)) xs)) (one_slot (child_in valid))
             ∙ ap (valid_cells (validity_cells (child_in valid))) stored
             ∙ filled_rows valid n (λ i. read (g i)) sized;
         clean = filled_clean valid;
         canonical = canonical xs;
-      } in
-      subst (λ c. IsMade valid (λ i. value (read (g i))) n (column ty (length xs) (of_items xs) c)) (sym child) whole
+      } in (
+        ap dtype new ∙ ap ty told.0,
+        subst (IsMade valid (λ i. value (read (g i))) n) (sym (new ∙ ap (column (ty (nullability_by v)) (length xs) (of_items xs)) child)) whole,
+      )
 
   pub bools_made : (bits : List Bool) (test : ℕ → Bool) (u : Tree) → bits ≡ map test (range_with_len 0 n) → u ≡ boolean_column bits v
       → (dtype u ≡ bool (nullability_in valid)) × IsMade valid (λ i. value (boolean (test i))) n u
-  bools_made bits test u are new = (
-    ap dtype new ∙ ap bool told.0,
-    subst (IsMade valid (λ i. value (boolean (test i))) n) (sym new)
-        (made boolean enc.bool (λ ty k xs css. refl) (λ xs. refl) (bool (nullability_by v)) bits test are),
-  )
+  bools_made = made boolean enc.bool (λ ty k xs css. refl) (λ xs. refl) bool
 
   pub integers_made : (p : PType) (zs : List ℤ) (g : ℕ → ℤ) (u : Tree) → zs ≡ map g (range_with_len 0 n) → u ≡ integer_column p zs v
       → (dtype u ≡ primitive p (nullability_in valid)) × IsMade valid (λ i. value (integer (g i))) n u
-  integers_made p zs g u are new = (
-    ap dtype new ∙ ap (primitive p) told.0,
-    subst (IsMade valid (λ i. value (integer (g i))) n) (sym new)
-        (made integer (enc.primitive p) (λ ty k xs css. refl) (λ xs. refl) (primitive p (nullability_by v)) zs g are),
-  )
+  integers_made p = made integer (enc.primitive p) (λ ty k xs css. refl) (λ xs. refl) (primitive p)
+
+  pub bytes_made : (st : Storage) (rs : List (List ℕ)) (g : ℕ → List ℕ) (u : Tree) → rs ≡ map g (range_with_len 0 n) → u ≡ bytes_column st rs v
+      → (dtype u ≡ with_nullability (nullability_in valid) (bytes_type st)) × IsMade valid (λ i. value (bytes (g i))) n u
+  bytes_made st = made bytes enc.views (λ ty k xs css. refl) (λ xs. refl) (λ m. with_nullability m (bytes_type st))

@@ -2,12 +2,11 @@
 use Rattle.std.proofs.Common.{◌≡◌, ℕ, Bool, true, false, List, [], ◌∷◌, map, Some, refl, sym, ap, ◌∙◌}
 use Rattle.std.specs.Prelude.{◌&&◌}
 use Rattle.std.specs.List.{range_with_len}
-use Rattle.vx_value.specs.Types.{DataType, bool}
+use Rattle.vx_value.specs.Types.{DataType, bool, nullability_of}
 use Rattle.vx_value.specs.Nullabilities.{with_nullability}
 use Rattle.vx_value.specs.Values.{Value, null, boolean}
 use Rattle.vx_value.specs.Cell.{value}
 use Rattle.vx_value.specs.IsOf.{is_null}
-use Rattle.vx_value.specs.declared.dtype.Nullability.{Nullability}
 use Rattle.vx_value.specs.declared.dtype.Nullability.TheVariants.{NonNullable, Nullable}
 use Rattle.vx_mask.specs.Logic.{bit_row}
 use Rattle.vx_mask.specs.Operands.{bit_in}
@@ -24,11 +23,10 @@ use Rattle.vx_rows.specs.ValidRows.{is_valid, nullability_in, null_unless}
 use Rattle.vx_rows.specs.declared.argument.Argument.{Argument}
 use Rattle.vx_rows.specs.declared.argument.ArgumentRows.{ArgumentRows}
 use Rattle.vx_rows.specs.declared.argument.ArgumentRows.TheVariants as stored
-use Rattle.vx_rows.specs.declared.argument.IntegerOperand.{IntegerOperand}
 use Rattle.vx_rows.specs.declared.valid.ValidRows.{ValidRows}
 use Rattle.vx_rows.specs.declared.valid.ValidRows.TheVariants as rows_valid
 use Rattle.vx_apply.proofs.MadeLemmas.{computed_by}
-use Rattle.vx_apply.proofs.OperatorLemmas.{argument_type, set_again}
+use Rattle.vx_apply.proofs.OperatorLemmas.{argument_type, argument_nullability, set_again}
 use Rattle.vx_rows.proofs.ValidRowsLemmas.{bit_made}
 
 -- ---- tests of a value, by what they say of null, and of any other
@@ -36,6 +34,7 @@ use Rattle.vx_rows.proofs.ValidRowsLemmas.{bit_made}
 stored_value : (r : ArgumentRows) (i : ℕ) → is_null (value_at r i) ≡ false
 stored_value (stored.Bits bs) i = refl
 stored_value (stored.Integers zs) i = refl
+stored_value (stored.Bytes bs) i = refl
 
 module _ (f : ScalarFnRef) (g : Bool → Bool) (typed : (s : DataType) → return_type f (s ∷ []) ≡ Some (bool NonNullable))
     (of_null : (ty : DataType) → apply f ty (value null ∷ []) ≡ value (boolean (g false)))
@@ -62,28 +61,23 @@ all_valid : (valid : ValidRows) (i : ℕ) → nullability_in valid ≡ NonNullab
 all_valid (rows_valid.All m) i h = refl
 all_valid (rows_valid.Bits bits) i h = absurd (cc)
 
--- it is non-nullable
-plain_mask : (s ty : DataType) (m : Nullability) → mask_type s (bool m) ≡ Some ty → m ≡ NonNullable
-plain_mask s ty NonNullable e = refl
-plain_mask s ty Nullable e = absurd (cc)
+-- it is one of non-nullable booleans
+of_mask : (s t ty : DataType) → mask_type s t ≡ Some ty → t ≡ bool NonNullable
+of_mask s (bool NonNullable) ty e = refl
+of_mask s (bool Nullable) ty e = absurd (cc)
+of_mask s _ ty e = absurd (cc)
 
 module _ (n : ℕ) (a k : Argument) (first : IsSized n a) (second : IsSized n k) (taken : IsTaken Mask (types_of (a ∷ k ∷ []))) where
-  by_type : (r : ArgumentRows) → k.rows ≡ r → mask_type (type_of_argument a) (with_nullability (nullability_in k.valid) (plain_type r)) ≡ Some taken.0
-  by_type r is =
-      sym (ap (mask_type (type_of_argument a)) (argument_type n k second ∙ ap (λ x. with_nullability (nullability_in k.valid) (plain_type x)) is)) ∙ taken.1
-
-  pub no_integer_mask : (zs : IntegerOperand) → k.rows ≡ stored.Integers zs → ⊥
-  no_integer_mask zs is = let no = by_type (stored.Integers zs) is in cc
+  mask_typed : type_of_argument k ≡ bool NonNullable
+  mask_typed = of_mask (type_of_argument a) (type_of_argument k) taken.0 taken.1
 
   pub masked : (keep : BitOperand) (bits : List Bool) (u : Tree) → k.rows ≡ stored.Bits keep → bits ≡ map (λ i. is_valid a.valid i && bit_in keep i) (range_with_len 0 n)
       → (dtype u ≡ with_nullability Nullable (plain_type a.rows)) × IsMade (rows_valid.Bits bits) (λ i. value (value_at a.rows i)) n u
       → IsComputed Mask (a ∷ k ∷ []) n u
   masked keep bits u is made h =
-      let plain : nullability_in k.valid ≡ NonNullable = plain_mask (type_of_argument a) taken.0 (nullability_in k.valid) (by_type (stored.Bits keep) is) in
-      let of_mask : type_of_argument k ≡ bool NonNullable =
-      argument_type n k second ∙ (λ j. with_nullability (plain j) (plain_type (is j))) in
+      let plain : nullability_in k.valid ≡ NonNullable = sym (argument_nullability n k second) ∙ ap nullability_of mask_typed in
       let typed : return_type Mask (types_of (a ∷ k ∷ [])) ≡ Some (with_nullability Nullable (plain_type a.rows)) =
-      ap (mask_type (type_of_argument a)) of_mask ∙ ap (λ s. Some (with_nullability Nullable s)) (argument_type n a first)
+      ap (mask_type (type_of_argument a)) mask_typed ∙ ap (λ s. Some (with_nullability Nullable s)) (argument_type n a first)
       ∙ ap Some (set_again Nullable (nullability_in a.valid) a.rows) in
       computed_by Mask (a ∷ k ∷ []) (rows_valid.Bits bits) (λ i. value (value_at a.rows i)) n u (typed ∙ ap Some (sym h.0)) h.1
       (λ i lt. ap (λ b. null_unless b (value (value_at a.rows i))) (bit_made (λ j. is_valid a.valid j && bit_in keep j) bits n i made lt)

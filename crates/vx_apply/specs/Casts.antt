@@ -1,5 +1,5 @@
 -- What a cast makes of the rows of an argument.
-use Rattle.std.specs.Prelude.{◌≡◌, ℕ, ℤ, pos, length, slice_index_or}
+use Rattle.std.specs.Prelude.{◌≡◌, ℕ, ℤ, pos, Bool, true, false, List, [], length, slice_index_or}
 use Rattle.vx_value.specs.Types.{DataType, bool, primitive, nullability_of}
 use Rattle.vx_value.specs.Nullabilities.{with_nullability}
 use Rattle.vx_value.specs.Storage.{storage_of}
@@ -20,6 +20,11 @@ use Rattle.vx_rows.specs.declared.argument.ArgumentRows.TheVariants as stored
 -- row i of integers, cast to the type p
 abbrev pub converted : PType → (ℕ → ℤ) → ℕ → Cell
 converted p z i = to_integer p (integer (z i))
+
+-- the bytes that are stored of a row that is cast to text: none if it is null
+abbrev pub none_unless : Bool → List ℕ → List ℕ
+none_unless true bs = bs
+none_unless false bs = []
 
 -- the types of columns to which there is a cast: a line for each storage
 abbrev pub IsCastTarget : ArgumentRows → DataType → Type 0

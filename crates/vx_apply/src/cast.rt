@@ -19,12 +19,13 @@ ghost use Rattle.vx_rows.specs.ValidRows.{is_valid, HasValidity, nullability_in}
 use crate::calculation::{Calculation, calculated_column};
 use crate::operand::{Operand, operand_of};
 use crate::stored::{integer_rows, stored_column};
+use crate::text::cast_to_text;
 use std::alloc::Global;
 use vx_mask::Buffer;
 use vx_native::{NativeInteger, PrimitiveValues, by_buffer, by_type};
-use vx_rows::{Argument, ArgumentRows, IntegerOperand, ValidRows};
+use vx_rows::{Argument, ArgumentRows, BytesOperand, IntegerOperand, ValidRows};
 use vx_tree::Canonical;
-use vx_value::{DType, Nullability, PType, VortexError, VortexResult};
+use vx_value::{DType, Nullability, PType, Storage, VortexError, VortexResult};
 
 /// Casts `input`, `len` rows, to `target`: shares its values if they are stored the same, and casts no value under a null.
 /// `Fault` if `target` doesn't have the value of a row.
@@ -96,6 +97,13 @@ fn cast_rows(
         (ArgumentRows::Bits(_), _) => stored_column(alloc, rows, valid, len),
         (ArgumentRows::Integers(integers), DType::Primitive(ptype, _)) => {
             cast_integers(alloc, *ptype, integers, valid, len)
+        }
+        (ArgumentRows::Bytes(bytes), DType::Utf8(_)) => cast_to_text(alloc, bytes, valid, len),
+        (ArgumentRows::Bytes(bytes), DType::Binary(_)) => {
+            let rows = bytes.rows;
+            let storage = Storage::Bytes;
+            let kept = ArgumentRows::Bytes(BytesOperand { storage, rows });
+            stored_column(alloc, kept, valid, len)
         }
         _ => unreachable!(),
     }

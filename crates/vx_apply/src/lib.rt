@@ -15,5 +15,6 @@ mod operand;
 mod operate;
 mod select;
 mod stored;
+mod text;
 
 pub use apply::apply_fn;

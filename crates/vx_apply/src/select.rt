@@ -10,7 +10,7 @@ ghost use Rattle.vx_native.specs.Natives.{values_of, ptype_of};
 ghost use Rattle.vx_fn.specs.declared.function.ScalarFnRef.TheVariants.{Zip, FillNull};
 ghost use Rattle.vx_tree.specs.Tree.{dtype};
 ghost use Rattle.vx_tree.specs.Columns.{canonical_tree};
-ghost use Rattle.vx_rows.specs.Arguments.{types_of, plain_type, value_at, integer_in, ptype_in, IsSized, HasStored, AreIntegers};
+ghost use Rattle.vx_rows.specs.Arguments.{types_of, plain_type, value_at, integer_in, ptype_in, bytes_in, IsSized, HasStored, AreIntegers, AreBytes};
 ghost use Rattle.vx_apply.specs.Computed.{IsTaken, IsComputed, IsMade};
 ghost use Rattle.vx_apply.specs.Operands.{number_in, HasRow, HasRows};
 ghost use Rattle.vx_apply.specs.Selected.{selected, IsSelected};
@@ -19,13 +19,14 @@ ghost use Rattle.vx_rows.specs.ValidRows.{is_valid, HasValidity, nullability_in}
 use crate::arithmetic::valid_integers;
 use crate::boolean::valid_bools;
 use crate::operand::{Operand, operand_of};
-use crate::stored::{bit_rows, integer_rows};
+use crate::stored::{bit_rows, byte_rows, integer_rows, valid_bytes};
 use std::alloc::{AllocError, Global};
 use vx_mask::{BitAnd, BitBuffer, BitLt, BitOperand, BitOr, Buffer};
 use vx_native::{NativeInteger, PrimitiveValues, by_type};
-use vx_rows::{Argument, ArgumentRows, IntegerOperand, ValidRows};
+use vx_rows::{Argument, ArgumentRows, BytesOperand, IntegerOperand, ValidRows};
 use vx_tree::Canonical;
 use vx_value::{Nullability, VortexError, VortexResult};
+use vx_views::{BinaryBuilder, BinaryViews};
 
 /// Chooses `if_true` where `mask` is true, and `if_false` where it is false or null, `len` rows each. The only error is
 /// `OutOfMemory`.
@@ -157,6 +158,10 @@ fn select_rows(
             let values = select_integers(alloc, choice, if_true, if_false, len)?;
             valid_integers(alloc, values, valid, len)
         }
+        (ArgumentRows::Bytes(if_true), ArgumentRows::Bytes(if_false)) => {
+            let rows = select_bytes(alloc, choice, if_true, if_false, len)?;
+            valid_bytes(alloc, if_true.storage, rows, valid, len)
+        }
         _ => unreachable!(),
     }
 }
@@ -286,4 +291,65 @@ fn select_row<T: NativeInteger>(
     let first = left.row(index);
     let second = right.row(index);
     if choice { first } else { second }
+}
+
+/// Chooses among rows of bytes; if one side is chosen whole, its rows are shared.
+fn select_bytes(
+    alloc: Global,
+    choice: BitOperand<'_>,
+    if_true: BytesOperand<'_>,
+    if_false: BytesOperand<'_>,
+    len: usize,
+) -> Result<BinaryViews, AllocError>
+    requires choice { HasBits choice len }
+    requires if_true { AreBytes if_true len }
+    requires if_false { AreBytes if_false len }
+    ensures { IfOk result (λ r. r ≡ map (selected choice.entry (bytes_in if_true.entry) (bytes_in if_false.entry)) (range_with_len 0 len)) }
+{
+    match choice {
+        BitOperand::Bit(true) => byte_rows(alloc, if_true, len),
+        BitOperand::Bit(false) => byte_rows(alloc, if_false, len),
+        BitOperand::Bits(bits) => select_views(alloc, bits, if_true, if_false, len),
+    }
+}
+
+/// Chooses `left` at the true bits of `choice`, else `right`, `len` rows each: copies the bytes of each row once.
+fn select_views(
+    alloc: Global,
+    choice: &BitBuffer,
+    left: BytesOperand<'_>,
+    right: BytesOperand<'_>,
+    len: usize,
+) -> Result<BinaryViews, AllocError>
+    requires choice { length choice.now ≡ len }
+    requires left { AreBytes left len }
+    requires right { AreBytes right len }
+    ensures { IfOk result (λ r. r
+        ≡ map (λ i. if bit_row choice.now i then bytes_in left.entry i else bytes_in right.entry i) (range_with_len 0 len)) }
+{
+    let mut rows = BinaryBuilder::with_capacity(alloc, len)?;
+    for index in 0..len {
+        let is_true = choice.value(index);
+        rows.push(select_value(&left, &right, index, is_true))?;
+    }
+    rows.finish(alloc)
+}
+
+/// Returns the bytes of row `index`, which must exist, of `left` if `choice` is true, else of `right`.
+#[inline]
+fn select_value<'a>(
+    left: &'a BytesOperand<'_>,
+    right: &'a BytesOperand<'_>,
+    index: usize,
+    choice: bool,
+) -> &'a [u8]
+    requires left { (n : ℕ) × (index < n) × AreBytes left.now n }
+    requires right { (n : ℕ) × (index < n) × AreBytes right.now n }
+    ensures { result.now ≡ (if choice then bytes_in left.now index else bytes_in right.now index) }
+{
+    if choice {
+        left.value(index)
+    } else {
+        right.value(index)
+    }
 }

@@ -1,14 +1,16 @@
 //! Columns that store the rows of an argument.
 
-ghost use Rattle.std.specs.Prelude.{◌≡◌, map, IfOk, IfErr};
+ghost use Rattle.std.specs.Prelude.{◌≡◌, [], true, map, length, slice_index_or, IfOk, IfErr};
 ghost use Rattle.std.specs.List.{range_with_len};
 ghost use Rattle.vx_value.specs.Nullabilities.{with_nullability};
 ghost use Rattle.vx_value.specs.Cell.{value};
+ghost use Rattle.vx_value.specs.Values.{bytes as bytes_value};
 ghost use Rattle.vx_mask.specs.Operands.{bit_in, HasBits};
 ghost use Rattle.vx_native.specs.Natives.{values_of, ptype_of};
+ghost use Rattle.vx_tree.specs.ColumnTypes.{bytes_type, are_bytes_of};
 ghost use Rattle.vx_tree.specs.Columns.{canonical_tree};
 ghost use Rattle.vx_tree.specs.Tree.{dtype};
-ghost use Rattle.vx_rows.specs.Arguments.{integer_in, ptype_in, plain_type, value_at, HasStored, AreIntegers};
+ghost use Rattle.vx_rows.specs.Arguments.{integer_in, ptype_in, bytes_in, plain_type, value_at, HasStored, AreIntegers, AreBytes};
 ghost use Rattle.vx_apply.specs.Computed.{IsMade};
 ghost use Rattle.vx_rows.specs.ValidRows.{HasValidity, nullability_in};
 
@@ -17,9 +19,13 @@ use crate::boolean::valid_bools;
 use std::alloc::{AllocError, Global};
 use vx_mask::{BitBuffer, BitOperand};
 use vx_native::PrimitiveValues;
-use vx_rows::{ArgumentRows, IntegerOperand, IntegerRows, ValidRows};
+use vx_rows::{
+    ArgumentRows, BytesOperand, BytesRows, IntegerOperand, IntegerRows, ValidRows,
+    varbinview_column,
+};
 use vx_tree::Canonical;
-use vx_value::{VortexError, VortexResult};
+use vx_value::{ByteBuffer, Storage, VortexError, VortexResult};
+use vx_views::BinaryViews;
 
 /// Returns `bits` as `len` rows: shares a buffer, and writes out one bit.
 pub(crate) fn bit_rows(
@@ -52,6 +58,44 @@ pub(crate) fn integer_rows(
     }
 }
 
+/// Returns `bytes` as `len` rows: shares a column, and copies the bytes of one value once.
+pub(crate) fn byte_rows(
+    alloc: Global,
+    bytes: BytesOperand<'_>,
+    len: usize,
+) -> Result<BinaryViews, AllocError>
+    requires { AreBytes bytes len }
+    ensures { IfOk result (λ r. r ≡ map (λ i. bytes_in bytes.entry i) (range_with_len 0 len)) }
+{
+    match bytes.rows {
+        BytesRows::Rows(rows) => Ok(rows.clone()?),
+        BytesRows::Value(value) => {
+            let value = ByteBuffer::copy_from(alloc, value)?;
+            BinaryViews::repeat(alloc, value, len)
+        }
+    }
+}
+
+/// Makes the column of `rows`, `len` rows of values that are stored so, that are null unless they are `valid`. The only error is
+/// `OutOfMemory`.
+pub(crate) fn valid_bytes(
+    alloc: Global,
+    storage: Storage,
+    rows: BinaryViews,
+    valid: &ValidRows,
+    len: usize,
+) -> VortexResult<Canonical>
+    requires rows { length rows ≡ len }
+    requires stored { are_bytes_of storage rows ≡ true }
+    requires valid { HasValidity valid.now len }
+    ensures ok { IfOk result (λ c. (dtype (canonical_tree c) ≡ with_nullability (nullability_in valid.now) (bytes_type storage))
+        × IsMade valid.now (λ i. value (bytes_value (slice_index_or rows i []))) len (canonical_tree c)) }
+    ensures err { IfErr result (λ e. e ≡ VortexError.OutOfMemory) }
+{
+    let validity = valid.validity(alloc, len)?;
+    varbinview_column(alloc, storage, rows, &validity)
+}
+
 /// Makes the column of `rows`, `len` rows, that are null unless they are `valid`. Shares the buffer of `rows`, and writes out one
 /// value. The only error is `OutOfMemory`.
 #[tactic(auto, using(vx_rows::proofs::ValidRowsLemmas::counted))]
@@ -76,6 +120,9 @@ pub(crate) fn stored_column(
             let values = integer_rows(alloc, integers, len)?;
             valid_integers(alloc, values, valid, len)
         }
-        ArgumentRows::Bytes(_) => unreachable!(),
+        ArgumentRows::Bytes(bytes) => {
+            let rows = byte_rows(alloc, bytes, len)?;
+            valid_bytes(alloc, bytes.storage, rows, valid, len)
+        }
     }
 }

@@ -1,12 +1,9 @@
-use Rattle.std.proofs.Common.{sym, ap, ◌∙◌}
+use Rattle.std.proofs.Common.{refl, ap}
 use Rattle.std.proofs.lemmas.Result.{IfOk-weaker}
-use Rattle.vx_value.specs.Types.{primitive, nullability_of}
+use Rattle.vx_value.specs.Types.{primitive, utf8, binary}
 use Rattle.vx_value.specs.View.{type_of}
-use Rattle.vx_value.specs.Casts.{cast_to}
 use Rattle.vx_tree.specs.Columns.{canonical_tree}
-use Rattle.vx_rows.specs.Arguments.{value_at}
-use Rattle.vx_apply.proofs.CastsLemmas.{bits_kept}
-use Rattle.vx_apply.proofs.MadeLemmas.{made_by}
+use Rattle.vx_apply.proofs.CastsLemmas.{bits_kept, cast_made}
 use Rattle.vx_apply.proofs.cast.cast_rows.Goals as goal
 
 pub returns-in-Bits-default-clause-ok : goal.returns-in-Bits-default-clause-ok
@@ -18,11 +15,24 @@ returns-in-Bits-default-clause-ok c =
 
 pub returns-in-Integers-Primitive-clause-ok : goal.returns-in-Integers-Primitive-clause-ok
 returns-in-Integers-Primitive-clause-ok c =
-    let is = c.in-Integers-Primitive.is-0 in
-    let typed = ap type_of c.in-Integers-Primitive.is-1 in
+    let arm = c.in-Integers-Primitive in
     IfOk-weaker c.cast_integers.result _ _
-    (λ u h. (
-      h.0 ∙ ap (primitive c.in-Integers-Primitive.ptype) (c.requires.nullability ∙ ap nullability_of typed) ∙ sym typed,
-      made_by c.args.valid.now _ _ c.args.len (canonical_tree u) (λ i lt here. λ j. cast_to (sym typed j) (value_at (sym is j) i)) h.1,
-    ))
+    (λ u h. cast_made (primitive arm.ptype) c.args.rows _ (type_of c.args.target.now) _ c.args.valid.now c.args.len (canonical_tree u) arm.is-0
+    (ap type_of arm.is-1) refl c.requires.nullability h)
     c.cast_integers.ensures.ok
+
+pub returns-in-Bytes-Utf8-clause-ok : goal.returns-in-Bytes-Utf8-clause-ok
+returns-in-Bytes-Utf8-clause-ok c =
+    let arm = c.in-Bytes-Utf8 in
+    IfOk-weaker c.cast_to_text.result _ _
+    (λ u h. cast_made utf8 c.args.rows _ (type_of c.args.target.now) _ c.args.valid.now c.args.len (canonical_tree u) arm.is-0 (ap type_of arm.is-1) refl
+    c.requires.nullability h)
+    c.cast_to_text.ensures.ok
+
+pub returns-in-Bytes-Binary-clause-ok : goal.returns-in-Bytes-Binary-clause-ok
+returns-in-Bytes-Binary-clause-ok c =
+    let arm = c.in-Bytes-Binary in
+    IfOk-weaker c.stored_column-in-Bytes-Binary.result _ _
+    (λ u h. cast_made binary c.args.rows _ (type_of c.args.target.now) _ c.args.valid.now c.args.len (canonical_tree u) arm.is-0 (ap type_of arm.is-1) refl
+    c.requires.nullability h)
+    c.stored_column-in-Bytes-Binary.ensures.ok

@@ -4,12 +4,8 @@ use Rattle.vx_mask.specs.Operands.{bit_in}
 use Rattle.vx_mask.proofs.Lists.{same_below}
 use Rattle.vx_tree.specs.Columns.{canonical_tree}
 use Rattle.vx_rows.specs.ValidRows.{is_valid}
-use Rattle.vx_apply.proofs.NullFunctionsLemmas.{masked, no_integer_mask}
+use Rattle.vx_apply.proofs.NullFunctionsLemmas.{masked}
 use Rattle.vx_apply.proofs.nulls.mask.Goals as goal
-
-pub unreachable-requires : goal.unreachable-requires
-unreachable-requires c =
-    no_integer_mask c.args.len c.args.input.now c.args.mask.now c.requires.input c.requires.mask c.requires.taken c.in_default.field-0 c.in_default.is
 
 pub returns-clause-ok : goal.returns-clause-ok
 returns-clause-ok c =

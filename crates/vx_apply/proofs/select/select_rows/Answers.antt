@@ -1,14 +1,15 @@
-use Rattle.std.proofs.Common.{pos, false, sym, ap, ◌∙◌}
+use Rattle.std.proofs.Common.{pos, false, [], sym, ap, subst, ◌∙◌}
 use Rattle.std.proofs.lemmas.Result.{IfOk-weaker}
 use Rattle.vx_value.specs.Types.{primitive}
 use Rattle.vx_value.specs.Nullabilities.{with_nullability}
-use Rattle.vx_value.specs.Values.{boolean, integer}
+use Rattle.vx_value.specs.Values.{boolean, integer, bytes}
 use Rattle.vx_mask.specs.Operands.{bit_in}
 use Rattle.vx_native.specs.Natives.{values_of}
 use Rattle.vx_tree.specs.Columns.{canonical_tree}
-use Rattle.vx_rows.specs.Arguments.{integer_in, plain_type, value_at}
+use Rattle.vx_rows.specs.Arguments.{integer_in, bytes_in, plain_type, value_at, HasStored}
 use Rattle.vx_rows.specs.ValidRows.{nullability_in}
 use Rattle.vx_apply.proofs.SelectLemmas.{made_selected}
+use Rattle.vx_apply.proofs.ViewsLemmas.{selected_stored}
 use Rattle.vx_apply.proofs.select.select_rows.Goals as goal
 
 pub returns-in_ok-bits-in-Bits-Bits-clause-ok : goal.returns-in_ok-bits-in-Bits-Bits-clause-ok
@@ -37,3 +38,28 @@ returns-in_ok-values-in-Integers-Integers-clause-ok c =
           (value_at c.args.if_false) valid c.args.len (values_of c.in_ok-values-in-Integers-Integers.values) (canonical_tree u) (ap value_at left) (ap value_at right) made.values h.1,
     ))
     c.valid_integers.ensures.ok
+
+pub valid_bytes-requires-clause-stored : goal.valid_bytes-requires-clause-stored
+valid_bytes-requires-clause-stored c =
+    let n = c.args.len in
+    let x = c.in-Bytes-Bytes.if_true in
+    let y = c.in-Bytes-Bytes.if_false in
+    let left = c.in-Bytes-Bytes.is-0 in
+    let right = c.in-Bytes-Bytes.is-1 in
+    selected_stored c.args.choice x y n c.in_ok-rows-in-Bytes-Bytes.rows (subst (λ r. HasStored r n) left c.requires.if_true)
+    (subst (λ r. HasStored r n) right c.requires.if_false)
+    (sym (ap plain_type left) ∙ c.requires.same ∙ ap plain_type right) c.in_ok-rows-in-Bytes-Bytes.ensures
+
+pub returns-in_ok-rows-in-Bytes-Bytes-clause-ok : goal.returns-in_ok-rows-in-Bytes-Bytes-clause-ok
+returns-in_ok-rows-in-Bytes-Bytes-clause-ok c =
+    let valid = c.args.valid.now in
+    let left = c.in-Bytes-Bytes.is-0 in
+    let right = c.in-Bytes-Bytes.is-1 in
+    IfOk-weaker c.valid_bytes.result _ _
+    (λ u h. (
+      h.0 ∙ ap (λ r. with_nullability (nullability_in valid) (plain_type r)) (sym left),
+      made_selected bytes [] c.args.choice (bytes_in c.in-Bytes-Bytes.if_true) (bytes_in c.in-Bytes-Bytes.if_false) (value_at c.args.if_true)
+          (value_at c.args.if_false) valid c.args.len c.in_ok-rows-in-Bytes-Bytes.rows (canonical_tree u) (ap value_at left)
+          (ap value_at right) c.in_ok-rows-in-Bytes-Bytes.ensures h.1,
+    ))
+    c.valid_bytes.ensures.ok

@@ -1,14 +1,15 @@
-use Rattle.std.proofs.Common.{pos, false, sym, ap, ◌∙◌}
+use Rattle.std.proofs.Common.{pos, false, [], sym, ap, subst, ◌∙◌}
 use Rattle.std.proofs.lemmas.Result.{IfOk-weaker}
 use Rattle.vx_value.specs.Types.{primitive}
 use Rattle.vx_value.specs.Nullabilities.{with_nullability}
-use Rattle.vx_value.specs.Values.{boolean, integer}
+use Rattle.vx_value.specs.Values.{boolean, integer, bytes}
 use Rattle.vx_mask.specs.Operands.{bit_in}
 use Rattle.vx_native.specs.Natives.{values_of}
 use Rattle.vx_tree.specs.Columns.{canonical_tree}
-use Rattle.vx_rows.specs.Arguments.{plain_type, value_at, integer_in}
+use Rattle.vx_rows.specs.Arguments.{plain_type, value_at, integer_in, bytes_in, HasStored}
 use Rattle.vx_rows.specs.ValidRows.{nullability_in}
 use Rattle.vx_apply.proofs.MadeLemmas.{made_stored}
+use Rattle.vx_apply.proofs.ViewsLemmas.{rows_stored, row_stored}
 use Rattle.vx_apply.proofs.stored.stored_column.Goals as goal
 
 pub returns-in_ok-bits-in-Bits-clause-ok : goal.returns-in_ok-bits-in-Bits-clause-ok
@@ -37,3 +38,24 @@ returns-in_ok-values-in-Integers-clause-ok c =
           (λ i. ap (λ r. value_at r i) (sym is)) h.1,
     ))
     c.valid_integers.ensures.ok
+
+pub valid_bytes-requires-clause-stored : goal.valid_bytes-requires-clause-stored
+valid_bytes-requires-clause-stored c =
+    let n = c.args.len in
+    let bs = c.in-Bytes.bytes in
+    let made = c.in_ok-rows-in-Bytes in
+    let are = subst (λ r. HasStored r n) c.in-Bytes.is c.requires.rows in
+    rows_stored bs.storage (bytes_in bs) made.rows n made.ensures (λ i lt. row_stored bs.storage bs.rows n i are lt)
+
+pub returns-in_ok-rows-in-Bytes-clause-ok : goal.returns-in_ok-rows-in-Bytes-clause-ok
+returns-in_ok-rows-in-Bytes-clause-ok c =
+    let valid = c.args.valid.now in
+    let is = c.in-Bytes.is in
+    let made = c.in_ok-rows-in-Bytes in
+    IfOk-weaker c.valid_bytes.result _ _
+    (λ u h. (
+      h.0 ∙ ap (λ r. with_nullability (nullability_in valid) (plain_type r)) (sym is),
+      made_stored bytes [] (bytes_in c.in-Bytes.bytes) (value_at c.args.rows) valid c.args.len made.rows (canonical_tree u) made.ensures
+          (λ i. ap (λ r. value_at r i) (sym is)) h.1,
+    ))
+    c.valid_bytes.ensures.ok
