@@ -3,15 +3,15 @@ use Rattle.std.proofs.Common.{Result, IfOk}
 use Rattle.std.proofs.lemmas.Result.{IfOk-weaker}
 use Rattle.std.proofs.Common.{◌≡◌, ◌<◌, ℕ, Bool, true, false, if◌then◌else◌, List, [], ◌∷◌, map, Some, None, refl, sym, ap, ◌∙◌}
 use Rattle.std.specs.Prelude.{◌&&◌, ℤ, IsSome}
-use Rattle.std.specs.Ordering.{bool_cmp, int_cmp}
+use Rattle.std.specs.Ordering.{bool_cmp}
 use Rattle.std.specs.Cmp.{first_so, second_so}
 use Rattle.std.specs.List.{range_with_len}
 use Rattle.std.specs.declared.cmp.Ordering.{Ordering}
 use Rattle.vx_value.specs.Types.{DataType, bool, nullability_of}
-use Rattle.vx_value.specs.Nullabilities.{with_nullability, union, same_but_nullability}
+use Rattle.vx_value.specs.Nullabilities.{union, same_but_nullability}
 use Rattle.vx_value.specs.Values.{Value, null, boolean}
 use Rattle.vx_value.specs.Cell.{Cell, value}
-use Rattle.vx_value.specs.declared.dtype.Nullability.{Nullability}
+use Rattle.vx_value.specs.Order.{value_cmp}
 use Rattle.vx_value.specs.declared.dtype.Nullability.TheVariants.{NonNullable}
 use Rattle.vx_mask.specs.Logic.{bit_row}
 use Rattle.vx_mask.specs.Operands.{bit_in}
@@ -31,7 +31,7 @@ use Rattle.vx_fn.proofs.MeaningsLemmas.{union_with_plain}
 use Rattle.vx_tree.specs.Tree.{Tree, dtype}
 use Rattle.vx_rows.specs.Arguments.{IsSized, types_of, value_at, integer_in, plain_type, type_of_argument}
 use Rattle.vx_apply.specs.Bits.{bit_by}
-use Rattle.vx_apply.specs.Bounds.{bound_by, is_between}
+use Rattle.vx_apply.specs.Bounds.{bound_by, is_between, is_bounded}
 use Rattle.vx_apply.specs.Computed.{IsTaken, IsMade, IsComputed}
 use Rattle.vx_rows.specs.ValidRows.{is_valid, nullability_in, null_unless}
 use Rattle.vx_rows.specs.declared.argument.Argument.{Argument}
@@ -39,6 +39,7 @@ use Rattle.vx_rows.specs.declared.argument.IntegerOperand.{IntegerOperand}
 use Rattle.vx_rows.specs.declared.argument.ArgumentRows.{ArgumentRows}
 use Rattle.vx_rows.specs.declared.argument.ArgumentRows.TheVariants.{Bits, Integers}
 use Rattle.vx_rows.specs.declared.valid.ValidRows.{ValidRows}
+use Rattle.vx_apply.proofs.ComparisonLemmas.{integers, stored_through, ordered_rows}
 use Rattle.vx_apply.proofs.MadeLemmas.{computed_by}
 use Rattle.vx_apply.proofs.OperatorLemmas.{argument_type, argument_nullability, plain_same}
 use Rattle.vx_apply.proofs.SelectLemmas.{stored_cell}
@@ -70,24 +71,29 @@ words_between options x l u n above below first second =
     && bit_made (λ k. bit_by (bound_by options.upper_strict) (bit_in x k) (bit_in u k)) below n i second lt j)
     ∙ (λ j. bound_bit options.lower_strict (bit_in l i) (bit_in x i) j && bound_bit options.upper_strict (bit_in x i) (bit_in u i) j))
 
-pub natives_between : {E : Type 0} (options : BetweenOptions) (s t : StrictComparison) (x l u : IntegerOperand) (p q r : ℕ → ℤ) (n : ℕ) (found : Result (List Bool) E)
-    → options.lower_strict ≡ s → options.upper_strict ≡ t → p ≡ integer_in x → q ≡ integer_in l → r ≡ integer_in u
-    → IfOk found (λ b. b ≡ map (λ i. holds (bound_by s) (int_cmp (q i) (p i)) && holds (bound_by t) (int_cmp (p i) (r i))) (range_with_len 0 n))
-    → IfOk found (λ b. b ≡ map (is_between options (value_at (Integers x)) (value_at (Integers l)) (value_at (Integers u))) (range_with_len 0 n))
-natives_between options s t x l u p q r n found low high here below above =
+pub bounds_between : {E : Type 0} (options : BetweenOptions) (s t : StrictComparison) (x l u : ℕ → Value) (n : ℕ) (found : Result (List Bool) E)
+    → options.lower_strict ≡ s → options.upper_strict ≡ t
+    → IfOk found (λ b. b ≡ map (is_bounded (bound_by s) (bound_by t) x l u) (range_with_len 0 n))
+    → IfOk found (λ b. b ≡ map (is_between options x l u) (range_with_len 0 n))
+bounds_between options s t x l u n found low high =
     IfOk-weaker found _ _
     (λ b are. are
-    ∙ (λ j. map (λ i. holds (bound_by s) (int_cmp (below j i) (here j i)) && holds (bound_by t) (int_cmp (here j i) (above j i))) (range_with_len 0 n))
     ∙ same_below n _ _
-    (λ i lt. (λ j. bound_holds s (int_cmp (integer_in l i) (integer_in x i)) j && bound_holds t (int_cmp (integer_in x i) (integer_in u i)) j)
-    ∙ (λ j. is_below (sym low j) (int_cmp (integer_in l i) (integer_in x i)) && is_below (sym high j) (int_cmp (integer_in x i) (integer_in u i)))))
+    (λ i lt. (λ j. bound_holds s (value_cmp (l i) (x i)) j && bound_holds t (value_cmp (x i) (u i)) j)
+    ∙ (λ j. is_below (sym low j) (value_cmp (l i) (x i)) && is_below (sym high j) (value_cmp (x i) (u i)))))
+
+pub integers_between : {E : Type 0} (options : BetweenOptions) (x l u : IntegerOperand) (p q r : ℕ → ℤ) (n : ℕ) (found : Result (List Bool) E)
+    → p ≡ integer_in x → q ≡ integer_in l → r ≡ integer_in u
+    → IfOk found (λ b. b ≡ map (is_between options (integers p) (integers q) (integers r)) (range_with_len 0 n))
+    → IfOk found (λ b. b ≡ map (is_between options (value_at (Integers x)) (value_at (Integers l)) (value_at (Integers u))) (range_with_len 0 n))
+integers_between options x l u p q r n found here below above =
+    IfOk-weaker found _ _ (λ b are. are ∙ (λ j. map (is_between options (integers (here j)) (integers (below j)) (integers (above j))) (range_with_len 0 n)))
 
 -- ---- the function
 
 -- a stored value isn't null
 through : (v : Bool) (r : ArgumentRows) (i : ℕ) (c : Cell) → null_through (if v then value_at r i else null) c ≡ null_unless v c
-through true (Bits bs) i c = refl
-through true (Integers zs) i c = refl
+through true r i c = stored_through r i c
 through false r i c = refl
 
 lies_cell : (options : BetweenOptions) (ty : DataType) (v w k : Bool) (x l u : ArgumentRows) (i : ℕ)
@@ -111,10 +117,6 @@ lies_cell options ty v w k x l u i =
 kept_cell : (v b : Bool) → null_unless v (value (boolean (v && b))) ≡ null_unless v (value (boolean b))
 kept_cell true b = refl
 kept_cell false b = refl
-
-ordered_rows : (m : Nullability) (r : ArgumentRows) → ordered_type (with_nullability m (plain_type r)) ≡ Some (bool NonNullable)
-ordered_rows m (Bits bs) = refl
-ordered_rows m (Integers zs) = refl
 
 module _ (options : BetweenOptions) (n : ℕ) (a l u : Argument) (first : IsSized n a) (second : IsSized n l) (third : IsSized n u)
     (taken : IsTaken (Between options) (types_of (a ∷ l ∷ u ∷ []))) where

@@ -3,18 +3,19 @@ use Rattle.std.proofs.Common.{◌≡◌, ◌<◌, ◌+◌, ℕ, zero, suc, ℤ, 
 use Rattle.std.proofs.Common.{Result, IfOk, refl, sym, ap, ◌∙◌, arith}
 use Rattle.std.proofs.lemmas.Result.{IfOk-weaker}
 use Rattle.std.specs.Prelude.{◌&&◌, slice_get}
-use Rattle.std.specs.Ordering.{int_cmp}
 use Rattle.std.proofs.lemmas.Option.{get_or_from_slice_get}
 use Rattle.vx_fn.specs.Comparisons.{holds}
 use Rattle.vx_fn.specs.declared.function.Operator.{Operator}
-use Rattle.vx_apply.specs.Operands.{zero_unless, calculated_rows, compared_rows}
+use Rattle.vx_apply.specs.Compared.{compared_rows}
+use Rattle.vx_apply.specs.Operands.{zero_unless, calculated_rows}
 use Rattle.std.specs.List.{range_with_len}
 use Rattle.std.proofs.lemmas.List.{length-map, map-append, get_or-map}
 use Rattle.std.proofs.lemmas.Simd.{map-map}
 use Rattle.std.proofs.lemmas.List.FromFn.{length-map-range_with_len, map-range_with_len_more, get_or-map-range_with_len}
 use Rattle.vx_value.specs.Types.{DataType, bool}
-use Rattle.vx_value.specs.Values.{null, boolean, integer}
+use Rattle.vx_value.specs.Values.{Value, null, boolean, integer}
 use Rattle.vx_value.specs.Cell.{Cell, value, fault}
+use Rattle.vx_value.specs.Order.{value_cmp}
 use Rattle.vx_value.specs.declared.error.VortexError.{VortexError}
 use Rattle.vx_fn.specs.Apply.{apply}
 use Rattle.vx_fn.specs.ReturnTypes.{return_type}
@@ -54,12 +55,21 @@ calculated_more read bits cell out i x b here e h =
     rows_more (λ y. value (integer (read y))) (λ j. zero_unless (bit_row bits j) (cell j)) out i x h
     (ap (λ c. zero_unless c (cell i)) (get_or_from_slice_get bits i b false here) ∙ e)
 
-pub compared_more : (op : Operator) (bits : List Bool) (l r : ℕ → ℤ) (out : List Bool) (i : ℕ) (x b : Bool) →
-    slice_get bits i ≡ Some b → x ≡ b && holds op (int_cmp (l i) (r i)) → out ≡ compared_rows op (bit_row bits) l r i →
+pub compared_more : (op : Operator) (bits : List Bool) (l r : ℕ → Value) (out : List Bool) (i : ℕ) (x b : Bool) →
+    slice_get bits i ≡ Some b → x ≡ b && holds op (value_cmp (l i) (r i)) → out ≡ compared_rows op (bit_row bits) l r i →
     out ++ x ∷ [] ≡ compared_rows op (bit_row bits) l r (i + 1)
 compared_more op bits l r out i x b here e h =
-    bits_more (λ j. bit_row bits j && holds op (int_cmp (l j) (r j))) out i x h
-    (e ∙ ap (λ c. c && holds op (int_cmp (l i) (r i))) (sym (get_or_from_slice_get bits i b false here)))
+    bits_more (λ j. bit_row bits j && holds op (value_cmp (l j) (r j))) out i x h
+    (e ∙ ap (λ c. c && holds op (value_cmp (l i) (r i))) (sym (get_or_from_slice_get bits i b false here)))
+
+-- a column that stores these bits
+pub compared_made : (op : Operator) (valid : ValidRows) (l r : ℕ → Value) (n : ℕ) (bits : List Bool) (t : Tree) →
+    bits ≡ compared_rows op (is_valid valid) l r n → IsMade valid (λ i. value (boolean (bit_row bits i))) n t →
+    IsMade valid (λ i. value (boolean (holds op (value_cmp (l i) (r i))))) n t
+compared_made op valid l r n bits t are =
+    made_by valid (λ i. value (boolean (bit_row bits i))) _ n t
+    (λ i lt here. ap (λ b. value (boolean b)) (bit_made (λ j. is_valid valid j && holds op (value_cmp (l j) (r j))) bits n i are lt)
+    ∙ ap (λ b. value (boolean (b && holds op (value_cmp (l i) (r i))))) here)
 
 clean_at : (cs : List Cell) (i : ℕ) → HasNoFault cs → get_or cs i (value null) ≡ fault → ⊥
 clean_at [] i h e = absurd (cc)

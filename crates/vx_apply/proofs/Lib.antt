@@ -3,6 +3,7 @@ pub mod ApplyLemmas
 pub mod BetweenLemmas
 pub mod CallsLemmas
 pub mod CastsLemmas
+pub mod ComparisonLemmas
 pub mod ComputedLemmas
 pub mod LogicLemmas
 pub mod MadeLemmas

@@ -9,24 +9,29 @@ use Rattle.vx_value.specs.Values.{boolean}
 use Rattle.vx_value.specs.Cell.{Cell, value}
 use Rattle.vx_value.specs.declared.dtype.Nullability.{Nullability}
 use Rattle.vx_value.specs.declared.dtype.Nullability.TheVariants.{NonNullable, Nullable}
+use Rattle.vx_value.specs.declared.dtype.Storage.{Storage}
+use Rattle.vx_value.specs.declared.dtype.Storage.TheVariants.{Text}
 use Rattle.vx_mask.specs.Logic.{bit_row}
 use Rattle.vx_mask.specs.Operands.{bit_in}
+use Rattle.vx_mask.specs.declared.operand.BitOperand.{BitOperand}
 use Rattle.vx_mask.proofs.Lists.{same_below}
 use Rattle.vx_fn.specs.Apply.{apply}
-use Rattle.vx_fn.specs.Binary.{is_logical, operator_type}
+use Rattle.vx_fn.specs.Binary.{is_logical, logical_type, operator_type}
 use Rattle.vx_fn.specs.Logic.{kleene_and, kleene_or, truth}
 use Rattle.vx_fn.specs.ReturnTypes.{return_type}
 use Rattle.vx_fn.specs.declared.function.Operator.{Operator}
 use Rattle.vx_fn.specs.declared.function.Operator.TheVariants as operator
 use Rattle.vx_fn.specs.declared.function.ScalarFnRef.TheVariants.{Binary}
 use Rattle.vx_fn.proofs.BinaryLemmas.{result_type, and_is, or_is}
+use Rattle.vx_tree.specs.ColumnTypes.{bytes_type}
 use Rattle.vx_tree.specs.Tree.{Tree, dtype}
-use Rattle.vx_rows.specs.Arguments.{row_of}
+use Rattle.vx_rows.specs.Arguments.{plain_type, row_of}
 use Rattle.vx_apply.specs.Bits.{bit_by}
 use Rattle.vx_apply.specs.Computed.{IsMade, IsComputed}
 use Rattle.vx_apply.specs.Truths.{argument_in, row_over}
 use Rattle.vx_rows.specs.ValidRows.{is_valid, nullability_in, null_unless}
-use Rattle.vx_rows.specs.declared.argument.ArgumentRows.TheVariants.{Bits}
+use Rattle.vx_rows.specs.declared.argument.ArgumentRows.{ArgumentRows}
+use Rattle.vx_rows.specs.declared.argument.ArgumentRows.TheVariants.{Bits, Integers, Bytes}
 use Rattle.vx_apply.specs.declared.logic.Truths.{Truths}
 use Rattle.vx_rows.specs.declared.valid.ValidRows.TheVariants as rows_valid
 use Rattle.vx_apply.proofs.MadeLemmas.{computed_by}
@@ -43,6 +48,24 @@ pub logic_taken : (op : Operator) → is_logical op ≡ true → IsSome (operato
 logic_taken operator.And h = refl
 logic_taken operator.Or h = refl
 logic_taken _ h = absurd (cc)
+
+-- and rows of another type are of none that it takes
+pub logic_bits : (op : Operator) (r : ArgumentRows) → is_logical op ≡ true → IsSome (operator_type op (plain_type r)) → (bs : BitOperand) × (r ≡ Bits bs)
+logic_bits op r logical taken = by_rows r (by_operator op logical taken)
+  where
+    by_operator : (op : Operator) → is_logical op ≡ true → IsSome (operator_type op (plain_type r)) → IsSome (logical_type (plain_type r))
+    by_operator operator.And l h = h
+    by_operator operator.Or l h = h
+    by_operator _ l h = absurd (cc)
+
+    no_bytes : (st : Storage) → IsSome (logical_type (bytes_type st)) → ⊥
+    no_bytes Text h = absurd (cc)
+    no_bytes _ h = absurd (cc)
+
+    by_rows : (r : ArgumentRows) → IsSome (logical_type (plain_type r)) → (bs : BitOperand) × (r ≡ Bits bs)
+    by_rows (Bits bs) h = (bs, refl)
+    by_rows (Integers zs) h = absurd (cc)
+    by_rows (Bytes bs) h = absurd (no_bytes bs.storage h)
 
 -- ---- one truth value: whether it is sure to be true, and whether that is possible
 

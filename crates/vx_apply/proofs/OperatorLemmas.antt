@@ -1,7 +1,6 @@
 -- What an operator gives on columns: the type of its result and the value of a row, over booleans and over integers.
-use Rattle.std.proofs.Common.{◌≡◌, ℕ, Bool, true, false, if◌then◌else◌, refl, sym, ap, subst, ◌∙◌, ◌∷◌, [], Some, None}
+use Rattle.std.proofs.Common.{◌≡◌, ℕ, Bool, true, false, if◌then◌else◌, refl, sym, ap, ◌∙◌, ◌∷◌, [], Some, None}
 use Rattle.std.specs.Prelude.{ℤ, Option, IsSome, option_map}
-use Rattle.std.specs.Ordering.{int_cmp}
 use Rattle.vx_value.specs.Types.{bool, primitive, nullability_of}
 use Rattle.vx_value.specs.Nullabilities.{with_nullability, union, same_but_nullability, same_but_nullability_Decides}
 use Rattle.vx_value.specs.View.{type_of}
@@ -13,7 +12,6 @@ use Rattle.vx_value.specs.declared.dtype.Nullability.TheVariants.{NonNullable}
 use Rattle.vx_fn.specs.Apply.{apply}
 use Rattle.vx_fn.specs.ReturnTypes.{return_type}
 use Rattle.vx_fn.specs.Binary.{is_comparison, is_logical, operator_type, null_rule, operated}
-use Rattle.vx_fn.specs.Comparisons.{holds}
 use Rattle.vx_fn.specs.Arithmetic.{calculated}
 use Rattle.vx_fn.specs.Meanings.{widened}
 use Rattle.vx_fn.specs.declared.function.Operator.{Operator}
@@ -30,7 +28,6 @@ use Rattle.vx_apply.specs.Computed.{IsTaken}
 use Rattle.vx_rows.specs.ValidRows.{nullability_in}
 use Rattle.vx_rows.specs.declared.argument.Argument.{Argument}
 use Rattle.vx_rows.specs.declared.argument.ArgumentRows.{ArgumentRows}
-use Rattle.vx_rows.specs.declared.argument.IntegerOperand.{IntegerOperand}
 use Rattle.vx_rows.specs.declared.argument.ArgumentRows.TheVariants as stored
 
 -- ---- booleans
@@ -64,16 +61,6 @@ integers_plain operator.Or p h = absurd (cc)
 integers_plain operator.Eq p h = refl
 integers_plain _ p h = refl
 
-pub integers_compared : (op : Operator) (p : PType) (m : Nullability) → is_comparison op ≡ true
-    → option_map (with_nullability m) (operator_type op (primitive p NonNullable)) ≡ Some (bool m)
-integers_compared operator.Add p m c = absurd (cc)
-integers_compared operator.Sub p m c = absurd (cc)
-integers_compared operator.Mul p m c = absurd (cc)
-integers_compared operator.Div p m c = absurd (cc)
-integers_compared operator.And p m c = absurd (cc)
-integers_compared operator.Or p m c = absurd (cc)
-integers_compared _ p m c = refl
-
 pub integers_calculated : (op : Operator) (p : PType) (m : Nullability) → IsSome (operator_type op (primitive p NonNullable)) → is_comparison op ≡ false
     → option_map (with_nullability m) (operator_type op (primitive p NonNullable)) ≡ Some (primitive p m)
 integers_calculated op p m h c = by_operator op c (integers_plain op p h)
@@ -85,16 +72,6 @@ integers_calculated op p m h c = by_operator op c (integers_plain op p h)
     by_operator operator.Mul c l = refl
     by_operator operator.Div c l = refl
     by_operator _ c l = absurd (cc)
-
-pub compared_value : (op : Operator) (m : Nullability) (x y : ℤ) → is_comparison op ≡ true
-    → apply (Binary op) (bool m) (value (integer x) ∷ value (integer y) ∷ []) ≡ value (boolean (holds op (int_cmp x y)))
-compared_value operator.Eq m x y c = refl
-compared_value operator.NotEq m x y c = refl
-compared_value operator.Gt m x y c = refl
-compared_value operator.Gte m x y c = refl
-compared_value operator.Lt m x y c = refl
-compared_value operator.Lte m x y c = refl
-compared_value _ m x y c = absurd (cc)
 
 pub calculated_value : (op : Operator) (p : PType) (m : Nullability) (x y : ℤ) → is_logical op ≡ false
     → apply (Binary op) (primitive p m) (value (integer x) ∷ value (integer y) ∷ []) ≡ calculated op p x y
@@ -201,9 +178,3 @@ module _ (op : Operator) (n : ℕ) (a b : Argument) (first : IsSized n a) (secon
 
   pub operands_taken : IsSome (operator_type op (plain_type a.rows))
   operands_taken = taken_before _ _ taken.0 (sym operands_typed ∙ taken.1)
-
-  -- logic takes no integers
-  pub no_integers : (zs : IntegerOperand) → is_logical op ≡ true → a.rows ≡ stored.Integers zs → ⊥
-  no_integers zs logical is =
-      let plain : is_logical op ≡ false = integers_plain op (ptype_in zs) (subst (λ r. IsSome (operator_type op (plain_type r))) is operands_taken) in
-      cc (logical, plain)

@@ -3,6 +3,7 @@ use Rattle.std.specs.Prelude.{ℕ, Bool, ◌&&◌}
 use Rattle.vx_value.specs.Values.{Value}
 use Rattle.vx_value.specs.Order.{value_cmp}
 use Rattle.vx_fn.specs.Between.{is_below}
+use Rattle.vx_fn.specs.Comparisons.{holds}
 use Rattle.vx_fn.specs.declared.function.Operator.{Operator}
 use Rattle.vx_fn.specs.declared.function.Operator.TheVariants.{Lt, Lte}
 use Rattle.vx_fn.specs.declared.functions.between.StrictComparison.{StrictComparison}
@@ -18,3 +19,7 @@ bound_by NonStrict = Lte
 abbrev pub is_between : BetweenOptions → (array lower upper : ℕ → Value) → ℕ → Bool
 is_between options array lower upper i =
     is_below options.lower_strict (value_cmp (lower i) (array i)) && is_below options.upper_strict (value_cmp (array i) (upper i))
+
+-- the first operator holds of row i of `lower` and of `array`, and the second of row i of `array` and of `upper`
+abbrev pub is_bounded : (first second : Operator) → (array lower upper : ℕ → Value) → ℕ → Bool
+is_bounded first second array lower upper i = holds first (value_cmp (lower i) (array i)) && holds second (value_cmp (array i) (upper i))

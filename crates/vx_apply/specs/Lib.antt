@@ -7,6 +7,7 @@ pub mod Applied
 pub mod Bits
 pub mod Bounds
 pub mod Casts
+pub mod Compared
 pub mod Computed
 pub mod Operands
 pub mod Selected

@@ -1,15 +1,12 @@
 -- The operands of a kernel: numbers of a native type.
-use Rattle.std.specs.Prelude.{◌≡◌, ◌⊎◌, ◌&&◌, ℕ, ℤ, pos, ◌<◌, Bool, true, false, List, map, length, slice_index_or}
+use Rattle.std.specs.Prelude.{◌≡◌, ◌⊎◌, ℕ, ℤ, pos, ◌<◌, Bool, true, false, List, map, length, slice_index_or}
 use Rattle.std.specs.List.{range_with_len}
-use Rattle.std.specs.Ordering.{int_cmp}
 use Rattle.vx_value.specs.Types.{primitive}
 use Rattle.vx_value.specs.Values.{integer}
 use Rattle.vx_value.specs.Cell.{Cell, value, fault}
 use Rattle.vx_value.specs.declared.dtype.PType.{PType}
 use Rattle.vx_value.specs.declared.error.VortexError.{VortexError}
 use Rattle.vx_value.specs.declared.error.VortexError.TheVariants.{OutOfMemory, Fault}
-use Rattle.vx_fn.specs.Comparisons.{holds}
-use Rattle.vx_fn.specs.declared.function.Operator.{Operator}
 use Rattle.vx_tree.specs.Tree.{Tree, dtype}
 use Rattle.vx_apply.specs.Computed.{IsMade}
 use Rattle.vx_rows.specs.ValidRows.{nullability_in}
@@ -47,7 +44,3 @@ IsFaultyRow valid cell n e = (e ≡ OutOfMemory) ⊎ ((e ≡ Fault) × (i : ℕ)
 -- u is the canonical column of n integers of type p: row i is `cell i`, null unless it is valid
 abbrev pub IsCalculated : PType → ValidRows → (ℕ → Cell) → ℕ → Tree → Type 0
 IsCalculated p valid cell n u = (dtype u ≡ primitive p (nullability_in valid)) × IsMade valid cell n u
-
--- the bits that a comparison stores: false if the row is null
-abbrev pub compared_rows : Operator → (ℕ → Bool) → (ℕ → ℤ) → (ℕ → ℤ) → ℕ → List Bool
-compared_rows op valid l r n = map (λ i. valid i && holds op (int_cmp (l i) (r i))) (range_with_len 0 n)

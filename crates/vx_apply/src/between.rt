@@ -1,26 +1,23 @@
 //! Whether rows lie between two bounds.
 
-ghost use Rattle.std.specs.Prelude.{◌≡◌, ◌∷◌, [], ◌&&◌, map, IfOk, IfErr};
+ghost use Rattle.std.specs.Prelude.{◌≡◌, ◌<◌, ◌∷◌, [], ℕ, map, IfOk, IfErr};
 ghost use Rattle.std.specs.List.{range_with_len};
-ghost use Rattle.std.specs.Ordering.{int_cmp};
 ghost use Rattle.vx_mask.specs.Operands.{HasBits};
-ghost use Rattle.vx_fn.specs.Comparisons.{holds};
 ghost use Rattle.vx_fn.specs.declared.function.ScalarFnRef.TheVariants.{Between};
 ghost use Rattle.vx_tree.specs.Columns.{canonical_tree};
 ghost use Rattle.vx_rows.specs.Arguments.{types_of, plain_type, value_at, IsSized, HasStored, AreIntegers};
-ghost use Rattle.vx_apply.specs.Bounds.{bound_by, is_between};
+ghost use Rattle.vx_apply.specs.Bounds.{bound_by, is_between, is_bounded};
 ghost use Rattle.vx_apply.specs.Computed.{IsTaken, IsComputed};
-ghost use Rattle.vx_apply.specs.Operands.{number_in, HasRows};
 ghost use Rattle.vx_rows.specs.declared.argument.ArgumentRows.TheVariants.{Bits, Integers};
 
 use crate::boolean::{keep_valid, operate_bits, valid_bools};
-use crate::comparison::{Below, Comparison, NotAbove};
+use crate::comparison::{Below, Comparison, NotAbove, OrderedRows};
 use crate::operand::{Operand, operand_of};
 use std::alloc::{AllocError, Global};
 use vx_fn::{BetweenOptions, Operator, StrictComparison};
 use vx_mask::{BitAnd, BitBuffer, BitBuilder, BitOperand};
 use vx_native::{NativeInteger, by_type};
-use vx_rows::{Argument, ArgumentRows, IntegerOperand};
+use vx_rows::{Argument, ArgumentRows, BytesOperand, IntegerOperand};
 use vx_tree::Canonical;
 use vx_value::{VortexError, VortexResult};
 
@@ -78,6 +75,9 @@ fn between_rows(
                 array.ptype(),
                 between_integers(alloc, options, array, lower, upper, len)
             )
+        }
+        (ArgumentRows::Bytes(array), ArgumentRows::Bytes(lower), ArgumentRows::Bytes(upper)) => {
+            between_ordered::<BytesOperand<'_>>(alloc, options, array, lower, upper, len)
         }
         _ => unreachable!(),
     }
@@ -145,54 +145,58 @@ fn between_integers<T: NativeInteger>(
     let array: Operand<'_, T> = operand_of(array);
     let lower: Operand<'_, T> = operand_of(lower);
     let upper: Operand<'_, T> = operand_of(upper);
+    between_ordered::<Operand<'_, T>>(alloc, options, array, lower, upper, len)
+}
+
+/// Checks each of `len` rows.
+fn between_ordered<R: OrderedRows>(
+    alloc: Global,
+    options: BetweenOptions,
+    array: R,
+    lower: R,
+    upper: R,
+    len: usize,
+) -> Result<BitBuffer, AllocError>
+    requires array { (i : ℕ) → i < len → R.has_row array i }
+    requires lower { (i : ℕ) → i < len → R.has_row lower i }
+    requires upper { (i : ℕ) → i < len → R.has_row upper i }
+    ensures { IfOk result (λ b. b ≡ map (is_between options (R.row_value array) (R.row_value lower) (R.row_value upper)) (range_with_len 0 len)) }
+{
     match (options.lower_strict, options.upper_strict) {
         (StrictComparison::Strict, StrictComparison::Strict) => {
-            between_natives::<T, Below, Below>(alloc, array, lower, upper, len)
+            between_by::<R, Below, Below>(alloc, array, lower, upper, len)
         }
         (StrictComparison::Strict, StrictComparison::NonStrict) => {
-            between_natives::<T, Below, NotAbove>(alloc, array, lower, upper, len)
+            between_by::<R, Below, NotAbove>(alloc, array, lower, upper, len)
         }
         (StrictComparison::NonStrict, StrictComparison::Strict) => {
-            between_natives::<T, NotAbove, Below>(alloc, array, lower, upper, len)
+            between_by::<R, NotAbove, Below>(alloc, array, lower, upper, len)
         }
         (StrictComparison::NonStrict, StrictComparison::NonStrict) => {
-            between_natives::<T, NotAbove, NotAbove>(alloc, array, lower, upper, len)
+            between_by::<R, NotAbove, NotAbove>(alloc, array, lower, upper, len)
         }
     }
 }
 
 /// Compares `lower` with `array` by `L`, and `array` with `upper` by `U`, in each of `len` rows.
 #[tactic(auto, using(crate::proofs::ComputedLemmas::bits_more))]
-fn between_natives<T: NativeInteger, L: Comparison, U: Comparison>(
+fn between_by<R: OrderedRows, L: Comparison, U: Comparison>(
     alloc: Global,
-    array: Operand<'_, T>,
-    lower: Operand<'_, T>,
-    upper: Operand<'_, T>,
+    array: R,
+    lower: R,
+    upper: R,
     len: usize,
 ) -> Result<BitBuffer, AllocError>
-    requires array { HasRows array len }
-    requires lower { HasRows lower len }
-    requires upper { HasRows upper len }
-    ensures { IfOk result (λ b. b ≡ map (λ i. holds L.operator (int_cmp (number_in T.value lower.entry i) (number_in T.value array.entry i))
-        && holds U.operator (int_cmp (number_in T.value array.entry i) (number_in T.value upper.entry i))) (range_with_len 0 len)) }
+    requires array { (i : ℕ) → i < len → R.has_row array i }
+    requires lower { (i : ℕ) → i < len → R.has_row lower i }
+    requires upper { (i : ℕ) → i < len → R.has_row upper i }
+    ensures { IfOk result (λ b. b ≡ map (is_bounded L.operator U.operator (R.row_value array) (R.row_value lower) (R.row_value upper)) (range_with_len 0 len)) }
 {
     let mut bits = BitBuilder::with_capacity(alloc, len)?;
     for index in 0..len {
-        bits.push(between_row::<T, L, U>(array.row(index), lower.row(index), upper.row(index)))?;
+        let above = lower.compare_at::<L>(&array, index);
+        let below = array.compare_at::<U>(&upper, index);
+        bits.push(above & below)?;
     }
     bits.finish(alloc)
-}
-
-/// Compares `lower` with `number` by `L`, and `number` with `upper` by `U`.
-#[inline]
-fn between_row<T: NativeInteger, L: Comparison, U: Comparison>(
-    number: T,
-    lower: T,
-    upper: T,
-) -> bool
-    ensures { result ≡ holds L.operator (int_cmp (T.value lower) (T.value number)) && holds U.operator (int_cmp (T.value number) (T.value upper)) }
-{
-    let above = L::compare_row(lower, number);
-    let below = U::compare_row(number, upper);
-    above & below
 }

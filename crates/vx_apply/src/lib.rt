@@ -5,6 +5,7 @@ mod apply;
 mod arithmetic;
 mod between;
 mod boolean;
+mod bytes;
 mod calculation;
 mod cast;
 mod comparison;

@@ -11,6 +11,7 @@ ghost use Rattle.vx_rows.specs.declared.argument.ArgumentRows.TheVariants.{Integ
 
 use crate::arithmetic::{Difference, Product, Quotient, Sum, calculate};
 use crate::boolean::operate_bools;
+use crate::bytes::operate_bytes;
 use crate::comparison::{Above, Below, Different, Equal, NotAbove, NotBelow, compare};
 use crate::logic::join;
 use std::alloc::Global;
@@ -73,6 +74,9 @@ fn operate_rows(
                 lhs.ptype(),
                 operate_natives(alloc, operator, lhs, rhs, valid, len)
             )
+        }
+        (ArgumentRows::Bytes(lhs), ArgumentRows::Bytes(rhs)) => {
+            operate_bytes(alloc, operator, lhs, rhs, valid, len)
         }
         _ => unreachable!(),
     }

@@ -3,13 +3,16 @@ use Rattle.vx_fn.specs.declared.function.ScalarFnRef.TheVariants.{Binary}
 use Rattle.vx_tree.specs.Columns.{canonical_tree}
 use Rattle.vx_apply.specs.Computed.{IsComputed}
 use Rattle.vx_rows.specs.declared.argument.ArgumentRows.TheVariants.{Bits}
-use Rattle.vx_apply.proofs.OperatorLemmas.{no_integers}
+use Rattle.vx_apply.proofs.LogicLemmas.{logic_bits}
+use Rattle.vx_apply.proofs.OperatorLemmas.{operands_taken}
 use Rattle.vx_apply.proofs.logic.join.Goals as goal
 
 pub unreachable-requires : goal.unreachable-requires
 unreachable-requires c =
-    no_integers c.args.operator c.args.len c.args.lhs.now c.args.rhs.now c.requires.lhs c.requires.rhs c.requires.taken c.in_default.field-0 c.requires.logical
-    c.in_default.is
+    let a = c.args.lhs.now in
+    let taken = operands_taken c.args.operator c.args.len a c.args.rhs.now c.requires.lhs c.requires.rhs c.requires.taken in
+    let bits = logic_bits c.args.operator a.rows c.requires.logical taken in
+    c.in_default.not-Bits bits.0 bits.1
 
 pub returns-clause-ok : goal.returns-clause-ok
 returns-clause-ok c =

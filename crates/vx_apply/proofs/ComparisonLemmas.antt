@@ -1,0 +1,114 @@
+-- Comparisons of the values that arguments store: an order of each type, and the column of what a comparison gives.
+use Rattle.std.proofs.Common.{◌≡◌, ℕ, true, Some, refl, sym, ap, ◌∙◌}
+use Rattle.std.specs.Prelude.{ℤ, IsSome, option_map}
+use Rattle.vx_value.specs.Types.{DataType, bool}
+use Rattle.vx_value.specs.Types as type
+use Rattle.vx_value.specs.Nullabilities.{with_nullability}
+use Rattle.vx_value.specs.Values.{Value, boolean, integer}
+use Rattle.vx_value.specs.Cell.{Cell, value}
+use Rattle.vx_value.specs.Order.{value_cmp}
+use Rattle.vx_value.specs.declared.dtype.Nullability.{Nullability}
+use Rattle.vx_value.specs.declared.dtype.Nullability.TheVariants.{NonNullable}
+use Rattle.vx_value.specs.declared.dtype.Storage.{Storage}
+use Rattle.vx_value.specs.declared.dtype.Storage.TheVariants.{Text}
+use Rattle.vx_fn.specs.Apply.{apply}
+use Rattle.vx_fn.specs.Binary.{is_comparison, operator_type}
+use Rattle.vx_fn.specs.Comparisons.{holds, ordered_type}
+use Rattle.vx_fn.specs.Meanings.{null_through}
+use Rattle.vx_fn.specs.declared.function.Operator.{Operator}
+use Rattle.vx_fn.specs.declared.function.Operator.TheVariants as operator
+use Rattle.vx_fn.specs.declared.function.ScalarFnRef.TheVariants.{Binary}
+use Rattle.vx_tree.specs.ColumnTypes.{bytes_type}
+use Rattle.vx_tree.specs.Tree.{Tree, dtype}
+use Rattle.vx_rows.specs.Arguments.{plain_type, pair_at, value_at}
+use Rattle.vx_rows.specs.ValidRows.{nullability_in}
+use Rattle.vx_rows.specs.declared.argument.ArgumentRows.{ArgumentRows}
+use Rattle.vx_rows.specs.declared.argument.ArgumentRows.TheVariants as stored
+use Rattle.vx_rows.specs.declared.valid.ValidRows.{ValidRows}
+use Rattle.vx_apply.specs.Computed.{IsMade, IsFilled}
+use Rattle.vx_apply.proofs.ComputedLemmas.{filled}
+
+-- ---- what arguments store
+
+-- numbers as values
+abbrev pub integers : (ℕ → ℤ) → ℕ → Value
+integers z i = integer (z i)
+
+-- it isn't null
+pub stored_through : (r : ArgumentRows) (i : ℕ) (c : Cell) → null_through (value_at r i) c ≡ c
+stored_through (stored.Bits bs) i c = refl
+stored_through (stored.Integers zs) i c = refl
+stored_through (stored.Bytes bs) i c = refl
+
+-- and has an order
+ordered_plain : (r : ArgumentRows) → ordered_type (plain_type r) ≡ Some (bool NonNullable)
+ordered_plain (stored.Bits bs) = refl
+ordered_plain (stored.Integers zs) = refl
+ordered_plain (stored.Bytes bs) = by_storage bs.storage
+  where
+    by_storage : (st : Storage) → ordered_type (bytes_type st) ≡ Some (bool NonNullable)
+    by_storage Text = refl
+    by_storage _ = refl
+
+pub ordered_rows : (m : Nullability) (r : ArgumentRows) → ordered_type (with_nullability m (plain_type r)) ≡ Some (bool NonNullable)
+ordered_rows m r = ordered_again (plain_type r) ∙ ordered_plain r
+  where
+    ordered_again : (t : DataType) → ordered_type (with_nullability m t) ≡ ordered_type t
+    ordered_again type.null = refl
+    ordered_again _ = refl
+
+-- ---- a comparison
+
+-- text and bytes are only compared
+pub bytes_compared : (op : Operator) (st : Storage) → IsSome (operator_type op (bytes_type st)) → is_comparison op ≡ true
+bytes_compared operator.Add Text h = absurd (cc)
+bytes_compared operator.Add _ h = absurd (cc)
+bytes_compared operator.Sub Text h = absurd (cc)
+bytes_compared operator.Sub _ h = absurd (cc)
+bytes_compared operator.Mul Text h = absurd (cc)
+bytes_compared operator.Mul _ h = absurd (cc)
+bytes_compared operator.Div Text h = absurd (cc)
+bytes_compared operator.Div _ h = absurd (cc)
+bytes_compared operator.And Text h = absurd (cc)
+bytes_compared operator.And _ h = absurd (cc)
+bytes_compared operator.Or Text h = absurd (cc)
+bytes_compared operator.Or _ h = absurd (cc)
+bytes_compared _ _ h = refl
+
+comparison_type : (op : Operator) (t : DataType) → is_comparison op ≡ true → ordered_type t ≡ Some (bool NonNullable)
+    → operator_type op t ≡ Some (bool NonNullable)
+comparison_type operator.Eq t c h = refl
+comparison_type operator.NotEq t c h = refl
+comparison_type operator.Gt t c h = h
+comparison_type operator.Gte t c h = h
+comparison_type operator.Lt t c h = h
+comparison_type operator.Lte t c h = h
+comparison_type _ t c h = absurd (cc)
+
+compared_cell : (op : Operator) (m : Nullability) (l r : ArgumentRows) (i : ℕ) → is_comparison op ≡ true
+    → apply (Binary op) (bool m) (pair_at l r i) ≡ value (boolean (holds op (value_cmp (value_at l i) (value_at r i))))
+compared_cell op m l r i c = by_operator op c
+  where
+    through_both : (c : Cell) → null_through (value_at l i) (null_through (value_at r i) c) ≡ c
+    through_both c = stored_through l i (null_through (value_at r i) c) ∙ stored_through r i c
+
+    by_operator : (op : Operator) → is_comparison op ≡ true
+        → apply (Binary op) (bool m) (pair_at l r i) ≡ value (boolean (holds op (value_cmp (value_at l i) (value_at r i))))
+    by_operator operator.Eq c = through_both _
+    by_operator operator.NotEq c = through_both _
+    by_operator operator.Gt c = through_both _
+    by_operator operator.Gte c = through_both _
+    by_operator operator.Lt c = through_both _
+    by_operator operator.Lte c = through_both _
+    by_operator _ c = absurd (cc)
+
+-- the column of one, from that of its values
+pub compared_filled : (op : Operator) (l r : ArgumentRows) (p q : ℕ → Value) (valid : ValidRows) (n : ℕ) (t : Tree) → is_comparison op ≡ true
+    → p ≡ value_at l → q ≡ value_at r
+    → (dtype t ≡ bool (nullability_in valid)) × IsMade valid (λ i. value (boolean (holds op (value_cmp (p i) (q i))))) n t
+    → IsFilled (Binary op) (operator_type op (plain_type l)) (pair_at l r) valid n t
+compared_filled op l r p q valid n t c left right made =
+    filled (Binary op) (operator_type op (plain_type l)) (pair_at l r) valid n (bool (nullability_in valid))
+    (λ i. value (boolean (holds op (value_cmp (p i) (q i))))) t
+    (ap (option_map (with_nullability (nullability_in valid))) (comparison_type op (plain_type l) c (ordered_plain l))) made
+    (λ i lt here. (λ j. value (boolean (holds op (value_cmp (left j i) (right j i))))) ∙ sym (compared_cell op (nullability_in valid) l r i c))
