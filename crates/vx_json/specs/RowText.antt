@@ -1,5 +1,5 @@
 -- The text of a row.
-use Rattle.std.specs.Prelude.{ℕ, List, ◌++◌, Bool, true, false, codes}
+use Rattle.std.specs.Prelude.{ℕ, List, ◌++◌, Bool, true, false, ◌||◌, ◌==◌, nat_lt, codes}
 use Rattle.std.specs.Fmt.{signed_decimal}
 use Rattle.hex.specs.Hex.{encode_lower}
 use Rattle.serde_json.specs.Data.{string}
@@ -11,6 +11,10 @@ use Rattle.vx_value.specs.Values.{Value, null, boolean, integer, decimal, bytes}
 abbrev pub boolean_text : Bool → List ℕ
 boolean_text true = codes "true"
 boolean_text false = codes "false"
+
+-- the byte has an escape in a JSON string: it is a control character, a quotation mark or a backslash
+abbrev pub has_escape : ℕ → Bool
+has_escape x = nat_lt x 32 || (x == 34) || (x == 92)
 
 -- between quotation marks
 abbrev pub in_quotes : List ℕ → List ℕ

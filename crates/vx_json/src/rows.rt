@@ -6,7 +6,8 @@ ghost use Rattle.hex.specs.Hex.{encode_lower};
 ghost use Rattle.serde_json.specs.Data.{string};
 ghost use Rattle.serde_json.specs.Written.{compact_text};
 ghost use Rattle.std.specs.Str.{is_utf8};
-ghost use Rattle.vx_json.specs.RowText.{in_quotes, row_text};
+ghost use Rattle.std.specs.List.{list_any};
+ghost use Rattle.vx_json.specs.RowText.{has_escape, in_quotes, row_text};
 
 use itoa::Buffer;
 use serde_json::Value;
@@ -51,9 +52,9 @@ fn push_quoted(text: &mut String, inner: &str) -> Result<(), AllocError>
     text.push_str("\"")
 }
 
-/// Appends `bytes`, which must be UTF-8, as a JSON string.
+/// Appends `bytes`, which must be UTF-8, as a JSON string. One without an escape is written as it is.
 #[inline(never)]
-#[tactic(auto, using(vx_value::proofs::BytesLemmas::is_no_text))]
+#[tactic(auto, using(vx_value::proofs::BytesLemmas::is_no_text, crate::proofs::RowTextLemmas::plain_text))]
 fn push_utf8(text: &mut String, bytes: &[u8]) -> Result<(), AllocError>
     requires { is_utf8 bytes.now ≡ true }
     ensures { OnOk result (string_bytes text.new ≡ string_bytes text.old ++ compact_text (string bytes.now)) }
@@ -61,9 +62,21 @@ fn push_utf8(text: &mut String, bytes: &[u8]) -> Result<(), AllocError>
     let Ok(utf8) = str::from_utf8(bytes) else {
         unreachable!();
     };
+    if !has_escapes(bytes) {
+        return push_quoted(text, utf8);
+    }
     let alloc = *text.allocator();
     let value = Value::String(String::from_str(alloc, utf8)?);
     text.push_str(value.to_string(alloc)?.as_str())
+}
+
+/// Checks whether a JSON string of `bytes` has an escape: for a quotation mark, a backslash or a control character.
+fn has_escapes(bytes: &[u8]) -> bool
+    ensures { result ≡ list_any has_escape bytes.now }
+{
+    bytes
+        .iter()
+        .any(|byte| *byte < 32 || *byte == b'"' || *byte == b'\\')
 }
 
 /// Appends two hexadecimal digits for each of `bytes`, between quotation marks.
