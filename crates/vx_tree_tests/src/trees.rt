@@ -5,18 +5,18 @@ use std::test::Fail;
 use vx_fn::{Operator, ScalarFnRef};
 use vx_mask::{BitBuffer, Buffer, Mask};
 use vx_tree::{
-    AnyCanonical, AnyColumnar, Array, ArrayKind, ArrayParts, ArrayRef, ArrayView, BinaryViews,
-    BoolArray, Canonical, Columnar, Constant, ConstantArray, ConstantData, Filter, FilterArray,
-    FilterData, IntoArray, Primitive, PrimitiveArray, PrimitiveData, PrimitiveValues, ScalarFn,
-    ScalarFnArray, ScalarFnData, Slice, SliceArray, SliceData, Validity, VarBinViewArray,
-    child_to_validity, has_column, slice_canonical, validity_nchildren, validity_to_child,
+    AnyCanonical, AnyColumnar, Array, ArrayKind, ArrayParts, ArrayRef, ArrayView, BoolArray,
+    Canonical, Columnar, Constant, ConstantArray, ConstantData, Filter, FilterArray, FilterData,
+    IntoArray, Primitive, PrimitiveArray, PrimitiveData, PrimitiveValues, ScalarFn, ScalarFnArray,
+    ScalarFnData, Slice, SliceArray, SliceData, Validity, child_to_validity, has_column,
+    slice_canonical, validity_nchildren, validity_to_child,
 };
 use vx_value::{
-    ArgKind, ByteBuffer, DType, DecimalDType, DecimalValue, Id, Nullability, PType, Scalar,
-    ScalarValue, Storage, VortexError, VortexResult,
+    ArgKind, DType, DecimalDType, DecimalValue, Id, Nullability, PType, Scalar, ScalarValue,
+    Storage, VortexError, VortexResult,
 };
 
-const I32: DType = DType::Primitive(PType::I32, Nullability::NonNullable);
+pub(crate) const I32: DType = DType::Primitive(PType::I32, Nullability::NonNullable);
 
 const NULLABLE: DType = DType::Primitive(PType::I32, Nullability::Nullable);
 
@@ -26,9 +26,7 @@ const I8: DType = DType::Primitive(PType::I8, Nullability::NonNullable);
 
 const BOOL: DType = DType::Bool(Nullability::NonNullable);
 
-const UTF8: DType = DType::Utf8(Nullability::NonNullable);
-
-const BINARY: DType = DType::Binary(Nullability::NonNullable);
+pub(crate) const UTF8: DType = DType::Utf8(Nullability::NonNullable);
 
 const ADD: ScalarFnRef = ScalarFnRef::Binary(Operator::Add);
 
@@ -38,7 +36,7 @@ const AND: ScalarFnRef = ScalarFnRef::Binary(Operator::And);
 
 const NOT: ScalarFnRef = ScalarFnRef::Not;
 
-fn is_refused<T: Drop>(answer: VortexResult<T>, kind: ArgKind) -> bool {
+pub(crate) fn is_refused<T: Drop>(answer: VortexResult<T>, kind: ArgKind) -> bool {
     match answer {
         Ok(_) => false,
         Err(e) => e == VortexError::InvalidArgument(kind),
@@ -61,7 +59,7 @@ fn column(alloc: Global, items: &[i32]) -> VortexResult<PrimitiveArray> {
     PrimitiveArray::try_new(alloc, I32, values(alloc, items)?, &Validity::NonNullable)
 }
 
-fn booleans(alloc: Global, len: usize) -> VortexResult<BoolArray> {
+pub(crate) fn booleans(alloc: Global, len: usize) -> VortexResult<BoolArray> {
     BoolArray::try_new(
         alloc,
         BOOL,
@@ -349,7 +347,7 @@ fn is_empty_column(alloc: Global, dtype: &DType) -> bool {
 }
 
 // The length of a column without its first row.
-fn rest_len(alloc: Global, column: &Canonical) -> Option<usize> {
+pub(crate) fn rest_len(alloc: Global, column: &Canonical) -> Option<usize> {
     if column.is_empty() {
         return None;
     }
@@ -375,37 +373,6 @@ fn canonical_columns(rt: HostRuntime) -> Result<(), Fail> {
     assert!(rt; numbers.clone()?.into_bool().is_none());
     assert!(rt; rest_len(alloc, &numbers) == Some(2));
     assert!(rt; numbers.into_primitive().is_some());
-    Ok(())
-}
-
-// A column of two rows, each `bytes`.
-fn bytes_column(
-    alloc: Global,
-    dtype: DType,
-    bytes: &[u8],
-    validity: &Validity,
-) -> VortexResult<VarBinViewArray> {
-    let rows = BinaryViews::repeat(alloc, ByteBuffer::copy_from(alloc, bytes)?, 2)?;
-    VarBinViewArray::try_new(alloc, dtype, rows, validity)
-}
-
-#[test]
-fn columns_of_text_and_bytes(rt: HostRuntime) -> Result<(), Fail> {
-    let alloc = rt.alloc();
-    let none = Validity::NonNullable;
-    let no_text = bytes_column(alloc, UTF8, b"\xff", &none);
-    assert!(rt; is_refused(no_text, ArgKind::BadValue));
-    assert!(rt; bytes_column(alloc, BINARY, b"\xff", &none).is_ok());
-    let numbers = bytes_column(alloc, I32, b"a", &none);
-    assert!(rt; is_refused(numbers, ArgKind::BadType));
-    let flags = Validity::Array(booleans(alloc, 1)?.into_array());
-    let nullable = DType::Utf8(Nullability::Nullable);
-    let short = bytes_column(alloc, nullable, b"\xff", &flags);
-    assert!(rt; is_refused(short, ArgKind::SlotLen { slot: 0 }));
-    let text = Canonical::VarBinView(bytes_column(alloc, UTF8, b"a", &none)?);
-    assert!(rt; text.as_varbinview().is_some() && text.as_bool().is_none());
-    assert!(rt; rest_len(alloc, &text) == Some(1));
-    assert!(rt; text.into_varbinview().is_some());
     Ok(())
 }
 
