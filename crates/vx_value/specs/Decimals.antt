@@ -1,7 +1,12 @@
 -- Decimal types: which there are, which numbers have so many digits, and how wide an integer holds these.
 use Rattle.std.specs.Prelude.{◌≡◌, ℕ, ℤ, ◌≤◌, ◌^◌, Bool, true, nat_lt, nat_le, nat_abs, if◌then◌else◌, FitsSigned}
 use Rattle.std.specs.Int.{Width, w8, w16, w32, w64, w128}
+use Rattle.std.specs.Bool.{Decides}
+use Rattle.std.specs.Coded.{Coded, coded_ℕ}
+use denote.Enum.Bare.{sameb, same_true, true_same, tag_one}
+use denote.Enum.Declared.{tag_of}
 use mir.Val.{bits}
+use Rattle.vx_value.specs.contracts.decimal.DecimalType.{the_type as the_width}
 use Rattle.vx_value.specs.declared.decimal.DecimalType.{DecimalType}
 use Rattle.vx_value.specs.declared.decimal.DecimalType.TheVariants.{I8, I16, I32, I64, I128}
 
@@ -37,3 +42,14 @@ HoldsDigits t precision = (z : ℤ) → has_digits precision z ≡ true → Fits
 pub record IsNarrowest (t : DecimalType) (precision : ℕ) : Type 0 where
   pub holds : HoldsDigits t precision
   pub narrowest : (other : DecimalType) → HoldsDigits other precision → bits (width_of t) ≤ bits (width_of other)
+
+-- ---- widths as the numbers of the variants, whatever these are
+
+abbrev pub coded_width : Coded DecimalType
+coded_width = record { code = λ w. coded_ℕ.code (tag_of the_width w); inj = λ v w e. tag_one the_width tt v w (coded_ℕ.inj _ _ e) }
+
+abbrev pub same_width : DecimalType → DecimalType → Bool
+same_width = sameb the_width
+
+pub same_width_Decides : (v w : DecimalType) → Decides (same_width v w) (v ≡ w)
+same_width_Decides v w = (same_true the_width tt v w, true_same the_width v w)

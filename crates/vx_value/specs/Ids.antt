@@ -24,6 +24,7 @@ id_text id.IsNotNull = codes "vortex.is_not_null"
 id_text id.Cast = codes "vortex.cast"
 id_text id.Bool = codes "vortex.bool"
 id_text id.Primitive = codes "vortex.primitive"
+id_text id.Decimal = codes "vortex.decimal"
 id_text id.VarBinView = codes "vortex.varbinview"
 
 -- no id has this text

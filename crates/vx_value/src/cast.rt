@@ -1,13 +1,12 @@
 //! Casts of scalars, as in the original's `scalar` module.
 
-ghost use Rattle.std.specs.Prelude.{◌≡◌, ◌↔◌, ◌⊎◌, ◌≤◌, IfOk, IfErr, IsErrOf, true, false};
+ghost use Rattle.std.specs.Prelude.{◌≡◌, ◌↔◌, ◌⊎◌, ◌≤◌, IfOk, IfErr, IsErrOf, MatchOption, true, false};
 ghost use Rattle.vx_value.specs.View.{type_of, value_of, cell_of, cell_seen};
-ghost use Rattle.vx_value.specs.Values.{integer};
+ghost use Rattle.vx_value.specs.Values.{integer, decimal};
 ghost use Rattle.vx_value.specs.IsOf.{is_of};
 ghost use Rattle.vx_value.specs.Cell as cell;
 ghost use Rattle.vx_value.specs.Casts.{to_integer, sized, lengthened, shortened, rescaled, into, has_other_row, has_cast, cast_value};
 
-use crate::decimal::has_digits;
 use crate::scalar::in_range;
 use crate::{
     ArgKind, DType, DecimalDType, DecimalValue, PType, Scalar, ScalarValue, VortexError,
@@ -47,7 +46,7 @@ impl Scalar {
             return Err(VortexError::InvalidArgument(ArgKind::NoRow));
         }
         let value = cast_value(self.dtype(), dtype, self.value())?;
-        Ok(Scalar::new(dtype.clone()?, value))
+        Ok(Scalar::new_unchecked(dtype.clone()?, value))
     }
 }
 
@@ -101,9 +100,9 @@ fn into(to: &DType, value: &ScalarValue) -> VortexResult<ScalarValue>
     match (to, value) {
         (DType::Bool(_), ScalarValue::Bool(value)) => Ok(ScalarValue::Bool(*value)),
         (DType::Primitive(ptype, _), ScalarValue::Integer(number)) => to_integer(*ptype, *number),
-        (DType::Decimal(dtype, _), ScalarValue::Integer(number)) => rescaled(*dtype, *number, 0),
+        (DType::Decimal(dtype, _), ScalarValue::Integer(number)) => to_decimal(*dtype, *number, 0),
         (DType::Decimal(dtype, _), ScalarValue::Decimal(number)) => {
-            rescaled(*dtype, number.unscaled, number.scale)
+            to_decimal(*dtype, number.unscaled, number.scale)
         }
         (DType::Utf8(_), ScalarValue::Bytes(bytes)) if bytes.as_str().is_none() => {
             Err(VortexError::Fault)
@@ -128,53 +127,74 @@ fn to_integer(ptype: PType, number: i128) -> VortexResult<ScalarValue>
 }
 
 /// Casts `number`, `scale` of whose digits stand behind the point, to the decimal type `dtype`.
-fn rescaled(dtype: DecimalDType, number: i128, scale: u8) -> VortexResult<ScalarValue>
+fn to_decimal(dtype: DecimalDType, number: i128, scale: u8) -> VortexResult<ScalarValue>
     ensures ok { IfOk result (λ v. rescaled dtype.precision dtype.scale number scale ≡ cell.value (value_of v)) }
     ensures err { IfErr result (λ e. (e ≡ VortexError.Fault) × (rescaled dtype.precision dtype.scale number scale ≡ cell.fault)) }
 {
-    if scale <= dtype.scale() {
-        lengthened(dtype, number, dtype.scale() - scale)
-    } else {
-        shortened(dtype, number, scale - dtype.scale())
+    match dtype.rescale(number, scale) {
+        Some(unscaled) => Ok(ScalarValue::Decimal(DecimalValue {
+            unscaled,
+            scale: dtype.scale(),
+        })),
+        None => Err(VortexError::Fault),
     }
 }
 
-/// Returns the decimal of type `dtype` whose digits are those of `number` and `digits` zeros more.
-fn lengthened(dtype: DecimalDType, number: i128, digits: u8) -> VortexResult<ScalarValue>
+impl DecimalDType {
+    /// Returns `number`, `scale` of whose digits stand behind the point, as a number of this type, without its point.
+    ///
+    /// `None` exactly if the type doesn't have it: the number has a digit other than 0 past the type's scale, or, written to that
+    /// scale, more digits than its precision. (own)
+    pub fn rescale(self, number: i128, scale: u8) -> Option<i128>
+        ensures { MatchOption result
+            (rescaled self.precision self.scale number scale ≡ cell.fault)
+            (λ z. rescaled self.precision self.scale number scale ≡ cell.value (decimal z self.scale)) }
+    {
+        let dtype = self;
+        if scale <= dtype.scale() {
+            lengthened(dtype, number, dtype.scale() - scale)
+        } else {
+            shortened(dtype, number, scale - dtype.scale())
+        }
+    }
+}
+
+/// Returns the number of type `dtype` whose digits are those of `number` and `digits` zeros more.
+fn lengthened(dtype: DecimalDType, number: i128, digits: u8) -> Option<i128>
     requires { digits ≤ dtype.scale }
-    ensures ok { IfOk result (λ v. lengthened dtype.precision dtype.scale number digits ≡ cell.value (value_of v)) }
-    ensures err { IfErr result (λ e. (e ≡ VortexError.Fault) × (lengthened dtype.precision dtype.scale number digits ≡ cell.fault)) }
+    ensures { MatchOption result
+        (lengthened dtype.precision dtype.scale number digits ≡ cell.fault)
+        (λ z. lengthened dtype.precision dtype.scale number digits ≡ cell.value (decimal z dtype.scale)) }
 {
     match number.checked_mul(10_i128.pow(digits as u32)) {
         Some(unscaled) => sized(dtype, unscaled),
-        None => Err(VortexError::Fault),
+        None => None,
     }
 }
 
-/// Returns the decimal of type `dtype` whose digits are those of `number` without its last `digits`, which must be zeros.
-fn shortened(dtype: DecimalDType, number: i128, digits: u8) -> VortexResult<ScalarValue>
-    ensures ok { IfOk result (λ v. shortened dtype.precision dtype.scale number digits ≡ cell.value (value_of v)) }
-    ensures err { IfErr result (λ e. (e ≡ VortexError.Fault) × (shortened dtype.precision dtype.scale number digits ≡ cell.fault)) }
+/// Returns the number of type `dtype` whose digits are those of `number` without its last `digits`, which must be zeros.
+fn shortened(dtype: DecimalDType, number: i128, digits: u8) -> Option<i128>
+    ensures { MatchOption result
+        (shortened dtype.precision dtype.scale number digits ≡ cell.fault)
+        (λ z. shortened dtype.precision dtype.scale number digits ≡ cell.value (decimal z dtype.scale)) }
 {
     match 10_i128.checked_pow(digits as u32) {
         Some(power) if number % power == 0 => sized(dtype, number / power),
-        Some(_) => Err(VortexError::Fault),
+        Some(_) => None,
         None if number == 0 => sized(dtype, 0),
-        None => Err(VortexError::Fault),
+        None => None,
     }
 }
 
-/// Returns the decimal of type `dtype` that is `unscaled` without its point.
-fn sized(dtype: DecimalDType, unscaled: i128) -> VortexResult<ScalarValue>
-    ensures ok { IfOk result (λ v. sized dtype.precision dtype.scale unscaled ≡ cell.value (value_of v)) }
-    ensures err { IfErr result (λ e. (e ≡ VortexError.Fault) × (sized dtype.precision dtype.scale unscaled ≡ cell.fault)) }
+/// Returns `unscaled` if it is a number of type `dtype` without its point.
+fn sized(dtype: DecimalDType, unscaled: i128) -> Option<i128>
+    ensures { MatchOption result
+        (sized dtype.precision dtype.scale unscaled ≡ cell.fault)
+        (λ z. sized dtype.precision dtype.scale unscaled ≡ cell.value (decimal z dtype.scale)) }
 {
-    if has_digits(dtype.precision(), unscaled) {
-        Ok(ScalarValue::Decimal(DecimalValue {
-            unscaled,
-            scale: dtype.scale(),
-        }))
+    if dtype.has_digits(unscaled) {
+        Some(unscaled)
     } else {
-        Err(VortexError::Fault)
+        None
     }
 }

@@ -42,6 +42,13 @@ impl DecimalDType {
     {
         self.scale
     }
+
+    /// Checks whether `unscaled`, a number without its point, has at most as many digits as the precision. (own)
+    pub fn has_digits(&self, unscaled: i128) -> bool
+        ensures { result ≡ has_digits self.now.precision unscaled }
+    {
+        has_digits(self.precision, unscaled)
+    }
 }
 
 /// A decimal number: the integer that is left without its point, and how many of its digits stand behind the point. (own)

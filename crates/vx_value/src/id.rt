@@ -22,6 +22,7 @@ pub enum Id {
     Cast,
     Bool,
     Primitive,
+    Decimal,
     VarBinView,
 }
 
@@ -46,6 +47,7 @@ macro_rules! by_texts {
             Cast = "vortex.cast",
             Bool = "vortex.bool",
             Primitive = "vortex.primitive",
+            Decimal = "vortex.decimal",
             VarBinView = "vortex.varbinview",
         )
     };

@@ -10,12 +10,13 @@ ghost use Rattle.vx_value.specs.IsOf.{is_of, in_range, is_null};
 ghost use Rattle.vx_value.specs.Parts.{boolean_in, integer_in, decimal_in, bytes_in, text_in};
 ghost use Rattle.vx_value.specs.ScalarKinds.{scalar_of, IsStored};
 ghost use Rattle.vx_value.specs.Types as type;
-ghost use Rattle.vx_value.specs.Values.{boolean, integer};
+ghost use Rattle.vx_value.specs.Values.{boolean, integer, decimal};
+ghost use Rattle.vx_value.specs.Decimals.{has_digits};
 
 use crate::decimal::has_digits;
 use crate::{
-    ArgKind, ByteBuffer, DType, DecimalValue, Nullability, PType, Storage, VortexError,
-    VortexResult,
+    ArgKind, ByteBuffer, DType, DecimalDType, DecimalValue, Nullability, PType, Storage,
+    VortexError, VortexResult,
 };
 use std::alloc::AllocError;
 use std::marker::Model;
@@ -118,6 +119,19 @@ impl Scalar {
         Scalar {
             dtype: DType::Primitive(ptype, nullability),
             value: Some(ScalarValue::Integer(value)),
+        }
+    }
+
+    /// Returns the decimal of type `dtype` that is `unscaled` without its point: a number of at most as many digits as the
+    /// precision.
+    pub fn decimal(unscaled: i128, dtype: DecimalDType, nullability: Nullability) -> Scalar
+        requires { has_digits dtype.precision unscaled ≡ true }
+        ensures { result ≡ record { of_type = type.decimal dtype.precision dtype.scale nullability; value = decimal unscaled dtype.scale } }
+    {
+        let scale = dtype.scale();
+        Scalar {
+            dtype: DType::Decimal(dtype, nullability),
+            value: Some(ScalarValue::Decimal(DecimalValue { unscaled, scale })),
         }
     }
 
@@ -256,8 +270,8 @@ impl Scalar {
         }
     }
 
-    /// Makes a scalar of type `dtype` from `value`, which must be of that type. `None` is null.
-    pub(crate) fn new(dtype: DType, value: Option<ScalarValue>) -> Scalar
+    /// Makes a scalar of type `dtype` from `value`, which must be of that type, without checking it. `None` is null. (own)
+    pub fn new_unchecked(dtype: DType, value: Option<ScalarValue>) -> Scalar
         requires { is_of (type_of dtype) (cell_of value) ≡ true }
         ensures { result ≡ record { of_type = type_of dtype; value = cell_of value } }
     {

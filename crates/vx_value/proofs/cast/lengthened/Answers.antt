@@ -1,4 +1,4 @@
-use Rattle.std.proofs.Common.{FitsSigned, ◌*ℤ◌, ℕ, ◌≤◌, arith, refl}
+use Rattle.std.proofs.Common.{FitsSigned, ◌*ℤ◌, ℕ, ◌≤◌, arith}
 use Rattle.std.proofs.lemmas.Int.{to_z-of_z}
 use Rattle.std.specs.Int.{w128}
 use Rattle.vx_value.specs.declared.decimal.DecimalDType.{DecimalDType}
@@ -12,8 +12,8 @@ digits_few d k h = omega (arith, d.is_decimal.1, d.is_decimal.2)
 pub pow-requires : goal.pow-requires
 pow-requires c = power_fits c.args.digits (digits_few c.args.dtype c.args.digits c.requires)
 
-pub returns-in-None-clause-err : goal.returns-in-None-clause-err
-returns-in-None-clause-err c =
+pub returns-in-None : goal.returns-in-None
+returns-in-None c =
     let past : ¬ FitsSigned w128 (c.args.number *ℤ power c.args.digits) =
     λ f. c.in-None.ensures (simp (to_z-of_z w128 c.args.number c.ranges.number, c.pow.ensures, to_z-of_z w128 (power c.args.digits) (power_fits c.args.digits (digits_few c.args.dtype c.args.digits c.requires))) f) in
-    (refl, past_digits c.args.dtype.precision c.args.dtype.scale _ c.args.dtype.is_decimal.1 past)
+    past_digits c.args.dtype.precision c.args.dtype.scale _ c.args.dtype.is_decimal.1 past

@@ -1,4 +1,3 @@
-use Rattle.std.proofs.Common.{refl}
 use Rattle.vx_value.proofs.CastsLemmas.{power_divides, shortened_past}
 use Rattle.vx_value.proofs.cast.shortened.Goals as goal
 
@@ -8,7 +7,7 @@ nonzero_rem-number c = power_divides c.args.number c.in-Some.power c.args.digits
 pub nonzero_div-number : goal.nonzero_div-number
 nonzero_div-number c = power_divides c.args.number c.in-Some.power c.args.digits c.ranges.number c.in-Some.ensures.0 c.in-Some.ensures.1
 
-pub returns-in-None-2-clause-err : goal.returns-in-None-2-clause-err
-returns-in-None-2-clause-err c =
+pub returns-in-None-2 : goal.returns-in-None-2
+returns-in-None-2 c =
     let type = c.args.dtype in
-    (refl, shortened_past type.precision type.scale c.args.number c.args.digits c.ranges.number c.in-None-2.ensures c.if-number-eq0.false)
+    shortened_past type.precision type.scale c.args.number c.args.digits c.ranges.number c.in-None-2.ensures c.if-number-eq0.false

@@ -6,8 +6,8 @@ use Rattle.vx_value.specs.IsOf.{is_of}
 use Rattle.vx_value.proofs.CastsLemmas.{cast_typed}
 use Rattle.vx_value.proofs.scalar.Scalar.cast.Goals as goal
 
-pub new-requires : goal.new-requires
-new-requires c =
+pub new_unchecked-requires : goal.new_unchecked-requires
+new_unchecked-requires c =
     let from : DataType = type_of c.dtype-2.result.now in
     let to : DataType = type_of c.args.dtype.now in
     let given : Value = cell_seen c.value.result in
