@@ -1,1 +1,2 @@
 pub mod NativesLemmas
+pub mod DecimalNumbersLemmas

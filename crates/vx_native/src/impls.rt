@@ -34,8 +34,6 @@ impl NativeInteger for u8 {
 
     fn ranged(self) {}
 
-    ghost clones_same = { λ x y e. e };
-
     ghost fits_kind = { unsigned_range 8 };
 }
 
@@ -64,8 +62,6 @@ impl NativeInteger for u16 {
     }
 
     fn ranged(self) {}
-
-    ghost clones_same = { λ x y e. e };
 
     ghost fits_kind = { unsigned_range 16 };
 }
@@ -96,8 +92,6 @@ impl NativeInteger for u32 {
 
     fn ranged(self) {}
 
-    ghost clones_same = { λ x y e. e };
-
     ghost fits_kind = { unsigned_range 32 };
 }
 
@@ -126,8 +120,6 @@ impl NativeInteger for u64 {
     }
 
     fn ranged(self) {}
-
-    ghost clones_same = { λ x y e. e };
 
     ghost fits_kind = { unsigned_range 64 };
 }
@@ -159,8 +151,6 @@ impl NativeInteger for i8 {
 
     fn ranged(self) {}
 
-    ghost clones_same = { λ x y e. e };
-
     ghost fits_kind = { signed_range w8 };
 }
 
@@ -190,8 +180,6 @@ impl NativeInteger for i16 {
     }
 
     fn ranged(self) {}
-
-    ghost clones_same = { λ x y e. e };
 
     ghost fits_kind = { signed_range w16 };
 }
@@ -223,8 +211,6 @@ impl NativeInteger for i32 {
 
     fn ranged(self) {}
 
-    ghost clones_same = { λ x y e. e };
-
     ghost fits_kind = { signed_range w32 };
 }
 
@@ -254,8 +240,6 @@ impl NativeInteger for i64 {
     }
 
     fn ranged(self) {}
-
-    ghost clones_same = { λ x y e. e };
 
     ghost fits_kind = { signed_range w64 };
 }

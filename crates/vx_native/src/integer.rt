@@ -6,13 +6,12 @@ ghost use Rattle.vx_value.specs.IsOf.{in_range};
 ghost use Rattle.vx_value.specs.declared.dtype.PType.{PType as PTypeOf};
 ghost use Rattle.vx_native.specs.Natives.{values_of, ptype_of};
 
-use crate::PrimitiveValues;
-use num_traits::{FromPrimitive, PrimInt};
+use crate::{NativeNumber, PrimitiveValues};
 use vx_mask::Buffer;
 use vx_value::PType;
 
 /// The integer types that a column can hold. (own)
-pub trait NativeInteger: PrimInt + FromPrimitive {
+pub trait NativeInteger: NativeNumber {
     // which of the eight it is
     ghost kind: { PTypeOf };
 
@@ -34,9 +33,6 @@ pub trait NativeInteger: PrimInt + FromPrimitive {
     fn ranged(self)
         ensures { in_range kind (Self.value self) ≡ true };
 
-    // a clone is the number itself
-    ghost clones_same: { (x y : Self) → Self.is_clone x y → y ≡ x };
-
     // the type has the integers of its range
     ghost fits_kind: { (z : ℤ) → Self.fits z ↔ (in_range kind z ≡ true) };
 
@@ -55,10 +51,7 @@ pub trait NativeInteger: PrimInt + FromPrimitive {
         ensures ranged { in_range kind result ≡ true }
     {
         self.ranged();
-        let Some(wide) = self.to_i128() else {
-            unreachable!()
-        };
-        wide
+        self.wide()
     }
 }
 

@@ -1,11 +1,18 @@
-//! The eight native integer types, and values of any of them in shared storage.
+//! The native integer types of columns, and values of any of them in shared storage.
 #![tactic(auto)]
 
+mod decimal;
+mod decimal_impls;
+mod decimal_values;
 mod impls;
 mod integer;
 mod macros;
+mod number;
 mod values;
 
+pub use decimal::{NativeDecimalType, narrowed};
+pub use decimal_values::DecimalValues;
 pub use integer::{NativeInteger, native_of};
+pub use number::NativeNumber;
 pub use values::PrimitiveValues;
-pub use vx_value::PType;
+pub use vx_value::{DecimalType, PType};

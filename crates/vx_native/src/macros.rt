@@ -1,4 +1,4 @@
-//! Macros that open the eight types.
+//! Macros that open the eight types, and the five that decimals are stored in.
 
 /// Evaluates one expression over the buffer of a `PrimitiveValues`, whichever its type: `by_buffer!(values, |buffer| buffer.len())`.
 #[macro_export]
@@ -30,6 +30,35 @@ macro_rules! by_type {
             $crate::PType::I16 => $function::<i16>($($argument),*),
             $crate::PType::I32 => $function::<i32>($($argument),*),
             $crate::PType::I64 => $function::<i64>($($argument),*),
+        }
+    };
+}
+
+/// Evaluates one expression over the buffer of a `DecimalValues`, whichever its width: `by_decimals!(values, |buffer| buffer.len())`.
+#[macro_export]
+macro_rules! by_decimals {
+    ($values:expr, |$buffer:ident| $body:expr) => {
+        match $values {
+            $crate::DecimalValues::I8($buffer) => $body,
+            $crate::DecimalValues::I16($buffer) => $body,
+            $crate::DecimalValues::I32($buffer) => $body,
+            $crate::DecimalValues::I64($buffer) => $body,
+            $crate::DecimalValues::I128($buffer) => $body,
+        }
+    };
+}
+
+/// Calls a generic function at the type that a `DecimalType` names: `by_decimal_type!(width, read(list))` calls `read::<i8>(list)`
+/// at `I8`.
+#[macro_export]
+macro_rules! by_decimal_type {
+    ($decimal_type:expr, $function:ident($($argument:expr),* $(,)?)) => {
+        match $decimal_type {
+            $crate::DecimalType::I8 => $function::<i8>($($argument),*),
+            $crate::DecimalType::I16 => $function::<i16>($($argument),*),
+            $crate::DecimalType::I32 => $function::<i32>($($argument),*),
+            $crate::DecimalType::I64 => $function::<i64>($($argument),*),
+            $crate::DecimalType::I128 => $function::<i128>($($argument),*),
         }
     };
 }

@@ -6,6 +6,7 @@ ghost use Rattle.vx_mask.specs.Masks.{bits_in};
 ghost use Rattle.vx_mask.specs.Places.{chosen};
 ghost use Rattle.vx_native.specs.Natives.{values_of, ptype_of};
 
+use crate::number::repeated;
 use crate::{NativeInteger, by_buffer, by_type, native_of};
 use std::alloc::{AllocError, Global};
 use std::ops::Range;
@@ -82,8 +83,7 @@ fn copies_of<T: NativeInteger>(
     ensures values { IfOk result (λ copies. values_of copies ≡ replicate len wide) }
 {
     let value: T = native_of(wide);
-    let values = vec![in alloc; value; len]?;
-    Ok(T::wrap(Buffer::from_vec(alloc, values)?))
+    Ok(T::wrap(repeated(alloc, value, len)?))
 }
 
 impl PrimitiveValues {
