@@ -34,19 +34,24 @@ bytes_node s rows h ty n ss flat =
     let again = bytes_again s ty rows flat.1 in
     (subst (λ r. IsFlat r (length rows) ty n ss) (sym again.0) flat, again.1 ∙ h)
 
-all_dropped : (k : ℕ) (xs : List (List ℕ)) → list_all is_utf8 xs ≡ true → list_all is_utf8 (drop k xs) ≡ true
-all_dropped zero xs h = h
-all_dropped (suc k) [] h = refl
-all_dropped (suc k) (x ∷ xs) h = all_dropped k xs (second_so (is_utf8 x) _ h)
+module _ {A : Type 0} (test : A → Bool) where
+  all_dropped : (k : ℕ) (xs : List A) → list_all test xs ≡ true → list_all test (drop k xs) ≡ true
+  all_dropped zero xs h = h
+  all_dropped (suc k) [] h = refl
+  all_dropped (suc k) (x ∷ xs) h = all_dropped k xs (second_so (test x) _ h)
 
-all_taken : (k : ℕ) (xs : List (List ℕ)) → list_all is_utf8 xs ≡ true → list_all is_utf8 (take k xs) ≡ true
-all_taken zero xs h = refl
-all_taken (suc k) [] h = refl
-all_taken (suc k) (x ∷ xs) h = and_from (is_utf8 x) _ (first_so (is_utf8 x) _ h) (all_taken k xs (second_so (is_utf8 x) _ h))
+  all_taken : (k : ℕ) (xs : List A) → list_all test xs ≡ true → list_all test (take k xs) ≡ true
+  all_taken zero xs h = refl
+  all_taken (suc k) [] h = refl
+  all_taken (suc k) (x ∷ xs) h = and_from (test x) _ (first_so (test x) _ h) (all_taken k xs (second_so (test x) _ h))
+
+  -- what each of a list's items passes, each of a range's does
+  pub range_passes : (xs : List A) (a b : ℕ) → list_all test xs ≡ true → list_all test (slice_range xs a b) ≡ true
+  range_passes xs a b h = all_taken (b - a) (drop a xs) (all_dropped a xs h)
 
 -- a range of rows of a type is of it too
 pub bytes_part : (s : Storage) (xs ys : List (List ℕ)) (a b : ℕ) → are_bytes_of s xs ≡ true → ys ≡ slice_range xs a b → are_bytes_of s ys ≡ true
-bytes_part Text xs ys a b h range = ap (list_all is_utf8) range ∙ all_taken (b - a) (drop a xs) (all_dropped a xs h)
+bytes_part Text xs ys a b h range = ap (list_all is_utf8) range ∙ range_passes is_utf8 xs a b h
 bytes_part _ xs ys a b h range = refl
 
 -- the check of each row

@@ -1,14 +1,14 @@
 -- A well-formed tree has a cell for each row; and rows without a fault.
-use Rattle.std.proofs.Common.{◌≡◌, ℕ, zero, suc, ◌-◌, ◌≤◌, Bool, List, [], ◌∷◌, length, map, take, drop, slice_get, Option, Some, None}
+use Rattle.std.proofs.Common.{ℤ, ◌≡◌, ℕ, zero, suc, ◌-◌, ◌≤◌, Bool, List, [], ◌∷◌, length, map, take, drop, slice_get, Option, Some, None}
 use Rattle.std.proofs.Common.{refl, sym, ap, ◌∙◌, subst, arith, length-drop}
 use Rattle.std.proofs.lemmas.List.{length-take, length-map, length-replicate}
 use Rattle.std.proofs.lemmas.List.FromFn.{length-map-range_with_len}
 use Rattle.vx_value.specs.Types.{DataType, bool, primitive, nullability_of}
 use Rattle.vx_value.specs.declared.dtype.Nullability.{Nullability}
 use Rattle.vx_value.specs.declared.dtype.Nullability.TheVariants.{NonNullable, Nullable}
-use Rattle.vx_value.specs.Values.{boolean, integer, bytes}
+use Rattle.vx_value.specs.Values.{boolean, integer, bytes, decimal}
 use Rattle.vx_value.specs.Storage.{storage_of}
-use Rattle.vx_tree.specs.ColumnTypes.{bytes_type}
+use Rattle.vx_tree.specs.ColumnTypes.{bytes_type, scale_of, decimal_type}
 use Rattle.vx_tree.specs.Tree as enc
 use Rattle.vx_tree.specs.Tree.{Tree, Data, Slots, node, no_slots, absent, slot, len}
 use Rattle.vx_value.specs.Cell.{Cell, value, fault}
@@ -85,6 +85,9 @@ node_counted ty n enc.is_valid css ss h k = length-map (cells_at css 0) shown_ce
 node_counted ty n (enc.function f) css ss h k = length-map-range_with_len (λ i. apply f ty (row_at css i)) 0 n
 node_counted ty n (enc.bool bs) css ss h k = flat_counted (bool NonNullable) _ ty n css ss (map (λ b. value (boolean b)) bs) h k (length-map bs (λ b. value (boolean b)))
 node_counted ty n (enc.primitive p zs) css ss h k = flat_counted (primitive p NonNullable) _ ty n css ss (map (λ z. value (integer z)) zs) h k (length-map zs (λ z. value (integer z)))
+node_counted ty n (enc.decimals w zs) css ss h k =
+    let cell : ℤ → Cell = λ z. value (decimal z (scale_of (storage_of ty))) in
+    flat_counted (decimal_type (storage_of ty)) _ ty n css ss (map cell zs) h.0 k (length-map zs cell)
 node_counted ty n (enc.views rs) css ss h k =
     flat_counted (bytes_type (storage_of ty)) _ ty n css ss (map (λ r. value (bytes r)) rs) h.0 k (length-map rs (λ r. value (bytes r)))
 

@@ -1,6 +1,6 @@
 -- The types of trees: there are columns of each.
 use Rattle.std.proofs.Common.{◌≡◌, ◌⊎◌, inl, inr, ℕ, List, [], ◌∷◌, Option, Some, length, ap, subst, sym, ◌∙◌, refl, true}
-use Rattle.vx_value.specs.Types.{DataType, primitive, bool, utf8, binary, nullability_of}
+use Rattle.vx_value.specs.Types.{DataType, primitive, bool, decimal, utf8, binary, nullability_of}
 use Rattle.vx_value.specs.Nullabilities.{with_nullability}
 use Rattle.vx_value.specs.Storage.{storage_of}
 use Rattle.vx_value.specs.declared.dtype.Nullability.{Nullability}
@@ -12,6 +12,7 @@ use Rattle.vx_tree.specs.Tree as enc
 use Rattle.vx_tree.specs.Tree.{Tree, Data, node, no_slots, absent, slot, dtype}
 use Rattle.vx_tree.specs.Well.{Shape, shape, shapes, IsNode, IsWell}
 use Rattle.vx_tree.proofs.BytesLemmas.{bytes_columns}
+use Rattle.vx_tree.proofs.DecimalsLemmas.{decimal_columns}
 
 -- the type of a column, by how it stores its values
 pub column_of_bits : (ty : DataType) → storage_of ty ≡ Bits → ty ≡ bool (nullability_of ty)
@@ -26,6 +27,7 @@ column_of_integers p _ h = absurd (cc)
 other_nullability : (m : Nullability) (ty : DataType) → has_column ty ≡ true → has_column (with_nullability m ty) ≡ true
 other_nullability m (bool n) h = refl
 other_nullability m (primitive p n) h = refl
+other_nullability m (decimal p s n) h = refl
 other_nullability m (utf8 n) h = refl
 other_nullability m (binary n) h = refl
 other_nullability m _ h = absurd (cc)
@@ -42,6 +44,7 @@ node_typed ty n enc.is_valid ss w = inl (ap has_column w.2)
 node_typed ty n (enc.function f) ss w = inl w.3
 node_typed ty n (enc.bool bs) ss w = inl (ap has_column w.1)
 node_typed ty n (enc.primitive p zs) ss w = inl (ap has_column w.1)
+node_typed ty n (enc.decimals d zs) ss w = inl (ap has_column w.0.1 ∙ (decimal_columns (nullability_of ty) (storage_of ty)).0)
 node_typed ty n (enc.views rs) ss w = inl (ap has_column w.0.1 ∙ (bytes_columns (nullability_of ty) (storage_of ty)).0)
 
 -- so there are of the type of every tree

@@ -13,6 +13,7 @@ use Rattle.vx_tree.specs.Tree.{is_constant, is_canonical, is_columnar}
 use Rattle.vx_tree.specs.Well.{IsWell, shapes}
 use Rattle.vx_tree.specs.Columns.{IsColumn, canonical_id}
 use Rattle.vx_tree.proofs.BytesLemmas.{bytes_columns}
+use Rattle.vx_tree.proofs.DecimalsLemmas.{decimal_columns}
 use Rattle.vx_tree.proofs.CostLemmas.{column_cost}
 
 pub canonical_columnar : (d : Data) → is_canonical d ≡ true → is_columnar d ≡ true
@@ -51,6 +52,8 @@ column_known (node ty n (enc.constant v) ss) w h =
     subst IsColumn (λ i. node (sym w.0.0 i) n (enc.constant v) (sym (no_shapes ss w.0.3) i)) (constant_known v n)
 column_known (node ty n (enc.bool bs) ss) w h = canonical_known ty n _ ss refl (sym (ap canonical_id w.0.1))
 column_known (node ty n (enc.primitive p zs) ss) w h = canonical_known ty n _ ss refl (sym (ap canonical_id w.0.1))
+column_known (node ty n (enc.decimals d zs) ss) w h =
+    canonical_known ty n _ ss refl (sym (ap canonical_id w.0.0.1 ∙ (decimal_columns (nullability_of ty) (storage_of ty)).1))
 column_known (node ty n (enc.views rs) ss) w h =
     canonical_known ty n _ ss refl (sym (ap canonical_id w.0.0.1 ∙ (bytes_columns (nullability_of ty) (storage_of ty)).1))
 column_known _ w h = absurd (cc)

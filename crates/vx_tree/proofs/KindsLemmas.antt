@@ -9,6 +9,7 @@ use Rattle.vx_value.specs.IsOf.{is_of}
 use Rattle.vx_value.specs.declared.dtype.PType.{PType}
 use Rattle.vx_fn.specs.declared.function.ScalarFnRef.{ScalarFnRef}
 use Rattle.vx_tree.specs.ColumnTypes.{has_column}
+use Rattle.vx_value.specs.declared.decimal.DecimalType.{DecimalType}
 use Rattle.vx_tree.specs.Tree as enc
 use Rattle.vx_tree.specs.Tree.{Tree, Data, node, slots_of, dtype, len, column, constant_of, slice_of, filter_of, masked_of, validity_in}
 use Rattle.vx_tree.specs.Well.{Shape, shape, shapes, IsNode, IsNodeOf}
@@ -92,6 +93,10 @@ module _ (n : Node) (well : IsNodeOf (tree_of n)) where
   pub kind_primitive : (p : PType) (zs : List ℤ) (s v : Option Tree) → data_of n.encoding ≡ enc.primitive p zs → v ≡ get_or n.slots.items 0 s →
       (tree_of n ≡ column (type_of n.dtype) n.len (enc.primitive p zs) v) × IsNodeOf (tree_of n)
   kind_primitive p zs s v e g = let h = of_data (enc.primitive p zs) e in (column_is (enc.primitive p zs) s v h.0 e h.3 g, well)
+
+  pub kind_decimals : (w : DecimalType) (zs : List ℤ) (s v : Option Tree) → data_of n.encoding ≡ enc.decimals w zs → v ≡ get_or n.slots.items 0 s →
+      (tree_of n ≡ column (type_of n.dtype) n.len (enc.decimals w zs) v) × IsNodeOf (tree_of n)
+  kind_decimals w zs s v e g = let h = of_data (enc.decimals w zs) e in (column_is (enc.decimals w zs) s v h.0.0 e h.0.3 g, well)
 
   pub kind_views : (rs : List (List ℕ)) (s v : Option Tree) → data_of n.encoding ≡ enc.views rs → v ≡ get_or n.slots.items 0 s →
       (tree_of n ≡ column (type_of n.dtype) n.len (enc.views rs) v) × IsNodeOf (tree_of n)

@@ -10,6 +10,8 @@ pub mod RefusalsLemmas
 pub mod CallsLemmas
 pub mod CostLemmas
 pub mod ColumnsLemmas
+pub mod DecimalsLemmas
 pub mod ValiditiesLemmas
+pub mod FlatLemmas
 pub mod TypedLemmas
 pub mod NodeValiditiesLemmas

@@ -1,5 +1,5 @@
 -- The validity of every node tells which of its rows are null.
-use Rattle.std.proofs.Common.{◌≡◌, ℕ, zero, suc, ◌+◌, ◌-◌, ◌≤◌, List, [], ◌∷◌, length, map, replicate, take, drop, get_or, slice_get, Bool, true, false, ◌&&◌, Option, Some, None, refl, sym, ap, subst, ◌∙◌, arith}
+use Rattle.std.proofs.Common.{ℤ, ◌≡◌, ℕ, zero, suc, ◌+◌, ◌-◌, ◌≤◌, List, [], ◌∷◌, length, map, replicate, take, drop, get_or, slice_get, Bool, true, false, ◌&&◌, Option, Some, None, refl, sym, ap, subst, ◌∙◌, arith}
 use Rattle.std.specs.Prelude.{option_map, not}
 use Rattle.std.specs.Cmp.{unsigned_Decides}
 use Rattle.std.specs.List.{range_with_len}
@@ -8,7 +8,7 @@ use Rattle.vx_value.specs.Types as type
 use Rattle.vx_value.specs.Types.{DataType, nullability_of, is_nullable}
 use Rattle.vx_value.specs.Nullabilities.{with_nullability}
 use Rattle.vx_value.specs.IsOf.{is_null}
-use Rattle.vx_value.specs.Values.{Value, null, boolean, integer, bytes}
+use Rattle.vx_value.specs.Values.{Value, null, boolean, integer, bytes, decimal}
 use Rattle.vx_value.specs.Typed.{Typed}
 use Rattle.vx_value.specs.Cell.{Cell, value, fault}
 use Rattle.vx_value.specs.declared.dtype.Nullability.{Nullability}
@@ -22,7 +22,7 @@ use Rattle.vx_fn.specs.declared.function.Operator.TheVariants.{And}
 use Rattle.vx_fn.specs.declared.function.ScalarFnRef.{ScalarFnRef}
 use Rattle.vx_fn.specs.declared.function.ScalarFnRef.TheVariants.{Binary}
 use Rattle.vx_value.specs.Storage.{storage_of}
-use Rattle.vx_tree.specs.ColumnTypes.{bytes_type}
+use Rattle.vx_tree.specs.ColumnTypes.{bytes_type, scale_of, decimal_type}
 use Rattle.vx_tree.specs.Tree as enc
 use Rattle.vx_tree.specs.Tree.{Tree, Data, Slots, node, no_slots, absent, slot, slots_of, dtype, len, datum, column, constant_of, slice_of, filter_of, masked_of, validity_in, call_of}
 use Rattle.vx_tree.specs.Well.{shape, shape_of, shapes, IsValidity, IsFlat, IsNode, IsWell, AreWell}
@@ -549,6 +549,10 @@ data_tells ty n (enc.bool bs) xs h w e f =
 data_tells ty n (enc.primitive p zs) xs h w e f =
     column_node (type.primitive p NonNullable) ty (length zs) n (enc.primitive p zs) (map (λ z. value (integer z)) zs) xs (λ css. refl) (length-map zs (λ z. value (integer z)))
     (stored_valid integer (λ z. refl) zs) h w e
+data_tells ty n (enc.decimals d zs) xs h w e f =
+    let read : ℤ → Value = λ z. decimal z (scale_of (storage_of ty)) in
+    column_node (decimal_type (storage_of ty)) ty (length zs) n (enc.decimals d zs) (map (λ z. value (read z)) zs) xs (λ css. refl) (length-map zs (λ z. value (read z)))
+    (stored_valid read (λ z. refl) zs) h.0 w e
 data_tells ty n (enc.views rs) xs h w e f =
     column_node (bytes_type (storage_of ty)) ty (length rs) n (enc.views rs) (map (λ r. value (bytes r)) rs) xs (λ css. refl) (length-map rs (λ r. value (bytes r)))
     (stored_valid bytes (λ r. refl) rs) h.0 w e

@@ -8,7 +8,7 @@ use Rattle.std.specs.Cmp.{unsigned_Decides, first_so, second_so}
 use Rattle.std.specs.Prelude.{◌==◌, option_map}
 use Rattle.vx_value.specs.Types.{DataType, bool, primitive, nullability_of, same_type_Decides}
 use Rattle.vx_value.specs.Storage.{storage_of}
-use Rattle.vx_tree.specs.ColumnTypes.{bytes_type}
+use Rattle.vx_tree.specs.ColumnTypes.{bytes_type, decimal_type, are_decimals_of, are_bytes_of}
 use Rattle.vx_value.specs.Nullabilities.{with_nullability}
 use Rattle.vx_value.specs.declared.dtype.Nullability.{Nullability}
 use Rattle.vx_value.specs.declared.dtype.Nullability.TheVariants.{NonNullable, Nullable}
@@ -28,7 +28,7 @@ use Rattle.vx_tree.specs.ColumnTypes.{has_column}
 use Rattle.vx_tree.specs.Tree as enc
 use Rattle.vx_tree.specs.Tree.{Tree, Data, id_of, slots_of, dtype, len}
 use Rattle.vx_tree.specs.Well.{Shape, shape, shape_of, shapes, IsValidity, IsFlat, IsNode}
-use Rattle.vx_tree.specs.Refusals.{refusal, column_refusal, constant_refusal, of_child, slice_refusal, filter_refusal, validity_refusal, mask_refusal, masked_refusal, function_refusal}
+use Rattle.vx_tree.specs.Refusals.{tested_refusal, refusal, column_refusal, constant_refusal, of_child, slice_refusal, filter_refusal, validity_refusal, mask_refusal, masked_refusal, function_refusal}
 use Rattle.vx_tree.specs.Refusals.{slots_refusal, types_refusal, lengths_refusal, result_refusal, arity_refusal, column_type_refusal}
 use Rattle.vx_tree.specs.Conditions.{unless, first_of_both}
 use Rattle.vx_tree.specs.Refusals.{validity_type_refusal, validity_len_refusal, all_present, all_long, types_in, type_in, is_present, is_long}
@@ -280,6 +280,15 @@ function_taken ty n f ss h =
     none_refused (slots_refusal f made) _ slots (none_refused (types_refusal (function_id f) ty f made) _ types lengths) in
     subst (λ l. function_refusal (function_id f) ty n f l ≡ None) (sym h.1) e
 
+-- a column whose values pass a test
+tested_decided : (ty : DataType) (n : ℕ) (of_type : DataType) (k : ℕ) (pass : Bool) (ss : List (Option Shape)) →
+    ((i : Id) → tested_refusal ty n of_type k pass ss ≡ None → IsFlat of_type k ty n ss × (pass ≡ true))
+    × (IsFlat of_type k ty n ss × (pass ≡ true) → tested_refusal ty n of_type k pass ss ≡ None)
+tested_decided ty n of_type k pass ss = (
+  λ i h. (column_kept ty n of_type k ss (first_none _ _ h), unless_none _ _ (second_none _ _ h)),
+  λ h. none_refused _ _ (column_taken ty n of_type k ss h.0) (none_unless _ _ h.1),
+)
+
 -- parts that aren't refused meet the conditions, and those that meet them aren't refused under their own id: a line for each encoding
 decided : (ty : DataType) (n : ℕ) (d : Data) (ss : List (Option Shape)) →
     ((i : Id) → refusal i ty n d ss ≡ None → IsNode ty n d ss) × (IsNode ty n d ss → refusal (id_of d) ty n d ss ≡ None)
@@ -291,10 +300,8 @@ decided ty n enc.is_valid ss = (λ i. test_kept ty n ss, test_taken ty n ss)
 decided ty n (enc.function f) ss = (λ i. function_kept i ty n f ss, function_taken ty n f ss)
 decided ty n (enc.bool bs) ss = (λ i. column_kept ty n (bool NonNullable) _ ss, column_taken ty n (bool NonNullable) _ ss)
 decided ty n (enc.primitive p zs) ss = (λ i. column_kept ty n (primitive p NonNullable) _ ss, column_taken ty n (primitive p NonNullable) _ ss)
-decided ty n (enc.views rs) ss = (
-  λ i h. (column_kept ty n (bytes_type (storage_of ty)) _ ss (first_none _ _ h), unless_none _ _ (second_none _ _ h)),
-  λ h. none_refused _ _ (column_taken ty n (bytes_type (storage_of ty)) _ ss h.0) (none_unless _ _ h.1),
-)
+decided ty n (enc.decimals w zs) ss = tested_decided ty n (decimal_type (storage_of ty)) (length zs) (are_decimals_of (storage_of ty) w zs) ss
+decided ty n (enc.views rs) ss = tested_decided ty n (bytes_type (storage_of ty)) (length rs) (are_bytes_of (storage_of ty) rs) ss
 
 pub node_unless_refused : (i : Id) (ty : DataType) (n : ℕ) (d : Data) (ss : List (Option Shape)) →
     refusal i ty n d ss ≡ None → IsNode ty n d ss

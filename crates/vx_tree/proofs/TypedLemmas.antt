@@ -36,8 +36,8 @@ use Rattle.vx_fn.proofs.LogicLemmas.{Knows, and_knows, or_knows}
 use Rattle.vx_fn.proofs.MeaningsLemmas.{nullable_by_argument, nullable_before}
 use Rattle.vx_value.specs.Storage.{storage_of}
 use Rattle.vx_value.specs.declared.dtype.Storage.{Storage}
-use Rattle.vx_value.specs.declared.dtype.Storage.TheVariants.{Text}
-use Rattle.vx_tree.specs.ColumnTypes.{bytes_type}
+use Rattle.vx_value.specs.declared.dtype.Storage.TheVariants.{Decimals, Text}
+use Rattle.vx_tree.specs.ColumnTypes.{decimal_type, scale_of, bytes_type}
 use Rattle.vx_tree.specs.Tree as enc
 use Rattle.vx_tree.specs.Tree.{Tree, Data, Slots, node, no_slots, absent, slot, dtype}
 use Rattle.vx_tree.specs.Cells.{rows, slots_rows, node_cells, cells_at, row_at, valid_cell, valid_cells, shown_cell}
@@ -381,6 +381,10 @@ bytes_other : (s : Storage) → is_other (bytes_type s) ≡ true
 bytes_other Text = refl
 bytes_other _ = refl
 
+decimal_other : (s : Storage) → is_other (decimal_type s) ≡ true
+decimal_other (Decimals p s) = refl
+decimal_other _ = refl
+
 -- a line for each encoding
 node_fits : (ty : DataType) (n : ℕ) (d : Data) (css : List (List Cell)) (ss : List (Option Shape)) → IsNode ty n d ss → SlotsFit css ss → AllFit ty (node_cells ty n d css)
 node_fits ty n (enc.constant v) css ss h k = copies_fit n ty (value v.value) (constant_fits v.value ty h.2)
@@ -400,6 +404,10 @@ node_fits ty n (enc.bool bs) css ss h k =
 node_fits ty n (enc.primitive p zs) css ss h k =
     column_fits ty (nullability_of ty) n h.0 css (map (λ z. value (integer z)) zs) refl h.4 (subst (SlotsFit css) h.3 k)
     (map_fits (λ z. value (integer z)) zs ty (λ z. ap is_other h.1))
+node_fits ty n (enc.decimals w zs) css ss h k =
+    let cell : ℤ → Cell = λ z. value (decimal z (scale_of (storage_of ty))) in
+    column_fits ty (nullability_of ty) n h.0.0 css (map cell zs) refl h.0.4 (subst (SlotsFit css) h.0.3 k)
+    (map_fits cell zs ty (λ z. ap is_other h.0.1 ∙ other_kept (nullability_of ty) _ ∙ decimal_other (storage_of ty)))
 node_fits ty n (enc.views rs) css ss h k =
     column_fits ty (nullability_of ty) n h.0.0 css (map (λ r. value (bytes r)) rs) refl h.0.4 (subst (SlotsFit css) h.0.3 k)
     (map_fits (λ r. value (bytes r)) rs ty (λ r. ap is_other h.0.1 ∙ other_kept (nullability_of ty) _ ∙ bytes_other (storage_of ty)))

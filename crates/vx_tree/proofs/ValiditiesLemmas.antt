@@ -234,9 +234,10 @@ told_counted of_type ty k n (Some t) h w = rows_counted t w.0 ∙ flat_long of_t
 
 -- a column of values of one type, each read from an item, and a range of it
 module _ {X : Type 0} (of_type : DataType) (read : X → Value) (of_items : List X → Data)
-    (cells : (ty : DataType) (n : ℕ) (xs : List X) (css : List (List Cell))
-    → node_cells ty n (of_items xs) css ≡ valid_cells (cells_at css 0) (map (λ x. value (read x)) xs))
-    (a b : ℕ) (xs ys : List X) (v : Option Tree) (t : Tree) (shown : t ≡ column (dtype t) (len t) (of_items xs) v) (well : IsWell t)
+    (a b : ℕ) (xs ys : List X) (v : Option Tree) (t : Tree)
+    (cells : (n : ℕ) (xs : List X) (css : List (List Cell))
+    → node_cells (dtype t) n (of_items xs) css ≡ valid_cells (cells_at css 0) (map (λ x. value (read x)) xs))
+    (shown : t ≡ column (dtype t) (len t) (of_items xs) v) (well : IsWell t)
     (within : b ≤ len t) (range : ys ≡ slice_range xs a b)
     (flat : (ss : List (Option Shape)) → IsNode (dtype t) (len t) (of_items xs) ss → IsFlat of_type (length xs) (dtype t) (len t) ss)
     (node_of : (ty : DataType) (n : ℕ) (ss : List (Option Shape)) → IsFlat of_type (length ys) ty n ss → IsNode ty n (of_items ys) ss) where
@@ -246,17 +247,22 @@ module _ {X : Type 0} (of_type : DataType) (read : X → Value) (of_items : List
   counted : b - a ≡ length ys
   counted = sym (ap length range ∙ length-take-le (b - a) (drop a xs) (omega (arith, length-drop a xs, is_flat.2)))
 
-  pub flat_ready : (s : DataType) × (k : ℕ) × IsFlat s k (dtype t) (len t) (shapes (slots_of (v ∷ [])))
-      × ((ty : DataType) (n : ℕ) (ss : List (Option Shape)) → IsFlat s (b - a) ty n ss → IsNode ty n (of_items ys) ss)
-  flat_ready = (of_type, length xs, is_flat, λ ty n ss h. node_of ty n ss (subst (λ k. IsFlat of_type k ty n ss) counted h))
+  part_node : (w : Option Tree) → IsValidityPart a b v w → IsNode (dtype t) (b - a) (of_items ys) (shapes (slots_of (w ∷ [])))
+  part_node w part =
+      let flat = part_flat a b of_type (dtype t) (length xs) (len t) v w (w ∷ []) is_flat part refl in
+      node_of (dtype t) (b - a) (shapes (slots_of (w ∷ []))) (subst (λ k. IsFlat of_type k (dtype t) (b - a) (shapes (slots_of (w ∷ [])))) counted flat)
 
-  pub flat_sliced : (u : Tree) → (w : Option Tree) × IsValidityPart a b v w × (u ≡ column (dtype t) (b - a) (of_items ys) w) → KeepsExactly (slice_of a b t) u
-  flat_sliced u h =
+  part_kept : (u : Tree) → (w : Option Tree) × IsValidityPart a b v w × (u ≡ column (dtype t) (b - a) (of_items ys) w) → KeepsExactly (slice_of a b t) u
+  part_kept u h =
       let whole_is : t ≡ column (dtype t) (length xs) (of_items xs) v = shown ∙ ap (λ n. column (dtype t) n (of_items xs) v) is_flat.2 in
       let part_is : column (dtype t) (length ys) (of_items ys) h.0 ≡ u = sym (h.2 ∙ ap (λ n. column (dtype t) n (of_items ys) h.0) counted) in
       let told_there = subst (λ n. IsTold n v) is_flat.2 (told_counted of_type (dtype t) (length xs) (len t) v is_flat (subst IsWell shown well).1) in
       subst (KeepsExactly (slice_of a b t)) part_is
-      (part_exactly a b (dtype t) read of_items (cells (dtype t)) xs ys v h.0 t whole_is told_there (subst (λ n. b ≤ n) is_flat.2 within) range h.1)
+      (part_exactly a b (dtype t) read of_items cells xs ys v h.0 t whole_is told_there (subst (λ n. b ≤ n) is_flat.2 within) range h.1)
+
+  pub flat_part : (w : Option Tree) → IsValidityPart a b v w
+      → IsNode (dtype t) (b - a) (of_items ys) (shapes (slots_of (w ∷ []))) × KeepsExactly (slice_of a b t) (column (dtype t) (b - a) (of_items ys) w)
+  flat_part w part = (part_node w part, part_kept (column (dtype t) (b - a) (of_items ys) w) (w, part, refl))
 
 -- ---- what a validity says is read back from its child
 

@@ -2,10 +2,12 @@
 use Rattle.std.specs.Prelude.{ℕ, zero, suc, true, false, ◌-◌, List, [], ◌∷◌, take, drop, map, replicate, slice_index_or}
 use Rattle.std.specs.List.{range_with_len}
 use Rattle.vx_value.specs.Types.{DataType}
-use Rattle.vx_value.specs.Values.{null, boolean, integer, bytes}
+use Rattle.vx_value.specs.Values.{null, boolean, integer, decimal, bytes}
 use Rattle.vx_value.specs.Cell.{Cell, value, fault}
 use Rattle.vx_mask.specs.Places.{chosen}
 use Rattle.vx_fn.specs.Apply.{apply}
+use Rattle.vx_value.specs.Storage.{storage_of}
+use Rattle.vx_tree.specs.ColumnTypes.{scale_of}
 use Rattle.vx_tree.specs.Tree as enc
 use Rattle.vx_tree.specs.Tree.{Tree, Data, Slots, node, no_slots, absent, slot}
 
@@ -47,6 +49,7 @@ node_cells ty n enc.is_valid css = map shown_cell (cells_at css 0)
 node_cells ty n (enc.function f) css = map (λ i. apply f ty (row_at css i)) (range_with_len 0 n)
 node_cells ty n (enc.bool bs) css = valid_cells (cells_at css 0) (map (λ b. value (boolean b)) bs)
 node_cells ty n (enc.primitive p zs) css = valid_cells (cells_at css 0) (map (λ z. value (integer z)) zs)
+node_cells ty n (enc.decimals w zs) css = valid_cells (cells_at css 0) (map (λ z. value (decimal z (scale_of (storage_of ty)))) zs)
 node_cells ty n (enc.views rs) css = valid_cells (cells_at css 0) (map (λ r. value (bytes r)) rs)
 
 abbrev mutual

@@ -1,17 +1,21 @@
 -- Which types there are columns of.
-use Rattle.std.specs.Prelude.{ℕ, List, Bool, true, false}
+use Rattle.std.specs.Prelude.{ℕ, ℤ, List, Bool, true, false, ◌&&◌}
 use Rattle.std.specs.List.{list_all}
 use Rattle.std.specs.Str.{is_utf8}
-use Rattle.vx_value.specs.Types.{DataType, utf8, binary}
+use Rattle.vx_value.specs.Types.{DataType, decimal, utf8, binary}
+use Rattle.vx_value.specs.Decimals.{has_digits, smallest_width, same_width}
+use Rattle.vx_value.specs.declared.decimal.DecimalType.{DecimalType}
+use Rattle.vx_value.specs.declared.decimal.DecimalType.TheVariants.{I8}
 use Rattle.vx_value.specs.Storage.{storage_of}
 use Rattle.vx_value.specs.declared.dtype.Nullability.TheVariants.{NonNullable}
 use Rattle.vx_value.specs.declared.dtype.Storage.{Storage}
-use Rattle.vx_value.specs.declared.dtype.Storage.TheVariants.{Bits, Integers, Text, Bytes}
+use Rattle.vx_value.specs.declared.dtype.Storage.TheVariants.{Bits, Integers, Decimals, Text, Bytes}
 
 -- a column stores such values: a line for each storage that columns have
 abbrev pub is_column_stored : Storage → Bool
 is_column_stored Bits = true
 is_column_stored (Integers p) = true
+is_column_stored (Decimals p s) = true
 is_column_stored Text = true
 is_column_stored Bytes = true
 is_column_stored _ = false
@@ -19,6 +23,25 @@ is_column_stored _ = false
 -- a column stores the type's values
 abbrev pub has_column : DataType → Bool
 has_column ty = is_column_stored (storage_of ty)
+
+-- the type of decimals that are stored so; of no other column's storage is it the type
+abbrev pub decimal_type : Storage → DataType
+decimal_type (Decimals p s) = decimal p s NonNullable
+decimal_type _ = decimal 1 0 NonNullable
+
+-- how many of their digits stand behind the point, and how wide the integers are that store them
+abbrev pub scale_of : Storage → ℕ
+scale_of (Decimals p s) = s
+scale_of _ = 0
+
+abbrev pub width_in : Storage → DecimalType
+width_in (Decimals p s) = smallest_width p
+width_in _ = I8
+
+-- integers of a width are numbers of that type, without their points: the width is the narrowest, and none has more digits
+abbrev pub are_decimals_of : Storage → DecimalType → List ℤ → Bool
+are_decimals_of (Decimals p s) w zs = same_width w (smallest_width p) && list_all (has_digits p) zs
+are_decimals_of _ w zs = false
 
 -- the type of rows of bytes: of text if that is stored, else of any bytes
 abbrev pub bytes_type : Storage → DataType

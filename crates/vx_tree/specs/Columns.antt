@@ -1,11 +1,12 @@
 -- What a column is, and the tree that a column of the program stands for.
-use Rattle.std.specs.Prelude.{◌≡◌, ◌⊎◌, ◌≤◌, List, [], length, replicate, Option, Some, None, true}
+use Rattle.std.specs.Prelude.{◌≡◌, ◌⊎◌, ◌≤◌, ℕ, List, [], length, replicate, slice_range, Option, Some, None, true}
 use Rattle.vx_value.specs.Types.{DataType}
 use Rattle.vx_value.specs.Values.{Value}
 use Rattle.vx_value.specs.Cell.{Cell, value}
+use Rattle.vx_value.specs.Decimals.{smallest_width}
 use Rattle.vx_value.specs.Storage.{storage_of}
 use Rattle.vx_value.specs.declared.dtype.Storage.{Storage}
-use Rattle.vx_value.specs.declared.dtype.Storage.TheVariants.{Integers, Text, Bytes}
+use Rattle.vx_value.specs.declared.dtype.Storage.TheVariants.{Integers, Decimals, Text, Bytes}
 use Rattle.vx_value.specs.declared.id.Id.{Id}
 use Rattle.vx_value.specs.declared.id.Id.TheVariants as id
 use Rattle.vx_tree.specs.Tree as enc
@@ -13,13 +14,14 @@ use Rattle.vx_tree.specs.Tree.{Tree, Data, column, dtype, datum, id_of, is_canon
 use Rattle.vx_tree.specs.Cells.{rows}
 use Rattle.vx_tree.specs.Cost.{cost}
 use Rattle.vx_tree.specs.declared.canonical.Canonical.{Canonical}
-use Rattle.vx_tree.specs.declared.canonical.Canonical.TheVariants.{Bool, Primitive, VarBinView}
+use Rattle.vx_tree.specs.declared.canonical.Canonical.TheVariants.{Bool, Primitive, Decimal, VarBinView}
 use Rattle.vx_tree.specs.declared.columnar.Columnar.{Columnar}
 use Rattle.vx_tree.specs.declared.columnar.Columnar.TheVariants as columnar
 
 -- the canonical encoding of a type that has columns, by how they store its values
 abbrev pub stored_id : Storage → Id
 stored_id (Integers p) = id.Primitive
+stored_id (Decimals p s) = id.Decimal
 stored_id Text = id.VarBinView
 stored_id Bytes = id.VarBinView
 stored_id _ = id.Bool
@@ -40,9 +42,10 @@ pub record IsColumn (t : Tree) : Type 0 where
 abbrev pub canonical_tree : Canonical → Tree
 canonical_tree (Bool t) = t
 canonical_tree (Primitive t) = t
+canonical_tree (Decimal t) = t
 canonical_tree (VarBinView t) = t
 
--- the column if it is one of booleans, of integers, and of text or bytes
+-- the column if it is one of booleans, of integers, of decimals, and of text or bytes
 abbrev pub bool_column : Canonical → Option Tree
 bool_column (Bool t) = Some t
 bool_column _ = None
@@ -50,6 +53,10 @@ bool_column _ = None
 abbrev pub primitive_column : Canonical → Option Tree
 primitive_column (Primitive t) = Some t
 primitive_column _ = None
+
+abbrev pub decimal_column : Canonical → Option Tree
+decimal_column (Decimal t) = Some t
+decimal_column _ = None
 
 abbrev pub varbinview_column : Canonical → Option Tree
 varbinview_column (VarBinView t) = Some t
@@ -62,9 +69,28 @@ columnar_tree (columnar.Constant t) = t
 -- the column without rows of a type that has columns, by how they store its values
 abbrev pub no_rows : Storage → Data
 no_rows (Integers p) = enc.primitive p []
+no_rows (Decimals p s) = enc.decimals (smallest_width p) []
 no_rows Text = enc.views []
 no_rows Bytes = enc.views []
 no_rows _ = enc.bool []
 
 abbrev pub empty_of : DataType → Tree
 empty_of ty = column ty 0 (no_rows (storage_of ty)) None
+
+-- ---- data that hold their rows themselves: a line for each canonical encoding
+
+-- how many rows there are
+abbrev pub count_in : Data → ℕ
+count_in (enc.bool bs) = length bs
+count_in (enc.primitive p zs) = length zs
+count_in (enc.decimals w zs) = length zs
+count_in (enc.views rs) = length rs
+count_in d = 0
+
+-- those from a to b
+abbrev pub data_range : ℕ → ℕ → Data → Data
+data_range a b (enc.bool bs) = enc.bool (slice_range bs a b)
+data_range a b (enc.primitive p zs) = enc.primitive p (slice_range zs a b)
+data_range a b (enc.decimals w zs) = enc.decimals w (slice_range zs a b)
+data_range a b (enc.views rs) = enc.views (slice_range rs a b)
+data_range a b d = d

@@ -53,6 +53,7 @@ charge enc.is_valid = flat_charge 2 0
 charge (enc.function f) = record { own = 3; by_reach = 0; extra = all_reached }
 charge (enc.bool bs) = flat_charge 1 0
 charge (enc.primitive p zs) = flat_charge 1 0
+charge (enc.decimals w zs) = flat_charge 1 0
 charge (enc.views rs) = flat_charge 1 0
 
 -- a number of a slot, where it counts

@@ -4,7 +4,8 @@ use Rattle.vx_value.specs.IsOf.{is_of}
 use Rattle.vx_tree.specs.ColumnTypes.{has_column}
 use Rattle.vx_mask.specs.Masks.{bits_in}
 use Rattle.vx_native.specs.Natives.{values_of, ptype_of}
-use Rattle.vx_tree.specs.Tree.{Tree, node, function, bool, primitive, views, slots_of, dtype, len, column, constant_of, slice_of, filter_of, masked_of, validity_in}
+use Rattle.vx_native.specs.DecimalNumbers.{numbers_of, decimal_type_of}
+use Rattle.vx_tree.specs.Tree.{Tree, node, function, bool, primitive, decimals, views, slots_of, dtype, len, column, constant_of, slice_of, filter_of, masked_of, validity_in}
 use Rattle.vx_tree.specs.Well.{IsNode, IsNodeOf, shapes}
 use Rattle.vx_tree.specs.declared.array.kind.ArrayKind.{ArrayKind}
 use Rattle.vx_tree.specs.declared.array.kind.ArrayKind.TheVariants as kind
@@ -21,4 +22,5 @@ IsKindOf (kind.ScalarFn f ss) t =
     (t ≡ node (dtype t) (len t) (function f.now) (slots_of ss.now)) × IsNode (dtype t) (len t) (function f.now) (shapes (slots_of ss.now))
 IsKindOf (kind.Bool bs v) t = (t ≡ column (dtype t) (len t) (bool bs.now) v.now) × IsNodeOf t
 IsKindOf (kind.Primitive vs v) t = (t ≡ column (dtype t) (len t) (primitive (ptype_of vs.now) (values_of vs.now)) v.now) × IsNodeOf t
+IsKindOf (kind.Decimal ds v) t = (t ≡ column (dtype t) (len t) (decimals (decimal_type_of ds.now) (numbers_of ds.now)) v.now) × IsNodeOf t
 IsKindOf (kind.VarBinView rs v) t = (t ≡ column (dtype t) (len t) (views rs.now) v.now) × IsNodeOf t

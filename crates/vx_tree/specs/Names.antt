@@ -13,5 +13,6 @@ slot_names enc.is_valid = codes "child" ∷ []
 slot_names (enc.function f) = argument_names f
 slot_names (enc.bool bs) = codes "validity" ∷ []
 slot_names (enc.primitive p zs) = codes "validity" ∷ []
+slot_names (enc.decimals w zs) = codes "validity" ∷ []
 slot_names (enc.views rs) = codes "validity" ∷ []
 slot_names _ = []

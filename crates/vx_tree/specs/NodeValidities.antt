@@ -56,6 +56,7 @@ data_validity ty n enc.is_valid ss child = validity.NonNullable
 data_validity ty n (enc.function f) ss child = validity.Array (validity_in (node ty n (enc.function f) ss))
 data_validity ty n (enc.bool bs) ss child = validity_of Nullable (slot_tree 0 ss)
 data_validity ty n (enc.primitive p zs) ss child = validity_of Nullable (slot_tree 0 ss)
+data_validity ty n (enc.decimals w zs) ss child = validity_of Nullable (slot_tree 0 ss)
 data_validity ty n (enc.views rs) ss child = validity_of Nullable (slot_tree 0 ss)
 
 -- v if the type is nullable; if it isn't, no row is null

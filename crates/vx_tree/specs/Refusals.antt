@@ -18,7 +18,7 @@ use Rattle.vx_fn.specs.Functions.{arity, function_id}
 use Rattle.vx_fn.specs.ReturnTypes.{return_type}
 use Rattle.vx_fn.specs.declared.function.ScalarFnRef.{ScalarFnRef}
 use Rattle.vx_value.specs.Storage.{storage_of}
-use Rattle.vx_tree.specs.ColumnTypes.{has_column, bytes_type, are_bytes_of}
+use Rattle.vx_tree.specs.ColumnTypes.{has_column, decimal_type, are_decimals_of, bytes_type, are_bytes_of}
 use Rattle.vx_tree.specs.Tree as enc
 use Rattle.vx_tree.specs.Tree.{Tree, Data, dtype, len}
 use Rattle.vx_tree.specs.Well.{Shape, shape}
@@ -43,10 +43,9 @@ column_refusal ty n of_type k (s ∷ []) =
     (first_of_both (unless (n == k) (InvalidArgument NodeLen)) (validity_len_refusal 0 n s)))
 column_refusal ty n of_type k (s ∷ r ∷ ss) = Some (InvalidArgument SlotCount)
 
--- of a column of rows of bytes: last, that they are of its type
-abbrev pub views_refusal : DataType → ℕ → List (List ℕ) → List (Option Shape) → Option VortexError
-views_refusal ty n rs ss =
-    first_of_both (column_refusal ty n (bytes_type (storage_of ty)) (length rs) ss) (unless (are_bytes_of (storage_of ty) rs) (InvalidArgument BadValue))
+-- the same, and last that the values pass a test
+abbrev pub tested_refusal : DataType → ℕ → DataType → ℕ → Bool → List (Option Shape) → Option VortexError
+tested_refusal ty n of_type k pass ss = first_of_both (column_refusal ty n of_type k ss) (unless pass (InvalidArgument BadValue))
 
 abbrev pub constant_refusal : DataType → Typed → List (Option Shape) → Option VortexError
 constant_refusal ty v [] =
@@ -156,4 +155,5 @@ refusal i ty n enc.is_valid ss = of_child (validity_refusal ty n) ss
 refusal i ty n (enc.function f) ss = function_refusal i ty n f ss
 refusal i ty n (enc.bool bs) ss = column_refusal ty n (type.bool NonNullable) (length bs) ss
 refusal i ty n (enc.primitive p zs) ss = column_refusal ty n (type.primitive p NonNullable) (length zs) ss
-refusal i ty n (enc.views rs) ss = views_refusal ty n rs ss
+refusal i ty n (enc.decimals w zs) ss = tested_refusal ty n (decimal_type (storage_of ty)) (length zs) (are_decimals_of (storage_of ty) w zs) ss
+refusal i ty n (enc.views rs) ss = tested_refusal ty n (bytes_type (storage_of ty)) (length rs) (are_bytes_of (storage_of ty) rs) ss

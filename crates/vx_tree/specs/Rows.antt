@@ -4,6 +4,8 @@ use Rattle.vx_value.specs.Types as type
 use Rattle.vx_value.specs.Types.{DataType}
 use Rattle.vx_value.specs.declared.dtype.Nullability.{Nullability}
 use Rattle.vx_value.specs.declared.dtype.PType.{PType}
+use Rattle.vx_value.specs.Storage.{storage_of}
+use Rattle.vx_tree.specs.ColumnTypes.{width_in}
 use Rattle.vx_tree.specs.Tree as enc
 use Rattle.vx_tree.specs.Tree.{Tree, column}
 use Rattle.vx_tree.specs.Validities.{child_by}
@@ -19,6 +21,10 @@ boolean_rows m rows = column (type.bool m) (length rows) (enc.bool (map (item_or
 
 abbrev pub integer_rows : Nullability → PType → List (Option ℤ) → Tree
 integer_rows m p rows = column (type.primitive p m) (length rows) (enc.primitive p (map (item_or (pos 0)) rows)) (child_by (map is_some rows))
+
+-- of decimals, by the type: 0 stands under a null
+abbrev pub decimal_rows : DataType → List (Option ℤ) → Tree
+decimal_rows ty rows = column ty (length rows) (enc.decimals (width_in (storage_of ty)) (map (item_or (pos 0)) rows)) (child_by (map is_some rows))
 
 -- of text or bytes, by the type: no bytes stand under a null
 abbrev pub bytes_rows : DataType → List (Option (List ℕ)) → Tree

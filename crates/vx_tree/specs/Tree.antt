@@ -7,6 +7,8 @@ use Rattle.vx_value.specs.Codes.{Part, part, ◌or◌, no_part, coded_by}
 use Rattle.vx_value.specs.Types as type
 use Rattle.vx_value.specs.Types.{DataType, coded_type, coded_ptype}
 use Rattle.vx_value.specs.Typed.{Typed, coded_typed}
+use Rattle.vx_value.specs.Decimals.{coded_width}
+use Rattle.vx_value.specs.declared.decimal.DecimalType.{DecimalType}
 use Rattle.vx_value.specs.Nullabilities.{with_nullability}
 use Rattle.vx_value.specs.declared.dtype.Nullability.TheVariants.{NonNullable, Nullable}
 use Rattle.vx_value.specs.declared.dtype.PType.{PType}
@@ -26,6 +28,8 @@ pub data Data : Type 0 where
   function : ScalarFnRef → Data
   bool : List Bool → Data
   primitive : PType → List ℤ → Data
+  -- decimals of the column's type, without their points, in integers of this width
+  decimals : DecimalType → List ℤ → Data
   -- rows of text or of bytes, each as its bytes
   views : List (List ℕ) → Data
 
@@ -118,6 +122,7 @@ id_of is_valid = id.ScalarFnValidity
 id_of (function f) = function_id f
 id_of (bool bs) = id.Bool
 id_of (primitive p zs) = id.Primitive
+id_of (decimals w zs) = id.Decimal
 id_of (views rs) = id.VarBinView
 
 -- which encoding a node has
@@ -153,13 +158,17 @@ abbrev pub is_primitive : Data → Bool
 is_primitive (primitive p zs) = true
 is_primitive _ = false
 
+abbrev pub is_decimals : Data → Bool
+is_decimals (decimals w zs) = true
+is_decimals _ = false
+
 abbrev pub is_views : Data → Bool
 is_views (views rs) = true
 is_views _ = false
 
 -- the encodings that hold their rows themselves
 abbrev pub is_canonical : Data → Bool
-is_canonical d = is_bool d || is_primitive d || is_views d
+is_canonical d = is_bool d || is_primitive d || is_decimals d || is_views d
 
 -- the canonical encodings, and those that repeat one value
 abbrev pub is_columnar : Data → Bool
@@ -178,6 +187,7 @@ data_parts =
     or part coded_unit (λ u. masked)
     or part coded_unit (λ u. is_valid)
     or part (coded_list (coded_list coded_ℕ)) views
+    or part (coded× coded_width (coded_list coded_ℤ)) (λ p. decimals p.0 p.1)
     or no_part
 
 abbrev pub data_split : Data → data_parts.holds
@@ -190,6 +200,7 @@ data_split (filter bits) = inr (inr (inr (inr (inr (inl bits)))))
 data_split masked = inr (inr (inr (inr (inr (inr (inl tt))))))
 data_split is_valid = inr (inr (inr (inr (inr (inr (inr (inl tt)))))))
 data_split (views rs) = inr (inr (inr (inr (inr (inr (inr (inr (inl rs))))))))
+data_split (decimals w zs) = inr (inr (inr (inr (inr (inr (inr (inr (inr (inl (w, zs))))))))))
 
 pub data_back : (d : Data) → data_parts.make (data_split d) ≡ d
 data_back (constant v) = refl

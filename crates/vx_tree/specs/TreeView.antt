@@ -2,6 +2,7 @@
 use Rattle.vx_value.specs.View.{type_of}
 use Rattle.vx_mask.specs.Masks.{bits_in}
 use Rattle.vx_native.specs.Natives.{values_of, ptype_of}
+use Rattle.vx_native.specs.DecimalNumbers.{numbers_of, decimal_type_of}
 use Rattle.vx_tree.specs.Tree as enc
 use Rattle.vx_tree.specs.Tree.{Tree, node, Data, slots_of}
 use Rattle.vx_tree.specs.declared.array.node.Node.{Node}
@@ -17,6 +18,7 @@ data_of (encoding.ScalarFnValidity v) = enc.is_valid
 data_of (encoding.ScalarFn f) = enc.function f.scalar_fn
 data_of (encoding.Bool b) = enc.bool b.bits
 data_of (encoding.Primitive p) = enc.primitive (ptype_of p.values) (values_of p.values)
+data_of (encoding.Decimal d) = enc.decimals (decimal_type_of d.values) (numbers_of d.values)
 data_of (encoding.VarBinView v) = enc.views v.rows
 
 abbrev pub tree_of : Node → Tree

@@ -1,5 +1,5 @@
 -- Which rows of a column are null, and the tree that tells it.
-use Rattle.std.specs.Prelude.{◌≡◌, ◌≤◌, ℕ, List, length, replicate, Bool, true, false, ◌==◌, if◌then◌else◌, Option, Some, None}
+use Rattle.std.specs.Prelude.{◌≡◌, ◌≤◌, ℕ, ℤ, List, length, replicate, Bool, true, false, ◌==◌, if◌then◌else◌, Option, Some, None}
 use Rattle.vx_value.specs.Types.{DataType, bool, same_type}
 use Rattle.vx_value.specs.Nullabilities.{with_nullability}
 use Rattle.vx_value.specs.Values.{Value, boolean}
@@ -11,7 +11,8 @@ use Rattle.vx_value.specs.declared.error.VortexError.TheVariants.{InvalidArgumen
 use Rattle.vx_value.specs.declared.error.ArgKind.TheVariants.{SlotType, SlotLen, BadType, BadValue}
 use Rattle.vx_mask.specs.Masks.{is_all_true, is_all_false}
 use Rattle.vx_value.specs.Storage.{storage_of}
-use Rattle.vx_tree.specs.ColumnTypes.{bytes_type, are_bytes_of}
+use Rattle.vx_value.specs.declared.decimal.DecimalType.{DecimalType}
+use Rattle.vx_tree.specs.ColumnTypes.{decimal_type, are_decimals_of, bytes_type, are_bytes_of}
 use Rattle.vx_tree.specs.Conditions.{first_of_both, unless}
 use Rattle.vx_tree.specs.Tree.{Tree, Data, constant, dtype, len, datum, booleans, constant_of, slice_of}
 use Rattle.vx_tree.specs.Cells.{rows}
@@ -84,6 +85,11 @@ array_refusal n _ = None
 abbrev pub flat_refusal : DataType → DataType → ℕ → Validity → Option VortexError
 flat_refusal of_type ty n v =
     first_of_both (unless (same_type ty (with_nullability (nullability_by v) of_type)) (InvalidArgument BadType)) (array_refusal n v)
+
+-- why no column of decimals without their points, in integers of width w, has the type ty and this validity
+abbrev pub decimal_refusal : DataType → DecimalType → List ℤ → Validity → Option VortexError
+decimal_refusal ty w zs v =
+    first_of_both (flat_refusal (decimal_type (storage_of ty)) ty (length zs) v) (unless (are_decimals_of (storage_of ty) w zs) (InvalidArgument BadValue))
 
 -- why no column of these rows of bytes has the type ty and this validity
 abbrev pub bytes_refusal : DataType → List (List ℕ) → Validity → Option VortexError

@@ -9,7 +9,7 @@ use Rattle.vx_value.specs.declared.dtype.Nullability.TheVariants.{NonNullable, N
 use Rattle.vx_mask.specs.Places.{true_count}
 use Rattle.vx_fn.specs.ReturnTypes.{return_type}
 use Rattle.vx_value.specs.Storage.{storage_of}
-use Rattle.vx_tree.specs.ColumnTypes.{has_column, bytes_type, are_bytes_of}
+use Rattle.vx_tree.specs.ColumnTypes.{has_column, decimal_type, are_decimals_of, bytes_type, are_bytes_of}
 use Rattle.vx_tree.specs.Tree as enc
 use Rattle.vx_tree.specs.Tree.{Tree, Data, Slots, node, no_slots, absent, slot, dtype, len}
 
@@ -51,6 +51,8 @@ IsNode ty n (enc.function f) ss =
     (tys : List DataType) × (ss ≡ map (λ s. Some (shape s n)) tys) × (return_type f tys ≡ Some ty) × (has_column ty ≡ true)
 IsNode ty n (enc.bool bs) ss = IsFlat (type.bool NonNullable) (length bs) ty n ss
 IsNode ty n (enc.primitive p zs) ss = IsFlat (type.primitive p NonNullable) (length zs) ty n ss
+IsNode ty n (enc.decimals w zs) ss =
+    IsFlat (decimal_type (storage_of ty)) (length zs) ty n ss × (are_decimals_of (storage_of ty) w zs ≡ true)
 IsNode ty n (enc.views rs) ss = IsFlat (bytes_type (storage_of ty)) (length rs) ty n ss × (are_bytes_of (storage_of ty) rs ≡ true)
 
 -- the same of a tree's root

@@ -6,37 +6,42 @@ ghost use Rattle.vx_tree.specs.ColumnTypes.{has_column};
 ghost use Rattle.vx_tree.specs.Tree.{Tree, dtype, len, datum, is_canonical};
 ghost use Rattle.vx_tree.specs.Columns.{canonical_tree, empty_of};
 
-use crate::array::{ArrayRef, Encoding, IntoArray};
+use crate::array::{Array, ArrayRef, Encoding, IntoArray};
 use crate::arrays::boolean::BoolArray;
+use crate::arrays::decimal::DecimalArray;
 use crate::arrays::primitive::PrimitiveArray;
 use crate::arrays::varbinview::VarBinViewArray;
 use std::alloc::Global;
-use vx_value::{ArgKind, DType, Storage, VortexError, VortexResult};
+use vx_value::{ArgKind, DType, VortexError, VortexResult};
 
 /// A column in the canonical encoding of its type.
 #[derive(Clone, Debug, Drop)]
 pub enum Canonical {
     Bool(BoolArray),
     Primitive(PrimitiveArray),
+    Decimal(DecimalArray),
     VarBinView(VarBinViewArray),
 }
 
 impl Canonical {
     /// Makes the column of type `dtype` without rows. `InvalidArgument` with `BadType` exactly if there are no columns of
     /// that type.
-    #[tactic(auto, using(crate::proofs::ColumnTypesLemmas::column_of_bits, crate::proofs::ColumnTypesLemmas::column_of_integers))]
     pub fn empty(alloc: Global, dtype: &DType) -> VortexResult<Canonical>
         ensures ok { IfOk result (λ c. canonical_tree c ≡ empty_of (type_of dtype.now)) }
         ensures valid { OnOk result (has_column (type_of dtype.now) ≡ true) }
         ensures refused { IfErr result (λ e. (e ≡ VortexError.OutOfMemory)
             ⊎ ((e ≡ VortexError.InvalidArgument ArgKind.BadType) × (has_column (type_of dtype.now) ≡ false))) }
     {
-        let nullability = dtype.nullability();
-        match dtype.storage() {
-            Storage::Bits => Canonical::empty_bool(alloc, nullability),
-            Storage::Integers(ptype) => Canonical::empty_primitive(alloc, ptype, nullability),
-            Storage::Text | Storage::Bytes => Canonical::empty_varbinview(alloc, dtype),
-            _ => Err(VortexError::InvalidArgument(ArgKind::BadType)),
+        match dtype {
+            DType::Bool(nullability) => Canonical::empty_bool(alloc, *nullability),
+            DType::Primitive(ptype, nullability) => {
+                Canonical::empty_primitive(alloc, *ptype, *nullability)
+            }
+            DType::Decimal(decimal, nullability) => {
+                Canonical::empty_decimal(alloc, *decimal, *nullability)
+            }
+            DType::Utf8(_) | DType::Binary(_) => Canonical::empty_varbinview(alloc, dtype),
+            DType::Null => Err(VortexError::InvalidArgument(ArgKind::BadType)),
         }
     }
 
@@ -47,9 +52,10 @@ impl Canonical {
         ensures err { IfErr result (λ a. a ≡ array) }
     {
         match array.encoding() {
-            Encoding::Bool(_) => Canonical::from_bool(array),
-            Encoding::Primitive(_) => Canonical::from_primitive(array),
-            Encoding::VarBinView(_) => Canonical::from_varbinview(array),
+            Encoding::Bool(_) => Ok(Canonical::Bool(Array::try_from_array_ref(array)?)),
+            Encoding::Primitive(_) => Ok(Canonical::Primitive(Array::try_from_array_ref(array)?)),
+            Encoding::Decimal(_) => Ok(Canonical::Decimal(Array::try_from_array_ref(array)?)),
+            Encoding::VarBinView(_) => Ok(Canonical::VarBinView(Array::try_from_array_ref(array)?)),
             _ => Err(array),
         }
     }
@@ -63,6 +69,7 @@ impl Canonical {
         match self {
             Canonical::Bool(column) => column.as_array(),
             Canonical::Primitive(column) => column.as_array(),
+            Canonical::Decimal(column) => column.as_array(),
             Canonical::VarBinView(column) => column.as_array(),
         }
     }
@@ -96,6 +103,7 @@ impl IntoArray for Canonical {
         match self {
             Canonical::Bool(column) => column.into_array(),
             Canonical::Primitive(column) => column.into_array(),
+            Canonical::Decimal(column) => column.into_array(),
             Canonical::VarBinView(column) => column.into_array(),
         }
     }

@@ -6,7 +6,7 @@ ghost use Rattle.vx_tree.specs.ColumnTypes.{has_column, is_column_stored};
 
 use vx_value::{DType, Storage};
 
-/// Checks whether there are columns of type `dtype`: its values are booleans, integers, texts or bytes. (own)
+/// Checks whether there are columns of type `dtype`: its values are booleans, integers, decimals, texts or bytes. (own)
 pub fn has_column(dtype: &DType) -> bool
     ensures { result ≡ has_column (type_of dtype.now) }
 {
@@ -19,6 +19,10 @@ fn is_column_stored(storage: Storage) -> bool
 {
     matches!(
         storage,
-        Storage::Bits | Storage::Integers(_) | Storage::Text | Storage::Bytes
+        Storage::Bits
+            | Storage::Integers(_)
+            | Storage::Decimals { .. }
+            | Storage::Text
+            | Storage::Bytes
     )
 }

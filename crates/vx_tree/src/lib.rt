@@ -17,7 +17,9 @@ pub use array::{
     Encoding, EncodingVariant, IntoArray, Node, VTable,
 };
 pub use arrays::boolean::{Bool, BoolArray, BoolData};
+pub use arrays::column::FlatEncoding;
 pub use arrays::constant::{Constant, ConstantArray, ConstantData};
+pub use arrays::decimal::{Decimal, DecimalArray, DecimalData, decimal_type};
 pub use arrays::filter::{Filter, FilterArray, FilterData, FilterDataParts};
 pub use arrays::masked::{Masked, MaskedArray, MaskedData};
 pub use arrays::primitive::{Primitive, PrimitiveArray, PrimitiveData};
@@ -36,5 +38,5 @@ pub use matcher::{AnyArray, AnyCanonical, AnyColumnar, AnyScalarFn, Matcher};
 pub use node_validity::and_lazily;
 pub use slicing::slice_canonical;
 pub use validity::{Validity, child_to_validity, validity_nchildren, validity_to_child};
-pub use vx_native::PrimitiveValues;
+pub use vx_native::{DecimalValues, PrimitiveValues};
 pub use vx_views::BinaryViews;

@@ -6,6 +6,7 @@ ghost use Rattle.vx_tree.specs.Tree.{Tree, datum, is_canonical, is_columnar, is_
 use crate::array::{ArrayRef, VTable};
 use crate::arrays::boolean::Bool;
 use crate::arrays::constant::Constant;
+use crate::arrays::decimal::Decimal;
 use crate::arrays::primitive::Primitive;
 use crate::arrays::scalar_fn::ScalarFn;
 use crate::arrays::varbinview::VarBinView;
@@ -39,7 +40,10 @@ impl Matcher for AnyCanonical {
     ghost fits = { λ t. is_canonical (datum t) };
 
     fn matches(array: &ArrayRef) -> bool {
-        Bool::matches(array) || Primitive::matches(array) || VarBinView::matches(array)
+        Bool::matches(array)
+            || Primitive::matches(array)
+            || Decimal::matches(array)
+            || VarBinView::matches(array)
     }
 }
 

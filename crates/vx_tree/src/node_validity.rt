@@ -44,6 +44,7 @@ impl ArrayRef {
             ArrayKind::ScalarFn(_, _) => test_lazily(alloc, self),
             ArrayKind::Bool(_, own) => slot_validity(own),
             ArrayKind::Primitive(_, own) => slot_validity(own),
+            ArrayKind::Decimal(_, own) => slot_validity(own),
             ArrayKind::VarBinView(_, own) => slot_validity(own),
         }
     }

@@ -5,6 +5,7 @@ ghost use Rattle.vx_tree.specs.Tree.{len, slice_of};
 ghost use Rattle.vx_tree.specs.Keeps.{KeepsExactly};
 ghost use Rattle.vx_tree.specs.Columns.{canonical_tree};
 
+use crate::arrays::column::flat_slice;
 use crate::canonical::Canonical;
 use std::alloc::Global;
 use std::ops::Range;
@@ -21,9 +22,10 @@ pub fn slice_canonical(
     ensures ok { IfOk result (λ c. KeepsExactly (slice_of range.start range.end (canonical_tree column.now)) (canonical_tree c)) }
     ensures err { IfErr result (λ e. e ≡ VortexError.OutOfMemory) }
 {
-    match column {
-        Canonical::Bool(column) => column.slice(alloc, range),
-        Canonical::Primitive(column) => column.slice(alloc, range),
-        Canonical::VarBinView(column) => column.slice(alloc, range),
-    }
+    Ok(match column {
+        Canonical::Bool(column) => Canonical::Bool(flat_slice(alloc, column, range)?),
+        Canonical::Primitive(column) => Canonical::Primitive(flat_slice(alloc, column, range)?),
+        Canonical::Decimal(column) => Canonical::Decimal(flat_slice(alloc, column, range)?),
+        Canonical::VarBinView(column) => Canonical::VarBinView(flat_slice(alloc, column, range)?),
+    })
 }

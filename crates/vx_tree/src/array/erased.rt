@@ -55,6 +55,7 @@ impl ArrayRef {
             Encoding::ScalarFn(data) => data.scalar_fn.id(),
             Encoding::Bool(_) => Id::Bool,
             Encoding::Primitive(_) => Id::Primitive,
+            Encoding::Decimal(_) => Id::Decimal,
             Encoding::VarBinView(_) => Id::VarBinView,
         }
     }
@@ -80,6 +81,7 @@ impl ArrayRef {
             (Encoding::ScalarFnValidity(_), 0) => Some("child"),
             (Encoding::Bool(_), 0) => Some("validity"),
             (Encoding::Primitive(_), 0) => Some("validity"),
+            (Encoding::Decimal(_), 0) => Some("validity"),
             (Encoding::VarBinView(_), 0) => Some("validity"),
             (Encoding::ScalarFn(data), _) => data.scalar_fn.child_name(index),
             _ => None,

@@ -9,7 +9,7 @@ ghost use Rattle.vx_tree.specs.Refusals.{is_present};
 use crate::array::{ArrayRef, Encoding, Node};
 use vx_fn::ScalarFnRef;
 use vx_mask::{BitBuffer, Mask};
-use vx_native::PrimitiveValues;
+use vx_native::{DecimalValues, PrimitiveValues};
 use vx_value::Scalar;
 use vx_views::BinaryViews;
 
@@ -32,6 +32,8 @@ pub enum ArrayKind<'a> {
     Bool(&'a BitBuffer, &'a Option<ArrayRef>),
     /// The rows of a column of integers, and the slot of its validity.
     Primitive(&'a PrimitiveValues, &'a Option<ArrayRef>),
+    /// The rows of a column of decimals, without their points, and the slot of its validity.
+    Decimal(&'a DecimalValues, &'a Option<ArrayRef>),
     /// The rows of a column of text or bytes, and the slot of its validity.
     VarBinView(&'a BinaryViews, &'a Option<ArrayRef>),
 }
@@ -63,6 +65,7 @@ fn kind_of(node: &Node) -> ArrayKind<'_>
         Encoding::ScalarFn(data) => ArrayKind::ScalarFn(&data.scalar_fn, &node.slots),
         Encoding::Bool(data) => ArrayKind::Bool(&data.bits, &node.slots[0]),
         Encoding::Primitive(data) => ArrayKind::Primitive(&data.values, &node.slots[0]),
+        Encoding::Decimal(data) => ArrayKind::Decimal(&data.values, &node.slots[0]),
         Encoding::VarBinView(data) => ArrayKind::VarBinView(&data.rows, &node.slots[0]),
     }
 }

@@ -7,6 +7,7 @@ ghost use Rattle.vx_tree.specs.Well.{IsNodeOf, IsWell, AreWell};
 
 use crate::arrays::boolean::BoolData;
 use crate::arrays::constant::ConstantData;
+use crate::arrays::decimal::DecimalData;
 use crate::arrays::filter::FilterData;
 use crate::arrays::masked::MaskedData;
 use crate::arrays::primitive::PrimitiveData;
@@ -33,6 +34,7 @@ pub enum Encoding {
     ScalarFn(ScalarFnData),
     Bool(BoolData),
     Primitive(PrimitiveData),
+    Decimal(DecimalData),
     VarBinView(VarBinViewData),
 }
 
@@ -99,6 +101,7 @@ impl Clone for Encoding {
             Encoding::ScalarFn(data) => Ok(Encoding::ScalarFn(data.clone()?)),
             Encoding::Bool(data) => Ok(Encoding::Bool(data.clone()?)),
             Encoding::Primitive(data) => Ok(Encoding::Primitive(data.clone()?)),
+            Encoding::Decimal(data) => Ok(Encoding::Decimal(data.clone()?)),
             Encoding::VarBinView(data) => Ok(Encoding::VarBinView(data.clone()?)),
         }
     }

@@ -1,24 +1,21 @@
 //! Boolean columns.
 
-ghost use Rattle.std.specs.Prelude.{◌≡◌, ◌⊎◌, ◌≤◌, IfOk, IfErr, OnOk, Some, None, is_ok, length, option_map, refl};
+ghost use Rattle.std.specs.Prelude.{◌≡◌, ◌⊎◌, IfOk, IfErr, OnOk, Some, None, length, option_map, refl};
 ghost use Rattle.vx_value.specs.View.{type_of};
 ghost use Rattle.vx_value.specs.Types as type;
 ghost use Rattle.vx_value.specs.declared.dtype.Nullability.TheVariants.{NonNullable};
 ghost use Rattle.vx_value.specs.declared.id.Id.TheVariants as id;
 ghost use Rattle.vx_tree.specs.Tree as enc;
-ghost use Rattle.vx_tree.specs.Tree.{bool, is_bool, column, len, datum, slice_of};
-ghost use Rattle.vx_tree.specs.Keeps.{KeepsExactly};
+ghost use Rattle.vx_tree.specs.Tree.{bool, is_bool, column};
 ghost use Rattle.vx_tree.specs.Validities.{child_of, flat_refusal};
 ghost use Rattle.vx_tree.specs.Columns.{canonical_tree, bool_column, empty_of};
 
-use crate::array::{
-    Array, ArrayId, ArrayKind, ArrayParts, ArrayRef, Encoded, Encoding, EncodingVariant, VTable,
-};
-use crate::arrays::column::{check_column, flat_column, flat_slice};
+use crate::array::{Array, ArrayId, ArrayParts, Encoded, Encoding, EncodingVariant, VTable};
+use crate::arrays::column::{FlatEncoding, check_column, flat_column};
 use crate::arrays::payload;
 use crate::canonical::Canonical;
 use crate::validity::Validity;
-use std::alloc::Global;
+use std::alloc::{AllocError, Global};
 use std::ops::Range;
 use vx_mask::BitBuffer;
 use vx_value::{DType, Id, Nullability, VortexError, VortexResult};
@@ -85,25 +82,6 @@ impl BoolArray {
             validity,
         )
     }
-
-    /// Returns the rows in `range`, which must be in order and in bounds, as a column that shares its storage. The only
-    /// error is `OutOfMemory`. (own)
-    pub(crate) fn slice(&self, alloc: Global, range: Range<usize>) -> VortexResult<Canonical>
-        requires { (range.start ≤ range.end) × (range.end ≤ len self.now) }
-        ensures ok { IfOk result (λ c. KeepsExactly (slice_of range.start range.end self.now) (canonical_tree c)) }
-        ensures err { IfErr result (λ e. e ≡ VortexError.OutOfMemory) }
-    {
-        let array = self.as_array();
-        array.well();
-        let ArrayKind::Bool(bits, validity) = array.kind() else {
-            unreachable!()
-        };
-        let (start, end) = (range.start, range.end);
-        let bits = bits.slice(range)?;
-        let payload = BoolData { bits };
-        let column = flat_slice(alloc, Bool, payload, array, validity, start..end)?;
-        Ok(Canonical::Bool(column))
-    }
 }
 
 impl Canonical {
@@ -117,18 +95,6 @@ impl Canonical {
         let validity = Validity::from(nullability);
         let column = BoolArray::try_new(alloc, DType::Bool(nullability), bits, &validity)?;
         Ok(Canonical::Bool(column))
-    }
-
-    /// Returns `array` as a column. Hands it back if it isn't a boolean column. (own)
-    pub(crate) fn from_bool(array: ArrayRef) -> Result<Canonical, ArrayRef>
-        ensures which { is_ok result ≡ is_bool (datum array) }
-        ensures ok { IfOk result (λ c. canonical_tree c ≡ array) }
-        ensures err { IfErr result (λ a. a ≡ array) }
-    {
-        match BoolArray::try_from_array_ref(array) {
-            Ok(column) => Ok(Canonical::Bool(column)),
-            Err(array) => Err(array),
-        }
     }
 
     /// Returns the column if it is a boolean column, else `None`.
@@ -151,6 +117,16 @@ impl Canonical {
         } else {
             None
         }
+    }
+}
+
+impl FlatEncoding for Bool {
+    fn know_canonical(_payload: &BoolData) {}
+
+    fn slice_values(payload: &BoolData, range: Range<usize>) -> Result<BoolData, AllocError> {
+        Ok(BoolData {
+            bits: payload.bits.slice(range)?,
+        })
     }
 }
 

@@ -1,12 +1,14 @@
 //! What all flat columns share: a value in each row, and a slot for their validity.
 
-ghost use Rattle.std.specs.Prelude.{◌≡◌, ◌⊎◌, ◌≤◌, ◌-◌, ℕ, List, [], ◌∷◌, Option, MatchResult, IfOk, IfErr, OnOk, Some, None, option_map};
+ghost use Rattle.std.specs.Prelude.{◌≡◌, ◌⊎◌, ◌≤◌, true, ℕ, List, [], ◌∷◌, Option, MatchResult, IfOk, IfErr, OnOk, Some, None, option_map};
 ghost use Rattle.vx_value.specs.Types.{DataType, nullability_of};
 ghost use Rattle.vx_value.specs.View.{type_of};
-ghost use Rattle.vx_tree.specs.Tree.{Tree, column, slots_of, dtype, len};
+ghost use Rattle.vx_tree.specs.Tree.{column, slots, slots_of, len, is_canonical, slice_of};
+ghost use Rattle.vx_tree.specs.Columns.{count_in, data_range};
+ghost use Rattle.vx_tree.specs.Keeps.{KeepsExactly};
 ghost use Rattle.vx_tree.specs.Well.{Shape, shape_of, IsFlat, IsNode, shapes};
 ghost use Rattle.vx_tree.specs.Refusals.{column_refusal, validity_type_refusal, validity_len_refusal};
-ghost use Rattle.vx_tree.specs.Validities.{child_of, flat_refusal, IsValidityPart};
+ghost use Rattle.vx_tree.specs.Validities.{child_of, flat_refusal};
 
 use crate::array::{Array, ArrayParts, ArrayRef, Encoded, VTable};
 use crate::arrays::types::{BOOLEANS, is_same_type};
@@ -139,28 +141,52 @@ pub(crate) fn flat_column<V: VTable>(
     Ok(Array::from_parts_unchecked(alloc, parts)?)
 }
 
-/// Makes the column of `payload`, the values of the rows of `array` in `range`, which must be in order and in bounds. `validity`
-/// is the slot of the array's validity. The only error is `OutOfMemory`.
-pub(crate) fn flat_slice<V: VTable>(
+/// Encodings of columns that hold the values of their rows themselves, and have one slot, for their validity. (own)
+pub trait FlatEncoding: VTable {
+    /// States that a node with this data is a column.
+    fn know_canonical(payload: &Self::TypedArrayData)
+        ensures { is_canonical (Self.stands_for payload.now) ≡ true };
+
+    /// Returns the values of the rows in `range`, which must be in order and in bounds. They share their storage with `payload`.
+    fn slice_values(
+        payload: &Self::TypedArrayData,
+        range: Range<usize>,
+    ) -> Result<Self::TypedArrayData, AllocError>
+        requires order { range.start ≤ range.end }
+        requires bounds { range.end ≤ count_in (Self.stands_for payload.now) }
+        ensures { IfOk result (λ part. Self.stands_for part ≡ data_range range.start range.end (Self.stands_for payload.now)) };
+}
+
+/// Returns the rows of `column` in `range`, which must be in order and in bounds, as a column that shares its storage. The only
+/// error is `OutOfMemory`.
+pub(crate) fn flat_slice<V: FlatEncoding>(
     alloc: Global,
-    vtable: V,
-    payload: V::TypedArrayData,
-    array: &ArrayRef,
-    validity: &Option<ArrayRef>,
+    column: &Array<V>,
     range: Range<usize>,
 ) -> VortexResult<Array<V>>
-    requires range { (range.start ≤ range.end) × (range.end ≤ len array.now) }
-    requires flat { (of_type : DataType) × (k : ℕ) × IsFlat of_type k (dtype array.now) (len array.now) (shapes (slots_of (validity.now ∷ [])))
-        × ((ty : DataType) (n : ℕ) (ss : List (Option Shape)) → IsFlat of_type (range.end - range.start) ty n ss → IsNode ty n (V.stands_for payload) ss) }
-    ensures ok { IfOk result (λ a. (v : Option Tree) × IsValidityPart range.start range.end validity.now v
-        × (a ≡ column (dtype array.now) (range.end - range.start) (V.stands_for payload) v)) }
+    requires { (range.start ≤ range.end) × (range.end ≤ len column.now) }
+    ensures ok { IfOk result (λ a. KeepsExactly (slice_of range.start range.end column.now) a) }
     ensures err { IfErr result (λ e. e ≡ VortexError.OutOfMemory) }
 {
+    V::know_canonical(column.data());
+    let array = column.as_array();
+    array.well();
+    let validity = flat_validity(column);
+    let (start, end) = (range.start, range.end);
+    let payload = V::slice_values(column.data(), range)?;
     let dtype = array.dtype().clone()?;
-    let len = range.end - range.start;
-    let slots = only_slot(alloc, slice_validity(alloc, validity, range)?)?;
-    let parts = ArrayParts::new(vtable, dtype, len, payload, slots);
+    let slots = only_slot(alloc, slice_validity(alloc, validity, start..end)?)?;
+    let parts = ArrayParts::new(V::tag(&payload), dtype, end - start, payload, slots);
     Ok(Array::from_parts_unchecked(alloc, parts)?)
+}
+
+/// Returns the slot of the validity of `column`.
+fn flat_validity<V: FlatEncoding>(column: &Array<V>) -> &Option<ArrayRef>
+    ensures { slots column.now ≡ slots_of (result.now ∷ []) }
+{
+    V::know_canonical(column.data());
+    column.as_array().well();
+    &column.slots()[0]
 }
 
 /// Returns `child` as the only slot of a node.

@@ -2,8 +2,9 @@
 
 pub mod boolean;
 mod child;
-mod column;
+pub(crate) mod column;
 pub mod constant;
+pub mod decimal;
 pub mod filter;
 pub mod masked;
 pub mod primitive;

@@ -1,24 +1,21 @@
 //! Integer columns.
 
-ghost use Rattle.std.specs.Prelude.{◌≡◌, ◌⊎◌, ◌≤◌, IfOk, IfErr, OnOk, Some, None, is_ok, length, option_map, refl};
+ghost use Rattle.std.specs.Prelude.{◌≡◌, ◌⊎◌, IfOk, IfErr, OnOk, Some, None, length, option_map, refl};
 ghost use Rattle.vx_value.specs.View.{type_of};
 ghost use Rattle.vx_value.specs.Types as type;
 ghost use Rattle.vx_value.specs.declared.dtype.Nullability.TheVariants.{NonNullable};
 ghost use Rattle.vx_native.specs.Natives.{values_of, ptype_of};
 ghost use Rattle.vx_value.specs.declared.id.Id.TheVariants as id;
-ghost use Rattle.vx_tree.specs.Tree.{primitive, is_primitive, column, len, datum, slice_of};
-ghost use Rattle.vx_tree.specs.Keeps.{KeepsExactly};
+ghost use Rattle.vx_tree.specs.Tree.{primitive, is_primitive, column};
 ghost use Rattle.vx_tree.specs.Validities.{child_of, flat_refusal};
 ghost use Rattle.vx_tree.specs.Columns.{canonical_tree, primitive_column, empty_of};
 
-use crate::array::{
-    Array, ArrayId, ArrayKind, ArrayParts, ArrayRef, Encoded, Encoding, EncodingVariant, VTable,
-};
-use crate::arrays::column::{check_column, flat_column, flat_slice};
+use crate::array::{Array, ArrayId, ArrayParts, Encoded, Encoding, EncodingVariant, VTable};
+use crate::arrays::column::{FlatEncoding, check_column, flat_column};
 use crate::arrays::payload;
 use crate::canonical::Canonical;
 use crate::validity::Validity;
-use std::alloc::Global;
+use std::alloc::{AllocError, Global};
 use std::ops::Range;
 use vx_native::PrimitiveValues;
 use vx_value::{DType, Id, Nullability, PType, VortexError, VortexResult};
@@ -84,25 +81,6 @@ impl PrimitiveArray {
             validity,
         )
     }
-
-    /// Returns the rows in `range`, which must be in order and in bounds, as a column that shares its storage. The only
-    /// error is `OutOfMemory`. (own)
-    pub(crate) fn slice(&self, alloc: Global, range: Range<usize>) -> VortexResult<Canonical>
-        requires { (range.start ≤ range.end) × (range.end ≤ len self.now) }
-        ensures ok { IfOk result (λ c. KeepsExactly (slice_of range.start range.end self.now) (canonical_tree c)) }
-        ensures err { IfErr result (λ e. e ≡ VortexError.OutOfMemory) }
-    {
-        let array = self.as_array();
-        array.well();
-        let ArrayKind::Primitive(values, validity) = array.kind() else {
-            unreachable!()
-        };
-        let (start, end) = (range.start, range.end);
-        let values = values.slice(range)?;
-        let payload = PrimitiveData { values };
-        let column = flat_slice(alloc, Primitive, payload, array, validity, start..end)?;
-        Ok(Canonical::Primitive(column))
-    }
 }
 
 impl Canonical {
@@ -121,18 +99,6 @@ impl Canonical {
         let dtype = DType::Primitive(ptype, nullability);
         let column = PrimitiveArray::try_new(alloc, dtype, values, &validity)?;
         Ok(Canonical::Primitive(column))
-    }
-
-    /// Returns `array` as a column. Hands it back if it isn't an integer column. (own)
-    pub(crate) fn from_primitive(array: ArrayRef) -> Result<Canonical, ArrayRef>
-        ensures which { is_ok result ≡ is_primitive (datum array) }
-        ensures ok { IfOk result (λ c. canonical_tree c ≡ array) }
-        ensures err { IfErr result (λ a. a ≡ array) }
-    {
-        match PrimitiveArray::try_from_array_ref(array) {
-            Ok(column) => Ok(Canonical::Primitive(column)),
-            Err(array) => Err(array),
-        }
     }
 
     /// Returns the column if it is an integer column, else `None`.
@@ -155,6 +121,19 @@ impl Canonical {
         } else {
             None
         }
+    }
+}
+
+impl FlatEncoding for Primitive {
+    fn know_canonical(_payload: &PrimitiveData) {}
+
+    fn slice_values(
+        payload: &PrimitiveData,
+        range: Range<usize>,
+    ) -> Result<PrimitiveData, AllocError> {
+        Ok(PrimitiveData {
+            values: payload.values.slice(range)?,
+        })
     }
 }
 

@@ -1,24 +1,21 @@
 //! Columns of text and of bytes.
 
-ghost use Rattle.std.specs.Prelude.{◌≡◌, ◌⊎◌, ◌≤◌, ◌∷◌, [], MatchResult, IfOk, IfErr, OnOk, Some, None, is_ok, length, option_map, refl};
+ghost use Rattle.std.specs.Prelude.{◌≡◌, ◌⊎◌, ◌∷◌, [], MatchResult, IfOk, IfErr, OnOk, Some, None, length, option_map, refl};
 ghost use Rattle.vx_value.specs.View.{type_of};
 ghost use Rattle.vx_value.specs.Storage.{storage_of};
 ghost use Rattle.vx_value.specs.declared.id.Id.TheVariants as id;
 ghost use Rattle.vx_tree.specs.ColumnTypes.{bytes_type, are_bytes_of};
-ghost use Rattle.vx_tree.specs.Tree.{views, is_views, column, len, datum, slice_of};
-ghost use Rattle.vx_tree.specs.Keeps.{KeepsExactly};
+ghost use Rattle.vx_tree.specs.Tree.{views, is_views, column};
 ghost use Rattle.vx_tree.specs.Conditions.{unless};
 ghost use Rattle.vx_tree.specs.Validities.{child_of, bytes_refusal};
 ghost use Rattle.vx_tree.specs.Columns.{canonical_tree, varbinview_column, empty_of};
 
-use crate::array::{
-    Array, ArrayId, ArrayKind, ArrayParts, ArrayRef, Encoded, Encoding, EncodingVariant, VTable,
-};
-use crate::arrays::column::{check_column, check_flat_column, flat_column, flat_slice};
+use crate::array::{Array, ArrayId, ArrayParts, Encoded, Encoding, EncodingVariant, VTable};
+use crate::arrays::column::{FlatEncoding, check_column, check_flat_column, flat_column};
 use crate::arrays::payload;
 use crate::canonical::Canonical;
 use crate::validity::Validity;
-use std::alloc::Global;
+use std::alloc::{AllocError, Global};
 use std::ops::Range;
 use vx_value::{ArgKind, ByteBuffer, DType, Id, Nullability, Storage, VortexError, VortexResult};
 use vx_views::BinaryViews;
@@ -137,25 +134,6 @@ impl VarBinViewArray {
             validity,
         )
     }
-
-    /// Returns the rows in `range`, which must be in order and in bounds, as a column that shares its storage. The only
-    /// error is `OutOfMemory`. (own)
-    pub(crate) fn slice(&self, alloc: Global, range: Range<usize>) -> VortexResult<Canonical>
-        requires { (range.start ≤ range.end) × (range.end ≤ len self.now) }
-        ensures ok { IfOk result (λ c. KeepsExactly (slice_of range.start range.end self.now) (canonical_tree c)) }
-        ensures err { IfErr result (λ e. e ≡ VortexError.OutOfMemory) }
-    {
-        let array = self.as_array();
-        array.well();
-        let ArrayKind::VarBinView(rows, validity) = array.kind() else {
-            unreachable!()
-        };
-        let (start, end) = (range.start, range.end);
-        let rows = rows.slice(range)?;
-        let payload = VarBinViewData { rows };
-        let column = flat_slice(alloc, VarBinView, payload, array, validity, start..end)?;
-        Ok(Canonical::VarBinView(column))
-    }
 }
 
 impl Canonical {
@@ -169,18 +147,6 @@ impl Canonical {
         let validity = Validity::from(dtype.nullability());
         let column = VarBinViewArray::new_unchecked(alloc, dtype.clone()?, rows, &validity)?;
         Ok(Canonical::VarBinView(column))
-    }
-
-    /// Returns `array` as a column. Hands it back if it isn't a column of text or bytes. (own)
-    pub(crate) fn from_varbinview(array: ArrayRef) -> Result<Canonical, ArrayRef>
-        ensures which { is_ok result ≡ is_views (datum array) }
-        ensures ok { IfOk result (λ c. canonical_tree c ≡ array) }
-        ensures err { IfErr result (λ a. a ≡ array) }
-    {
-        match VarBinViewArray::try_from_array_ref(array) {
-            Ok(column) => Ok(Canonical::VarBinView(column)),
-            Err(array) => Err(array),
-        }
     }
 
     /// Returns the column if it is one of text or bytes, else `None`.
@@ -203,6 +169,19 @@ impl Canonical {
         } else {
             None
         }
+    }
+}
+
+impl FlatEncoding for VarBinView {
+    fn know_canonical(_payload: &VarBinViewData) {}
+
+    fn slice_values(
+        payload: &VarBinViewData,
+        range: Range<usize>,
+    ) -> Result<VarBinViewData, AllocError> {
+        Ok(VarBinViewData {
+            rows: payload.rows.slice(range)?,
+        })
     }
 }
 

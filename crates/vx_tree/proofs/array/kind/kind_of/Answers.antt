@@ -1,8 +1,9 @@
 use Rattle.std.proofs.Common.{ap}
 use Rattle.vx_mask.specs.Masks.{bits_in}
 use Rattle.vx_native.specs.Natives.{values_of, ptype_of}
+use Rattle.vx_native.specs.DecimalNumbers.{numbers_of, decimal_type_of}
 use Rattle.vx_tree.specs.TreeView.{data_of}
-use Rattle.vx_tree.proofs.KindsLemmas.{kind_constant, kind_slice, kind_filter, kind_validity, kind_masked, kind_bool, kind_primitive, kind_views}
+use Rattle.vx_tree.proofs.KindsLemmas.{kind_constant, kind_slice, kind_filter, kind_validity, kind_masked, kind_bool, kind_primitive, kind_decimals, kind_views}
 use Rattle.vx_tree.proofs.array.kind.kind_of.Goals as goal
 
 pub returns-in-Constant : goal.returns-in-Constant
@@ -41,6 +42,12 @@ returns-in-Primitive c =
     let values = c.in-Primitive.data.values in
     let validity = c.index-in-Primitive.result.now in
     kind_primitive c.args.node.now c.requires (ptype_of values) (values_of values) validity validity (ap data_of c.in-Primitive.is) c.index-in-Primitive.ensures
+
+pub returns-in-Decimal : goal.returns-in-Decimal
+returns-in-Decimal c =
+    let validity = c.index-in-Decimal.result.now in
+    let values = c.in-Decimal.data.values in
+    kind_decimals c.args.node.now c.requires (decimal_type_of values) (numbers_of values) validity validity (ap data_of c.in-Decimal.is) c.index-in-Decimal.ensures
 
 pub returns-in-VarBinView : goal.returns-in-VarBinView
 returns-in-VarBinView c =

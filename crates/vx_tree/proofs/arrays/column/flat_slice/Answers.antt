@@ -1,23 +1,37 @@
-use Rattle.std.proofs.Common.{◌≡◌, ◌-◌, rules}
+use Rattle.std.proofs.Common.{◌≡◌, ◌-◌, true, rules, ap, sym, subst, ◌∙◌}
 use Rattle.vx_value.specs.View.{type_of}
-use Rattle.vx_tree.specs.Tree.{slots_of, dtype, len}
-use Rattle.vx_tree.specs.Well.{shapes}
-use Rattle.vx_tree.proofs.ValiditiesLemmas.{flat_range, part_flat}
+use Rattle.vx_tree.specs.Tree.{node, dtype, slots_of, slice_of, is_canonical}
+use Rattle.vx_tree.specs.Well.{IsNode, IsWell, shapes}
+use Rattle.vx_tree.specs.Columns.{data_range}
+use Rattle.vx_tree.specs.Keeps.{KeepsExactly}
+use Rattle.vx_tree.proofs.FlatLemmas.{flat_range_kept}
 use Rattle.vx_tree.proofs.arrays.column.flat_slice.Goals as goal
-
-pub slice_validity-requires : goal.slice_validity-requires
-slice_validity-requires g c =
-    let t = c.args.array.now in
-    let h = c.requires.flat in
-    flat_range h.0 (dtype t) h.1 (len t) c.args.range.start c.args.range.end c.args.validity.now h.2 c.requires.range.0 c.requires.range.1
 
 pub from_parts_unchecked-requires : goal.from_parts_unchecked-requires
 from_parts_unchecked-requires g c =
-    let t = c.args.array.now in
+    let t = c.args.column.now in
     let a = c.args.range.start in
     let b = c.args.range.end in
-    let h = c.requires.flat in
-    let xs = c.in_ok-slots.slots.items in
-    let part = part_flat a b h.0 (dtype t) h.1 (len t) c.args.validity.now c.in_ok-slice_validity.field-0 xs h.2 c.in_ok-slice_validity.ensures.ok c.in_ok-slots.ensures in
+    let well = subst IsWell c.as_array-array.ensures.of c.well.ensures.formed in
+    let canonical = subst (λ d. is_canonical d ≡ true) c.data.ensures c.know_canonical.ensures in
+    let kept = flat_range_kept t c.flat_validity-validity.result.now c.in_ok-slice_validity.field-0 a b well canonical c.flat_validity-validity.ensures c.requires.1
+    c.in_ok-slice_validity.ensures.ok in
     let typed : type_of c.in_ok-dtype.dtype ≡ dtype t = search rules in
-    rw (c.new-parts.ensures, typed) (h.3 (dtype t) (b - a) (shapes (slots_of xs)) part)
+    let payload = c.in_ok-payload.ensures ∙ ap (data_range a b) c.data-2.ensures in
+    let slots = c.in_ok-slots.ensures in
+    rw c.new-parts.ensures (subst (λ x. x) (λ i. IsNode (sym typed i) (b - a) (sym payload i) (shapes (slots_of (sym slots i)))) kept.0)
+
+pub returns-clause-ok : goal.returns-clause-ok
+returns-clause-ok g c =
+    let t = c.args.column.now in
+    let a = c.args.range.start in
+    let b = c.args.range.end in
+    let well = subst IsWell c.as_array-array.ensures.of c.well.ensures.formed in
+    let canonical = subst (λ d. is_canonical d ≡ true) c.data.ensures c.know_canonical.ensures in
+    let kept = flat_range_kept t c.flat_validity-validity.result.now c.in_ok-slice_validity.field-0 a b well canonical c.flat_validity-validity.ensures c.requires.1
+    c.in_ok-slice_validity.ensures.ok in
+    let typed : type_of c.in_ok-dtype.dtype ≡ dtype t = search rules in
+    let payload = c.in_ok-payload.ensures ∙ ap (data_range a b) c.data-2.ensures in
+    let slots = c.in_ok-slots.ensures in
+    let made = rw c.new-parts.ensures at c.in_ok-from_parts_unchecked.ensures in
+    subst (KeepsExactly (slice_of a b t)) (sym (made ∙ (λ i. node (typed i) (b - a) (payload i) (slots_of (slots i))))) kept.1

@@ -1,0 +1,65 @@
+-- Ranges of columns that hold their rows themselves.
+use Rattle.std.proofs.Common.{◌≡◌, ◌≤◌, ℕ, ◌-◌, List, [], ◌∷◌, slice_range, true, Option, refl, sym, ap, ◌∙◌}
+use Rattle.vx_value.specs.Types as type
+use Rattle.vx_value.specs.Storage.{storage_of}
+use Rattle.vx_value.specs.Values.{boolean, integer, decimal, bytes}
+use Rattle.vx_value.specs.declared.dtype.Nullability.TheVariants.{NonNullable}
+use Rattle.vx_tree.specs.ColumnTypes.{decimal_type, scale_of, bytes_type}
+use Rattle.vx_tree.specs.Tree as enc
+use Rattle.vx_tree.specs.Tree.{Tree, Data, node, dtype, len, datum, slots, slots_of, column, slice_of, is_canonical}
+use Rattle.vx_tree.specs.Well.{Shape, IsNode, IsNodeOf, IsWell, shapes}
+use Rattle.vx_tree.specs.Columns.{count_in, data_range}
+use Rattle.vx_tree.specs.Keeps.{KeepsExactly}
+use Rattle.vx_tree.specs.Validities.{IsValidityPart}
+use Rattle.vx_tree.proofs.SlotsLemmas.{only_slot}
+use Rattle.vx_tree.proofs.BytesLemmas.{bytes_node, bytes_part}
+use Rattle.vx_tree.proofs.DecimalsLemmas.{decimals_node, decimals_part}
+use Rattle.vx_tree.proofs.ValiditiesLemmas.{flat_part}
+
+-- it has as many rows as values: a line for each canonical encoding
+pub flat_count : (t : Tree) → IsNodeOf t → is_canonical (datum t) ≡ true → len t ≡ count_in (datum t)
+flat_count (node ty n (enc.bool bs) ss) w h = w.2
+flat_count (node ty n (enc.primitive p zs) ss) w h = w.2
+flat_count (node ty n (enc.decimals d zs) ss) w h = w.0.2
+flat_count (node ty n (enc.views rs) ss) w h = w.0.2
+flat_count _ w h = absurd (cc)
+
+-- the range of its values is a column of the range's rows: a line for each
+pub flat_range_kept : (t : Tree) (v w : Option Tree) (a b : ℕ) → IsWell t → is_canonical (datum t) ≡ true → slots t ≡ slots_of (v ∷ []) → b ≤ len t
+    → IsValidityPart a b v w
+    → IsNode (dtype t) (b - a) (data_range a b (datum t)) (shapes (slots_of (w ∷ [])))
+    × KeepsExactly (slice_of a b t) (column (dtype t) (b - a) (data_range a b (datum t)) w)
+flat_range_kept (node ty n (enc.bool bs) ss) v w a b well h s within part =
+    flat_part (type.bool NonNullable) boolean enc.bool a b bs (slice_range bs a b) v (node ty n (enc.bool bs) ss) (λ n xs css. refl) (ap (node ty n (enc.bool bs)) s) well within
+    refl (λ ss h. h) (λ ty n ss h. h) w part
+flat_range_kept (node ty n (enc.primitive p zs) ss) v w a b well h s within part =
+    flat_part (type.primitive p NonNullable) integer (enc.primitive p) a b zs (slice_range zs a b) v (node ty n (enc.primitive p zs) ss) (λ n xs css. refl)
+    (ap (node ty n (enc.primitive p zs)) s) well within refl (λ ss h. h) (λ ty n ss h. h) w part
+flat_range_kept (node ty n (enc.decimals d zs) ss) v w a b well h s within part =
+    let stored = storage_of ty in
+    flat_part (decimal_type stored) (λ z. decimal z (scale_of stored)) (enc.decimals d) a b zs (slice_range zs a b) v (node ty n (enc.decimals d zs) ss) (λ n xs css. refl)
+    (ap (node ty n (enc.decimals d zs)) s) well within refl (λ ss h. h.0)
+    (decimals_node stored d (slice_range zs a b) (decimals_part stored d zs (slice_range zs a b) a b well.0.1 refl)) w part
+flat_range_kept (node ty n (enc.views rs) ss) v w a b well h s within part =
+    let stored = storage_of ty in
+    flat_part (bytes_type stored) bytes enc.views a b rs (slice_range rs a b) v (node ty n (enc.views rs) ss) (λ n xs css. refl) (ap (node ty n (enc.views rs)) s) well within
+    refl (λ ss h. h.0) (bytes_node stored (slice_range rs a b) (bytes_part stored rs (slice_range rs a b) a b well.0.1 refl)) w part
+flat_range_kept _ v w a b well h s within part = absurd (cc)
+
+-- it has one slot: a line for each
+flat_shape : (t : Tree) → IsNodeOf t → is_canonical (datum t) ≡ true → (x : Option Shape) × (shapes (slots t) ≡ x ∷ [])
+flat_shape (node ty n (enc.bool bs) ss) w h = (w.0, w.3)
+flat_shape (node ty n (enc.primitive p zs) ss) w h = (w.0, w.3)
+flat_shape (node ty n (enc.decimals d zs) ss) w h = (w.0.0, w.0.3)
+flat_shape (node ty n (enc.views rs) ss) w h = (w.0.0, w.0.3)
+flat_shape _ w h = absurd (cc)
+
+well_node : (t : Tree) → IsWell t → IsNodeOf t
+well_node (node ty n d ss) w = w.0
+
+pub flat_slot : (t : Tree) (d : Data) (xs : List (Option Tree)) → IsWell t → d ≡ datum t → is_canonical d ≡ true → slots_of xs ≡ slots t
+    → (v : Option Tree) × (xs ≡ v ∷ [])
+flat_slot t d xs w same h e =
+    let shape = flat_shape t (well_node t w) (ap is_canonical (sym same) ∙ h) in
+    let found = only_slot xs shape.0 (ap shapes e ∙ shape.1) in
+    (found.0, found.1)

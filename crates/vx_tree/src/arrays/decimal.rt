@@ -1,0 +1,229 @@
+//! Columns of decimals.
+
+ghost use Rattle.std.specs.Prelude.{◌≡◌, ◌⊎◌, IfOk, IfErr, OnOk, MatchResult, Some, None, length, option_map, refl};
+ghost use Rattle.vx_value.specs.View.{type_of};
+ghost use Rattle.vx_value.specs.Types as type;
+ghost use Rattle.vx_value.specs.Types.{nullability_of};
+ghost use Rattle.vx_value.specs.Storage.{storage_of};
+ghost use Rattle.vx_value.specs.declared.dtype.Storage.TheVariants.{Decimals};
+ghost use Rattle.vx_value.specs.declared.id.Id.TheVariants as id;
+ghost use Rattle.vx_native.specs.DecimalNumbers.{numbers_of, decimal_type_of};
+ghost use Rattle.vx_tree.specs.ColumnTypes.{decimal_type, are_decimals_of};
+ghost use Rattle.vx_tree.specs.Tree.{decimals, is_decimals, column};
+ghost use Rattle.vx_tree.specs.Conditions.{unless};
+ghost use Rattle.vx_tree.specs.Validities.{child_of, decimal_refusal};
+ghost use Rattle.vx_tree.specs.Columns.{canonical_tree, decimal_column, empty_of};
+
+use crate::array::{Array, ArrayId, ArrayParts, Encoded, Encoding, EncodingVariant, VTable};
+use crate::arrays::column::{FlatEncoding, check_column, check_flat_column, flat_column};
+use crate::arrays::payload;
+use crate::canonical::Canonical;
+use crate::validity::Validity;
+use std::alloc::{AllocError, Global};
+use std::ops::Range;
+use vx_native::DecimalValues;
+use vx_value::{
+    ArgKind, DType, DecimalDType, DecimalType, Id, Nullability, VortexError, VortexResult,
+};
+
+/// The tag of the decimal encoding.
+#[derive(Clone, Copy, Debug)]
+pub struct Decimal;
+
+/// A column of decimals.
+pub type DecimalArray = Array<Decimal>;
+
+/// The data of a column of decimals: an integer for each row, its number without the point, also if the row is null. The
+/// integers are as narrow as the precision of the column's type allows.
+#[derive(Clone, Debug, Drop)]
+pub struct DecimalData {
+    pub values: DecimalValues,
+}
+
+impl VTable for Decimal {
+    ghost named = { λ _. id.Decimal };
+
+    fn id(&self) -> ArrayId {
+        Id::Decimal
+    }
+
+    fn tag(_payload: &DecimalData) -> Decimal {
+        Decimal
+    }
+
+    #[tactic(auto, using(crate::proofs::ConditionsLemmas::in_turn))]
+    fn validate(_alloc: Global, parts: &ArrayParts<Decimal>) -> VortexResult<()> {
+        let values = &parts.payload.values;
+        check_column(parts, &decimal_type(&parts.dtype), values.len())?;
+        check_decimals(&parts.dtype, values)
+    }
+}
+
+/// Returns the non-nullable type of the decimals of type `dtype`. For a type that isn't one of decimals, it is one that has a
+/// single digit, so never `dtype`. (own)
+pub fn decimal_type(dtype: &DType) -> DType
+    ensures { type_of result ≡ decimal_type (storage_of (type_of dtype.now)) }
+{
+    if let DType::Decimal(decimal, _) = dtype {
+        return DType::Decimal(*decimal, Nullability::NonNullable);
+    }
+    let Ok(decimal) = DecimalDType::try_new(1, 0) else {
+        unreachable!()
+    };
+    DType::Decimal(decimal, Nullability::NonNullable)
+}
+
+/// Checks that `values` are numbers of type `dtype`: their width is its narrowest, and none has more digits.
+fn check_decimals(dtype: &DType, values: &DecimalValues) -> VortexResult<()>
+    ensures { MatchResult result
+        (λ _. unless (are_decimals_of (storage_of (type_of dtype.now)) (decimal_type_of values.now) (numbers_of values.now))
+        (VortexError.InvalidArgument ArgKind.BadValue) ≡ None)
+        (λ e. unless (are_decimals_of (storage_of (type_of dtype.now)) (decimal_type_of values.now) (numbers_of values.now))
+        (VortexError.InvalidArgument ArgKind.BadValue) ≡ Some e) }
+{
+    if are_decimals_of(dtype, values) {
+        Ok(())
+    } else {
+        Err(VortexError::InvalidArgument(ArgKind::BadValue))
+    }
+}
+
+/// Checks whether `values` are numbers of type `dtype`.
+fn are_decimals_of(dtype: &DType, values: &DecimalValues) -> bool
+    ensures { result ≡ are_decimals_of (storage_of (type_of dtype.now)) (decimal_type_of values.now) (numbers_of values.now) }
+{
+    match dtype {
+        DType::Decimal(decimal, _) => {
+            let narrowest = DecimalType::smallest_decimal_value_type(decimal);
+            values.values_type() == narrowest && values.has_digits(decimal)
+        }
+        _ => false,
+    }
+}
+
+impl DecimalArray {
+    /// Makes the column of `values`, numbers of type `dtype` without their points, whose null rows `validity` tells. What a null row's
+    /// number is doesn't count, but that it is one of the type.
+    ///
+    /// The first condition that fails gives the error: `InvalidArgument` with `BadType` exactly if `dtype` isn't one of decimals
+    /// with the nullability of `validity`, with `SlotType` exactly if the validity's array isn't one of non-nullable booleans,
+    /// with `SlotLen` exactly if it hasn't as many rows as there are values, and with `BadValue` exactly if the values aren't as
+    /// narrow as the precision allows, or one has more digits.
+    #[tactic(auto, using(crate::proofs::ConditionsLemmas::in_turn))]
+    pub fn try_new(
+        alloc: Global,
+        dtype: DType,
+        values: DecimalValues,
+        validity: &Validity,
+    ) -> VortexResult<DecimalArray>
+        ensures ok { IfOk result (λ a. a ≡ column (type_of dtype) (length (numbers_of values)) (decimals (decimal_type_of values) (numbers_of values))
+            (child_of validity.now (length (numbers_of values)))) }
+        ensures valid { OnOk result (decimal_refusal (type_of dtype) (decimal_type_of values) (numbers_of values) validity.now ≡ None) }
+        ensures refused { IfErr result (λ e. (e ≡ VortexError.OutOfMemory)
+            ⊎ (decimal_refusal (type_of dtype) (decimal_type_of values) (numbers_of values) validity.now ≡ Some e)) }
+    {
+        check_flat_column(&dtype, &decimal_type(&dtype), values.len(), validity)?;
+        check_decimals(&dtype, &values)?;
+        DecimalArray::new_unchecked(alloc, dtype, values, validity)
+    }
+
+    /// Makes the column of `values`, which `try_new` must not refuse. Doesn't read the values. The only error is `OutOfMemory`.
+    pub fn new_unchecked(
+        alloc: Global,
+        dtype: DType,
+        values: DecimalValues,
+        validity: &Validity,
+    ) -> VortexResult<DecimalArray>
+        requires { decimal_refusal (type_of dtype) (decimal_type_of values) (numbers_of values) validity.now ≡ None }
+        ensures ok { IfOk result (λ a. a ≡ column (type_of dtype) (length (numbers_of values)) (decimals (decimal_type_of values) (numbers_of values))
+            (child_of validity.now (length (numbers_of values)))) }
+        ensures err { IfErr result (λ e. e ≡ VortexError.OutOfMemory) }
+    {
+        let of_type = decimal_type(&dtype);
+        let len = values.len();
+        flat_column(
+            alloc,
+            Decimal,
+            dtype,
+            &of_type,
+            len,
+            DecimalData { values },
+            validity,
+        )
+    }
+}
+
+impl Canonical {
+    /// Makes the column of decimals of type `decimal` without rows, of this nullability. The only error is `OutOfMemory`. (own)
+    pub(crate) fn empty_decimal(
+        alloc: Global,
+        decimal: DecimalDType,
+        nullability: Nullability,
+    ) -> VortexResult<Canonical>
+        ensures ok { IfOk result (λ c. canonical_tree c ≡ empty_of (type.decimal decimal.precision decimal.scale nullability)) }
+        ensures err { IfErr result (λ e. e ≡ VortexError.OutOfMemory) }
+    {
+        let width = DecimalType::smallest_decimal_value_type(&decimal);
+        let values = DecimalValues::repeat(alloc, width, 0, 0)?;
+        let validity = Validity::from(nullability);
+        let dtype = DType::Decimal(decimal, nullability);
+        let column = DecimalArray::new_unchecked(alloc, dtype, values, &validity)?;
+        Ok(Canonical::Decimal(column))
+    }
+
+    /// Returns the column if it is one of decimals, else `None`.
+    pub fn as_decimal(&self) -> Option<&DecimalArray>
+        ensures { option_map (λ c. c.now) result ≡ decimal_column self.now }
+    {
+        if let Canonical::Decimal(column) = self {
+            Some(column)
+        } else {
+            None
+        }
+    }
+
+    /// Returns the column by value if it is one of decimals, else `None`.
+    pub fn into_decimal(self) -> Option<DecimalArray>
+        ensures { result ≡ decimal_column self }
+    {
+        if let Canonical::Decimal(column) = self {
+            Some(column)
+        } else {
+            None
+        }
+    }
+}
+
+impl FlatEncoding for Decimal {
+    fn know_canonical(_payload: &DecimalData) {}
+
+    fn slice_values(payload: &DecimalData, range: Range<usize>) -> Result<DecimalData, AllocError> {
+        Ok(DecimalData {
+            values: payload.values.slice(range)?,
+        })
+    }
+}
+
+impl Encoded for Decimal {
+    type TypedArrayData = DecimalData;
+}
+
+impl EncodingVariant for Decimal {
+    fn wrap(payload: DecimalData) -> Encoding {
+        Encoding::Decimal(payload)
+    }
+
+    ghost stands_for = { λ d. decimals (decimal_type_of d.values) (numbers_of d.values) };
+
+    ghost is_kind = { is_decimals };
+
+    fn project(encoding: &Encoding) -> Option<&DecimalData> {
+        payload!(encoding, Decimal)
+    }
+
+    fn into_data(encoding: Encoding) -> Option<DecimalData> {
+        payload!(encoding, Decimal)
+    }
+
+    ghost kind_of = { λ d. refl };
+}
