@@ -1,7 +1,7 @@
 -- One row of a node.
-use Rattle.std.proofs.Common.{◌≡◌, ℕ, zero, suc, ◌+◌, ◌-◌, ◌≤◌, ◌<◌, List, [], ◌∷◌, length, map, replicate, get_or, take, drop, ◌++◌, Bool, Option, Some, None, refl, sym, ◌∙◌, ap, subst, arith, true, false}
-use Rattle.std.specs.Prelude.{slice_get, slice_index_or, is_some, IsSome}
-use Rattle.std.specs.List.{AllZip, range_with_len}
+use Rattle.std.proofs.Common.{◌≡◌, ℕ, zero, suc, ◌+◌, ◌-◌, ◌≤◌, ◌<◌, List, [], ◌∷◌, length, map, replicate, get_or, take, drop, ◌++◌, Bool, Option, Some, None, refl, sym, ◌∙◌, ap, subst, arith, true, false, ℤ}
+use Rattle.std.specs.Prelude.{slice_get, slice_index_or, is_some, IsSome, Result, Ok, Err}
+use Rattle.std.specs.List.{AllZip, range_with_len, list_all}
 use Rattle.std.proofs.Math.Bool.{not}
 use Rattle.std.specs.Option.{option_map, option_and_then}
 use Rattle.std.proofs.lemmas.List.{take_all, take_more, map-append, length-replicate, get_or-replicate}
@@ -10,7 +10,7 @@ use Rattle.std.proofs.lemmas.Option.{slice_get-get_or, slice_get-map, get_or_fro
 use Rattle.vx_value.specs.Types.{DataType}
 use Rattle.vx_value.specs.Typed.{Typed}
 use Rattle.vx_value.specs.IsOf.{is_null}
-use Rattle.vx_value.specs.Values.{Value, null, boolean}
+use Rattle.vx_value.specs.Values.{Value, null, boolean, decimal}
 use Rattle.vx_value.specs.Cell.{Cell, value, fault}
 use Rattle.vx_mask.specs.Places.{true_place}
 use Rattle.vx_mask.proofs.ChosenLemmas.{chosen-item}
@@ -18,7 +18,7 @@ use Rattle.vx_mask.proofs.PlacesLemmas.{place_some}
 use Rattle.vx_fn.specs.Apply.{apply, on_values, value_of}
 use Rattle.vx_fn.specs.ReturnTypes.{return_type}
 use Rattle.vx_fn.specs.declared.function.ScalarFnRef.{ScalarFnRef}
-use Rattle.vx_tree.specs.Tree.{Tree, Data, node, function, bool, column, constant_of, slots_of, dtype, len, height, slots_height, slice_of, filter_of, masked_of, validity_in}
+use Rattle.vx_tree.specs.Tree.{Tree, Data, node, function, bool, column, constant_of, slots_of, dtype, len, height, slots_height, slice_of, filter_of, masked_of, validity_in, decimals}
 use Rattle.vx_tree.specs.Cells.{row_at, rows, node_cells, cells_at, slots_rows, valid_cell, valid_cells, shown_cell}
 use Rattle.vx_tree.specs.Well.{shape, shapes, IsNode, IsWell}
 use Rattle.vx_tree.proofs.CellsLemmas.{rows_counted}
@@ -30,6 +30,11 @@ use Rattle.vx_rows.specs.ValidRows.{null_unless}
 use Rattle.vx_rows.proofs.ValidRowsLemmas.{filled_cell, one_slot}
 use Rattle.vx_native.proofs.NativesLemmas.{map_copies}
 use Rattle.vx_tree.proofs.NodeValiditiesLemmas.{shown_value}
+use Rattle.vx_value.specs.Storage.{storage_of}
+use Rattle.vx_value.specs.declared.decimal.DecimalType.{DecimalType}
+use Rattle.vx_tree.specs.ColumnTypes.{scale_of}
+use Rattle.std.specs.Cmp.{first_so, second_so}
+use Rattle.std.specs.Result.{IfOk}
 
 -- ---- a row of a slice
 
@@ -114,21 +119,43 @@ constant_truths t s b bits is truth made =
     ∙ ap (map (λ x. value (boolean x))) (sym made)
 
 -- a row that is null, of a column of any values
-pub null_row : {X : Type 0} (read : X → Value) (of_items : List X → Data) (d : X)
-    → ((ty : DataType) (n : ℕ) (xs : List X) (css : List (List Cell)) → node_cells ty n (of_items xs) css ≡ valid_cells (cells_at css 0) (map (λ x. value (read x)) xs))
-    → (t : Tree) (v : Option Tree) (xs : List X) (i : ℕ) (b : Bool) (s : Typed) → t ≡ column (dtype t) (len t) (of_items xs) v → length xs ≡ len t → i < len t
+pub null_row : {X : Type 0} (read : X → Value) (of_items : List X → Data) (d : X) (t : Tree)
+    → ((n : ℕ) (xs : List X) (css : List (List Cell)) → node_cells (dtype t) n (of_items xs) css ≡ valid_cells (cells_at css 0) (map (λ x. value (read x)) xs))
+    → (v : Option Tree) (xs : List X) (i : ℕ) (b : Bool) (s : Typed) → t ≡ column (dtype t) (len t) (of_items xs) v → length xs ≡ len t → i < len t
     → ((w : Value) → IsRowBy v i (value w) (null_unless b (value w))) → b ≡ false → s ≡ record { of_type = dtype t; value = null }
     → (slice_get (rows t) i ≡ Some (value s.value)) × (s.of_type ≡ dtype t)
-null_row read of_items d cells t v xs i b s is long lt told none made =
+null_row read of_items d t cells v xs i b s is long lt told none made =
     let stored = map (λ x. value (read x)) xs in
     let w = read (get_or xs i d) in
     let there : slice_get stored i ≡ Some (value w) =
     slice_get-map (λ x. value (read x)) xs i ∙ ap (option_map (λ x. value (read x))) (slice_get-get_or xs i d (omega (arith, long))) in
     let shown : rows t ≡ valid_cells (validity_cells v) stored =
-    ap rows is ∙ cells (dtype t) (len t) xs (slots_rows (slots_of (v ∷ []))) ∙ ap (λ css. valid_cells (cells_at css 0) stored) (one_slot v) in (
+    ap rows is ∙ cells (len t) xs (slots_rows (slots_of (v ∷ []))) ∙ ap (λ css. valid_cells (cells_at css 0) stored) (one_slot v) in (
       ap (λ cs. slice_get cs i) shown ∙ told w stored there ∙ ap (λ x. Some (null_unless x (value w))) none ∙ ap (λ x. Some (value x.value)) (sym made),
       ap (λ x. x.of_type) made,
     )
+
+-- two facts of an answer, put together
+pub IfOk-both : {X Y : Type 0} (r : Result X Y) {P Q R : X → Type 0} → ((x : X) → P x → Q x → R x) → IfOk r P → IfOk r Q → IfOk r R
+IfOk-both (Ok x) f p q = f x p q
+IfOk-both (Err y) f p q = tt
+
+-- ---- of a column of decimals
+
+-- row i, by what its validity makes of the cell that is stored there
+pub decimal_row : (t : Tree) (v : Option Tree) (w : DecimalType) (zs : List ℤ) (ty : DataType) (i : ℕ) (stored cell : Cell)
+    → t ≡ column (dtype t) (len t) (decimals w zs) v → ty ≡ dtype t
+    → slice_get (map (λ z. value (decimal z (scale_of (storage_of ty)))) zs) i ≡ Some stored → IsRowBy v i stored cell → slice_get (rows t) i ≡ Some cell
+decimal_row t v w zs ty i stored cell is typed there told =
+    let cells = map (λ z. value (decimal z (scale_of (storage_of (dtype t))))) zs in
+    let found : slice_get cells i ≡ Some stored = subst (λ x. slice_get (map (λ z. value (decimal z (scale_of (storage_of x)))) zs) i ≡ Some stored) typed there in
+    ap (λ u. slice_get (rows u) i) is ∙ ap (λ css. slice_get (valid_cells (cells_at css 0) cells) i) (one_slot v) ∙ told cells found
+
+-- what all pass, each does
+pub passes_at : {X : Type 0} (test : X → Bool) (xs : List X) (i : ℕ) (x : X) → list_all test xs ≡ true → slice_get xs i ≡ Some x → test x ≡ true
+passes_at test [] i x h e = absurd (cc)
+passes_at test (y ∷ xs) zero x h e = let same : y ≡ x = cc in subst (λ z. test z ≡ true) same (first_so (test y) _ h)
+passes_at test (y ∷ xs) (suc i) x h e = passes_at test xs i x (second_so (test y) _ h) e
 
 -- ---- of a masked node
 

@@ -10,7 +10,7 @@ use Rattle.std.proofs.Common.{◌≡◌, ◌⊎◌, inl, inr, ◌<◌, ℕ, zero
 use Rattle.std.proofs.Math.Bool.{not}
 use Rattle.std.proofs.lemmas.List.{get_or-map, get_or-replicate}
 use Rattle.std.specs.Cmp.{unsigned_Decides}
-use Rattle.vx_value.specs.Types.{DataType, bool, utf8, binary, nullability_of, same_type_Decides}
+use Rattle.vx_value.specs.Types.{DataType, bool, utf8, binary, nullability_of, same_type_Decides, decimal}
 use Rattle.vx_value.specs.Nullabilities.{with_nullability}
 use Rattle.vx_value.specs.View.{type_of}
 use Rattle.vx_value.specs.Typed.{Typed}
@@ -24,11 +24,11 @@ use Rattle.vx_value.specs.declared.dtype.Nullability.{Nullability}
 use Rattle.vx_value.specs.declared.dtype.Nullability.TheVariants.{NonNullable, Nullable}
 use Rattle.vx_value.specs.declared.dtype.PType.{PType}
 use Rattle.vx_tree.specs.Tree as enc
-use Rattle.vx_tree.specs.ColumnTypes.{bytes_type, are_bytes_of}
+use Rattle.vx_tree.specs.ColumnTypes.{bytes_type, are_bytes_of, are_decimals_of, scale_of}
 use Rattle.vx_tree.specs.Tree.{Tree, Data, slots_of, dtype, len, column, constant_of}
 use Rattle.vx_tree.specs.Cells.{rows, slots_rows, node_cells, cells_at, valid_cells}
 use Rattle.vx_tree.specs.Well.{Shape, shape, shape_of, shapes, IsValidity, IsFlat, IsNodeOf}
-use Rattle.vx_tree.specs.Validities.{nullability_by, array_refusal, flat_refusal, bytes_refusal, HasRows}
+use Rattle.vx_tree.specs.Validities.{nullability_by, array_refusal, flat_refusal, bytes_refusal, HasRows, decimal_refusal}
 use Rattle.vx_tree.specs.Columns.{columnar_tree}
 use Rattle.vx_tree.specs.declared.columnar.Columnar.{Columnar}
 use Rattle.vx_tree.specs.declared.validity.Validity.{Validity}
@@ -37,7 +37,7 @@ use Rattle.vx_tree.proofs.ConditionsLemmas.{none_refused, none_unless}
 use Rattle.vx_mask.specs.Logic.{bit_row}
 use Rattle.vx_mask.specs.Operands.{bit_in, HasBits}
 use Rattle.vx_mask.specs.declared.operand.BitOperand.{BitOperand}
-use Rattle.vx_rows.specs.Arguments.{IsArgument, IsUnread, AreUnread, IsRepeated, AreStored, IsInRange, HasIntegers, type_of_rows, value_at, ptype_in, integer_in, bytes_in, AreBytes}
+use Rattle.vx_rows.specs.Arguments.{IsArgument, IsUnread, AreUnread, IsRepeated, AreStored, IsInRange, HasIntegers, type_of_rows, value_at, ptype_in, integer_in, bytes_in, AreBytes, stored_decimals, unscaled_at, HasDecimals}
 use Rattle.vx_rows.specs.Nulls.{validity_cells}
 use Rattle.vx_rows.specs.ValidRows.{is_valid, HasValidity, nullability_in, AreTold, TellsRows, IsRepeatedValidity, null_unless}
 use Rattle.vx_rows.specs.declared.argument.ArgumentRows.{ArgumentRows}
@@ -45,6 +45,10 @@ use Rattle.vx_rows.specs.declared.argument.ArgumentRows.TheVariants as stored
 use Rattle.vx_rows.specs.declared.argument.BytesOperand.{BytesOperand}
 use Rattle.vx_rows.specs.declared.argument.IntegerOperand.{IntegerOperand}
 use Rattle.vx_rows.specs.declared.valid.ValidRows.{ValidRows}
+use Rattle.vx_value.specs.Values as of
+use Rattle.vx_value.specs.declared.decimal.DecimalDType.{DecimalDType}
+use Rattle.vx_value.specs.declared.decimal.DecimalType.{DecimalType}
+use Rattle.vx_rows.specs.declared.argument.DecimalRows.{DecimalRows}
 
 -- ---- a validity of as many rows is taken
 
@@ -65,6 +69,14 @@ bytes_taken storage.Text ty rs v h k e =
 bytes_taken _ ty rs v h k e =
     subst (λ t. bytes_refusal t rs v ≡ None) (sym e)
     (none_refused _ _ (flat_taken (binary NonNullable) (binary (nullability_by v)) (length rs) v h refl) refl)
+
+-- and the column of decimals with one
+pub decimals_taken : (d : DecimalDType) (ty : DataType) (w : DecimalType) (zs : List ℤ) (v : Validity) → HasRows v (length zs)
+    → are_decimals_of (stored_decimals d) w zs ≡ true → ty ≡ decimal d.precision d.scale (nullability_by v) → decimal_refusal ty w zs v ≡ None
+decimals_taken d ty w zs v h k e =
+    let of_type = decimal d.precision d.scale in
+    subst (λ t. decimal_refusal t w zs v ≡ None) (sym e)
+    (none_refused _ _ (flat_taken (of_type NonNullable) (of_type (nullability_by v)) (length zs) v h refl) (none_unless _ _ k))
 
 -- ---- a column's validity tells of its rows
 
@@ -109,9 +121,9 @@ column_row read d (Some t) valid n xs i told long lt =
 -- ---- columns and constants as arguments
 
 -- what the cells of a column of values are, each read from an item
-abbrev pub AreCells : {X : Type 0} → (X → Value) → (List X → Data) → Type 0
-AreCells {X = X} read of_items =
-    (ty : DataType) (n : ℕ) (xs : List X) (css : List (List Cell)) → node_cells ty n (of_items xs) css ≡ valid_cells (cells_at css 0) (map (λ x. value (read x)) xs)
+abbrev pub AreCells : {X : Type 0} → DataType → (X → Value) → (List X → Data) → Type 0
+AreCells {X = X} ty read of_items =
+    (n : ℕ) (xs : List X) (css : List (List Cell)) → node_cells ty n (of_items xs) css ≡ valid_cells (cells_at css 0) (map (λ x. value (read x)) xs)
 
 module _ (c : Columnar) (v : Option Tree) (valid : ValidRows) (told : AreTold (len (columnar_tree c)) v valid) (same : nullability_in valid ≡ nullability_of (dtype (columnar_tree c)))
     (sized : HasValidity valid (len (columnar_tree c))) (array : Tree) (is : array ≡ columnar_tree c) (well : IsNodeOf array) where
@@ -123,13 +135,13 @@ module _ (c : Columnar) (v : Option Tree) (valid : ValidRows) (told : AreTold (l
   flat_by d h = subst IsNodeOf (shown_by d h) (subst IsNodeOf is well)
 
   -- and each of its rows
-  rows_by : {X : Type 0} (read : X → Value) (d : X) (of_items : List X → Data) → AreCells read of_items → (xs : List X) → length xs ≡ len (columnar_tree c)
+  rows_by : {X : Type 0} (read : X → Value) (d : X) (of_items : List X → Data) → AreCells (dtype (columnar_tree c)) read of_items → (xs : List X) → length xs ≡ len (columnar_tree c)
       → array ≡ column (dtype array) (len array) (of_items xs) v → (i : ℕ) → i < len (columnar_tree c)
       → get_or (rows (columnar_tree c)) i fault ≡ null_unless (is_valid valid i) (value (read (get_or xs i d)))
   rows_by read d of_items cells xs long is_column i lt =
       let t = columnar_tree c in
       ap (λ u. get_or (rows u) i fault) (shown_by (of_items xs) is_column)
-      ∙ ap (λ cs. get_or cs i fault) (cells (dtype t) (len t) xs (slots_rows (slots_of (v ∷ []))))
+      ∙ ap (λ cs. get_or cs i fault) (cells (len t) xs (slots_rows (slots_of (v ∷ []))))
       ∙ ap (λ css. get_or (valid_cells (cells_at css 0) (map (λ x. value (read x)) xs)) i fault) (one_slot v)
       ∙ column_row read d v valid (len t) xs i told long lt
 
@@ -139,7 +151,7 @@ module _ (c : Columnar) (v : Option Tree) (valid : ValidRows) (told : AreTold (l
       let flat = flat_by (enc.bool bits) is_column in
       record {
         typed = flat.1 ∙ ap bool (sym same);
-        shown = λ i lt. rows_by boolean false enc.bool (λ ty n xs css. refl) bits (sym flat.2) is_column i lt
+        shown = λ i lt. rows_by boolean false enc.bool (λ n xs css. refl) bits (sym flat.2) is_column i lt
             ∙ ap (λ b. null_unless (is_valid valid i) (value (boolean b))) (sym (read i));
         sized = (rows_of (len (columnar_tree c)) (sym flat.2), sized);
       }
@@ -152,9 +164,25 @@ module _ (c : Columnar) (v : Option Tree) (valid : ValidRows) (told : AreTold (l
       let there = rows_of (len (columnar_tree c)) (sym flat.2) in
       record {
         typed = sym typed;
-        shown = λ i lt. rows_by integer (pos 0) (enc.primitive p) (λ ty n xs css. refl) ws (sym flat.2) is_column i lt
+        shown = λ i lt. rows_by integer (pos 0) (enc.primitive p) (λ n xs css. refl) ws (sym flat.2) is_column i lt
             ∙ ap (λ z. null_unless (is_valid valid i) (value (integer z))) (sym (read i));
         sized = (((refl, there.0, there.1, ap storage_of (typed ∙ flat.1) ∙ ap storage.Integers (sym kind)), ap nullability_of typed ∙ sym same), sized);
+      }
+
+  pub decimals_argument : (d : DecimalDType) (ds : DecimalRows) (w : DecimalType) (zs : List ℤ) (m : Nullability) → ((i : ℕ) → unscaled_at ds i ≡ get_or zs i (pos 0))
+      → dtype (columnar_tree c) ≡ decimal d.precision d.scale m
+      → ((n : ℕ) → length zs ≡ n → are_decimals_of (stored_decimals d) w zs ≡ true → HasDecimals d ds n) → array ≡ column (dtype array) (len array) (enc.decimals w zs) v
+      → IsArgument c (record { rows = stored.Decimals (record { decimal = d; rows = ds }); valid = valid })
+  decimals_argument d ds w zs m read typed rows_of is_column =
+      let t = columnar_tree c in
+      let flat = flat_by (enc.decimals w zs) is_column in
+      let kind : storage_of (dtype t) ≡ stored_decimals d = ap storage_of typed in
+      record {
+        typed = typed ∙ ap (decimal d.precision d.scale) (ap nullability_of (sym typed) ∙ sym same);
+        shown = λ i lt. rows_by (λ z. of.decimal z (scale_of (storage_of (dtype t)))) (pos 0) (enc.decimals w) (λ n xs css. refl) zs (sym flat.0.2) is_column i lt
+            ∙ ap (λ z. null_unless (is_valid valid i) (value (of.decimal z (scale_of (storage_of (dtype t)))))) (sym (read i))
+            ∙ ap (λ st. null_unless (is_valid valid i) (value (of.decimal (unscaled_at ds i) (scale_of st)))) kind;
+        sized = (rows_of (len t) (sym flat.0.2) (ap (λ st. are_decimals_of st w zs) (sym kind) ∙ flat.1), sized);
       }
 
   pub bytes_argument : (bs : BytesOperand) (rs : List (List ℕ)) → ((i : ℕ) → bytes_in bs i ≡ get_or rs i []) → bs.storage ≡ storage_of (dtype (columnar_tree c))
@@ -165,7 +193,7 @@ module _ (c : Columnar) (v : Option Tree) (valid : ValidRows) (told : AreTold (l
       let flat = flat_by (enc.views rs) is_column in
       record {
         typed = flat.0.1 ∙ (λ i. with_nullability (sym same i) (bytes_type (sym kind i)));
-        shown = λ i lt. rows_by bytes [] enc.views (λ ty n xs css. refl) rs (sym flat.0.2) is_column i lt
+        shown = λ i lt. rows_by bytes [] enc.views (λ n xs css. refl) rs (sym flat.0.2) is_column i lt
             ∙ ap (λ r. null_unless (is_valid valid i) (value (bytes r))) (sym (read i));
         sized = (rows_of (len t) (sym flat.0.2) (ap (λ st. are_bytes_of st rs) kind ∙ flat.1), sized);
       }
@@ -182,12 +210,12 @@ flat_unread read (Some t) xs n e long (inr h) =
     inr (h.0, i, h.2, row_told (Some t) t i fault (get_or cs i fault) refl h.3 cs (slice_get-get_or cs i fault there))
 
 module _ (c : Columnar) (v : Option Tree) (e : VortexError) (array : Tree) (is : array ≡ columnar_tree c) (unread : AreUnread (len (columnar_tree c)) v e) where
-  pub column_unread : {X : Type 0} (read : X → Value) (of_items : List X → Data) → AreCells read of_items → (xs : List X) → length xs ≡ len array
+  pub column_unread : {X : Type 0} (read : X → Value) (of_items : List X → Data) → AreCells (dtype (columnar_tree c)) read of_items → (xs : List X) → length xs ≡ len array
       → array ≡ column (dtype array) (len array) (of_items xs) v → IsUnread (columnar_tree c) e
   column_unread read of_items cells xs long is_column =
       let t = columnar_tree c in
       let shown : t ≡ column (dtype t) (len t) (of_items xs) v = subst (λ x. x ≡ column (dtype x) (len x) (of_items xs) v) is is_column in
-      let told = ap rows shown ∙ cells (dtype t) (len t) xs (slots_rows (slots_of (v ∷ [])))
+      let told = ap rows shown ∙ cells (len t) xs (slots_rows (slots_of (v ∷ [])))
       ∙ ap (λ css. valid_cells (cells_at css 0) (map (λ x. value (read x)) xs)) (one_slot v) in
       elim (flat_unread read v xs (len t) e (long ∙ ap len is) unread) [
         | inl m ↦ inl m

@@ -1,11 +1,11 @@
 -- What a column stores of a value.
-use Rattle.std.proofs.Common.{◌≡◌, ◌⊎◌, ℕ, List, [], ◌∷◌, pos, true, false, refl, sym, ◌∙◌, ap, subst, inl, inr}
+use Rattle.std.proofs.Common.{◌≡◌, ◌⊎◌, ℕ, ℤ, List, [], ◌∷◌, pos, true, false, refl, sym, ◌∙◌, ap, subst, inl, inr, arith}
 use Rattle.std.specs.Prelude.{unwrap_or}
 use Rattle.vx_value.specs.Types.{DataType, utf8, binary, nullability_of}
 use Rattle.vx_value.specs.Nullabilities.{with_nullability}
 use Rattle.vx_value.specs.Storage.{storage_of}
 use Rattle.vx_value.specs.declared.dtype.Storage.{Storage}
-use Rattle.vx_value.specs.declared.dtype.Storage.TheVariants.{Bits, Integers, Text, Bytes}
+use Rattle.vx_value.specs.declared.dtype.Storage.TheVariants.{Bits, Integers, Decimals, Text, Bytes}
 use Rattle.vx_value.specs.IsOf.{is_of, is_stored, is_null, in_range}
 use Rattle.vx_value.specs.Parts.{boolean_in, integer_in, bytes_in}
 use Rattle.vx_value.specs.Values as of
@@ -14,10 +14,22 @@ use Rattle.vx_value.specs.Typed.{Typed}
 use Rattle.vx_value.specs.declared.dtype.Nullability.{Nullability}
 use Rattle.vx_value.specs.declared.dtype.PType.{PType}
 use Rattle.vx_value.proofs.DefaultsLemmas.{both_true, zero_in_range, zero_typed}
-use Rattle.vx_tree.specs.ColumnTypes.{bytes_type, are_bytes_of}
-use Rattle.vx_rows.specs.Arguments.{AreBytes, IsRepeated, bytes_in as bytes_operand}
+use Rattle.vx_tree.specs.ColumnTypes.{bytes_type, are_bytes_of, are_decimals_of}
+use Rattle.std.specs.Prelude.{◌==◌, ◌^◌}
+use Rattle.std.specs.Cmp.{unsigned_Decides, first_so, second_so}
+use Rattle.std.proofs.Common.{lt-ltb}
+use Rattle.vx_value.specs.Types as type
+use Rattle.vx_value.specs.Decimals.{has_digits}
+use Rattle.vx_value.specs.declared.decimal.DecimalDType.{DecimalDType}
+use Rattle.vx_rows.specs.declared.argument.DecimalRows.TheVariants.{Value as OneDecimal}
+use Rattle.vx_rows.specs.Arguments.{AreBytes, IsRepeated, unscaled_of, bytes_in as bytes_operand}
 use Rattle.vx_rows.specs.declared.argument.ArgumentRows.TheVariants as stored
 use Rattle.vx_rows.specs.declared.argument.BytesOperand.{BytesOperand}
+use Rattle.vx_value.proofs.DecimalsLemmas.{ten_to}
+use Rattle.vx_value.specs.View.{type_of}
+use Rattle.vx_value.specs.declared.dtype.DType.{DType}
+use Rattle.vx_value.specs.declared.dtype.DType.TheVariants as dtypes
+use Rattle.vx_value.specs.declared.decimal.DecimalType.{DecimalType}
 
 pub stored_boolean : (m : Nullability) (st : Storage) (v : Value) → st ≡ Bits → is_stored m st v ≡ true → is_null v ≡ false
     → boolean (unwrap_or (boolean_in v) false) ≡ v
@@ -43,6 +55,37 @@ stored_integer p s e h = by_value s.value (sym (ap (λ x. is_stored (nullability
     by_value : (v : Value) → is_stored (nullability_of s.of_type) (Integers p) v ≡ true → in_range p (unwrap_or (integer_in v) (pos 0)) ≡ true
     by_value (integer z) k = k
     by_value _ k = zero_in_range p
+
+-- ---- of decimals
+
+-- what is stored of a value of a decimal type, 0 of null
+pub stored_decimal : (p q : ℕ) (m : Nullability) (v : Value) → is_stored m (Decimals p q) v ≡ true → is_null v ≡ false → of.decimal (unscaled_of v) q ≡ v
+stored_decimal p q m of.null h k = absurd (cc)
+stored_decimal p q m (of.decimal z r) h k = ap (of.decimal z) (sym ((unsigned_Decides r q).0 (first_so (r == q) _ h)))
+stored_decimal p q m _ h k = absurd (cc)
+
+-- a type is one of decimals if numbers are stored so
+pub decimal_typed : (t : DType) (w : DecimalType) (zs : List ℤ) → are_decimals_of (storage_of (type_of t)) w zs ≡ true
+    → ((d : DecimalDType) (m : Nullability) → t ≡ dtypes.Decimal d m → ⊥) → ⊥
+decimal_typed (dtypes.Decimal d m) w zs h other = other d m refl
+decimal_typed _ w zs h other = absurd (cc)
+
+pub decimal_kept : (p q : ℕ) (m : Nullability) (v : Value) → is_stored m (Decimals p q) v ≡ true → has_digits p (unscaled_of v) ≡ true
+decimal_kept p q m of.null h = lt-ltb 0 (10 ^ p) (ten_to {p = 0} {q = p} (omega arith))
+decimal_kept p q m (of.decimal z r) h = second_so (r == q) _ h
+decimal_kept p q m _ h = absurd (cc)
+
+-- a constant of them
+pub decimals_repeated : (s : Typed) (d : DecimalDType) (z : ℤ) (m : Nullability) → s.of_type ≡ type.decimal d.precision d.scale m → z ≡ unscaled_of s.value
+    → is_of s.of_type s.value ≡ true → IsRepeated s (stored.Decimals (record { decimal = d; rows = OneDecimal z }))
+decimals_repeated s d z m is number typed =
+    let n = nullability_of s.of_type in
+    let kind : is_stored n (Decimals d.precision d.scale) s.value ≡ true = ap (λ ty. is_stored n (storage_of ty) s.value) (sym is) ∙ typed in
+    record {
+      typed = ap (λ x. type.decimal d.precision d.scale (nullability_of x)) is ∙ sym is;
+      shown = λ i k. ap (λ x. of.decimal x d.scale) number ∙ stored_decimal d.precision d.scale n s.value kind k;
+      sized = λ k. ap (has_digits d.precision) number ∙ decimal_kept d.precision d.scale n s.value kind;
+    }
 
 -- ---- of text and bytes
 

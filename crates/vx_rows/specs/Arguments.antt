@@ -2,7 +2,7 @@
 use Rattle.std.specs.Prelude.{◌≡◌, ◌⊎◌, ◌<◌, ℕ, ℤ, pos, List, [], ◌∷◌, map, length, true, false, Option, Some, None, slice_index_or, slice_get}
 use Rattle.vx_value.specs.Types as type
 use Rattle.vx_value.specs.Types.{DataType, nullability_of}
-use Rattle.vx_value.specs.Values.{Value, boolean, integer, bytes}
+use Rattle.vx_value.specs.Values.{Value, boolean, integer, decimal, bytes}
 use Rattle.vx_value.specs.Cell.{Cell, value, fault}
 use Rattle.vx_value.specs.View.{type_of}
 use Rattle.vx_value.specs.Storage.{storage_of}
@@ -18,7 +18,10 @@ use Rattle.vx_value.specs.declared.error.VortexError.TheVariants.{OutOfMemory, F
 use Rattle.vx_value.specs.declared.dtype.PType.{PType}
 use Rattle.vx_mask.specs.Operands.{bit_in, HasBits}
 use Rattle.vx_native.specs.Natives.{values_of, ptype_of}
-use Rattle.vx_tree.specs.ColumnTypes.{bytes_type, are_bytes_of}
+use Rattle.vx_native.specs.DecimalNumbers.{numbers_of, decimal_type_of}
+use Rattle.vx_value.specs.Decimals.{has_digits}
+use Rattle.vx_value.specs.declared.decimal.DecimalDType.{DecimalDType}
+use Rattle.vx_tree.specs.ColumnTypes.{are_decimals_of, bytes_type, are_bytes_of}
 use Rattle.vx_tree.specs.Tree.{Tree, dtype, len}
 use Rattle.vx_tree.specs.Cells.{rows}
 use Rattle.vx_tree.specs.Columns.{columnar_tree}
@@ -26,6 +29,9 @@ use Rattle.vx_tree.specs.declared.columnar.Columnar.{Columnar}
 use Rattle.vx_rows.specs.declared.argument.IntegerOperand.{IntegerOperand}
 use Rattle.vx_rows.specs.declared.argument.IntegerRows.{IntegerRows}
 use Rattle.vx_rows.specs.declared.argument.IntegerRows.TheVariants as rows_in
+use Rattle.vx_rows.specs.declared.argument.DecimalOperand.{DecimalOperand}
+use Rattle.vx_rows.specs.declared.argument.DecimalRows.{DecimalRows}
+use Rattle.vx_rows.specs.declared.argument.DecimalRows.TheVariants as decimal_rows
 use Rattle.vx_rows.specs.declared.argument.BytesOperand.{BytesOperand}
 use Rattle.vx_rows.specs.declared.argument.BytesRows.{BytesRows}
 use Rattle.vx_rows.specs.declared.argument.BytesRows.TheVariants as bytes_rows
@@ -63,6 +69,32 @@ ptype_in zs = ptype_at zs.rows
 abbrev pub AreIntegers : PType → IntegerOperand → ℕ → Type 0
 AreIntegers p zs n = (ptype_in zs ≡ p) × IsInRange zs.rows × HasIntegers zs.rows n × (storage_of (type_of zs.dtype.now) ≡ storage.Integers p)
 
+-- the decimal at row i without its point, or 0 past the last one
+abbrev pub unscaled_at : DecimalRows → ℕ → ℤ
+unscaled_at (decimal_rows.Rows ds) i = slice_index_or (numbers_of ds.now) i (pos 0)
+unscaled_at (decimal_rows.Value z) i = z
+
+abbrev pub unscaled_in : DecimalOperand → ℕ → ℤ
+unscaled_in ds = unscaled_at ds.rows
+
+-- the decimal that a value is without its point, 0 for any other value
+abbrev pub unscaled_of : Value → ℤ
+unscaled_of (decimal z s) = z
+unscaled_of _ = pos 0
+
+-- how the decimals of a type are stored
+abbrev pub stored_decimals : DecimalDType → Storage
+stored_decimals d = storage.Decimals d.precision d.scale
+
+-- n decimals of the type; one stands for any number of them
+abbrev pub HasDecimals : DecimalDType → DecimalRows → ℕ → Type 0
+HasDecimals d (decimal_rows.Rows ds) n =
+    (length (numbers_of ds.now) ≡ n) × (are_decimals_of (stored_decimals d) (decimal_type_of ds.now) (numbers_of ds.now) ≡ true)
+HasDecimals d (decimal_rows.Value z) n = has_digits d.precision z ≡ true
+
+abbrev pub AreDecimals : DecimalOperand → ℕ → Type 0
+AreDecimals ds = HasDecimals ds.decimal ds.rows
+
 -- the bytes at row i, none past the last one
 abbrev pub bytes_at : BytesRows → ℕ → List ℕ
 bytes_at (bytes_rows.Rows rs) i = slice_index_or rs.now i []
@@ -83,30 +115,35 @@ AreBytes bs = HasBytes bs.storage bs.rows
 abbrev pub value_at : ArgumentRows → ℕ → Value
 value_at (stored.Bits bs) i = boolean (bit_in bs i)
 value_at (stored.Integers zs) i = integer (integer_in zs i)
+value_at (stored.Decimals ds) i = decimal (unscaled_in ds i) ds.decimal.scale
 value_at (stored.Bytes bs) i = bytes (bytes_in bs i)
 
 -- the type of the values: a line for each storage
 abbrev pub plain_type : ArgumentRows → DataType
 plain_type (stored.Bits bs) = type.bool NonNullable
 plain_type (stored.Integers zs) = type.primitive (ptype_in zs) NonNullable
+plain_type (stored.Decimals ds) = type.decimal ds.decimal.precision ds.decimal.scale NonNullable
 plain_type (stored.Bytes bs) = bytes_type bs.storage
 
 -- the type of a column of them, by its nullability
 abbrev pub type_of_rows : Nullability → ArgumentRows → DataType
 type_of_rows m (stored.Bits bs) = type.bool m
 type_of_rows m (stored.Integers zs) = type_of zs.dtype.now
+type_of_rows m (stored.Decimals ds) = type.decimal ds.decimal.precision ds.decimal.scale m
 type_of_rows m (stored.Bytes bs) = with_nullability m (bytes_type bs.storage)
 
 -- there are n of them, in a column of this nullability
 abbrev pub AreStored : Nullability → ArgumentRows → ℕ → Type 0
 AreStored m (stored.Bits bs) n = HasBits bs n
 AreStored m (stored.Integers zs) n = AreIntegers (ptype_in zs) zs n × (nullability_of (type_of zs.dtype.now) ≡ m)
+AreStored m (stored.Decimals ds) n = AreDecimals ds n
 AreStored m (stored.Bytes bs) n = AreBytes bs n
 
 -- there are n of them
 abbrev pub HasStored : ArgumentRows → ℕ → Type 0
 HasStored (stored.Bits bs) n = HasBits bs n
 HasStored (stored.Integers zs) n = AreIntegers (ptype_in zs) zs n
+HasStored (stored.Decimals ds) n = AreDecimals ds n
 HasStored (stored.Bytes bs) n = AreBytes bs n
 
 abbrev pub type_of_argument : Argument → DataType

@@ -4,17 +4,22 @@ use Rattle.vx_value.specs.Types as type
 use Rattle.vx_value.specs.declared.dtype.PType.{PType}
 use Rattle.vx_value.specs.Nullabilities.{with_nullability}
 use Rattle.vx_value.specs.declared.dtype.Storage.{Storage}
+use Rattle.vx_value.specs.declared.decimal.DecimalDType.{DecimalDType}
+use Rattle.vx_value.specs.declared.decimal.DecimalType.{DecimalType}
 use Rattle.vx_tree.specs.ColumnTypes.{bytes_type}
-use Rattle.vx_tree.specs.Tree.{Tree, column, bool, primitive, views}
+use Rattle.vx_tree.specs.Tree.{Tree, column, bool, primitive, decimals, views}
 use Rattle.vx_tree.specs.Validities.{nullability_by, child_of}
 use Rattle.vx_tree.specs.declared.validity.Validity.{Validity}
 
--- of booleans, of integers, and of text or bytes, by how they are stored
+-- of booleans, of integers, of decimals without their points, and of text or bytes, by how they are stored
 abbrev pub boolean_column : List Bool → Validity → Tree
 boolean_column bs v = column (type.bool (nullability_by v)) (length bs) (bool bs) (child_of v (length bs))
 
 abbrev pub integer_column : PType → List ℤ → Validity → Tree
 integer_column p zs v = column (type.primitive p (nullability_by v)) (length zs) (primitive p zs) (child_of v (length zs))
+
+abbrev pub decimal_column : DecimalDType → DecimalType → List ℤ → Validity → Tree
+decimal_column d w zs v = column (type.decimal d.precision d.scale (nullability_by v)) (length zs) (decimals w zs) (child_of v (length zs))
 
 abbrev pub bytes_column : Storage → List (List ℕ) → Validity → Tree
 bytes_column st rs v = column (with_nullability (nullability_by v) (bytes_type st)) (length rs) (views rs) (child_of v (length rs))

@@ -5,17 +5,17 @@ ghost use Rattle.std.specs.List.{AllZip};
 ghost use Rattle.vx_tree.specs.ColumnTypes.{has_column};
 ghost use Rattle.vx_tree.specs.Columns.{columnar_tree};
 ghost use Rattle.vx_tree.specs.Cells.{rows};
-ghost use Rattle.vx_rows.specs.Arguments.{IsArgument, IsUnread, IsRepeated, AreUnread, AnyUnread, AreBytes, ptype_in, bytes_in};
+ghost use Rattle.vx_rows.specs.Arguments.{IsArgument, IsUnread, IsRepeated, AreUnread, AnyUnread, AreBytes, ptype_in, bytes_in, unscaled_of};
 ghost use Rattle.vx_rows.specs.ValidRows.{HasValidity, AreTold, TellsRows, IsRepeatedValidity, nullability_in};
-ghost use Rattle.vx_rows.specs.declared.argument.ArgumentRows.TheVariants.{Integers, Bytes};
+ghost use Rattle.vx_rows.specs.declared.argument.ArgumentRows.TheVariants.{Integers, Decimals, Bytes};
 
 use crate::probe::truths_in;
 use crate::valid::ValidRows;
 use std::alloc::{AllocError, Global};
 use vx_mask::{BitBuffer, BitOperand};
-use vx_native::PrimitiveValues;
+use vx_native::{DecimalValues, PrimitiveValues};
 use vx_tree::{ArrayKind, ArrayRef, Columnar};
-use vx_value::{DType, Nullability, PType, Scalar, Storage, VortexResult};
+use vx_value::{DType, DecimalDType, Nullability, PType, Scalar, Storage, VortexResult};
 use vx_views::BinaryViews;
 
 /// An argument: its rows, and which of them aren't null.
@@ -30,6 +30,7 @@ pub struct Argument<'a> {
 pub enum ArgumentRows<'a> {
     Bits(BitOperand<'a>),
     Integers(IntegerOperand<'a>),
+    Decimals(DecimalOperand<'a>),
     Bytes(BytesOperand<'a>),
 }
 
@@ -47,6 +48,22 @@ pub enum IntegerRows<'a> {
     Rows(&'a PrimitiveValues),
     /// One integer for every row, in the range of its type.
     Value(PType, i128),
+}
+
+/// Decimals without their points, and the type whose values they are.
+#[derive(Clone, Copy)]
+pub struct DecimalOperand<'a> {
+    pub decimal: DecimalDType,
+    pub rows: DecimalRows<'a>,
+}
+
+/// Decimals of one type, without their points.
+#[derive(Clone, Copy)]
+pub enum DecimalRows<'a> {
+    /// A number for each row, in integers of the narrowest width that the type allows.
+    Rows(&'a DecimalValues),
+    /// One number for every row.
+    Value(i128),
 }
 
 /// Rows of bytes, and how their values are stored: as text if they are text, else as bytes.
@@ -116,6 +133,18 @@ pub fn argument_of(alloc: Global, column: &Columnar) -> VortexResult<Argument<'_
                 Err(e) => Err(e),
             }
         }
+        ArrayKind::Decimal(values, validity) => {
+            let DType::Decimal(decimal, _) = dtype else {
+                unreachable!()
+            };
+            match valid_rows(alloc, validity, dtype.nullability(), len) {
+                Ok(valid) => Ok(Argument {
+                    rows: decimals_of(*decimal, DecimalRows::Rows(values)),
+                    valid,
+                }),
+                Err(e) => Err(e),
+            }
+        }
         ArrayKind::VarBinView(rows, validity) => {
             match valid_rows(alloc, validity, dtype.nullability(), len) {
                 Ok(valid) => Ok(Argument {
@@ -140,6 +169,13 @@ fn integers_of<'a>(dtype: &'a DType, rows: IntegerRows<'a>) -> ArgumentRows<'a>
     ArgumentRows::Integers(IntegerOperand { dtype, rows })
 }
 
+/// Returns `rows`, decimals of type `decimal` without their points, as those of an argument.
+fn decimals_of(decimal: DecimalDType, rows: DecimalRows<'_>) -> ArgumentRows<'_>
+    ensures { result ≡ Decimals (record { decimal = decimal; rows = rows.entry }) }
+{
+    ArgumentRows::Decimals(DecimalOperand { decimal, rows })
+}
+
 /// Returns `rows`, of values that are stored so, as those of an argument.
 fn bytes_of(storage: Storage, rows: BytesRows<'_>) -> ArgumentRows<'_>
     ensures { result ≡ Bytes (record { storage = storage; rows = rows.entry }) }
@@ -160,11 +196,27 @@ fn repeated_rows(scalar: &Scalar) -> ArgumentRows<'_>
             let wide = scalar.as_integer().unwrap_or(0);
             integers_of(dtype, IntegerRows::Value(ptype, wide))
         }
+        Storage::Decimals { .. } => {
+            let DType::Decimal(decimal, _) = dtype else {
+                unreachable!()
+            };
+            decimals_of(*decimal, DecimalRows::Value(unscaled_of(scalar)))
+        }
         Storage::Text | Storage::Bytes => {
             let bytes = scalar.as_bytes().unwrap_or(&[]);
             bytes_of(dtype.storage(), BytesRows::Value(bytes))
         }
         _ => unreachable!(),
+    }
+}
+
+/// Returns the decimal that `scalar` is without its point, or 0 if it is no decimal. (own)
+pub fn unscaled_of(scalar: &Scalar) -> i128
+    ensures { result ≡ unscaled_of scalar.now.value }
+{
+    match scalar.as_decimal() {
+        Some(decimal) => decimal.unscaled,
+        None => 0,
     }
 }
 

@@ -2,16 +2,20 @@
 
 ghost use Rattle.std.specs.Prelude.{◌≡◌, length, true, IfOk, IfErr};
 ghost use Rattle.vx_native.specs.Natives.{values_of, ptype_of};
-ghost use Rattle.vx_tree.specs.ColumnTypes.{are_bytes_of};
+ghost use Rattle.vx_native.specs.DecimalNumbers.{numbers_of, decimal_type_of};
+ghost use Rattle.vx_tree.specs.ColumnTypes.{are_decimals_of, are_bytes_of};
 ghost use Rattle.vx_tree.specs.Validities.{HasRows};
 ghost use Rattle.vx_tree.specs.Columns.{canonical_tree};
-ghost use Rattle.vx_rows.specs.Stored.{boolean_column, integer_column, bytes_column};
+ghost use Rattle.vx_rows.specs.Arguments.{stored_decimals};
+ghost use Rattle.vx_rows.specs.Stored.{boolean_column, integer_column, decimal_column, bytes_column};
 
 use std::alloc::Global;
 use vx_mask::BitBuffer;
-use vx_native::PrimitiveValues;
-use vx_tree::{BoolArray, Canonical, PrimitiveArray, Validity, VarBinViewArray, bytes_type};
-use vx_value::{DType, Storage, VortexError, VortexResult};
+use vx_native::{DecimalValues, PrimitiveValues};
+use vx_tree::{
+    BoolArray, Canonical, DecimalArray, PrimitiveArray, Validity, VarBinViewArray, bytes_type,
+};
+use vx_value::{DType, DecimalDType, Storage, VortexError, VortexResult};
 use vx_views::BinaryViews;
 
 /// Makes the column of `bits`, whose null rows `validity` tells. The only error is `OutOfMemory`.
@@ -40,6 +44,25 @@ pub fn primitive_column(
     let dtype = DType::Primitive(values.ptype(), validity.nullability());
     let column = PrimitiveArray::try_new(alloc, dtype, values, validity)?;
     Ok(Canonical::Primitive(column))
+}
+
+/// Makes the column of `values`, decimals of type `decimal` without their points, whose null rows `validity` tells. The only error is
+/// `OutOfMemory`.
+#[tactic(auto, using(crate::proofs::NullsLemmas::decimals_taken))]
+pub fn decimal_column(
+    alloc: Global,
+    decimal: DecimalDType,
+    values: DecimalValues,
+    validity: &Validity,
+) -> VortexResult<Canonical>
+    requires sized { HasRows validity.now (length (numbers_of values)) }
+    requires stored { are_decimals_of (stored_decimals decimal) (decimal_type_of values) (numbers_of values) ≡ true }
+    ensures ok { IfOk result (λ c. canonical_tree c ≡ decimal_column decimal (decimal_type_of values) (numbers_of values) validity.now) }
+    ensures err { IfErr result (λ e. e ≡ VortexError.OutOfMemory) }
+{
+    let dtype = DType::Decimal(decimal, validity.nullability());
+    let column = DecimalArray::new_unchecked(alloc, dtype, values, validity)?;
+    Ok(Canonical::Decimal(column))
 }
 
 /// Makes the column of `rows`, of values that are stored so, whose null rows `validity` tells. The only error is `OutOfMemory`.

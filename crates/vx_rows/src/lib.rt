@@ -8,9 +8,9 @@ mod probe;
 mod valid;
 
 pub use argument::{
-    Argument, ArgumentRows, BytesOperand, BytesRows, IntegerOperand, IntegerRows, argument_of,
-    arguments_of,
+    Argument, ArgumentRows, BytesOperand, BytesRows, DecimalOperand, DecimalRows, IntegerOperand,
+    IntegerRows, argument_of, arguments_of, unscaled_of,
 };
-pub use column::{bool_column, primitive_column, varbinview_column};
+pub use column::{bool_column, decimal_column, primitive_column, varbinview_column};
 pub use probe::{execute_scalar, truths_in};
 pub use valid::ValidRows;

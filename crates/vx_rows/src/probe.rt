@@ -4,10 +4,13 @@ ghost use Rattle.std.specs.Prelude.{◌≡◌, ◌⊎◌, ◌≤◌, ◌<◌, If
 ghost use Rattle.vx_value.specs.Types as type;
 ghost use Rattle.vx_value.specs.Types.{nullability_of};
 ghost use Rattle.vx_value.specs.View.{type_of};
-ghost use Rattle.vx_value.specs.Values.{Value, boolean, integer, bytes};
+ghost use Rattle.vx_value.specs.Values.{Value, boolean, integer, decimal, bytes};
+ghost use Rattle.vx_value.specs.Storage.{storage_of};
 ghost use Rattle.vx_value.specs.IsOf.{is_of};
 ghost use Rattle.vx_value.specs.Cell.{value, fault};
 ghost use Rattle.vx_native.specs.Natives.{values_of, ptype_of};
+ghost use Rattle.vx_native.specs.DecimalNumbers.{numbers_of, decimal_type_of};
+ghost use Rattle.vx_tree.specs.ColumnTypes.{are_decimals_of, scale_of};
 ghost use Rattle.vx_tree.specs.Tree.{node, function, dtype, len, slots_of};
 ghost use Rattle.vx_tree.specs.Cells.{rows};
 ghost use Rattle.vx_tree.specs.Well.{IsNode, shapes};
@@ -18,7 +21,7 @@ ghost use Rattle.vx_rows.specs.ValidRows.{null_unless};
 use std::alloc::Global;
 use vx_fn::{ScalarFnRef, apply_row};
 use vx_mask::{BitBuffer, BitBuilder};
-use vx_native::PrimitiveValues;
+use vx_native::{DecimalValues, PrimitiveValues};
 use vx_tree::{ArrayKind, ArrayRef};
 use vx_value::{
     ByteBuffer, DType, Nullability, Scalar, ScalarKind, ScalarValue, VortexError, VortexResult,
@@ -76,6 +79,11 @@ fn row_at(alloc: Global, array: &ArrayRef, index: usize) -> VortexResult<Scalar>
             Some(false) => Ok(Scalar::null(dtype.clone()?)),
             None => scalar_at(alloc, array, index),
         },
+        ArrayKind::Decimal(values, validity) => match stored_validity(dtype, validity, index) {
+            Some(true) => Ok(decimal_at(values, index, dtype)),
+            Some(false) => Ok(Scalar::null(dtype.clone()?)),
+            None => scalar_at(alloc, array, index),
+        },
         _ => scalar_at(alloc, array, index),
     }
 }
@@ -114,6 +122,9 @@ fn scalar_at(alloc: Global, array: &ArrayRef, index: usize) -> VortexResult<Scal
         }
         ArrayKind::Primitive(values, validity) => {
             unless_null(alloc, validity, index, integer_at(values, index, dtype))
+        }
+        ArrayKind::Decimal(values, validity) => {
+            unless_null(alloc, validity, index, decimal_at(values, index, dtype))
         }
         ArrayKind::VarBinView(rows, validity) => {
             let stored = bytes_at(alloc, rows, index, dtype)?;
@@ -245,6 +256,19 @@ fn integer_at(values: &PrimitiveValues, index: usize, dtype: &DType) -> Scalar
     Scalar::primitive(values.wide_at(index), values.ptype(), dtype.nullability())
 }
 
+/// Returns the decimal that a column of type `dtype`, one of decimals, stores in row `index`.
+fn decimal_at(values: &DecimalValues, index: usize, dtype: &DType) -> Scalar
+    requires index { index < length (numbers_of values.now) }
+    requires typed { are_decimals_of (storage_of (type_of dtype.now)) (decimal_type_of values.now) (numbers_of values.now) ≡ true }
+    ensures row { slice_get (map (λ z. value (decimal z (scale_of (storage_of (type_of dtype.now))))) (numbers_of values.now)) index ≡ Some (value result.value) }
+    ensures typed { result.of_type ≡ type_of dtype.now }
+{
+    let DType::Decimal(decimal, nullability) = dtype else {
+        unreachable!()
+    };
+    Scalar::decimal(values.wide_at(index), *decimal, *nullability)
+}
+
 /// Returns the bytes that a column of type `dtype`, one of text or bytes, stores in row `index`. The only error is `OutOfMemory`.
 fn bytes_at(alloc: Global, rows: &BinaryViews, index: usize, dtype: &DType) -> VortexResult<Scalar>
     requires index { index < length rows.now }
@@ -254,7 +278,8 @@ fn bytes_at(alloc: Global, rows: &BinaryViews, index: usize, dtype: &DType) -> V
     ensures err { IfErr result (λ e. e ≡ VortexError.OutOfMemory) }
 {
     let bytes = ByteBuffer::copy_from(alloc, rows.value(index))?;
-    Scalar::try_new(dtype.clone()?, Some(ScalarValue::Bytes(bytes)))
+    let value = Some(ScalarValue::Bytes(bytes));
+    Ok(Scalar::new_unchecked(dtype.clone()?, value))
 }
 
 /// Returns the rows of `array`, which must be non-nullable booleans. Shares those of a column without a validity, and repeats a

@@ -1,11 +1,22 @@
-use Rattle.std.proofs.Common.{◌≡◌, ◌⊎◌, [], ap, sym, ◌∙◌, subst, refl, rules}
+use Rattle.std.proofs.Common.{◌≡◌, ◌⊎◌, [], ap, sym, ◌∙◌, subst, refl, rules, FitsSigned}
 use Rattle.std.specs.Prelude.{unwrap_or}
 use Rattle.vx_value.specs.Storage.{storage_of}
 use Rattle.vx_value.specs.Parts.{bytes_in}
 use Rattle.vx_value.specs.declared.dtype.Storage.TheVariants.{Text, Bytes}
 use Rattle.vx_rows.specs.declared.argument.BytesRows.TheVariants.{Value}
-use Rattle.vx_rows.proofs.StoredLemmas.{bytes_repeated}
+use Rattle.vx_rows.proofs.StoredLemmas.{bytes_repeated, decimals_repeated}
 use Rattle.vx_rows.proofs.argument.repeated_rows.Goals as goal
+use Rattle.vx_value.specs.View.{type_of}
+use Rattle.std.proofs.Math.Facts.{to_z-of_z}
+use Rattle.std.specs.Int.{w128}
+
+pub returns-in-Decimal : goal.returns-in-Decimal
+returns-in-Decimal c =
+    let s = c.args.scalar.now in
+    let fits : FitsSigned w128 c.unscaled_of.result = search rules in
+    rw c.decimals_of.ensures
+    (decimals_repeated s c.in-Decimal.decimal _ c.in-Decimal.field-1 (sym c.dtype-dtype.ensures.dtype ∙ ap type_of c.in-Decimal.is)
+    (to_z-of_z fits ∙ c.unscaled_of.ensures) c.dtype-dtype.ensures.typed)
 
 pub returns-in-Text : goal.returns-in-Text
 returns-in-Text c =

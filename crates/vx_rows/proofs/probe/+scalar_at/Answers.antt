@@ -1,12 +1,14 @@
 use Rattle.std.proofs.Common.{get_or, inl, inr, arith, Some, sym, ap, subst, ◌∙◌, ◌≡◌, rules}
-use Rattle.std.proofs.lemmas.Result.{IfOk-weaker}
+use Rattle.std.proofs.lemmas.Result.{IfOk-weaker, IfErr-weaker}
 use Rattle.vx_rows.specs.Nulls.{IsRowBy}
 use Rattle.vx_value.specs.Cell.{value, fault}
 use Rattle.vx_mask.specs.Masks.{bits_in}
 use Rattle.vx_mask.proofs.PlacesLemmas.{place_is}
+use Rattle.vx_value.specs.View.{type_of}
+use Rattle.vx_native.specs.DecimalNumbers.{numbers_of, decimal_type_of}
 use Rattle.vx_tree.specs.Tree.{slots_of, height, slots_height, dtype, len}
 use Rattle.vx_rows.proofs.ArgumentsLemmas.{zipped_more}
-use Rattle.vx_rows.proofs.CellsLemmas.{IsRead, IsBelow, all_read, slice_row, child_below, child_faulted, function_taken, function_row, function_faulted, row_told, row_known, bits_row, constant_row, filter_row, filter_place, shown_row, shown_fault, masked_fault}
+use Rattle.vx_rows.proofs.CellsLemmas.{IsRead, IsBelow, all_read, slice_row, child_below, child_faulted, function_taken, function_row, function_faulted, row_told, row_known, bits_row, constant_row, filter_row, filter_place, shown_row, shown_fault, masked_fault, decimal_row, IfOk-both}
 use Rattle.vx_rows.proofs.probe.+scalar_at.Goals as goal
 
 pub scalar_at-returns-in-Slice-clause-ok : goal.scalar_at-returns-in-Slice-clause-ok
@@ -70,6 +72,33 @@ scalar_at-returns-in-Err-scalar_at-clause-err t c =
       | inl m ↦ inl m
       | inr m ↦ inr (m.0, shown_fault c.args.array.now c.in-ScalarFnValidity.child.now c.args.index c.in-ScalarFnValidity.ensures m.1)
     ]
+
+pub scalar_at-returns-in-Decimal-clause-ok : goal.scalar_at-returns-in-Decimal-clause-ok
+scalar_at-returns-in-Decimal-clause-ok t c =
+    let a = c.args.array.now in
+    let values = c.in-Decimal.values.now in
+    IfOk-both c.unless_null-in-Decimal.result
+    (λ s h k. (
+      decimal_row a c.in-Decimal.validity.now (decimal_type_of values) (numbers_of values) (type_of c.dtype-dtype.result.now) c.args.index
+          (value c.decimal_at.result.value) (value s.value) c.in-Decimal.ensures.0 c.dtype-dtype.ensures c.decimal_at.ensures.row h,
+      k ∙ c.decimal_at.ensures.typed ∙ c.dtype-dtype.ensures,
+    ))
+    c.unless_null-in-Decimal.ensures.ok c.unless_null-in-Decimal.ensures.typed
+
+pub scalar_at-returns-in-Decimal-clause-err : goal.scalar_at-returns-in-Decimal-clause-err
+scalar_at-returns-in-Decimal-clause-err t c =
+    let a = c.args.array.now in
+    let values = c.in-Decimal.values.now in
+    IfErr-weaker c.unless_null-in-Decimal.result _ _
+    (λ e h. elim h [
+      | inl m ↦ inl m
+      | inr m ↦ inr (
+        m.0,
+        decimal_row a c.in-Decimal.validity.now (decimal_type_of values) (numbers_of values) (type_of c.dtype-dtype.result.now) c.args.index
+            (value c.decimal_at.result.value) fault c.in-Decimal.ensures.0 c.dtype-dtype.ensures c.decimal_at.ensures.row m.1,
+      )
+    ])
+    c.unless_null-in-Decimal.ensures.err
 
 pub function_at-unreachable-requires : goal.function_at-unreachable-requires
 function_at-unreachable-requires t c =
