@@ -1,5 +1,5 @@
 -- Columns at the true bits of a mask: their values, and their validity.
-use Rattle.std.proofs.Common.{◌≡◌, ℕ, zero, suc, List, [], ◌∷◌, length, map, replicate, Bool, true, false, Option, Some, None}
+use Rattle.std.proofs.Common.{◌≡◌, ℕ, zero, suc, List, [], ◌∷◌, length, map, replicate, Bool, true, false, Option, Some, None, ℤ}
 use Rattle.std.proofs.Common.{refl, sym, ap, subst, ◌∙◌, arith}
 use Rattle.std.proofs.lemmas.List.{length-map, length-replicate}
 use Rattle.std.specs.List.{list_all}
@@ -9,7 +9,7 @@ use Rattle.std.proofs.lemmas.Bool.{and_from}
 use Rattle.vx_value.specs.Types.{DataType, bool, nullability_of}
 use Rattle.vx_value.specs.declared.dtype.Storage.{Storage}
 use Rattle.vx_value.specs.declared.dtype.Storage.TheVariants.{Text}
-use Rattle.vx_tree.specs.ColumnTypes.{are_bytes_of}
+use Rattle.vx_tree.specs.ColumnTypes.{are_bytes_of, are_decimals_of}
 use Rattle.vx_value.specs.Nullabilities.{with_nullability}
 use Rattle.vx_value.specs.Values.{Value, boolean}
 use Rattle.vx_value.specs.Cell.{Cell, value}
@@ -35,6 +35,10 @@ use Rattle.vx_rows.specs.Nulls.{validity_cells}
 use Rattle.vx_rows.specs.ValidRows.{TellsRows}
 use Rattle.vx_rows.proofs.KeepsLemmas.{any_rows, copies_clean}
 use Rattle.vx_rows.proofs.ValidRowsLemmas.{one_slot}
+use Rattle.vx_value.specs.declared.decimal.DecimalDType.{DecimalDType}
+use Rattle.vx_value.specs.declared.decimal.DecimalType.{DecimalType}
+use Rattle.vx_value.specs.Decimals.{has_digits, smallest_width, same_width}
+use Rattle.vx_rows.specs.Arguments.{stored_decimals}
 
 -- ---- cells chosen by a mask
 
@@ -144,23 +148,25 @@ pub rows_chosen : {X : Type 0} (bits : List Bool) (xs ys : List X) (t u : Tree) 
 rows_chosen bits xs ys t u v long masked same kept h =
     subst (HasRows v) (chosen_count bits xs ys (len t) long (masked ∙ ap len (sym same)) kept) h
 
-module _ {X : Type 0} (read : X → Value) (of_items : List X → Data)
-    (cells : (ty : DataType) (n : ℕ) (xs : List X) (css : List (List Cell))
-    → node_cells ty n (of_items xs) css ≡ valid_cells (cells_at css 0) (map (λ x. value (read x)) xs)) where
-  pub column_cells : (ty : DataType) (n : ℕ) (xs : List X) (v : Option Tree) → rows (column ty n (of_items xs) v) ≡ valid_cells (validity_cells v) (map (λ x. value (read x)) xs)
-  column_cells ty n xs v = ap (node_cells ty n (of_items xs)) (one_slot v) ∙ cells ty n xs (validity_cells v ∷ [])
+module _ {X : Type 0} (read : X → Value) (of_items : List X → Data) (of_type : DataType)
+    (cells : (m : Nullability) (n : ℕ) (xs : List X) (css : List (List Cell))
+    → node_cells (with_nullability m of_type) n (of_items xs) css ≡ valid_cells (cells_at css 0) (map (λ x. value (read x)) xs)) where
+  pub column_cells : (m : Nullability) (n : ℕ) (xs : List X) (v : Option Tree)
+      → rows (column (with_nullability m of_type) n (of_items xs) v) ≡ valid_cells (validity_cells v) (map (λ x. value (read x)) xs)
+  column_cells m n xs v = ap (node_cells (with_nullability m of_type) n (of_items xs)) (one_slot v) ∙ cells m n xs (validity_cells v ∷ [])
 
-  pub filtered_exactly : (bits : List Bool) (xs ys : List X) (v w : Option Tree) (ty : DataType) (n : ℕ) → length xs ≡ n → length bits ≡ n → ys ≡ chosen bits xs
-      → IsChoice bits v w → KeepsExactly (filter_of bits (column ty n (of_items xs) v)) (column ty (length ys) (of_items ys) w)
-  filtered_exactly bits xs ys v w ty n long masked kept choice =
-      let t = column ty n (of_items xs) v in
-      let u = column ty (length ys) (of_items ys) w in
+  pub filtered_exactly : (bits : List Bool) (xs ys : List X) (v w : Option Tree) (m : Nullability) (n : ℕ) → length xs ≡ n → length bits ≡ n → ys ≡ chosen bits xs
+      → IsChoice bits v w
+      → KeepsExactly (filter_of bits (column (with_nullability m of_type) n (of_items xs) v)) (column (with_nullability m of_type) (length ys) (of_items ys) w)
+  filtered_exactly bits xs ys v w m n long masked kept choice =
+      let t = column (with_nullability m of_type) n (of_items xs) v in
+      let u = column (with_nullability m of_type) (length ys) (of_items ys) w in
       let stored = λ (zs : List X). map (λ x. value (read x)) zs in
       let shown : rows (filter_of bits t) ≡ rows u =
-      ap (chosen bits) (column_cells ty n xs v)
+      ap (chosen bits) (column_cells m n xs v)
       ∙ choice.told (stored xs) (length-map xs (λ x. value (read x)) ∙ long ∙ sym masked)
       ∙ ap (valid_cells (validity_cells w)) (chosen_map (λ x. value (read x)) bits xs ∙ ap stored (sym kept))
-      ∙ sym (column_cells ty (length ys) ys w) in
+      ∙ sym (column_cells m (length ys) ys w) in
       record {
         keeps = record {
           same_type = refl;
@@ -171,18 +177,20 @@ module _ {X : Type 0} (read : X → Value) (of_items : List X → Data)
         equal = shown;
       }
 
-  pub column_filtered : (of_type : DataType) (bits : List Bool) (xs ys : List X) (v : Option Tree) (w : Validity) (t u : Tree) →
+  pub column_filtered : (bits : List Bool) (xs ys : List X) (v : Option Tree) (w : Validity) (t u : Tree) →
       t ≡ column (dtype t) (len t) (of_items xs) v → IsFlat of_type (length xs) (dtype t) (len t) (shapes (slots_of (v ∷ []))) →
       length bits ≡ len t → ys ≡ chosen bits xs → nullability_by w ≡ nullability_of (dtype t) → IsChoice bits v (child_of w (true_count bits)) →
       u ≡ column (with_nullability (nullability_by w) of_type) (length ys) (of_items ys) (child_of w (length ys)) → KeepsExactly (filter_of bits t) u
-  column_filtered of_type bits xs ys v w t u is flat long kept same choice made =
+  column_filtered bits xs ys v w t u is flat long kept same choice made =
+      let m = nullability_by w in
       let child : child_of w (true_count bits) ≡ child_of w (length ys) = ap (child_of w) (chosen_count bits xs ys (len t) (sym flat.2) long kept) in
-      let typed : dtype t ≡ with_nullability (nullability_by w) of_type = flat.1 ∙ ap (λ m. with_nullability m of_type) (sym same) in
-      let shown : column (dtype t) (length ys) (of_items ys) (child_of w (true_count bits)) ≡ u =
-      (λ i. column (typed i) (length ys) (of_items ys) (child i)) ∙ sym made in
+      let typed : dtype t ≡ with_nullability m of_type = flat.1 ∙ ap (λ x. with_nullability x of_type) (sym same) in
+      let whole : t ≡ column (with_nullability m of_type) (len t) (of_items xs) v = is ∙ ap (λ ty. column ty (len t) (of_items xs) v) typed in
+      let shown : column (with_nullability m of_type) (length ys) (of_items ys) (child_of w (true_count bits)) ≡ u =
+      ap (column (with_nullability m of_type) (length ys) (of_items ys)) child ∙ sym made in
       subst (KeepsExactly (filter_of bits t)) shown
-      (subst (λ x. KeepsExactly (filter_of bits x) (column (dtype t) (length ys) (of_items ys) (child_of w (true_count bits)))) (sym is)
-      (filtered_exactly bits xs ys v (child_of w (true_count bits)) (dtype t) (len t) (sym flat.2) long kept choice))
+      (subst (λ x. KeepsExactly (filter_of bits x) (column (with_nullability m of_type) (length ys) (of_items ys) (child_of w (true_count bits)))) (sym whole)
+      (filtered_exactly bits xs ys v (child_of w (true_count bits)) m (len t) (sym flat.2) long kept choice))
 
 -- booleans without a validity, filtered at once
 pub booleans_filtered : (bits bs kept : List Bool) (t : Tree) → t ≡ column (dtype t) (len t) (enc.bool bs) None → dtype t ≡ bool NonNullable → IsNodeOf t
@@ -191,22 +199,29 @@ booleans_filtered bits bs kept t is typed well long e =
     let whole_is : t ≡ column (bool NonNullable) (len t) (enc.bool bs) None = is ∙ ap (λ ty. column ty (len t) (enc.bool bs) None) typed in
     let flat : IsFlat (bool NonNullable) (length bs) (dtype t) (len t) (shapes (slots_of (None ∷ []))) = subst IsNodeOf is well in
     subst (λ x. KeepsExactly (filter_of bits x) (booleans kept)) (sym whole_is)
-    (filtered_exactly boolean enc.bool (λ ty n xs css. refl) bits bs kept None None (bool NonNullable) (len t) (sym flat.2) long e (choice_none bits))
+    (filtered_exactly boolean enc.bool (bool NonNullable) (λ m n xs css. refl) bits bs kept None None NonNullable (len t) (sym flat.2) long e (choice_none bits))
 
--- ---- rows of bytes
+-- ---- values that pass a test
 
-all_chosen : (bits : List Bool) (rs : List (List ℕ)) → list_all is_utf8 rs ≡ true → list_all is_utf8 (chosen bits rs) ≡ true
-unfolding chosen
-all_chosen [] rs h = refl
-all_chosen (b ∷ bits) [] h = by_bit b
-  where
-    by_bit : (b : Bool) → list_all is_utf8 (chosen (b ∷ bits) []) ≡ true
-    by_bit true = refl
-    by_bit false = refl
-all_chosen (true ∷ bits) (r ∷ rs) h = and_from (is_utf8 r) _ (first_so (is_utf8 r) _ h) (all_chosen bits rs (second_so (is_utf8 r) _ h))
-all_chosen (false ∷ bits) (r ∷ rs) h = all_chosen bits rs (second_so (is_utf8 r) _ h)
+module _ {X : Type 0} (test : X → Bool) where
+  all_chosen : (bits : List Bool) (xs : List X) → list_all test xs ≡ true → list_all test (chosen bits xs) ≡ true
+  unfolding chosen
+  all_chosen [] xs h = refl
+  all_chosen (b ∷ bits) [] h = by_bit b
+    where
+      by_bit : (b : Bool) → list_all test (chosen (b ∷ bits) []) ≡ true
+      by_bit true = refl
+      by_bit false = refl
+  all_chosen (true ∷ bits) (x ∷ xs) h = and_from (test x) _ (first_so (test x) _ h) (all_chosen bits xs (second_so (test x) _ h))
+  all_chosen (false ∷ bits) (x ∷ xs) h = all_chosen bits xs (second_so (test x) _ h)
 
--- those that are chosen are of their type too
+-- rows of bytes that are chosen are of their type too, and so are decimals
 pub bytes_chosen : (st : Storage) (bits : List Bool) (rs kept : List (List ℕ)) → are_bytes_of st rs ≡ true → kept ≡ chosen bits rs → are_bytes_of st kept ≡ true
-bytes_chosen Text bits rs kept h made = ap (list_all is_utf8) made ∙ all_chosen bits rs h
+bytes_chosen Text bits rs kept h made = ap (list_all is_utf8) made ∙ all_chosen is_utf8 bits rs h
 bytes_chosen _ bits rs kept h made = refl
+
+pub decimals_chosen : (d : DecimalDType) (bits : List Bool) (w u : DecimalType) (zs kept : List ℤ) → are_decimals_of (stored_decimals d) w zs ≡ true → u ≡ w
+    → kept ≡ chosen bits zs → are_decimals_of (stored_decimals d) u kept ≡ true
+decimals_chosen d bits w u zs kept h same made =
+    let width = ap (λ x. same_width x (smallest_width d.precision)) same ∙ first_so _ _ h in
+    and_from _ _ width (ap (list_all (has_digits d.precision)) made ∙ all_chosen (has_digits d.precision) bits zs (second_so (same_width w (smallest_width d.precision)) _ h))

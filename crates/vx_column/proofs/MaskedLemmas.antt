@@ -117,25 +117,25 @@ both_bits n t u xs ys bits v first second left right made told =
 
 -- ---- a column of values of one type, each read from an item
 
-module _ {X : Type 0} (read : X → Value) (of_items : List X → Data)
-    (cells : (ty : DataType) (n : ℕ) (xs : List X) (css : List (List Cell))
-    → node_cells ty n (of_items xs) css ≡ valid_cells (cells_at css 0) (map (λ x. value (read x)) xs))
-    (of_type : DataType) (set : (m : Nullability) → with_nullability Nullable (with_nullability m of_type) ≡ with_nullability Nullable of_type) where
-  masked_exactly : (xs : List X) (v c w : Option Tree) (ty : DataType) → ty ≡ with_nullability (nullability_of ty) of_type → IsBoth (length xs) v c w
-      → KeepsExactly (masked_of (column ty (length xs) (of_items xs) v) c) (column (with_nullability Nullable of_type) (length xs) (of_items xs) w)
-  masked_exactly xs v c w ty typed both =
+module _ {X : Type 0} (read : X → Value) (of_items : List X → Data) (of_type : DataType)
+    (cells : (m : Nullability) (n : ℕ) (xs : List X) (css : List (List Cell))
+    → node_cells (with_nullability m of_type) n (of_items xs) css ≡ valid_cells (cells_at css 0) (map (λ x. value (read x)) xs))
+    (set : (m : Nullability) → with_nullability Nullable (with_nullability m of_type) ≡ with_nullability Nullable of_type) where
+  masked_exactly : (xs : List X) (v c w : Option Tree) (m : Nullability) → IsBoth (length xs) v c w
+      → KeepsExactly (masked_of (column (with_nullability m of_type) (length xs) (of_items xs) v) c) (column (with_nullability Nullable of_type) (length xs) (of_items xs) w)
+  masked_exactly xs v c w m both =
       let n = length xs in
-      let t = column ty n (of_items xs) v in
+      let t = column (with_nullability m of_type) n (of_items xs) v in
       let u = column (with_nullability Nullable of_type) n (of_items xs) w in
       let stored = map (λ x. value (read x)) xs in
       let shown : rows (masked_of t c) ≡ rows u =
       masked_rows (masked_of t c) t c refl
-      ∙ ap (valid_cells (validity_cells c)) (column_cells read of_items cells ty n xs v)
+      ∙ ap (valid_cells (validity_cells c)) (column_cells read of_items of_type cells m n xs v)
       ∙ both.told stored (length-map xs (λ x. value (read x)))
-      ∙ sym (column_cells read of_items cells (with_nullability Nullable of_type) n xs w) in
+      ∙ sym (column_cells read of_items of_type cells Nullable n xs w) in
       record {
         keeps = record {
-          same_type = ap (with_nullability Nullable) typed ∙ set (nullability_of ty);
+          same_type = set m;
           same_len = refl;
           same_rows = rows_equal _ _ shown;
           still_clean = λ k. (subst HasNoFault shown k.0, both.clean k.1.0.1 k.1.1);
@@ -147,12 +147,13 @@ module _ {X : Type 0} (read : X → Value) (of_items : List X → Data)
       → IsFlat of_type (length xs) (dtype t) (len t) (shapes (slots_of (v ∷ []))) → nullability_by w ≡ Nullable → IsBoth (len t) v c (child_of w (len t))
       → u ≡ column (with_nullability (nullability_by w) of_type) (length xs) (of_items xs) (child_of w (length xs)) → KeepsExactly (masked_of t c) u
   column_masked xs v c w t u is flat nullable both made =
-      let whole_is : t ≡ column (dtype t) (length xs) (of_items xs) v = is ∙ ap (λ n. column (dtype t) n (of_items xs) v) flat.2 in
+      let m = nullability_of (dtype t) in
+      let whole_is : t ≡ column (with_nullability m of_type) (length xs) (of_items xs) v = is ∙ (λ i. column (flat.1 i) (flat.2 i) (of_items xs) v) in
       let shown : column (with_nullability Nullable of_type) (length xs) (of_items xs) (child_of w (length xs)) ≡ u =
       ap (λ m. column (with_nullability m of_type) (length xs) (of_items xs) (child_of w (length xs))) (sym nullable) ∙ sym made in
       subst (KeepsExactly (masked_of t c)) shown
       (subst (λ x. KeepsExactly (masked_of x c) (column (with_nullability Nullable of_type) (length xs) (of_items xs) (child_of w (length xs)))) (sym whole_is)
-      (masked_exactly xs v c (child_of w (length xs)) (dtype t) flat.1 (subst (λ n. IsBoth n v c (child_of w n)) flat.2 both)))
+      (masked_exactly xs v c (child_of w (length xs)) m (subst (λ n. IsBoth n v c (child_of w n)) flat.2 both)))
 
 -- text and bytes keep their type, whatever the nullability
 pub bytes_set : (st : Storage) (m : Nullability) → with_nullability Nullable (with_nullability m (bytes_type st)) ≡ with_nullability Nullable (bytes_type st)

@@ -9,7 +9,7 @@ use Rattle.vx_value.specs.Storage.{storage_of}
 use Rattle.vx_value.specs.declared.dtype.Storage.{Storage}
 use Rattle.vx_value.specs.declared.dtype.Storage.TheVariants.{Bits, Integers, Text, Bytes}
 use Rattle.vx_value.specs.Nullabilities.{with_nullability}
-use Rattle.vx_value.specs.IsOf.{is_of, is_null}
+use Rattle.vx_value.specs.IsOf.{is_of, is_null, is_stored}
 use Rattle.vx_value.specs.Parts.{boolean_in, integer_in, bytes_in}
 use Rattle.vx_value.specs.Values as of
 use Rattle.vx_value.specs.Values.{Value, boolean, integer}
@@ -23,7 +23,7 @@ use Rattle.std.specs.Str.{is_utf8}
 use Rattle.std.specs.Cmp.{first_so}
 use Rattle.std.proofs.lemmas.Bool.{and_from}
 use Rattle.vx_tree.specs.ColumnTypes.{bytes_type, are_bytes_of}
-use Rattle.vx_tree.specs.Tree.{Tree, Data, bool, primitive, views, slots_of, column, constant_of}
+use Rattle.vx_tree.specs.Tree.{Tree, Data, bool, primitive, views, slots_of, column, constant_of, decimals}
 use Rattle.vx_tree.specs.Cells.{rows, slots_rows, node_cells, cells_at, valid_cells, AreClean}
 use Rattle.vx_tree.specs.Columns.{canonical_tree}
 use Rattle.vx_tree.specs.Keeps.{KeepsExactly}
@@ -34,10 +34,15 @@ use Rattle.vx_tree.specs.declared.validity.Validity.TheVariants.{AllInvalid}
 use Rattle.vx_tree.proofs.ColumnTypesLemmas.{column_of_bits, column_of_integers}
 use Rattle.vx_tree.proofs.ValiditiesLemmas.{no_child, same_nullability}
 use Rattle.vx_native.proofs.NativesLemmas.{map_copies}
-use Rattle.vx_rows.specs.Stored.{boolean_column, integer_column, bytes_column}
+use Rattle.vx_rows.specs.Stored.{boolean_column, integer_column, bytes_column, decimal_column}
 use Rattle.vx_rows.proofs.KeepsLemmas.{same_exactly, any_rows, copies_clean}
-use Rattle.vx_rows.proofs.StoredLemmas.{column_of_bytes, stored_boolean, stored_number, stored_as_bytes}
+use Rattle.vx_rows.proofs.StoredLemmas.{column_of_bytes, stored_boolean, stored_number, stored_as_bytes, stored_decimal}
 use Rattle.vx_column.specs.Expanded.{repeated_validity}
+use Rattle.vx_value.specs.declared.decimal.DecimalDType.{DecimalDType}
+use Rattle.vx_value.specs.declared.decimal.DecimalType.{DecimalType}
+use Rattle.vx_value.specs.Decimals.{has_digits}
+use Rattle.vx_rows.specs.Arguments.{stored_decimals, unscaled_of}
+use Rattle.std.specs.List.{list_all}
 
 nullable_null : (m : Nullability) → is_nullable m ≡ true → m ≡ Nullable
 nullable_null Nullable h = refl
@@ -74,15 +79,15 @@ validity_cells read x ty v n h =
     ∙ map_copies (λ y. value (read y)) n x
     ∙ ap (λ u. replicate n (value u)) (h refl)
 
-repeated_exactly : {X : Type 0} (read : X → Value) (of_items : List X → Data) →
-    ((ty : DataType) (n : ℕ) (xs : List X) (css : List (List Cell)) → node_cells ty n (of_items xs) css ≡ valid_cells (cells_at css 0) (map (λ x. value (read x)) xs)) →
-    (x : X) (s : Typed) (n : ℕ) (u : Tree) → (is_null s.value ≡ false → read x ≡ s.value) →
+repeated_exactly : {X : Type 0} (read : X → Value) (of_items : List X → Data) (s : Typed) →
+    ((n : ℕ) (xs : List X) (css : List (List Cell)) → node_cells s.of_type n (of_items xs) css ≡ valid_cells (cells_at css 0) (map (λ x. value (read x)) xs)) →
+    (x : X) (n : ℕ) (u : Tree) → (is_null s.value ≡ false → read x ≡ s.value) →
     u ≡ column s.of_type n (of_items (replicate n x)) (child_of (repeated_validity s) n) → KeepsExactly (constant_of s n) u
-repeated_exactly read of_items cells x s n u valued made =
+repeated_exactly read of_items s cells x n u valued made =
     let whole = column s.of_type n (of_items (replicate n x)) (child_of (repeated_validity s) n) in
     let css = slots_rows (slots_of (child_of (repeated_validity s) n ∷ [])) in
     let shown : rows (constant_of s n) ≡ rows whole =
-    sym (cells s.of_type n (replicate n x) css ∙ validity_cells read x s.of_type s.value n valued) in
+    sym (cells n (replicate n x) css ∙ validity_cells read x s.of_type s.value n valued) in
     subst (KeepsExactly (constant_of s n)) (sym made) (same_exactly (constant_of s n) whole refl refl shown (validity_clean s.of_type s.value n))
 
 module _ (s : Typed) (n : ℕ) (typed : is_of s.of_type s.value ≡ true) (v : Validity) (told : v ≡ repeated_validity s) (r : Result Canonical VortexError) where
@@ -97,7 +102,7 @@ module _ (s : Typed) (n : ℕ) (typed : is_of s.of_type s.value ≡ true) (v : V
       let is : boolean_column bits v ≡ column s.of_type n (bool (replicate n bit)) (child_of (repeated_validity s) n) =
       λ i. column (of_type i) (long i) (bool (made i)) (child_of (told i) (long i)) in
       IfOk-weaker r _ _
-      (λ c new. repeated_exactly boolean bool (λ ty n xs css. refl) bit s n (canonical_tree c)
+      (λ c new. repeated_exactly boolean bool s (λ n xs css. refl) bit n (canonical_tree c)
       (λ k. ap boolean valued ∙ stored_boolean (nullability_of s.of_type) (storage_of s.of_type) s.value stored typed k) (new ∙ is)) column_made
 
   pub integers_repeated : (p q : PType) (z : ℤ) (zs : List ℤ) → storage_of s.of_type ≡ Integers p → z ≡ unwrap_or (integer_in s.value) (pos 0) → q ≡ p
@@ -110,7 +115,7 @@ module _ (s : Typed) (n : ℕ) (typed : is_of s.of_type s.value ≡ true) (v : V
       let is : integer_column q zs v ≡ column s.of_type n (primitive p (replicate n z)) (child_of (repeated_validity s) n) =
       λ i. column (of_type i) (long i) (primitive (same i) (made i)) (child_of (told i) (long i)) in
       IfOk-weaker r _ _
-      (λ c new. repeated_exactly integer (primitive p) (λ ty n xs css. refl) z s n (canonical_tree c)
+      (λ c new. repeated_exactly integer (primitive p) s (λ n xs css. refl) z n (canonical_tree c)
       (λ k. ap integer valued ∙ stored_number p (nullability_of s.of_type) (storage_of s.of_type) s.value stored typed k) (new ∙ is)) column_made
 
   pub bytes_repeated : (st : Storage) (x : List ℕ) (rs : List (List ℕ)) → storage_of s.of_type ≡ st → (st ≡ Text) ⊎ (st ≡ Bytes)
@@ -124,8 +129,28 @@ module _ (s : Typed) (n : ℕ) (typed : is_of s.of_type s.value ≡ true) (v : V
       let is : bytes_column st rs v ≡ column s.of_type n (views (replicate n x)) (child_of (repeated_validity s) n) =
       λ i. column (of_type i) (long i) (views (made i)) (child_of (told i) (long i)) in
       IfOk-weaker r _ _
-      (λ c new. repeated_exactly of.bytes views (λ ty n xs css. refl) x s n (canonical_tree c)
+      (λ c new. repeated_exactly of.bytes views s (λ n xs css. refl) x n (canonical_tree c)
       (λ k. ap of.bytes valued ∙ stored_as_bytes (nullability_of s.of_type) (storage_of s.of_type) s.value there typed k) (new ∙ is)) column_made
+
+  pub decimals_repeated : (d : DecimalDType) (m : Nullability) (w : DecimalType) (z : ℤ) (zs : List ℤ) → s.of_type ≡ type.decimal d.precision d.scale m
+      → z ≡ unscaled_of s.value → zs ≡ replicate n z →
+      IfOk r (λ c. canonical_tree c ≡ decimal_column d w zs v) → IfOk r (λ c. KeepsExactly (constant_of s n) (canonical_tree c))
+  decimals_repeated d m w z zs stored valued made column_made =
+      let long : length zs ≡ n = ap length made ∙ length-replicate n z in
+      let of_type : type.decimal d.precision d.scale (nullability_by v) ≡ s.of_type =
+      ap (type.decimal d.precision d.scale) (nullability ∙ ap nullability_of stored) ∙ sym stored in
+      let is : decimal_column d w zs v ≡ column s.of_type n (decimals w (replicate n z)) (child_of (repeated_validity s) n) =
+      λ i. column (of_type i) (long i) (decimals w (made i)) (child_of (told i) (long i)) in
+      let there : is_stored (nullability_of s.of_type) (stored_decimals d) s.value ≡ true =
+      ap (λ ty. is_stored (nullability_of s.of_type) (storage_of ty) s.value) (sym stored) ∙ typed in
+      IfOk-weaker r _ _
+      (λ c new. repeated_exactly (λ x. of.decimal x d.scale) (decimals w) s (λ n xs css. ap (λ ty. node_cells ty n (decimals w xs) css) stored) z n (canonical_tree c)
+      (λ k. ap (λ x. of.decimal x d.scale) valued ∙ stored_decimal d.precision d.scale (nullability_of s.of_type) s.value there k) (new ∙ is)) column_made
+
+-- one decimal, repeated, is of its type
+pub decimal_copies : (d : DecimalDType) (n : ℕ) (z : ℤ) → has_digits d.precision z ≡ true → list_all (has_digits d.precision) (replicate n z) ≡ true
+decimal_copies d zero z h = refl
+decimal_copies d (suc n) z h = and_from (has_digits d.precision z) _ h (decimal_copies d n z h)
 
 -- one row's bytes, repeated, are of its type
 pub bytes_copies : (st : Storage) (n : ℕ) (x : List ℕ) → are_bytes_of st (x ∷ []) ≡ true → are_bytes_of st (replicate n x) ≡ true

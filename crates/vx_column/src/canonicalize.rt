@@ -9,10 +9,10 @@ ghost use Rattle.vx_column.specs.Expanded.{repeated_validity};
 
 use std::alloc::Global;
 use vx_mask::BitBuffer;
-use vx_native::PrimitiveValues;
-use vx_rows::{bool_column, primitive_column, varbinview_column};
+use vx_native::{DecimalValues, PrimitiveValues};
+use vx_rows::{bool_column, decimal_column, primitive_column, unscaled_of, varbinview_column};
 use vx_tree::{ArrayView, Canonical, Constant, Validity};
-use vx_value::{ByteBuffer, Scalar, Storage, VortexError, VortexResult};
+use vx_value::{ByteBuffer, DType, DecimalType, Scalar, Storage, VortexError, VortexResult};
 use vx_views::BinaryViews;
 
 /// Expands `array` to a canonical column. The rows take one allocation, which is made before any is written; the bytes of a text or
@@ -51,6 +51,14 @@ fn repeat(alloc: Global, scalar: &Scalar, len: usize) -> VortexResult<Canonical>
             let wide = scalar.as_integer().unwrap_or(0);
             let values = PrimitiveValues::repeat(alloc, ptype, wide, len)?;
             primitive_column(alloc, values, &validity)
+        }
+        Storage::Decimals { .. } => {
+            let DType::Decimal(decimal, _) = scalar.dtype() else {
+                unreachable!()
+            };
+            let width = DecimalType::smallest_decimal_value_type(decimal);
+            let values = DecimalValues::repeat(alloc, width, unscaled_of(scalar), len)?;
+            decimal_column(alloc, *decimal, values, &validity)
         }
         Storage::Text | Storage::Bytes => {
             let bytes = ByteBuffer::copy_from(alloc, scalar.as_bytes().unwrap_or(&[]))?;

@@ -14,14 +14,15 @@ ghost use Rattle.vx_rows.specs.ValidRows.{TellsRows};
 
 use std::alloc::Global;
 use vx_mask::Mask;
-use vx_rows::{bool_column, primitive_column, varbinview_column};
+use vx_rows::{bool_column, decimal_column, primitive_column, varbinview_column};
 use vx_tree::{
     ArrayKind, ArrayRef, Canonical, FilterArray, IntoArray, Validity, child_to_validity,
 };
-use vx_value::{Nullability, VortexError, VortexResult};
+use vx_value::{DType, Nullability, VortexError, VortexResult};
 
 /// Returns the rows of `column` at the true bits of `mask`, which must have a bit for each row, as a column. The values share
-/// their storage with those of `column` if the true bits are consecutive, and the bytes of texts always do. The only error is `OutOfMemory`. (own)
+/// their storage with those of `column` if the true bits are consecutive, and the bytes of texts always do. The only error is
+/// `OutOfMemory`. (own)
 pub fn filter_canonical(alloc: Global, column: &Canonical, mask: &Mask) -> VortexResult<Canonical>
     requires { length (bits_in mask.now) ≡ len (canonical_tree column.now) }
     ensures ok { IfOk result (λ c. KeepsExactly (filter_of (bits_in mask.now) (canonical_tree column.now)) (canonical_tree c)) }
@@ -38,6 +39,13 @@ pub fn filter_canonical(alloc: Global, column: &Canonical, mask: &Mask) -> Vorte
         ArrayKind::Primitive(values, validity) => {
             let validity = filter_validity(alloc, validity, nullability, mask)?;
             primitive_column(alloc, values.filter(alloc, mask)?, &validity)
+        }
+        ArrayKind::Decimal(values, validity) => {
+            let DType::Decimal(decimal, _) = array.dtype() else {
+                unreachable!()
+            };
+            let validity = filter_validity(alloc, validity, nullability, mask)?;
+            decimal_column(alloc, *decimal, values.filter(alloc, mask)?, &validity)
         }
         ArrayKind::VarBinView(rows, validity) => {
             let validity = filter_validity(alloc, validity, nullability, mask)?;

@@ -15,9 +15,9 @@ ghost use Rattle.vx_column.specs.Masked.{TellsAll, IsBoth};
 
 use std::alloc::Global;
 use vx_mask::{BitAnd, BitBuffer, BitOperand};
-use vx_rows::{ValidRows, bool_column, primitive_column, varbinview_column};
+use vx_rows::{ValidRows, bool_column, decimal_column, primitive_column, varbinview_column};
 use vx_tree::{ArrayKind, ArrayRef, Canonical, Validity, and_lazily, validity_to_child};
-use vx_value::{Nullability, VortexError, VortexResult};
+use vx_value::{DType, Nullability, VortexError, VortexResult};
 
 /// Returns the rows of `column`, null where `validity` says so, as a nullable column that shares its values. `validity` must be
 /// a nullable one with a row for each of the column's. The only error is `OutOfMemory`. (own)
@@ -44,6 +44,13 @@ pub fn mask_validity_canonical(
         ArrayKind::Primitive(values, own) => {
             let both = both_valid(alloc, own, child, len)?;
             primitive_column(alloc, values.clone()?, &both)
+        }
+        ArrayKind::Decimal(values, own) => {
+            let DType::Decimal(decimal, _) = array.dtype() else {
+                unreachable!()
+            };
+            let both = both_valid(alloc, own, child, len)?;
+            decimal_column(alloc, *decimal, values.clone()?, &both)
         }
         ArrayKind::VarBinView(rows, own) => {
             let both = both_valid(alloc, own, child, len)?;

@@ -8,10 +8,15 @@ use Rattle.vx_value.specs.Types.{nullability_of}
 use Rattle.vx_value.specs.IsOf.{is_stored}
 use Rattle.vx_value.specs.Parts.{bytes_in}
 use Rattle.vx_tree.specs.ColumnTypes.{are_bytes_of}
-use Rattle.vx_rows.proofs.StoredLemmas.{bytes_kept}
+use Rattle.vx_rows.proofs.StoredLemmas.{bytes_kept, decimal_kept}
 use Rattle.vx_native.specs.Natives.{values_of, ptype_of}
-use Rattle.vx_column.proofs.RepeatedLemmas.{bools_repeated, integers_repeated, bytes_repeated, bytes_copies}
+use Rattle.vx_column.proofs.RepeatedLemmas.{bools_repeated, integers_repeated, bytes_repeated, bytes_copies, decimals_repeated, decimal_copies}
 use Rattle.vx_column.proofs.canonicalize.repeat.Goals as goal
+use Rattle.vx_value.specs.View.{type_of}
+use Rattle.vx_value.specs.Decimals.{has_digits, same_width_Decides}
+use Rattle.vx_native.specs.DecimalNumbers.{numbers_of, decimal_type_of}
+use Rattle.std.specs.List.{list_all}
+use Rattle.std.proofs.lemmas.Bool.{and_from}
 
 pub returns-in-Bits-clause-ok : goal.returns-in-Bits-clause-ok
 returns-in-Bits-clause-ok c =
@@ -33,6 +38,30 @@ returns-in-Integers-clause-ok c =
     integers_repeated s c.args.len typed c.repeated_validity-validity.result c.repeated_validity-validity.ensures c.primitive_column.result
     c.in-Integers.ptype (ptype_of made.values) c.unwrap_or-wide.result (values_of made.values) stored (cc) made.ensures.kind
     (made.ensures.values ∙ ap (replicate c.args.len) (to_z-of_z fits)) c.primitive_column.ensures.ok
+
+pub decimal_column-requires-clause-stored : goal.decimal_column-requires-clause-stored
+decimal_column-requires-clause-stored c =
+    let s = c.args.scalar.now in
+    let d = c.in-Decimal.decimal in
+    let m = nullability_of s.of_type in
+    let made = c.in_ok-values-in-Decimals in
+    let fits : FitsSigned w128 c.unscaled_of.result = search rules in
+    let typed = sym c.dtype-in-Decimals.ensures.dtype ∙ ap type_of c.in-Decimal.is in
+    let there = ap (λ ty. is_stored m (storage_of ty) s.value) (sym typed) ∙ c.dtype.ensures.typed in
+    let width = (same_width_Decides _ _).1 (made.ensures.kind ∙ c.smallest_decimal_value_type-width.ensures.value) in
+    let digits = ap (has_digits d.precision) c.unscaled_of.ensures ∙ decimal_kept d.precision d.scale m s.value there in
+    let numbers = made.ensures.values ∙ ap (replicate c.args.len) (to_z-of_z fits) in
+    and_from _ _ width (ap (list_all (has_digits d.precision)) numbers ∙ decimal_copies d c.args.len c.unscaled_of.result digits)
+
+pub returns-in-Decimals-clause-ok : goal.returns-in-Decimals-clause-ok
+returns-in-Decimals-clause-ok c =
+    let s = c.args.scalar.now in
+    let made = c.in_ok-values-in-Decimals in
+    let fits : FitsSigned w128 c.unscaled_of.result = search rules in
+    let typed = sym c.dtype-in-Decimals.ensures.dtype ∙ ap type_of c.in-Decimal.is in
+    decimals_repeated s c.args.len c.dtype.ensures.typed c.repeated_validity-validity.result c.repeated_validity-validity.ensures c.decimal_column.result
+    c.in-Decimal.decimal c.in-Decimal.field-1 (decimal_type_of made.values) c.unscaled_of.result (numbers_of made.values) typed c.unscaled_of.ensures
+    (made.ensures.values ∙ ap (replicate c.args.len) (to_z-of_z fits)) c.decimal_column.ensures.ok
 
 pub varbinview_column-requires-clause-stored : goal.varbinview_column-requires-clause-stored
 varbinview_column-requires-clause-stored c =

@@ -1,20 +1,24 @@
-use Rattle.std.proofs.Common.{refl, sym, ap, subst, ◌∙◌}
+use Rattle.std.proofs.Common.{refl, sym, ap, subst, ◌∙◌, ◌≡◌, true, [], ◌∷◌, length}
 use Rattle.std.proofs.lemmas.Result.{IfOk-weaker}
 use Rattle.vx_value.specs.Types.{bool, primitive, nullability_of}
-use Rattle.vx_value.specs.Values.{boolean, integer, bytes}
+use Rattle.vx_value.specs.Values.{boolean, integer, bytes, decimal}
 use Rattle.vx_value.specs.Storage.{storage_of}
-use Rattle.vx_tree.specs.ColumnTypes.{bytes_type, are_bytes_of}
+use Rattle.vx_tree.specs.ColumnTypes.{bytes_type, are_bytes_of, decimal_type, are_decimals_of}
 use Rattle.vx_rows.specs.Stored.{bytes_column}
 use Rattle.vx_value.specs.declared.dtype.Nullability.TheVariants.{NonNullable}
 use Rattle.vx_mask.specs.Masks.{bits_in}
 use Rattle.vx_native.specs.Natives.{values_of, ptype_of}
 use Rattle.vx_tree.specs.Tree as enc
-use Rattle.vx_tree.specs.Tree.{dtype, len, filter_of}
-use Rattle.vx_tree.specs.Well.{IsNodeOf}
+use Rattle.vx_tree.specs.Tree.{dtype, len, filter_of, slots_of}
+use Rattle.vx_tree.specs.Well.{IsNodeOf, IsFlat, shapes}
 use Rattle.vx_tree.specs.Keeps.{KeepsExactly}
 use Rattle.vx_tree.specs.Columns.{canonical_tree}
-use Rattle.vx_column.proofs.FilteredLemmas.{rows_chosen, bytes_chosen, column_filtered}
+use Rattle.vx_column.proofs.FilteredLemmas.{rows_chosen, bytes_chosen, column_filtered, decimals_chosen}
 use Rattle.vx_column.proofs.filter.filter_canonical.Goals as goal
+use Rattle.vx_value.specs.Types as type
+use Rattle.vx_value.specs.View.{type_of}
+use Rattle.vx_native.specs.DecimalNumbers.{numbers_of, decimal_type_of}
+use Rattle.vx_rows.proofs.StoredLemmas.{decimal_typed}
 
 pub bool_column-requires : goal.bool_column-requires
 bool_column-requires c =
@@ -39,7 +43,7 @@ returns-in_ok-filter-in-Bool-clause-ok c =
     let same = validity.ensures.nullability ∙ c.nullability-nullability.ensures ∙ ap nullability_of c.dtype.ensures in
     IfOk-weaker c.bool_column.result _ _
     (λ u made. subst (λ x. KeepsExactly (filter_of bits x) (canonical_tree u)) c.as_array-array.ensures.of
-    (column_filtered boolean enc.bool (λ ty n xs css. refl) (bool NonNullable) bits c.in-Bool.bits.now c.in_ok-filter-in-Bool.field-0 c.in-Bool.validity.now
+    (column_filtered boolean enc.bool (bool NonNullable) (λ m n xs css. refl) bits c.in-Bool.bits.now c.in_ok-filter-in-Bool.field-0 c.in-Bool.validity.now
     validity.validity t (canonical_tree u) c.in-Bool.ensures.0 flat long c.in_ok-filter-in-Bool.ensures same validity.ensures.chosen made))
     c.bool_column.ensures.ok
 
@@ -56,8 +60,54 @@ returns-in_ok-filter-in-Primitive-clause-ok c =
     let column_made = rw kept.ensures.kind at c.primitive_column.ensures.ok in
     IfOk-weaker c.primitive_column.result _ _
     (λ u made. subst (λ x. KeepsExactly (filter_of bits x) (canonical_tree u)) c.as_array-array.ensures.of
-    (column_filtered integer (enc.primitive p) (λ ty n xs css. refl) (primitive p NonNullable) bits (values_of c.in-Primitive.values.now) (values_of kept.field-0)
+    (column_filtered integer (enc.primitive p) (primitive p NonNullable) (λ m n xs css. refl) bits (values_of c.in-Primitive.values.now) (values_of kept.field-0)
     c.in-Primitive.validity.now validity.validity t (canonical_tree u) c.in-Primitive.ensures.0 flat long kept.ensures.values same validity.ensures.chosen made))
+    column_made
+
+pub unreachable-requires : goal.unreachable-requires
+unreachable-requires c =
+    let values = c.in-Decimal.values.now in
+    let flat = subst IsNodeOf c.in-Decimal.ensures.0 c.in-Decimal.ensures.1 in
+    decimal_typed c.dtype-in-Decimal.result.now (decimal_type_of values) (numbers_of values)
+    (subst (λ ty. are_decimals_of (storage_of ty) (decimal_type_of values) (numbers_of values) ≡ true) (sym c.dtype-in-Decimal.ensures) flat.1)
+    c.in_default-dtype.not-Decimal
+
+pub decimal_column-requires-clause-sized : goal.decimal_column-requires-clause-sized
+decimal_column-requires-clause-sized c =
+    let flat = subst IsNodeOf c.in-Decimal.ensures.0 c.in-Decimal.ensures.1 in
+    rows_chosen (bits_in c.args.mask.now) (numbers_of c.in-Decimal.values.now) (numbers_of c.in_ok-filter-in-Decimal.field-0) c.as_array-array.result.now _
+    c.in_ok-validity-in-Decimal.validity (sym flat.0.2) c.requires c.as_array-array.ensures.of c.in_ok-filter-in-Decimal.ensures.values
+    c.in_ok-validity-in-Decimal.ensures.sized
+
+pub decimal_column-requires-clause-stored : goal.decimal_column-requires-clause-stored
+decimal_column-requires-clause-stored c =
+    let flat = subst IsNodeOf c.in-Decimal.ensures.0 c.in-Decimal.ensures.1 in
+    let values = c.in-Decimal.values.now in
+    let kept = c.in_ok-filter-in-Decimal in
+    let stored = ap storage_of (sym c.dtype-in-Decimal.ensures ∙ ap type_of c.in-Decimal-dtype.is) in
+    decimals_chosen c.in-Decimal-dtype.decimal (bits_in c.args.mask.now) (decimal_type_of values) (decimal_type_of kept.field-0) (numbers_of values) (numbers_of kept.field-0)
+    (subst (λ st. are_decimals_of st (decimal_type_of values) (numbers_of values) ≡ true) stored flat.1) kept.ensures.kind kept.ensures.values
+
+pub returns-in_ok-filter-in-Decimal-clause-ok : goal.returns-in_ok-filter-in-Decimal-clause-ok
+returns-in_ok-filter-in-Decimal-clause-ok c =
+    let bits = bits_in c.args.mask.now in
+    let t = c.as_array-array.result.now in
+    let d = c.in-Decimal-dtype.decimal in
+    let values = c.in-Decimal.values.now in
+    let w = decimal_type_of values in
+    let validity = c.in_ok-validity-in-Decimal in
+    let kept = c.in_ok-filter-in-Decimal in
+    let flat = subst IsNodeOf c.in-Decimal.ensures.0 c.in-Decimal.ensures.1 in
+    let stored = ap storage_of (sym c.dtype-in-Decimal.ensures ∙ ap type_of c.in-Decimal-dtype.is) in
+    let long = c.requires ∙ ap len (sym c.as_array-array.ensures.of) in
+    let same = validity.ensures.nullability ∙ c.nullability-nullability.ensures ∙ ap nullability_of c.dtype.ensures in
+    let column_made = rw kept.ensures.kind at c.decimal_column.ensures.ok in
+    IfOk-weaker c.decimal_column.result _ _
+    (λ u made. subst (λ x. KeepsExactly (filter_of bits x) (canonical_tree u)) c.as_array-array.ensures.of
+    (column_filtered (λ z. decimal z d.scale) (enc.decimals w) (type.decimal d.precision d.scale NonNullable) (λ m n xs css. refl) bits (numbers_of values)
+    (numbers_of kept.field-0) c.in-Decimal.validity.now validity.validity t (canonical_tree u) c.in-Decimal.ensures.0
+    (subst (λ st. IsFlat (decimal_type st) (length (numbers_of values)) (dtype t) (len t) (shapes (slots_of (c.in-Decimal.validity.now ∷ [])))) stored flat.0)
+    long kept.ensures.values same validity.ensures.chosen made))
     column_made
 
 pub varbinview_column-requires-clause-sized : goal.varbinview_column-requires-clause-sized
@@ -87,7 +137,7 @@ returns-in_ok-filter-in-VarBinView-clause-ok c =
     let same = validity.ensures.nullability ∙ c.nullability-nullability.ensures ∙ ap nullability_of c.dtype.ensures in
     IfOk-weaker c.varbinview_column.result _ _
     (λ u made. subst (λ x. KeepsExactly (filter_of bits x) (canonical_tree u)) c.as_array-array.ensures.of
-    (column_filtered bytes enc.views (λ ty n xs css. refl) (bytes_type st) bits c.in-VarBinView.rows.now kept c.in-VarBinView.validity.now validity.validity t
+    (column_filtered bytes enc.views (bytes_type st) (λ m n xs css. refl) bits c.in-VarBinView.rows.now kept c.in-VarBinView.validity.now validity.validity t
     (canonical_tree u) c.in-VarBinView.ensures.0 flat.0 long c.in_ok-filter-in-VarBinView.ensures same validity.ensures.chosen
     (made ∙ ap (λ x. bytes_column x kept validity.validity) kind)))
     c.varbinview_column.ensures.ok
