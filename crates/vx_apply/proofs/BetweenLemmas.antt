@@ -29,17 +29,18 @@ use Rattle.vx_fn.specs.declared.functions.between.StrictComparison.{StrictCompar
 use Rattle.vx_fn.specs.declared.functions.between.StrictComparison.TheVariants.{Strict, NonStrict}
 use Rattle.vx_fn.proofs.MeaningsLemmas.{union_with_plain}
 use Rattle.vx_tree.specs.Tree.{Tree, dtype}
-use Rattle.vx_rows.specs.Arguments.{IsSized, types_of, value_at, integer_in, plain_type, type_of_argument}
+use Rattle.vx_rows.specs.Arguments.{IsSized, types_of, value_at, integer_in, unscaled_in, plain_type, type_of_argument}
 use Rattle.vx_apply.specs.Bits.{bit_by}
-use Rattle.vx_apply.specs.Bounds.{bound_by, is_between, is_bounded}
+use Rattle.vx_apply.specs.Bounds.{bound_by, is_between, is_bounded, bounded_rows}
 use Rattle.vx_apply.specs.Computed.{IsTaken, IsMade, IsComputed}
 use Rattle.vx_rows.specs.ValidRows.{is_valid, nullability_in, null_unless}
 use Rattle.vx_rows.specs.declared.argument.Argument.{Argument}
+use Rattle.vx_rows.specs.declared.argument.DecimalOperand.{DecimalOperand}
 use Rattle.vx_rows.specs.declared.argument.IntegerOperand.{IntegerOperand}
 use Rattle.vx_rows.specs.declared.argument.ArgumentRows.{ArgumentRows}
-use Rattle.vx_rows.specs.declared.argument.ArgumentRows.TheVariants.{Bits, Integers}
+use Rattle.vx_rows.specs.declared.argument.ArgumentRows.TheVariants.{Bits, Integers, Decimals}
 use Rattle.vx_rows.specs.declared.valid.ValidRows.{ValidRows}
-use Rattle.vx_apply.proofs.ComparisonLemmas.{integers, stored_through, ordered_rows}
+use Rattle.vx_apply.proofs.ComparisonLemmas.{integers, stored_through, ordered_rows, decimals_ordered}
 use Rattle.vx_apply.proofs.MadeLemmas.{computed_by}
 use Rattle.vx_apply.proofs.OperatorLemmas.{argument_type, argument_nullability, plain_same}
 use Rattle.vx_apply.proofs.SelectLemmas.{stored_cell}
@@ -60,34 +61,58 @@ bound_bit : (s : StrictComparison) (a b : Bool) → bit_by (bound_by s) a b ≡ 
 bound_bit Strict a b = refl
 bound_bit NonStrict a b = refl
 
-pub words_between : (options : BetweenOptions) (x l u : BitOperand) (n : ℕ) (above below : List Bool)
+pub words_between : (options : BetweenOptions) (x l u : BitOperand) (v : ℕ → Bool) (n : ℕ) (above below bits : List Bool)
     → above ≡ map (λ i. bit_by (bound_by options.lower_strict) (bit_in l i) (bit_in x i)) (range_with_len 0 n)
     → below ≡ map (λ i. bit_by (bound_by options.upper_strict) (bit_in x i) (bit_in u i)) (range_with_len 0 n)
-    → map (λ i. bit_row above i && bit_row below i) (range_with_len 0 n)
-    ≡ map (is_between options (value_at (Bits x)) (value_at (Bits l)) (value_at (Bits u))) (range_with_len 0 n)
-words_between options x l u n above below first second =
+    → bits ≡ map (λ i. bit_row above i && bit_row below i) (range_with_len 0 n)
+    → map (λ i. v i && bit_row bits i) (range_with_len 0 n) ≡ bounded_rows v (is_between options (value_at (Bits x)) (value_at (Bits l)) (value_at (Bits u))) n
+words_between options x l u v n above below bits first second both =
     same_below n _ _
-    (λ i lt. (λ j. bit_made (λ k. bit_by (bound_by options.lower_strict) (bit_in l k) (bit_in x k)) above n i first lt j
+    (λ i lt. ap (λ b. v i && b)
+    (bit_made (λ k. bit_row above k && bit_row below k) bits n i both lt
+    ∙ (λ j. bit_made (λ k. bit_by (bound_by options.lower_strict) (bit_in l k) (bit_in x k)) above n i first lt j
     && bit_made (λ k. bit_by (bound_by options.upper_strict) (bit_in x k) (bit_in u k)) below n i second lt j)
-    ∙ (λ j. bound_bit options.lower_strict (bit_in l i) (bit_in x i) j && bound_bit options.upper_strict (bit_in x i) (bit_in u i) j))
+    ∙ (λ j. bound_bit options.lower_strict (bit_in l i) (bit_in x i) j && bound_bit options.upper_strict (bit_in x i) (bit_in u i) j)))
 
-pub bounds_between : {E : Type 0} (options : BetweenOptions) (s t : StrictComparison) (x l u : ℕ → Value) (n : ℕ) (found : Result (List Bool) E)
-    → options.lower_strict ≡ s → options.upper_strict ≡ t
-    → IfOk found (λ b. b ≡ map (is_bounded (bound_by s) (bound_by t) x l u) (range_with_len 0 n))
-    → IfOk found (λ b. b ≡ map (is_between options x l u) (range_with_len 0 n))
-bounds_between options s t x l u n found low high =
+pub bounds_between : {E : Type 0} (options : BetweenOptions) (s t : StrictComparison) (x l u : ℕ → Value) (v : ℕ → Bool) (n : ℕ)
+    (found : Result (List Bool) E) → options.lower_strict ≡ s → options.upper_strict ≡ t
+    → IfOk found (λ b. b ≡ bounded_rows v (is_bounded (bound_by s) (bound_by t) x l u) n)
+    → IfOk found (λ b. b ≡ bounded_rows v (is_between options x l u) n)
+bounds_between options s t x l u v n found low high =
     IfOk-weaker found _ _
     (λ b are. are
     ∙ same_below n _ _
-    (λ i lt. (λ j. bound_holds s (value_cmp (l i) (x i)) j && bound_holds t (value_cmp (x i) (u i)) j)
-    ∙ (λ j. is_below (sym low j) (value_cmp (l i) (x i)) && is_below (sym high j) (value_cmp (x i) (u i)))))
+    (λ i lt. (λ j. v i && (bound_holds s (value_cmp (l i) (x i)) j && bound_holds t (value_cmp (x i) (u i)) j))
+    ∙ (λ j. v i && (is_below (sym low j) (value_cmp (l i) (x i)) && is_below (sym high j) (value_cmp (x i) (u i))))))
 
-pub integers_between : {E : Type 0} (options : BetweenOptions) (x l u : IntegerOperand) (p q r : ℕ → ℤ) (n : ℕ) (found : Result (List Bool) E)
-    → p ≡ integer_in x → q ≡ integer_in l → r ≡ integer_in u
-    → IfOk found (λ b. b ≡ map (is_between options (integers p) (integers q) (integers r)) (range_with_len 0 n))
-    → IfOk found (λ b. b ≡ map (is_between options (value_at (Integers x)) (value_at (Integers l)) (value_at (Integers u))) (range_with_len 0 n))
-integers_between options x l u p q r n found here below above =
-    IfOk-weaker found _ _ (λ b are. are ∙ (λ j. map (is_between options (integers (here j)) (integers (below j)) (integers (above j))) (range_with_len 0 n)))
+pub integers_between : {E : Type 0} (options : BetweenOptions) (x l u : IntegerOperand) (p q r : ℕ → ℤ) (v : ℕ → Bool) (n : ℕ)
+    (found : Result (List Bool) E) → p ≡ integer_in x → q ≡ integer_in l → r ≡ integer_in u
+    → IfOk found (λ b. b ≡ bounded_rows v (is_between options (integers p) (integers q) (integers r)) n)
+    → IfOk found (λ b. b ≡ bounded_rows v (is_between options (value_at (Integers x)) (value_at (Integers l)) (value_at (Integers u))) n)
+integers_between options x l u p q r v n found here below above =
+    IfOk-weaker found _ _ (λ b are. are ∙ (λ j. bounded_rows v (is_between options (integers (here j)) (integers (below j)) (integers (above j))) n))
+
+pub decimals_between : {E : Type 0} (options : BetweenOptions) (x l u : DecimalOperand) (p q r : ℕ → ℤ) (v : ℕ → Bool) (n : ℕ)
+    (found : Result (List Bool) E) → p ≡ unscaled_in x → q ≡ unscaled_in l → r ≡ unscaled_in u
+    → plain_type (Decimals x) ≡ plain_type (Decimals l) → plain_type (Decimals x) ≡ plain_type (Decimals u)
+    → IfOk found (λ b. b ≡ bounded_rows v (is_between options (integers p) (integers q) (integers r)) n)
+    → IfOk found (λ b. b ≡ bounded_rows v (is_between options (value_at (Decimals x)) (value_at (Decimals l)) (value_at (Decimals u))) n)
+decimals_between options x l u p q r v n found here below above same_lower same_upper =
+    IfOk-weaker found _ _
+    (λ b are. are
+    ∙ same_below n _ _
+    (λ i lt. (λ j. v i
+    && (is_below options.lower_strict (decimals_ordered l x q p below here (sym same_lower) i j)
+    && is_below options.upper_strict (decimals_ordered x u p r here above same_upper i j)))))
+
+-- of arguments that are known
+pub rows_between : {E : Type 0} (options : BetweenOptions) (x l u p q r : ArgumentRows) (v : ℕ → Bool) (n : ℕ) (found : Result (List Bool) E)
+    → x ≡ p → l ≡ q → u ≡ r
+    → IfOk found (λ b. b ≡ bounded_rows v (is_between options (value_at p) (value_at q) (value_at r)) n)
+    → IfOk found (λ b. b ≡ bounded_rows v (is_between options (value_at x) (value_at l) (value_at u)) n)
+rows_between options x l u p q r v n found here below above =
+    IfOk-weaker found _ _
+    (λ b are. are ∙ (λ j. bounded_rows v (is_between options (value_at (sym here j)) (value_at (sym below j)) (value_at (sym above j))) n))
 
 -- ---- the function
 
@@ -150,19 +175,17 @@ module _ (options : BetweenOptions) (n : ℕ) (a l u : Argument) (first : IsSize
       ∙ ap (λ m. Some (bool (union (nullability_of A) (union (nullability_of L) m)))) (union_with_plain (nullability_of U) NonNullable refl)
       ∙ (λ j. Some (bool (union (of_array j) (union (of_lower j) (of_upper j)))))
 
-  pub between_computed : (valid : ValidRows) (bits kept : List Bool) (t : Tree)
+  pub between_computed : (valid : ValidRows) (bits : List Bool) (t : Tree)
       → ((i : ℕ) → i < n → is_valid valid i ≡ is_valid a.valid i && (is_valid l.valid i && is_valid u.valid i))
       → nullability_in valid ≡ union (nullability_in a.valid) (union (nullability_in l.valid) (nullability_in u.valid))
-      → bits ≡ map (is_between options (value_at a.rows) (value_at l.rows) (value_at u.rows)) (range_with_len 0 n)
-      → kept ≡ map (λ i. is_valid valid i && bit_row bits i) (range_with_len 0 n)
-      → (dtype t ≡ bool (nullability_in valid)) × IsMade valid (λ i. value (boolean (bit_row kept i))) n t → IsComputed (Between options) (a ∷ l ∷ u ∷ []) n t
-  between_computed valid bits kept t rows nullability are kept_are h =
+      → bits ≡ bounded_rows (is_valid valid) (is_between options (value_at a.rows) (value_at l.rows) (value_at u.rows)) n
+      → (dtype t ≡ bool (nullability_in valid)) × IsMade valid (λ i. value (boolean (bit_row bits i))) n t → IsComputed (Between options) (a ∷ l ∷ u ∷ []) n t
+  between_computed valid bits t rows nullability are h =
       let lies = is_between options (value_at a.rows) (value_at l.rows) (value_at u.rows) in
-      computed_by (Between options) (a ∷ l ∷ u ∷ []) valid (λ i. value (boolean (bit_row kept i))) n t
+      computed_by (Between options) (a ∷ l ∷ u ∷ []) valid (λ i. value (boolean (bit_row bits i))) n t
       (between_typed ∙ ap (λ m. Some (bool m)) (sym nullability) ∙ ap Some (sym h.0))
       h.1
-      (λ i lt. ap (λ b. null_unless (is_valid valid i) (value (boolean b)))
-      (bit_made (λ k. is_valid valid k && bit_row bits k) kept n i kept_are lt ∙ ap (λ b. is_valid valid i && b) (bit_made lies bits n i are lt))
+      (λ i lt. ap (λ b. null_unless (is_valid valid i) (value (boolean b))) (bit_made (λ k. is_valid valid k && lies k) bits n i are lt)
       ∙ kept_cell (is_valid valid i) (lies i)
       ∙ ap (λ b. null_unless b (value (boolean (lies i)))) (rows i lt)
       ∙ sym (lies_cell options (dtype t) (is_valid a.valid i) (is_valid l.valid i) (is_valid u.valid i) a.rows l.rows u.rows i))

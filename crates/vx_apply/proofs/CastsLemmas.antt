@@ -1,15 +1,25 @@
 -- Casts of an argument: the targets that it has, and its rows.
-use Rattle.std.proofs.Common.{◌≡◌, ◌<◌, ◌+◌, ℕ, suc, ℤ, Bool, true, false, List, [], ◌∷◌, length, map, get_or, pos, Option, Some, None, inl, inr, refl, sym, ap, ◌∙◌, subst, if◌then◌else◌, arith}
+use Rattle.std.proofs.Common.{◌≡◌, ◌==◌, ◌<◌, ◌+◌, ℕ, suc, ℤ, Bool, true, false, List, [], ◌∷◌, length, map, get_or, pos}
+use Rattle.std.proofs.Common.{Option, Some, None, inl, inr, refl, sym, ap, ◌∙◌, subst, if◌then◌else◌, arith}
 use Rattle.std.specs.Prelude.{is_some, nat_lt, MatchOption, option_map}
 use Rattle.std.proofs.lemmas.Bool.Decides.{nat_tests}
-use Rattle.vx_value.specs.Types.{DataType, bool, primitive, utf8, binary, nullability_of, is_nullable}
+use Rattle.std.proofs.lemmas.Bool.{and_from}
+use Rattle.std.specs.Cmp.{unsigned_Decides, second_so}
+use Rattle.vx_value.specs.Types.{DataType, bool, primitive, decimal, utf8, binary, nullability_of, is_nullable}
 use Rattle.vx_value.specs.Nullabilities.{with_nullability}
 use Rattle.vx_value.specs.Storage.{storage_of}
 use Rattle.vx_value.specs.View.{type_of}
 use Rattle.vx_value.specs.Values.{Value, null, boolean, integer}
-use Rattle.vx_value.specs.Cell.{value, fault}
-use Rattle.vx_value.specs.IsOf.{in_range}
-use Rattle.vx_value.specs.Casts.{to_integer, cast_to, has_cast}
+use Rattle.vx_value.specs.Values as of
+use Rattle.vx_value.specs.Cell.{Cell, value, fault}
+use Rattle.vx_value.specs.Decimals.{has_digits, smallest_width}
+use Rattle.vx_value.specs.IsOf.{in_range, is_of}
+use Rattle.vx_value.specs.Casts.{to_integer, rescaled, cast_to, has_cast}
+use Rattle.vx_value.proofs.CastsLemmas.{into_typed, cast_to_self, cast_unchanged, cast_by_target}
+use Rattle.vx_value.specs.declared.decimal.DecimalDType.{DecimalDType}
+use Rattle.vx_value.specs.declared.decimal.DecimalType.{DecimalType}
+use Rattle.vx_native.specs.Widths.{fits_width}
+use Rattle.vx_native.proofs.DecimalNumbersLemmas.{digits_fit}
 use Rattle.vx_value.specs.declared.dtype.DType.{DType}
 use Rattle.vx_value.specs.declared.dtype.PType.{PType}
 use Rattle.vx_value.specs.declared.dtype.Nullability.{Nullability}
@@ -28,19 +38,22 @@ use Rattle.vx_fn.proofs.CastLemmas.{cast_taken}
 use Rattle.vx_tree.specs.ColumnTypes.{has_column, bytes_type}
 use Rattle.vx_tree.specs.Tree.{Tree, dtype}
 use Rattle.vx_tree.specs.Cells.{HasNoFault}
-use Rattle.vx_rows.specs.Arguments.{IsSized, type_of_argument, types_of, row_of, plain_type, value_at}
-use Rattle.vx_apply.specs.Casts.{converted, IsCastTarget}
+use Rattle.vx_rows.specs.Arguments.{IsSized, type_of_argument, types_of, row_of, plain_type, value_at, unscaled_in, AreDecimals}
+use Rattle.vx_apply.specs.Casts.{converted, rescaled_row, rescaled_item, IsCastTarget}
+use Rattle.vx_apply.specs.declared.rescaling.Rescaling.{Rescaling}
 use Rattle.vx_apply.specs.Computed.{IsTaken, IsMade, IsComputed, IsNotComputed, cells_of}
-use Rattle.vx_apply.specs.Operands.{IsFaultyRow, IsCalculated}
+use Rattle.vx_apply.specs.Operands.{IsFaultyRow, AreCalculated}
 use Rattle.vx_rows.specs.ValidRows.{is_valid, nullability_in, null_unless}
 use Rattle.vx_rows.specs.declared.argument.Argument.{Argument}
 use Rattle.vx_rows.specs.declared.argument.ArgumentRows.{ArgumentRows}
+use Rattle.vx_rows.specs.declared.argument.DecimalOperand.{DecimalOperand}
 use Rattle.vx_rows.specs.declared.argument.ArgumentRows.TheVariants as stored
 use Rattle.vx_rows.specs.declared.valid.ValidRows.{ValidRows}
 use Rattle.vx_rows.specs.declared.valid.ValidRows.TheVariants as rows_valid
 use Rattle.vx_apply.proofs.ComputedLemmas.{fault_among}
 use Rattle.vx_apply.proofs.MadeLemmas.{made_by, computed_by}
 use Rattle.vx_apply.proofs.OperatorLemmas.{argument_type}
+use Rattle.vx_apply.proofs.UnscaledLemmas.{row_digits}
 use Rattle.vx_rows.proofs.ValidRowsLemmas.{row_made}
 use Rattle.std.specs.List.{range_with_len}
 
@@ -56,8 +69,11 @@ bytes_target m _ _ h = absurd (cc)
 cast_target : (r : ArgumentRows) (m : Nullability) (t : DataType) → has_cast (with_nullability m (plain_type r)) t ≡ true → has_column t ≡ true → IsCastTarget r t
 cast_target (stored.Bits bs) m (bool k) h column = refl
 cast_target (stored.Bits bs) m _ h column = absurd (cc)
-cast_target (stored.Integers zs) m (primitive p k) h column = (p, refl)
+cast_target (stored.Integers zs) m (primitive p k) h column = inl (p, refl)
+cast_target (stored.Integers zs) m (decimal p s k) h column = inr (p, s, refl)
 cast_target (stored.Integers zs) m _ h column = absurd (cc)
+cast_target (stored.Decimals ds) m (decimal p s k) h column = (p, s, refl)
+cast_target (stored.Decimals ds) m _ h column = absurd (cc)
 cast_target (stored.Bytes bs) m t h column = bytes_target m bs.storage t h
 
 -- ---- rows
@@ -86,18 +102,33 @@ integers_kept p z valid n u ranged =
     made_by valid (λ i. value (integer (z i))) (converted p z) n u
     (λ i lt here. ap (λ b. if b then value (integer (z i)) else fault) (sym (ranged i lt)))
 
--- integers by the rows that they are made of
-module _ (p : PType) (z : ℕ → ℤ) (zs : List ℤ) (valid : ValidRows) (n : ℕ) (are : zs ≡ map z (range_with_len 0 n)) where
-  same_row : (i : ℕ) → i < n → to_integer p (integer (get_or zs i (pos 0))) ≡ converted p z i
-  same_row i lt = ap (λ y. to_integer p (integer y)) (row_made (pos 0) z zs n i are lt)
+-- the cells of numbers, by the rows that the numbers are made of
+module _ (cell : ℤ → Cell) (z : ℕ → ℤ) (zs : List ℤ) (valid : ValidRows) (n : ℕ) (are : zs ≡ map z (range_with_len 0 n)) where
+  same_row : (i : ℕ) → i < n → cell (get_or zs i (pos 0)) ≡ cell (z i)
+  same_row i lt = ap cell (row_made (pos 0) z zs n i are lt)
 
-  pub converted_made : (u : Tree) → IsCalculated p valid (converted p (λ i. get_or zs i (pos 0))) n u → IsCalculated p valid (converted p z) n u
-  converted_made u h = (h.0, made_by valid _ _ n u (λ i lt here. same_row i lt) h.1)
+  pub rows_cast : (u : Tree) → IsMade valid (λ i. cell (get_or zs i (pos 0))) n u → IsMade valid (λ i. cell (z i)) n u
+  rows_cast u = made_by valid _ _ n u (λ i lt here. same_row i lt)
 
-  pub not_converted : (e : VortexError) → IsFaultyRow (is_valid valid) (converted p (λ i. get_or zs i (pos 0))) n e
-      → IsFaultyRow (is_valid valid) (converted p z) n e
-  not_converted e (inl memory) = inl memory
-  not_converted e (inr h) = inr (h.0, h.1, h.2, h.3, sym (same_row h.1 h.2) ∙ h.4)
+  pub rows_not_cast : (e : VortexError) → IsFaultyRow (is_valid valid) (λ i. cell (get_or zs i (pos 0))) n e
+      → IsFaultyRow (is_valid valid) (λ i. cell (z i)) n e
+  rows_not_cast e (inl memory) = inl memory
+  rows_not_cast e (inr h) = inr (h.0, h.1, h.2, h.3, sym (same_row h.1 h.2) ∙ h.4)
+
+-- so with numbers that are cast to decimals
+module _ (x : Rescaling) (d : DecimalDType) (r : ℕ) (target : x.target ≡ d) (scale : x.scale ≡ r) (z : ℕ → ℤ) (zs : List ℤ) (valid : ValidRows) (n : ℕ)
+    (are : zs ≡ map z (range_with_len 0 n)) where
+  pub decimals_cast : (u : Tree) → AreCalculated x.target valid (rescaled_item x zs) n u → AreCalculated d valid (rescaled_row d r z) n u
+  decimals_cast u h =
+      subst (λ (s : ℕ). AreCalculated d valid (rescaled_row d s z) n u) scale
+      (subst (λ (t : DecimalDType). AreCalculated t valid (rescaled_row t x.scale z) n u) target
+      (h.0, rows_cast (λ (y : ℤ). rescaled x.target.precision x.target.scale y x.scale) z zs valid n are u h.1))
+
+  pub decimals_not_cast : (e : VortexError) → IsFaultyRow (is_valid valid) (rescaled_item x zs) n e → IsFaultyRow (is_valid valid) (rescaled_row d r z) n e
+  decimals_not_cast e h =
+      subst (λ (s : ℕ). IsFaultyRow (is_valid valid) (rescaled_row d s z) n e) scale
+      (subst (λ (t : DecimalDType). IsFaultyRow (is_valid valid) (rescaled_row t x.scale z) n e) target
+      (rows_not_cast (λ (y : ℤ). rescaled x.target.precision x.target.scale y x.scale) z zs valid n are e h))
 
 -- booleans stay
 pub bits_kept : (r : ArgumentRows) (bs : BitOperand) (t : DataType) (valid : ValidRows) (n : ℕ) (u : Tree) → r ≡ stored.Bits bs → IsCastTarget r t
@@ -108,6 +139,7 @@ bits_kept (stored.Bits cs) bs t valid n u is target nullability h = (
   made_by valid _ _ n u (λ i lt here. sym (ap (λ s. cast_to s (boolean (bit_in cs i))) target)) h.1,
 )
 bits_kept (stored.Integers zs) bs t valid n u is target nullability h = absurd (cc)
+bits_kept (stored.Decimals ds) bs t valid n u is target nullability h = absurd (cc)
 bits_kept (stored.Bytes ys) bs t valid n u is target nullability h = absurd (cc)
 
 -- what is cast to a type by name
@@ -131,6 +163,46 @@ converted_row {U = U} read p wide z r h same =
     by_test true (Some u) e = let is : wide ≡ read u = cc in ap (λ w. value (integer w)) is
     by_test false None e = refl
     by_test false (Some u) e = absurd (cc)
+
+-- ---- decimals
+
+-- a decimal in its own type
+own_scale : (p s : ℕ) (z : ℤ) → has_digits p z ≡ true → value (of.decimal z s) ≡ rescaled p s z s
+own_scale p s z h =
+    let t = decimal p s NonNullable in
+    let v = of.decimal z s in
+    let typed : is_of t v ≡ true = and_from (s == s) (has_digits p z) ((unsigned_Decides s s).1 refl) h in
+    sym (cast_unchanged t v typed) ∙ cast_by_target t t v typed (cast_to_self t)
+
+-- the column of decimals in their own type
+pub decimals_kept : (ds : DecimalOperand) (d : DecimalDType) (valid : ValidRows) (n : ℕ) (u : Tree) → AreDecimals ds n → ds.decimal.precision ≡ d.precision
+    → ds.decimal.scale ≡ d.scale → (dtype u ≡ decimal ds.decimal.precision ds.decimal.scale (nullability_in valid))
+    × IsMade valid (λ i. value (value_at (stored.Decimals ds) i)) n u → AreCalculated d valid (rescaled_row d ds.decimal.scale (unscaled_in ds)) n u
+decimals_kept ds d valid n u are precision scale h = (
+  h.0 ∙ (λ j. decimal (precision j) (scale j) (nullability_in valid)),
+  made_by valid _ _ n u
+      (λ i lt here. own_scale ds.decimal.precision ds.decimal.scale (unscaled_in ds i) (row_digits ds.decimal ds.rows n i are lt)
+      ∙ (λ j. rescaled (precision j) (scale j) (unscaled_in ds i) ds.decimal.scale)) h.1,
+)
+
+-- what a cast gives has the digits of its type
+rescaled_digits : (p s r : ℕ) (y z : ℤ) → rescaled p s y r ≡ value (of.decimal z s) → has_digits p z ≡ true
+rescaled_digits p s r y z e = second_so (s == s) (has_digits p z) (into_typed (decimal p s NonNullable) (of.decimal y r) (of.decimal z s) e)
+
+-- so it fits the width of the type
+pub narrowed_row : {U : Type 0} (read : U → ℤ) (w : DecimalType) (d : DecimalDType) (r : ℕ) (y wide z : ℤ) (narrow : Option U)
+    → option_map read narrow ≡ (if fits_width w wide then Some wide else None) → wide ≡ z → w ≡ smallest_width d.precision
+    → rescaled d.precision d.scale y r ≡ value (of.decimal z d.scale)
+    → MatchOption narrow (rescaled d.precision d.scale y r ≡ fault) (λ u. rescaled d.precision d.scale y r ≡ value (of.decimal (read u) d.scale))
+narrowed_row {U = U} read w d r y wide z narrow h same width e =
+    let fits : fits_width w wide ≡ true =
+    ap (fits_width w) same ∙ digits_fit w d.precision z width d.is_decimal.1 (rescaled_digits d.precision d.scale r y z e) in
+    by_option narrow (h ∙ ap (λ b. if b then Some wide else None) fits)
+  where
+    by_option : (o : Option U) → option_map read o ≡ Some wide
+        → MatchOption o (rescaled d.precision d.scale y r ≡ fault) (λ u. rescaled d.precision d.scale y r ≡ value (of.decimal (read u) d.scale))
+    by_option None k = absurd (cc)
+    by_option (Some u) k = let is : z ≡ read u = cc in e ∙ ap (λ x. value (of.decimal x d.scale)) is
 
 -- only nullable columns have nulls
 null_nullable : (valid : ValidRows) (i : ℕ) → is_valid valid i ≡ false → nullability_in valid ≡ Nullable

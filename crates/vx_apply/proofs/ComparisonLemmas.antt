@@ -1,6 +1,11 @@
 -- Comparisons of the values that arguments store: an order of each type, and the column of what a comparison gives.
 use Rattle.std.proofs.Common.{◌≡◌, ℕ, true, Some, refl, sym, ap, ◌∙◌}
 use Rattle.std.specs.Prelude.{ℤ, IsSome, option_map}
+use Rattle.std.specs.Cmp.{nat_cmp_is}
+use Rattle.std.specs.Ordering.{int_cmp, ordering_then}
+use Rattle.std.specs.declared.cmp.Ordering.{Ordering}
+use Rattle.std.specs.declared.cmp.Ordering.TheVariants.{Less, Equal, Greater}
+use Rattle.vx_value.specs.Storage.{storage_of}
 use Rattle.vx_value.specs.Types.{DataType, bool}
 use Rattle.vx_value.specs.Types as type
 use Rattle.vx_value.specs.Nullabilities.{with_nullability}
@@ -18,12 +23,13 @@ use Rattle.vx_fn.specs.Meanings.{null_through}
 use Rattle.vx_fn.specs.declared.function.Operator.{Operator}
 use Rattle.vx_fn.specs.declared.function.Operator.TheVariants as operator
 use Rattle.vx_fn.specs.declared.function.ScalarFnRef.TheVariants.{Binary}
-use Rattle.vx_tree.specs.ColumnTypes.{bytes_type}
+use Rattle.vx_tree.specs.ColumnTypes.{bytes_type, scale_of}
 use Rattle.vx_tree.specs.Tree.{Tree, dtype}
-use Rattle.vx_rows.specs.Arguments.{plain_type, pair_at, value_at}
+use Rattle.vx_rows.specs.Arguments.{plain_type, pair_at, value_at, unscaled_in}
 use Rattle.vx_rows.specs.ValidRows.{nullability_in}
 use Rattle.vx_rows.specs.declared.argument.ArgumentRows.{ArgumentRows}
 use Rattle.vx_rows.specs.declared.argument.ArgumentRows.TheVariants as stored
+use Rattle.vx_rows.specs.declared.argument.DecimalOperand.{DecimalOperand}
 use Rattle.vx_rows.specs.declared.valid.ValidRows.{ValidRows}
 use Rattle.vx_apply.specs.Computed.{IsMade, IsFilled}
 use Rattle.vx_apply.proofs.ComputedLemmas.{filled}
@@ -38,12 +44,14 @@ integers z i = integer (z i)
 pub stored_through : (r : ArgumentRows) (i : ℕ) (c : Cell) → null_through (value_at r i) c ≡ c
 stored_through (stored.Bits bs) i c = refl
 stored_through (stored.Integers zs) i c = refl
+stored_through (stored.Decimals ds) i c = refl
 stored_through (stored.Bytes bs) i c = refl
 
 -- and has an order
 ordered_plain : (r : ArgumentRows) → ordered_type (plain_type r) ≡ Some (bool NonNullable)
 ordered_plain (stored.Bits bs) = refl
 ordered_plain (stored.Integers zs) = refl
+ordered_plain (stored.Decimals ds) = refl
 ordered_plain (stored.Bytes bs) = by_storage bs.storage
   where
     by_storage : (st : Storage) → ordered_type (bytes_type st) ≡ Some (bool NonNullable)
@@ -102,13 +110,36 @@ compared_cell op m l r i c = by_operator op c
     by_operator operator.Lte c = through_both _
     by_operator _ c = absurd (cc)
 
--- the column of one, from that of its values
+-- the column of one, from that of an order that is the values'
+pub ordered_filled : (op : Operator) (l r : ArgumentRows) (order : ℕ → Ordering) (valid : ValidRows) (n : ℕ) (t : Tree) → is_comparison op ≡ true
+    → ((i : ℕ) → order i ≡ value_cmp (value_at l i) (value_at r i))
+    → (dtype t ≡ bool (nullability_in valid)) × IsMade valid (λ i. value (boolean (holds op (order i)))) n t
+    → IsFilled (Binary op) (operator_type op (plain_type l)) (pair_at l r) valid n t
+ordered_filled op l r order valid n t c same made =
+    filled (Binary op) (operator_type op (plain_type l)) (pair_at l r) valid n (bool (nullability_in valid)) (λ i. value (boolean (holds op (order i)))) t
+    (ap (option_map (with_nullability (nullability_in valid))) (comparison_type op (plain_type l) c (ordered_plain l))) made
+    (λ i lt here. ap (λ o. value (boolean (holds op o))) (same i) ∙ sym (compared_cell op (nullability_in valid) l r i c))
+
+-- from that of its values
 pub compared_filled : (op : Operator) (l r : ArgumentRows) (p q : ℕ → Value) (valid : ValidRows) (n : ℕ) (t : Tree) → is_comparison op ≡ true
     → p ≡ value_at l → q ≡ value_at r
     → (dtype t ≡ bool (nullability_in valid)) × IsMade valid (λ i. value (boolean (holds op (value_cmp (p i) (q i))))) n t
     → IsFilled (Binary op) (operator_type op (plain_type l)) (pair_at l r) valid n t
-compared_filled op l r p q valid n t c left right made =
-    filled (Binary op) (operator_type op (plain_type l)) (pair_at l r) valid n (bool (nullability_in valid))
-    (λ i. value (boolean (holds op (value_cmp (p i) (q i))))) t
-    (ap (option_map (with_nullability (nullability_in valid))) (comparison_type op (plain_type l) c (ordered_plain l))) made
-    (λ i lt here. (λ j. value (boolean (holds op (value_cmp (left j i) (right j i))))) ∙ sym (compared_cell op (nullability_in valid) l r i c))
+compared_filled op l r p q valid n t c left right =
+    ordered_filled op l r (λ i. value_cmp (p i) (q i)) valid n t c (λ i j. value_cmp (left j i) (right j i))
+
+-- ---- decimals
+
+then_equal : (o : Ordering) → o ≡ ordering_then o Equal
+then_equal Less = refl
+then_equal Equal = refl
+then_equal Greater = refl
+
+-- decimals of one type are ordered as their numbers without their points
+pub decimals_ordered : (l r : DecimalOperand) (p q : ℕ → ℤ) → p ≡ unscaled_in l → q ≡ unscaled_in r
+    → plain_type (stored.Decimals l) ≡ plain_type (stored.Decimals r) → (i : ℕ) → value_cmp (integer (p i)) (integer (q i)) ≡ value_cmp (value_at (stored.Decimals l) i) (value_at (stored.Decimals r) i)
+decimals_ordered l r p q left right same i =
+    let scale : l.decimal.scale ≡ r.decimal.scale = ap (λ t. scale_of (storage_of t)) same in
+    (λ j. int_cmp (left j i) (right j i))
+    ∙ then_equal (int_cmp (unscaled_in l i) (unscaled_in r i))
+    ∙ ap (ordering_then (int_cmp (unscaled_in l i) (unscaled_in r i))) (nat_cmp_is l.decimal.scale r.decimal.scale Equal scale)

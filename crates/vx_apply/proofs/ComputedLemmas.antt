@@ -13,7 +13,7 @@ use Rattle.std.proofs.lemmas.List.{length-map, map-append, get_or-map}
 use Rattle.std.proofs.lemmas.Simd.{map-map}
 use Rattle.std.proofs.lemmas.List.FromFn.{length-map-range_with_len, map-range_with_len_more, get_or-map-range_with_len}
 use Rattle.vx_value.specs.Types.{DataType, bool}
-use Rattle.vx_value.specs.Values.{Value, null, boolean, integer}
+use Rattle.vx_value.specs.Values.{Value, null, boolean}
 use Rattle.vx_value.specs.Cell.{Cell, value, fault}
 use Rattle.vx_value.specs.Order.{value_cmp}
 use Rattle.vx_value.specs.declared.error.VortexError.{VortexError}
@@ -47,20 +47,23 @@ pub bits_more : (f : ℕ → Bool) (out : List Bool) (i : ℕ) (r : Bool) → ou
 bits_more = items_more
 
 -- of the rows at the true bits
-pub calculated_more : {T : Type 0} (read : T → ℤ) (bits : List Bool) (cell : ℕ → Cell) (out : List T) (i : ℕ) (x : T) (b : Bool) →
-    slice_get bits i ≡ Some b → zero_unless b (cell i) ≡ value (integer (read x)) →
-    map (λ y. value (integer (read y))) out ≡ calculated_rows (bit_row bits) cell i →
-    map (λ y. value (integer (read y))) (out ++ x ∷ []) ≡ calculated_rows (bit_row bits) cell (i + 1)
-calculated_more read bits cell out i x b here e h =
-    rows_more (λ y. value (integer (read y))) (λ j. zero_unless (bit_row bits j) (cell j)) out i x h
-    (ap (λ c. zero_unless c (cell i)) (get_or_from_slice_get bits i b false here) ∙ e)
+pub calculated_more : {T : Type 0} (read : T → Value) (none : Value) (bits : List Bool) (cell : ℕ → Cell) (out : List T) (i : ℕ) (x : T) (b : Bool) →
+    slice_get bits i ≡ Some b → zero_unless none b (cell i) ≡ value (read x) →
+    map (λ y. value (read y)) out ≡ calculated_rows none (bit_row bits) cell i →
+    map (λ y. value (read y)) (out ++ x ∷ []) ≡ calculated_rows none (bit_row bits) cell (i + 1)
+calculated_more read none bits cell out i x b here e h =
+    rows_more (λ y. value (read y)) (λ j. zero_unless none (bit_row bits j) (cell j)) out i x h
+    (ap (λ c. zero_unless none c (cell i)) (get_or_from_slice_get bits i b false here) ∙ e)
+
+pub kept_more : (f : ℕ → Bool) (bits out : List Bool) (i : ℕ) (x b : Bool) → slice_get bits i ≡ Some b → x ≡ b && f i →
+    out ≡ map (λ j. bit_row bits j && f j) (range_with_len 0 i) → out ++ x ∷ [] ≡ map (λ j. bit_row bits j && f j) (range_with_len 0 (i + 1))
+kept_more f bits out i x b here e h =
+    bits_more (λ j. bit_row bits j && f j) out i x h (e ∙ ap (λ c. c && f i) (sym (get_or_from_slice_get bits i b false here)))
 
 pub compared_more : (op : Operator) (bits : List Bool) (l r : ℕ → Value) (out : List Bool) (i : ℕ) (x b : Bool) →
     slice_get bits i ≡ Some b → x ≡ b && holds op (value_cmp (l i) (r i)) → out ≡ compared_rows op (bit_row bits) l r i →
     out ++ x ∷ [] ≡ compared_rows op (bit_row bits) l r (i + 1)
-compared_more op bits l r out i x b here e h =
-    bits_more (λ j. bit_row bits j && holds op (value_cmp (l j) (r j))) out i x h
-    (e ∙ ap (λ c. c && holds op (value_cmp (l i) (r i))) (sym (get_or_from_slice_get bits i b false here)))
+compared_more op bits l r = kept_more (λ j. holds op (value_cmp (l j) (r j))) bits
 
 -- a column that stores these bits
 pub compared_made : (op : Operator) (valid : ValidRows) (l r : ℕ → Value) (n : ℕ) (bits : List Bool) (t : Tree) →
@@ -124,21 +127,27 @@ module _ (f : ScalarFnRef) (of_type : Option DataType) (row : ℕ → List Cell)
       bools_filled r (λ i. is_valid valid i && bit_row bits i) kept typed
       (λ i lt here. ap (λ b. value (boolean (b && bit_row bits i))) here ∙ ap (λ b. value (boolean b)) (bit_made test bits n i are lt) ∙ given i)
 
--- integers that are calculated: the numbers that items stand for
-module _ {T : Type 0} (read : T → ℤ) (valid : ValidRows) (cell : ℕ → Cell) (n : ℕ) (xs : List T) (zs : List ℤ) (are : zs ≡ map read xs)
-    (made : map (λ x. value (integer (read x))) xs ≡ calculated_rows (is_valid valid) cell n) where
-  cells_read : map (λ z. value (integer z)) zs ≡ calculated_rows (is_valid valid) cell n
-  cells_read = ap (map (λ z. value (integer z))) are ∙ map-map (λ z. value (integer z)) read xs ∙ made
+-- values that are calculated: the numbers that stand for them, and that items stand for
+module _ {T : Type 0} (read : T → ℤ) (of_number : ℤ → Value) (valid : ValidRows) (cell : ℕ → Cell) (n : ℕ) (xs : List T) (zs : List ℤ) (are : zs ≡ map read xs)
+    (made : map (λ x. value (of_number (read x))) xs ≡ calculated_rows (of_number (pos 0)) (is_valid valid) cell n) where
+  cells_read : map (λ z. value (of_number z)) zs ≡ calculated_rows (of_number (pos 0)) (is_valid valid) cell n
+  cells_read = ap (map (λ z. value (of_number z))) are ∙ map-map (λ z. value (of_number z)) read xs ∙ made
 
   pub calculated_long : length zs ≡ n
   calculated_long =
-      sym (length-map zs (λ z. value (integer z))) ∙ ap length cells_read ∙ length-map-range_with_len (λ i. zero_unless (is_valid valid i) (cell i)) 0 n
+      sym (length-map zs (λ z. value (of_number z)))
+      ∙ ap length cells_read
+      ∙ length-map-range_with_len (λ i. zero_unless (of_number (pos 0)) (is_valid valid i) (cell i)) 0 n
 
-  pub calculated_made : (u : Tree) → IsMade valid (λ i. value (integer (get_or zs i (pos 0)))) n u → IsMade valid cell n u
-  calculated_made u =
+  -- the number of a row that isn't null
+  pub calculated_at : (i : ℕ) → i < n → value (of_number (get_or zs i (pos 0))) ≡ zero_unless (of_number (pos 0)) (is_valid valid i) (cell i)
+  calculated_at i lt =
       let long = calculated_long in
-      made_by valid (λ i. value (integer (get_or zs i (pos 0)))) cell n u
-      (λ i lt here. sym (get_or-map (λ z. value (integer z)) zs i (pos 0) fault (omega (arith, lt, long)))
+      sym (get_or-map (λ z. value (of_number z)) zs i (pos 0) fault (omega (arith, lt, long)))
       ∙ ap (λ cs. get_or cs i fault) cells_read
-      ∙ get_or-map-range_with_len (λ j. zero_unless (is_valid valid j) (cell j)) 0 n i i fault lt (omega arith)
-      ∙ ap (λ b. zero_unless b (cell i)) here)
+      ∙ get_or-map-range_with_len (λ j. zero_unless (of_number (pos 0)) (is_valid valid j) (cell j)) 0 n i i fault lt (omega arith)
+
+  pub calculated_made : (u : Tree) → IsMade valid (λ i. value (of_number (get_or zs i (pos 0)))) n u → IsMade valid cell n u
+  calculated_made u =
+      made_by valid (λ i. value (of_number (get_or zs i (pos 0)))) cell n u
+      (λ i lt here. calculated_at i lt ∙ ap (λ b. zero_unless (of_number (pos 0)) b (cell i)) here)

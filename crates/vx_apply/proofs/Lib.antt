@@ -5,11 +5,15 @@ pub mod CallsLemmas
 pub mod CastsLemmas
 pub mod ComparisonLemmas
 pub mod ComputedLemmas
+pub mod DigitsLemmas
 pub mod LogicLemmas
 pub mod MadeLemmas
 pub mod NullFunctionsLemmas
 pub mod OperandsLemmas
 pub mod OperatorLemmas
+pub mod PassedLemmas
 pub mod PassingLemmas
+pub mod PowersLemmas
 pub mod SelectLemmas
+pub mod UnscaledLemmas
 pub mod ViewsLemmas

@@ -31,7 +31,7 @@ use Rattle.vx_apply.specs.Computed.{IsMade, IsComputed}
 use Rattle.vx_apply.specs.Truths.{argument_in, row_over}
 use Rattle.vx_rows.specs.ValidRows.{is_valid, nullability_in, null_unless}
 use Rattle.vx_rows.specs.declared.argument.ArgumentRows.{ArgumentRows}
-use Rattle.vx_rows.specs.declared.argument.ArgumentRows.TheVariants.{Bits, Integers, Bytes}
+use Rattle.vx_rows.specs.declared.argument.ArgumentRows.TheVariants.{Bits, Integers, Decimals, Bytes}
 use Rattle.vx_apply.specs.declared.logic.Truths.{Truths}
 use Rattle.vx_rows.specs.declared.valid.ValidRows.TheVariants as rows_valid
 use Rattle.vx_apply.proofs.MadeLemmas.{computed_by}
@@ -65,6 +65,7 @@ logic_bits op r logical taken = by_rows r (by_operator op logical taken)
     by_rows : (r : ArgumentRows) → IsSome (logical_type (plain_type r)) → (bs : BitOperand) × (r ≡ Bits bs)
     by_rows (Bits bs) h = (bs, refl)
     by_rows (Integers zs) h = absurd (cc)
+    by_rows (Decimals ds) h = absurd (cc)
     by_rows (Bytes bs) h = absurd (no_bytes bs.storage h)
 
 -- ---- one truth value: whether it is sure to be true, and whether that is possible

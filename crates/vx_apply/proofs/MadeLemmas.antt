@@ -3,10 +3,13 @@ use Rattle.std.proofs.Common.{◌≡◌, ◌<◌, ℕ, ℤ, Bool, true, false, L
 use Rattle.std.specs.List.{range_with_len}
 use Rattle.std.proofs.lemmas.List.FromFn.{get_or-map-range_with_len, length-map-range_with_len}
 use Rattle.std.proofs.lemmas.Simd.{map-map}
-use Rattle.vx_value.specs.Types.{DataType, bool, primitive}
+use Rattle.vx_value.specs.Types.{DataType, bool, primitive, decimal}
 use Rattle.vx_value.specs.Nullabilities.{with_nullability}
+use Rattle.vx_value.specs.Values as of
 use Rattle.vx_value.specs.Values.{Value, boolean, integer, bytes}
 use Rattle.vx_value.specs.Cell.{Cell, value}
+use Rattle.vx_value.specs.declared.decimal.DecimalDType.{DecimalDType}
+use Rattle.vx_value.specs.declared.decimal.DecimalType.{DecimalType}
 use Rattle.vx_value.specs.declared.dtype.PType.{PType}
 use Rattle.vx_value.specs.declared.dtype.Nullability.{Nullability}
 use Rattle.vx_value.specs.declared.dtype.Storage.{Storage}
@@ -22,7 +25,7 @@ use Rattle.vx_tree.specs.Validities.{nullability_by, child_of}
 use Rattle.vx_tree.specs.declared.validity.Validity.{Validity}
 use Rattle.vx_rows.specs.Arguments.{types_of, row_of}
 use Rattle.vx_apply.specs.Computed.{IsMade, IsComputed}
-use Rattle.vx_rows.specs.Stored.{boolean_column, integer_column, bytes_column}
+use Rattle.vx_rows.specs.Stored.{boolean_column, integer_column, decimal_column, bytes_column}
 use Rattle.vx_rows.specs.Nulls.{validity_cells}
 use Rattle.vx_rows.specs.ValidRows.{is_valid, HasValidity, nullability_in, child_in, IsValidityOf, null_unless}
 use Rattle.vx_rows.specs.declared.argument.Argument.{Argument}
@@ -64,11 +67,13 @@ computed_by f args valid stored n u typed h same = record {
 module _ (valid : ValidRows) (n : ℕ) (sized : HasValidity valid n) (v : Validity) (told : IsValidityOf valid n v) where
   -- items that are stored in a column
   made : {X : Type 0} (read : X → Value) (of_items : List X → Data)
-      → ((ty : DataType) (k : ℕ) (xs : List X) (css : List (List Cell)) → node_cells ty k (of_items xs) css ≡ valid_cells (cells_at css 0) (map (λ x. value (read x)) xs))
-      → ((xs : List X) → is_canonical (of_items xs) ≡ true) → (ty : Nullability → DataType) (xs : List X) (g : ℕ → X) (u : Tree) → xs ≡ map g (range_with_len 0 n)
+      (ty : Nullability → DataType)
+      → ((m : Nullability) (k : ℕ) (xs : List X) (css : List (List Cell))
+      → node_cells (ty m) k (of_items xs) css ≡ valid_cells (cells_at css 0) (map (λ x. value (read x)) xs))
+      → ((xs : List X) → is_canonical (of_items xs) ≡ true) → (xs : List X) (g : ℕ → X) (u : Tree) → xs ≡ map g (range_with_len 0 n)
       → u ≡ column (ty (nullability_by v)) (length xs) (of_items xs) (child_of v (length xs))
       → (dtype u ≡ ty (nullability_in valid)) × IsMade valid (λ i. value (read (g i))) n u
-  made read of_items cells canonical ty xs g u are new =
+  made read of_items ty cells canonical xs g u are new =
       let long : length xs ≡ n = ap length are ∙ length-map-range_with_len g 0 n in
       let child : child_of v (length xs) ≡ child_in valid = ap (child_of v) long ∙ told.1 in
       let stored : map (λ x. value (read x)) xs ≡ map (λ i. value (read (g i))) (range_with_len 0 n) =
@@ -76,7 +81,7 @@ module _ (valid : ValidRows) (n : ℕ) (sized : HasValidity valid n) (v : Validi
       let whole : IsMade valid (λ i. value (read (g i))) n (column (ty (nullability_by v)) (length xs) (of_items xs) (child_in valid)) =
       record {
         counted = long;
-        shown = cells (ty (nullability_by v)) (length xs) xs (slots_rows (slots_of (child_in valid ∷ [])))
+        shown = cells (nullability_by v) (length xs) xs (slots_rows (slots_of (child_in valid ∷ [])))
             ∙ ap (λ css. valid_cells (cells_at css 0) (map (λ x. value (read x)) xs)) (one_slot (child_in valid))
             ∙ ap (valid_cells (validity_cells (child_in valid))) stored
             ∙ filled_rows valid n (λ i. read (g i)) sized;
@@ -89,12 +94,16 @@ module _ (valid : ValidRows) (n : ℕ) (sized : HasValidity valid n) (v : Validi
 
   pub bools_made : (bits : List Bool) (test : ℕ → Bool) (u : Tree) → bits ≡ map test (range_with_len 0 n) → u ≡ boolean_column bits v
       → (dtype u ≡ bool (nullability_in valid)) × IsMade valid (λ i. value (boolean (test i))) n u
-  bools_made = made boolean enc.bool (λ ty k xs css. refl) (λ xs. refl) bool
+  bools_made = made boolean enc.bool bool (λ m k xs css. refl) (λ xs. refl)
 
   pub integers_made : (p : PType) (zs : List ℤ) (g : ℕ → ℤ) (u : Tree) → zs ≡ map g (range_with_len 0 n) → u ≡ integer_column p zs v
       → (dtype u ≡ primitive p (nullability_in valid)) × IsMade valid (λ i. value (integer (g i))) n u
-  integers_made p = made integer (enc.primitive p) (λ ty k xs css. refl) (λ xs. refl) (primitive p)
+  integers_made p = made integer (enc.primitive p) (primitive p) (λ m k xs css. refl) (λ xs. refl)
+
+  pub decimals_made : (d : DecimalDType) (w : DecimalType) (zs : List ℤ) (g : ℕ → ℤ) (u : Tree) → zs ≡ map g (range_with_len 0 n) → u ≡ decimal_column d w zs v
+      → (dtype u ≡ decimal d.precision d.scale (nullability_in valid)) × IsMade valid (λ i. value (of.decimal (g i) d.scale)) n u
+  decimals_made d w = made (λ z. of.decimal z d.scale) (enc.decimals w) (decimal d.precision d.scale) (λ m k xs css. refl) (λ xs. refl)
 
   pub bytes_made : (st : Storage) (rs : List (List ℕ)) (g : ℕ → List ℕ) (u : Tree) → rs ≡ map g (range_with_len 0 n) → u ≡ bytes_column st rs v
       → (dtype u ≡ with_nullability (nullability_in valid) (bytes_type st)) × IsMade valid (λ i. value (bytes (g i))) n u
-  bytes_made st = made bytes enc.views (λ ty k xs css. refl) (λ xs. refl) (λ m. with_nullability m (bytes_type st))
+  bytes_made st = made bytes enc.views (λ m. with_nullability m (bytes_type st)) (λ m k xs css. refl) (λ xs. refl)

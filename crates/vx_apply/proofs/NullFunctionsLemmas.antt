@@ -34,6 +34,7 @@ use Rattle.vx_rows.proofs.ValidRowsLemmas.{bit_made}
 stored_value : (r : ArgumentRows) (i : ℕ) → is_null (value_at r i) ≡ false
 stored_value (stored.Bits bs) i = refl
 stored_value (stored.Integers zs) i = refl
+stored_value (stored.Decimals ds) i = refl
 stored_value (stored.Bytes bs) i = refl
 
 module _ (f : ScalarFnRef) (g : Bool → Bool) (typed : (s : DataType) → return_type f (s ∷ []) ≡ Some (bool NonNullable))

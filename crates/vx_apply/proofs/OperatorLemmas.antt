@@ -1,10 +1,12 @@
 -- What an operator gives on columns: the type of its result and the value of a row, over booleans and over integers.
 use Rattle.std.proofs.Common.{◌≡◌, ℕ, Bool, true, false, if◌then◌else◌, refl, sym, ap, ◌∙◌, ◌∷◌, [], Some, None}
 use Rattle.std.specs.Prelude.{ℤ, Option, IsSome, option_map}
-use Rattle.vx_value.specs.Types.{bool, primitive, nullability_of}
+use Rattle.vx_value.specs.Types.{bool, primitive, decimal, nullability_of}
 use Rattle.vx_value.specs.Nullabilities.{with_nullability, union, same_but_nullability, same_but_nullability_Decides}
 use Rattle.vx_value.specs.View.{type_of}
+use Rattle.vx_value.specs.Values as values
 use Rattle.vx_value.specs.Values.{boolean, integer}
+use Rattle.vx_value.specs.Casts.{sized}
 use Rattle.vx_value.specs.Cell.{value}
 use Rattle.vx_value.specs.declared.dtype.PType.{PType}
 use Rattle.vx_value.specs.declared.dtype.Nullability.{Nullability}
@@ -12,7 +14,7 @@ use Rattle.vx_value.specs.declared.dtype.Nullability.TheVariants.{NonNullable}
 use Rattle.vx_fn.specs.Apply.{apply}
 use Rattle.vx_fn.specs.ReturnTypes.{return_type}
 use Rattle.vx_fn.specs.Binary.{is_comparison, is_logical, operator_type, null_rule, operated}
-use Rattle.vx_fn.specs.Arithmetic.{calculated}
+use Rattle.vx_fn.specs.Arithmetic.{calculated, calculated_by}
 use Rattle.vx_fn.specs.Meanings.{widened}
 use Rattle.vx_fn.specs.declared.function.Operator.{Operator}
 use Rattle.vx_fn.specs.declared.function.Operator.TheVariants as operator
@@ -77,6 +79,31 @@ pub calculated_value : (op : Operator) (p : PType) (m : Nullability) (x y : ℤ)
     → apply (Binary op) (primitive p m) (value (integer x) ∷ value (integer y) ∷ []) ≡ calculated op p x y
 calculated_value op p m x y l = ap (λ b. null_rule b (integer x) (null_rule b (integer y) (operated op (primitive p m) (integer x) (integer y)))) l
 
+-- ---- decimals
+
+-- they are added and subtracted, and compared
+decimals_plain : (op : Operator) (p s : ℕ) → IsSome (operator_type op (decimal p s NonNullable)) → is_logical op ≡ false
+decimals_plain operator.And p s h = absurd (cc)
+decimals_plain operator.Or p s h = absurd (cc)
+decimals_plain operator.Eq p s h = refl
+decimals_plain _ p s h = refl
+
+pub decimals_calculated : (op : Operator) (p s : ℕ) (m : Nullability) → IsSome (operator_type op (decimal p s NonNullable)) → is_comparison op ≡ false
+    → option_map (with_nullability m) (operator_type op (decimal p s NonNullable)) ≡ Some (decimal p s m)
+decimals_calculated operator.Add p s m h c = refl
+decimals_calculated operator.Sub p s m h c = refl
+decimals_calculated operator.Mul p s m h c = absurd (cc)
+decimals_calculated operator.Div p s m h c = absurd (cc)
+decimals_calculated operator.And p s m h c = absurd (cc)
+decimals_calculated operator.Or p s m h c = absurd (cc)
+decimals_calculated _ p s m h c = absurd (cc)
+
+pub decimal_value : (op : Operator) (p s : ℕ) (m : Nullability) (x y : ℤ) (q r : ℕ) → IsSome (operator_type op (decimal p s NonNullable))
+    → apply (Binary op) (decimal p s m) (value (values.decimal x q) ∷ value (values.decimal y r) ∷ []) ≡ calculated_by op (sized p s) x y
+decimal_value op p s m x y q r h =
+    ap (λ b. null_rule b (values.decimal x q) (null_rule b (values.decimal y r) (operated op (decimal p s m) (values.decimal x q) (values.decimal y r))))
+    (decimals_plain op p s h)
+
 -- ---- two arguments, by the types and the cells of their rows
 
 -- an operator's result doesn't depend on the nullability of its arguments
@@ -87,6 +114,10 @@ same_for_bools _ m = refl
 same_for_integers : (op : Operator) (p : PType) (m : Nullability) → operator_type op (primitive p m) ≡ operator_type op (primitive p NonNullable)
 same_for_integers operator.Eq p m = refl
 same_for_integers _ p m = refl
+
+same_for_decimals : (op : Operator) (p s : ℕ) (m : Nullability) → operator_type op (decimal p s m) ≡ operator_type op (decimal p s NonNullable)
+same_for_decimals operator.Eq p s m = refl
+same_for_decimals _ p s m = refl
 
 same_for_bytes : (op : Operator) (st : Storage) (m : Nullability) → operator_type op (with_nullability m (bytes_type st)) ≡ operator_type op (bytes_type st)
 same_for_bytes operator.Eq Text m = refl
@@ -107,6 +138,7 @@ module _ (n : ℕ) (a : Argument) (sized : IsSized n a) where
       by_rows : (r : ArgumentRows) → AreStored (nullability_in a.valid) r n → type_of_rows (nullability_in a.valid) r ≡ with_nullability (nullability_in a.valid) (plain_type r)
       by_rows (stored.Bits bs) h = refl
       by_rows (stored.Integers zs) h = column_of_integers (ptype_in zs) (type_of zs.dtype.now) h.0.3 ∙ ap (primitive (ptype_in zs)) h.1
+      by_rows (stored.Decimals ds) h = refl
       by_rows (stored.Bytes bs) h = refl
 
   pub has_stored : HasStored a.rows n
@@ -115,26 +147,31 @@ module _ (n : ℕ) (a : Argument) (sized : IsSized n a) where
       by_rows : (r : ArgumentRows) → AreStored (nullability_in a.valid) r n → HasStored r n
       by_rows (stored.Bits bs) h = h
       by_rows (stored.Integers zs) h = h.0
+      by_rows (stored.Decimals ds) h = h
       by_rows (stored.Bytes bs) h = h
 
 plain_again : (m : Nullability) (r : ArgumentRows) → with_nullability NonNullable (with_nullability m (plain_type r)) ≡ plain_type r
 plain_again m (stored.Bits bs) = refl
 plain_again m (stored.Integers zs) = refl
+plain_again m (stored.Decimals ds) = refl
 plain_again m (stored.Bytes bs) = (bytes_again NonNullable m bs.storage).0 ∙ (bytes_again NonNullable NonNullable bs.storage).2
 
 pub set_again : (k m : Nullability) (r : ArgumentRows) → with_nullability k (with_nullability m (plain_type r)) ≡ with_nullability k (plain_type r)
 set_again k m (stored.Bits bs) = refl
 set_again k m (stored.Integers zs) = refl
+set_again k m (stored.Decimals ds) = refl
 set_again k m (stored.Bytes bs) = (bytes_again k m bs.storage).0
 
 nullability_again : (m : Nullability) (r : ArgumentRows) → nullability_of (with_nullability m (plain_type r)) ≡ m
 nullability_again m (stored.Bits bs) = refl
 nullability_again m (stored.Integers zs) = refl
+nullability_again m (stored.Decimals ds) = refl
 nullability_again m (stored.Bytes bs) = (bytes_again NonNullable m bs.storage).1
 
 operator_again : (op : Operator) (m : Nullability) (r : ArgumentRows) → operator_type op (with_nullability m (plain_type r)) ≡ operator_type op (plain_type r)
 operator_again op m (stored.Bits bs) = same_for_bools op m
 operator_again op m (stored.Integers zs) = same_for_integers op (ptype_in zs) m
+operator_again op m (stored.Decimals ds) = same_for_decimals op ds.decimal.precision ds.decimal.scale m
 operator_again op m (stored.Bytes bs) = same_for_bytes op bs.storage m
 
 taken_before : {A B : Type 0} (f : A → B) (o : Option A) (b : B) → option_map f o ≡ Some b → IsSome o

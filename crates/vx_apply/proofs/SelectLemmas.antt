@@ -25,7 +25,7 @@ use Rattle.vx_apply.specs.Selected.{selected, IsSelected}
 use Rattle.vx_rows.specs.ValidRows.{is_valid, nullability_in, null_unless}
 use Rattle.vx_rows.specs.declared.argument.Argument.{Argument}
 use Rattle.vx_rows.specs.declared.argument.ArgumentRows.{ArgumentRows}
-use Rattle.vx_rows.specs.declared.argument.ArgumentRows.TheVariants.{Bits, Integers, Bytes}
+use Rattle.vx_rows.specs.declared.argument.ArgumentRows.TheVariants.{Bits, Integers, Decimals, Bytes}
 use Rattle.vx_rows.specs.declared.valid.ValidRows.{ValidRows}
 use Rattle.vx_rows.specs.declared.valid.ValidRows.TheVariants as rows_valid
 use Rattle.vx_apply.proofs.MadeLemmas.{made_stored}
@@ -147,6 +147,7 @@ filled_cell ty k w r i y =
     by_rows : (k : Bool) (r : ArgumentRows) (q : Value) → (if k then value (value_at r i) else value q) ≡ apply FillNull ty (null_unless k (value (value_at r i)) ∷ value q ∷ [])
     by_rows true (Bits bs) q = refl
     by_rows true (Integers zs) q = refl
+    by_rows true (Decimals ds) q = refl
     by_rows true (Bytes bs) q = refl
     by_rows false r q = refl
 

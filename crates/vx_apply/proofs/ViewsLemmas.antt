@@ -1,7 +1,7 @@
 -- Rows of text and of bytes: what makes them values that are stored so.
-use Rattle.std.proofs.Common.{◌≡◌, ◌<◌, ◌≤◌, ◌+◌, ℕ, zero, suc, Bool, true, false, if◌then◌else◌, List, [], ◌∷◌, ◌++◌, length, map, get_or}
-use Rattle.std.proofs.Common.{refl, sym, ap, subst, ◌∙◌, arith}
-use Rattle.std.specs.Cmp.{first_so, second_so}
+use Rattle.std.proofs.Common.{◌≡◌, ◌<◌, ℕ, Bool, true, false, if◌then◌else◌, List, [], ◌∷◌, ◌++◌, length, map, get_or}
+use Rattle.std.proofs.Common.{refl, sym, ap, subst, ◌∙◌}
+use Rattle.std.specs.Cmp.{first_so}
 use Rattle.std.specs.List.{list_all, range_with_len}
 use Rattle.std.specs.Str.{is_utf8}
 use Rattle.std.proofs.lemmas.Bool.{and_from}
@@ -28,26 +28,18 @@ use Rattle.vx_apply.specs.Casts.{none_unless}
 use Rattle.vx_apply.specs.Computed.{IsMade}
 use Rattle.vx_apply.specs.Selected.{selected}
 use Rattle.vx_apply.proofs.MadeLemmas.{made_by}
+use Rattle.vx_apply.proofs.PassedLemmas.{all_passed, passed_at}
 
 -- ---- one row, and all of them
-
-all_made : (f : ℕ → List ℕ) (s m : ℕ) → ((i : ℕ) → s ≤ i → i < s + m → are_bytes_of Text (f i ∷ []) ≡ true)
-    → list_all is_utf8 (map f (range_with_len s m)) ≡ true
-all_made f s zero each = refl
-all_made f s (suc m) each =
-    and_from (is_utf8 (f s)) _ (first_so (is_utf8 (f s)) _ (each s (omega arith) (omega arith)))
-    (all_made f (s + 1) m (λ i from lt. each i (omega arith) (omega arith)))
 
 -- rows that are made one by one
 pub rows_stored : (st : Storage) (f : ℕ → List ℕ) (rs : List (List ℕ)) (n : ℕ) → rs ≡ map f (range_with_len 0 n)
     → ((i : ℕ) → i < n → are_bytes_of st (f i ∷ []) ≡ true) → are_bytes_of st rs ≡ true
-rows_stored Text f rs n made each = ap (list_all is_utf8) made ∙ all_made f 0 n (λ i from lt. each i (omega arith))
+rows_stored Text f rs n made each = all_passed is_utf8 f rs n made (λ i lt. first_so (is_utf8 (f i)) _ (each i lt))
 rows_stored _ f rs n made each = refl
 
 text_at : (rs : List (List ℕ)) (i : ℕ) → list_all is_utf8 rs ≡ true → i < length rs → are_bytes_of Text (get_or rs i [] ∷ []) ≡ true
-text_at [] i h lt = absurd (omega arith)
-text_at (r ∷ rs) zero h lt = and_from (is_utf8 r) true (first_so (is_utf8 r) _ h) refl
-text_at (r ∷ rs) (suc i) h lt = text_at rs i (second_so (is_utf8 r) _ h) (omega arith)
+text_at rs i h lt = and_from (is_utf8 (get_or rs i [])) true (passed_at is_utf8 [] rs i h lt) refl
 
 pub row_stored : (st : Storage) (r : BytesRows) (n i : ℕ) → HasBytes st r n → i < n → are_bytes_of st (bytes_at r i ∷ []) ≡ true
 row_stored st (bytes_rows.Value bs) n i h lt = h

@@ -1,11 +1,12 @@
 -- What a cast makes of the rows of an argument.
-use Rattle.std.specs.Prelude.{◌≡◌, ℕ, ℤ, pos, Bool, true, false, List, [], length, slice_index_or}
-use Rattle.vx_value.specs.Types.{DataType, bool, primitive, nullability_of}
+use Rattle.std.specs.Prelude.{◌≡◌, ◌⊎◌, ℕ, ℤ, pos, Bool, true, false, List, [], length, slice_index_or}
+use Rattle.vx_value.specs.Types.{DataType, bool, primitive, decimal, nullability_of}
 use Rattle.vx_value.specs.Nullabilities.{with_nullability}
 use Rattle.vx_value.specs.Storage.{storage_of}
 use Rattle.vx_value.specs.Values.{integer}
 use Rattle.vx_value.specs.Cell.{Cell}
-use Rattle.vx_value.specs.Casts.{to_integer}
+use Rattle.vx_value.specs.Casts.{to_integer, rescaled}
+use Rattle.vx_value.specs.declared.decimal.DecimalDType.{DecimalDType}
 use Rattle.vx_value.specs.declared.dtype.PType.{PType}
 use Rattle.vx_value.specs.declared.error.VortexError.{VortexError}
 use Rattle.vx_native.specs.Natives.{values_of}
@@ -14,6 +15,7 @@ use Rattle.vx_tree.specs.Tree.{Tree}
 use Rattle.vx_apply.specs.Operands.{IsFaultyRow, IsCalculated}
 use Rattle.vx_rows.specs.ValidRows.{is_valid, HasValidity}
 use Rattle.vx_apply.specs.declared.cast.Conversion.{Conversion}
+use Rattle.vx_apply.specs.declared.rescaling.Rescaling.{Rescaling}
 use Rattle.vx_rows.specs.declared.argument.ArgumentRows.{ArgumentRows}
 use Rattle.vx_rows.specs.declared.argument.ArgumentRows.TheVariants as stored
 
@@ -21,15 +23,31 @@ use Rattle.vx_rows.specs.declared.argument.ArgumentRows.TheVariants as stored
 abbrev pub converted : PType → (ℕ → ℤ) → ℕ → Cell
 converted p z i = to_integer p (integer (z i))
 
+-- row i of numbers, r of whose digits stand behind the point, cast to decimals of the type d
+abbrev pub rescaled_row : DecimalDType → ℕ → (ℕ → ℤ) → ℕ → Cell
+rescaled_row d r z i = rescaled d.precision d.scale (z i) r
+
+-- the same of item i, or of 0 past the last one
+abbrev pub rescaled_item : Rescaling → List ℤ → ℕ → Cell
+rescaled_item x zs = rescaled_row x.target x.scale (λ i. slice_index_or zs i (pos 0))
+
 -- the bytes that are stored of a row that is cast to text: none if it is null
 abbrev pub none_unless : Bool → List ℕ → List ℕ
 none_unless true bs = bs
 none_unless false bs = []
 
+-- integers, and decimals
+abbrev pub IsIntegerType : DataType → Type 0
+IsIntegerType t = (p : PType) × (t ≡ primitive p (nullability_of t))
+
+abbrev pub IsDecimalType : DataType → Type 0
+IsDecimalType t = (p : ℕ) × (s : ℕ) × (t ≡ decimal p s (nullability_of t))
+
 -- the types of columns to which there is a cast: a line for each storage
 abbrev pub IsCastTarget : ArgumentRows → DataType → Type 0
 IsCastTarget (stored.Bits bs) t = t ≡ bool (nullability_of t)
-IsCastTarget (stored.Integers zs) t = (p : PType) × (t ≡ primitive p (nullability_of t))
+IsCastTarget (stored.Integers zs) t = IsIntegerType t ⊎ IsDecimalType t
+IsCastTarget (stored.Decimals ds) t = IsDecimalType t
 IsCastTarget (stored.Bytes bs) t = t ≡ with_nullability (nullability_of t) (bytes_type (storage_of t))
 
 -- the integer at row i, or 0 past the last one

@@ -9,6 +9,8 @@ pub mod Bounds
 pub mod Casts
 pub mod Compared
 pub mod Computed
+pub mod Digits
 pub mod Operands
+pub mod Powers
 pub mod Selected
 pub mod Truths

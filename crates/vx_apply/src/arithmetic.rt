@@ -18,7 +18,7 @@ ghost use Rattle.vx_apply.specs.Operands.{number_in, HasRow};
 ghost use Rattle.vx_rows.specs.ValidRows.{HasValidity, nullability_in};
 ghost use Rattle.vx_rows.specs.declared.argument.ArgumentRows.TheVariants.{Integers};
 
-use crate::calculation::{Calculation, calculated_column};
+use crate::calculation::{Calculation, IntegerCalculation, calculated_column};
 use crate::operand::{Operand, operand_of};
 use num_traits::{CheckedAdd, CheckedDiv, CheckedMul, CheckedSub};
 use std::alloc::Global;
@@ -121,10 +121,16 @@ impl<'a, T: NativeInteger, A: Arithmetic> Calculation<T> for Operation<'a, T, A>
 
     ghost cell = { λ s i. calculated A.operator T.kind (number_in T.value s.left i) (number_in T.value s.right i) };
 
+    ghost stands_for = { λ s. integer };
+
     #[inline]
     fn calculate_row(&self, index: usize) -> Option<T> {
         A::calculate_row(self.left.row(index), self.right.row(index))
     }
+}
+
+impl<'a, T: NativeInteger, A: Arithmetic> IntegerCalculation<T> for Operation<'a, T, A> {
+    fn are_integers(&self) {}
 }
 
 /// Applies `A` to the `valid` rows of `lhs` and `rhs`, `len` rows each, which must be of the type `T`; the other rows are null.

@@ -1,25 +1,27 @@
 //! Whether rows lie between two bounds.
 
-ghost use Rattle.std.specs.Prelude.{◌≡◌, ◌<◌, ◌∷◌, [], ℕ, map, IfOk, IfErr};
-ghost use Rattle.std.specs.List.{range_with_len};
+ghost use Rattle.std.specs.Prelude.{◌≡◌, ◌<◌, ◌∷◌, [], ◌&&◌, ℕ, true, length, IfOk, IfErr};
+ghost use Rattle.vx_value.specs.Decimals.{smallest_width};
+ghost use Rattle.vx_mask.specs.Logic.{bit_row};
 ghost use Rattle.vx_mask.specs.Operands.{HasBits};
 ghost use Rattle.vx_fn.specs.declared.function.ScalarFnRef.TheVariants.{Between};
 ghost use Rattle.vx_tree.specs.Columns.{canonical_tree};
-ghost use Rattle.vx_rows.specs.Arguments.{types_of, plain_type, value_at, IsSized, HasStored, AreIntegers};
-ghost use Rattle.vx_apply.specs.Bounds.{bound_by, is_between, is_bounded};
+ghost use Rattle.vx_rows.specs.Arguments.{types_of, plain_type, value_at, IsSized, HasStored, AreIntegers, AreDecimals};
+ghost use Rattle.vx_apply.specs.Bounds.{bound_by, is_between, is_bounded, bounded_rows};
 ghost use Rattle.vx_apply.specs.Computed.{IsTaken, IsComputed};
-ghost use Rattle.vx_rows.specs.declared.argument.ArgumentRows.TheVariants.{Bits, Integers};
+ghost use Rattle.vx_rows.specs.ValidRows.{is_valid, HasValidity};
+ghost use Rattle.vx_rows.specs.declared.argument.ArgumentRows.TheVariants.{Bits, Integers, Decimals};
 
 use crate::boolean::{keep_valid, operate_bits, valid_bools};
 use crate::comparison::{Below, Comparison, NotAbove, OrderedRows};
-use crate::operand::{Operand, operand_of};
+use crate::operand::{Operand, decimal_operand_of, operand_of};
 use std::alloc::{AllocError, Global};
 use vx_fn::{BetweenOptions, Operator, StrictComparison};
 use vx_mask::{BitAnd, BitBuffer, BitBuilder, BitOperand};
-use vx_native::{NativeInteger, by_type};
-use vx_rows::{Argument, ArgumentRows, BytesOperand, IntegerOperand};
+use vx_native::{NativeDecimalType, NativeInteger, by_decimal_type, by_type};
+use vx_rows::{Argument, ArgumentRows, BytesOperand, DecimalOperand, IntegerOperand, ValidRows};
 use vx_tree::Canonical;
-use vx_value::{VortexError, VortexResult};
+use vx_value::{DecimalType, VortexError, VortexResult};
 
 /// Checks whether each row of `array` lies between `lower` and `upper`, `len` rows each; a row is null if one of the three is.
 /// The only error is `OutOfMemory`.
@@ -41,18 +43,20 @@ pub(crate) fn between(
 {
     let bounds_valid = lower.valid.and(alloc, &upper.valid, len)?;
     let valid = array.valid.and(alloc, &bounds_valid, len)?;
-    let bits = between_rows(alloc, options, array.rows, lower.rows, upper.rows, len)?;
-    let kept = keep_valid(alloc, bits, &valid, len)?;
-    valid_bools(alloc, kept, &valid, len)
+    let bits = between_rows(
+        alloc, options, array.rows, lower.rows, upper.rows, &valid, len,
+    )?;
+    valid_bools(alloc, bits, &valid, len)
 }
 
-/// Checks each of `len` rows, which must be of one type; null rows are compared by what they store.
+/// Checks the `valid` rows, `len` rows each, which must be of one type; `false` stands for the others.
 fn between_rows(
     alloc: Global,
     options: BetweenOptions,
     array: ArgumentRows<'_>,
     lower: ArgumentRows<'_>,
     upper: ArgumentRows<'_>,
+    valid: &ValidRows,
     len: usize,
 ) -> Result<BitBuffer, AllocError>
     requires array { HasStored array len }
@@ -60,11 +64,13 @@ fn between_rows(
     requires upper { HasStored upper len }
     requires same_lower { plain_type array ≡ plain_type lower }
     requires same_upper { plain_type array ≡ plain_type upper }
-    ensures { IfOk result (λ b. b ≡ map (is_between options (value_at array.entry) (value_at lower.entry) (value_at upper.entry)) (range_with_len 0 len)) }
+    requires valid { HasValidity valid.now len }
+    ensures { IfOk result (λ b.
+        b ≡ bounded_rows (is_valid valid.now) (is_between options (value_at array.entry) (value_at lower.entry) (value_at upper.entry)) len) }
 {
     match (array, lower, upper) {
         (ArgumentRows::Bits(array), ArgumentRows::Bits(lower), ArgumentRows::Bits(upper)) => {
-            between_bits(alloc, options, array, lower, upper, len)
+            between_bits(alloc, options, array, lower, upper, valid, len)
         }
         (
             ArgumentRows::Integers(array),
@@ -73,11 +79,21 @@ fn between_rows(
         ) => {
             by_type!(
                 array.ptype(),
-                between_integers(alloc, options, array, lower, upper, len)
+                between_integers(alloc, options, array, lower, upper, valid, len)
+            )
+        }
+        (
+            ArgumentRows::Decimals(array),
+            ArgumentRows::Decimals(lower),
+            ArgumentRows::Decimals(upper),
+        ) => {
+            by_decimal_type!(
+                DecimalType::smallest_decimal_value_type(&array.decimal),
+                between_decimals(alloc, options, array, lower, upper, valid, len)
             )
         }
         (ArgumentRows::Bytes(array), ArgumentRows::Bytes(lower), ArgumentRows::Bytes(upper)) => {
-            between_ordered::<BytesOperand<'_>>(alloc, options, array, lower, upper, len)
+            between_ordered::<BytesOperand<'_>>(alloc, options, array, lower, upper, valid, len)
         }
         _ => unreachable!(),
     }
@@ -93,7 +109,7 @@ fn bound_operator(comparison: StrictComparison) -> Operator
     }
 }
 
-/// Checks each of `len` rows of booleans, by words.
+/// Checks the `valid` rows of booleans, `len` rows each, by words; `false` stands for the others.
 #[tactic(auto, using(vx_rows::proofs::ValidRowsLemmas::counted))]
 fn between_bits(
     alloc: Global,
@@ -101,13 +117,15 @@ fn between_bits(
     array: BitOperand<'_>,
     lower: BitOperand<'_>,
     upper: BitOperand<'_>,
+    valid: &ValidRows,
     len: usize,
 ) -> Result<BitBuffer, AllocError>
     requires array { HasBits array len }
     requires lower { HasBits lower len }
     requires upper { HasBits upper len }
-    ensures { IfOk result (λ b.
-        b ≡ map (is_between options (value_at (Bits array.entry)) (value_at (Bits lower.entry)) (value_at (Bits upper.entry))) (range_with_len 0 len)) }
+    requires valid { HasValidity valid.now len }
+    ensures { IfOk result (λ b. b ≡ bounded_rows (is_valid valid.now)
+        (is_between options (value_at (Bits array.entry)) (value_at (Bits lower.entry)) (value_at (Bits upper.entry))) len) }
 {
     let above = operate_bits(
         alloc,
@@ -124,63 +142,119 @@ fn between_bits(
         len,
     )?;
     let above = BitOperand::Bits(&above);
-    BitBuffer::zip::<BitAnd>(alloc, above, BitOperand::Bits(&below), len)
+    let bits = BitBuffer::zip::<BitAnd>(alloc, above, BitOperand::Bits(&below), len)?;
+    keep_valid(alloc, bits, valid, len)
 }
 
-/// Checks each of `len` rows of integers, which must be of the type `T`.
+/// Checks the `valid` rows of integers, `len` rows each, which must be of the type `T`; `false` stands for the others.
 fn between_integers<T: NativeInteger>(
     alloc: Global,
     options: BetweenOptions,
     array: IntegerOperand<'_>,
     lower: IntegerOperand<'_>,
     upper: IntegerOperand<'_>,
+    valid: &ValidRows,
     len: usize,
 ) -> Result<BitBuffer, AllocError>
     requires array { AreIntegers T.kind array len }
     requires lower { AreIntegers T.kind lower len }
     requires upper { AreIntegers T.kind upper len }
-    ensures { IfOk result (λ b.
-        b ≡ map (is_between options (value_at (Integers array.entry)) (value_at (Integers lower.entry)) (value_at (Integers upper.entry))) (range_with_len 0 len)) }
+    requires valid { HasValidity valid.now len }
+    ensures { IfOk result (λ b. b ≡ bounded_rows (is_valid valid.now)
+        (is_between options (value_at (Integers array.entry)) (value_at (Integers lower.entry)) (value_at (Integers upper.entry))) len) }
 {
     let array: Operand<'_, T> = operand_of(array);
     let lower: Operand<'_, T> = operand_of(lower);
     let upper: Operand<'_, T> = operand_of(upper);
-    between_ordered::<Operand<'_, T>>(alloc, options, array, lower, upper, len)
+    between_ordered::<Operand<'_, T>>(alloc, options, array, lower, upper, valid, len)
 }
 
-/// Checks each of `len` rows.
+/// Checks the `valid` rows of decimals, `len` rows each, which must be of one type and stored in the width of `T`: numbers of one
+/// scale are ordered as without their points. `false` stands for the other rows.
+fn between_decimals<T: NativeDecimalType>(
+    alloc: Global,
+    options: BetweenOptions,
+    array: DecimalOperand<'_>,
+    lower: DecimalOperand<'_>,
+    upper: DecimalOperand<'_>,
+    valid: &ValidRows,
+    len: usize,
+) -> Result<BitBuffer, AllocError>
+    requires kind { T.kind ≡ smallest_width array.decimal.precision }
+    requires array { AreDecimals array len }
+    requires lower { AreDecimals lower len }
+    requires upper { AreDecimals upper len }
+    requires same_lower { plain_type (Decimals array) ≡ plain_type (Decimals lower) }
+    requires same_upper { plain_type (Decimals array) ≡ plain_type (Decimals upper) }
+    requires valid { HasValidity valid.now len }
+    ensures { IfOk result (λ b. b ≡ bounded_rows (is_valid valid.now)
+        (is_between options (value_at (Decimals array.entry)) (value_at (Decimals lower.entry)) (value_at (Decimals upper.entry))) len) }
+{
+    let array: Operand<'_, T> = decimal_operand_of(array);
+    let lower: Operand<'_, T> = decimal_operand_of(lower);
+    let upper: Operand<'_, T> = decimal_operand_of(upper);
+    between_ordered::<Operand<'_, T>>(alloc, options, array, lower, upper, valid, len)
+}
+
+/// Checks the `valid` rows, `len` rows each; `false` stands for the others.
 fn between_ordered<R: OrderedRows>(
     alloc: Global,
     options: BetweenOptions,
     array: R,
     lower: R,
     upper: R,
+    valid: &ValidRows,
     len: usize,
 ) -> Result<BitBuffer, AllocError>
     requires array { (i : ℕ) → i < len → R.has_row array i }
     requires lower { (i : ℕ) → i < len → R.has_row lower i }
     requires upper { (i : ℕ) → i < len → R.has_row upper i }
-    ensures { IfOk result (λ b. b ≡ map (is_between options (R.row_value array) (R.row_value lower) (R.row_value upper)) (range_with_len 0 len)) }
+    requires valid { HasValidity valid.now len }
+    ensures { IfOk result (λ b.
+        b ≡ bounded_rows (is_valid valid.now) (is_between options (R.row_value array) (R.row_value lower) (R.row_value upper)) len) }
 {
     match (options.lower_strict, options.upper_strict) {
         (StrictComparison::Strict, StrictComparison::Strict) => {
-            between_by::<R, Below, Below>(alloc, array, lower, upper, len)
+            between_by::<R, Below, Below>(alloc, array, lower, upper, valid, len)
         }
         (StrictComparison::Strict, StrictComparison::NonStrict) => {
-            between_by::<R, Below, NotAbove>(alloc, array, lower, upper, len)
+            between_by::<R, Below, NotAbove>(alloc, array, lower, upper, valid, len)
         }
         (StrictComparison::NonStrict, StrictComparison::Strict) => {
-            between_by::<R, NotAbove, Below>(alloc, array, lower, upper, len)
+            between_by::<R, NotAbove, Below>(alloc, array, lower, upper, valid, len)
         }
         (StrictComparison::NonStrict, StrictComparison::NonStrict) => {
-            between_by::<R, NotAbove, NotAbove>(alloc, array, lower, upper, len)
+            between_by::<R, NotAbove, NotAbove>(alloc, array, lower, upper, valid, len)
         }
+    }
+}
+
+/// Compares `lower` with `array` by `L`, and `array` with `upper` by `U`, in the `valid` rows, `len` rows each; `false` stands for
+/// the others.
+fn between_by<R: OrderedRows, L: Comparison, U: Comparison>(
+    alloc: Global,
+    array: R,
+    lower: R,
+    upper: R,
+    valid: &ValidRows,
+    len: usize,
+) -> Result<BitBuffer, AllocError>
+    requires array { (i : ℕ) → i < len → R.has_row array i }
+    requires lower { (i : ℕ) → i < len → R.has_row lower i }
+    requires upper { (i : ℕ) → i < len → R.has_row upper i }
+    requires valid { HasValidity valid.now len }
+    ensures { IfOk result (λ b.
+        b ≡ bounded_rows (is_valid valid.now) (is_bounded L.operator U.operator (R.row_value array) (R.row_value lower) (R.row_value upper)) len) }
+{
+    match valid {
+        ValidRows::All(_) => between_all::<R, L, U>(alloc, array, lower, upper, len),
+        ValidRows::Bits(valid) => between_valid::<R, L, U>(alloc, array, lower, upper, valid, len),
     }
 }
 
 /// Compares `lower` with `array` by `L`, and `array` with `upper` by `U`, in each of `len` rows.
 #[tactic(auto, using(crate::proofs::ComputedLemmas::bits_more))]
-fn between_by<R: OrderedRows, L: Comparison, U: Comparison>(
+fn between_all<R: OrderedRows, L: Comparison, U: Comparison>(
     alloc: Global,
     array: R,
     lower: R,
@@ -190,7 +264,8 @@ fn between_by<R: OrderedRows, L: Comparison, U: Comparison>(
     requires array { (i : ℕ) → i < len → R.has_row array i }
     requires lower { (i : ℕ) → i < len → R.has_row lower i }
     requires upper { (i : ℕ) → i < len → R.has_row upper i }
-    ensures { IfOk result (λ b. b ≡ map (is_bounded L.operator U.operator (R.row_value array) (R.row_value lower) (R.row_value upper)) (range_with_len 0 len)) }
+    ensures { IfOk result (λ b.
+        b ≡ bounded_rows (λ i. true) (is_bounded L.operator U.operator (R.row_value array) (R.row_value lower) (R.row_value upper)) len) }
 {
     let mut bits = BitBuilder::with_capacity(alloc, len)?;
     for index in 0..len {
@@ -199,4 +274,48 @@ fn between_by<R: OrderedRows, L: Comparison, U: Comparison>(
         bits.push(above & below)?;
     }
     bits.finish(alloc)
+}
+
+/// Compares `lower` with `array` by `L`, and `array` with `upper` by `U`, in the rows at the true bits of `valid`, `len` rows each;
+/// `false` stands for the others.
+fn between_valid<R: OrderedRows, L: Comparison, U: Comparison>(
+    alloc: Global,
+    array: R,
+    lower: R,
+    upper: R,
+    valid: &BitBuffer,
+    len: usize,
+) -> Result<BitBuffer, AllocError>
+    requires array { (i : ℕ) → i < len → R.has_row array i }
+    requires lower { (i : ℕ) → i < len → R.has_row lower i }
+    requires upper { (i : ℕ) → i < len → R.has_row upper i }
+    requires valid { length valid.now ≡ len }
+    ensures { IfOk result (λ b.
+        b ≡ bounded_rows (bit_row valid.now) (is_bounded L.operator U.operator (R.row_value array) (R.row_value lower) (R.row_value upper)) len) }
+{
+    let mut bits = BitBuilder::with_capacity(alloc, len)?;
+    for index in 0..len {
+        let is_valid = valid.value(index);
+        let is_bounded = between_unless_null::<R, L, U>(&array, &lower, &upper, index, is_valid);
+        bits.push(is_bounded)?;
+    }
+    bits.finish(alloc)
+}
+
+/// Checks row `index`, which must exist: `false` if it isn't valid, without calling `L` or `U`.
+#[inline]
+fn between_unless_null<R: OrderedRows, L: Comparison, U: Comparison>(
+    array: &R,
+    lower: &R,
+    upper: &R,
+    index: usize,
+    is_valid: bool,
+) -> bool
+    requires array { R.has_row array.now index }
+    requires lower { R.has_row lower.now index }
+    requires upper { R.has_row upper.now index }
+    ensures { result ≡
+        is_valid && is_bounded L.operator U.operator (R.row_value array.now) (R.row_value lower.now) (R.row_value upper.now) index }
+{
+    is_valid && (lower.compare_at::<L>(array, index) & array.compare_at::<U>(upper, index))
 }

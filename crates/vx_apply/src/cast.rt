@@ -16,8 +16,9 @@ ghost use Rattle.vx_apply.specs.Computed.{IsTaken, IsMade, IsComputed, IsNotComp
 ghost use Rattle.vx_apply.specs.Operands.{number_in, HasRow, IsFaultyRow, IsCalculated};
 ghost use Rattle.vx_rows.specs.ValidRows.{is_valid, HasValidity, nullability_in};
 
-use crate::calculation::{Calculation, calculated_column};
+use crate::calculation::{Calculation, IntegerCalculation, calculated_column};
 use crate::operand::{Operand, operand_of};
+use crate::rescale::{cast_decimals, integers_to_decimals};
 use crate::stored::{integer_rows, stored_column};
 use crate::text::cast_to_text;
 use std::alloc::Global;
@@ -97,6 +98,12 @@ fn cast_rows(
         (ArgumentRows::Bits(_), _) => stored_column(alloc, rows, valid, len),
         (ArgumentRows::Integers(integers), DType::Primitive(ptype, _)) => {
             cast_integers(alloc, *ptype, integers, valid, len)
+        }
+        (ArgumentRows::Integers(integers), DType::Decimal(decimal, _)) => {
+            integers_to_decimals(alloc, *decimal, integers, valid, len)
+        }
+        (ArgumentRows::Decimals(decimals), DType::Decimal(decimal, _)) => {
+            cast_decimals(alloc, *decimal, decimals, valid, len)
         }
         (ArgumentRows::Bytes(bytes), DType::Utf8(_)) => cast_to_text(alloc, bytes, valid, len),
         (ArgumentRows::Bytes(bytes), DType::Binary(_)) => {
@@ -235,8 +242,14 @@ impl<'a, T: NativeInteger, U: NativeInteger> Calculation<U> for Operand<'a, T> {
 
     ghost cell = { λ s i. to_integer U.kind (integer (number_in T.value s i)) };
 
+    ghost stands_for = { λ s. integer };
+
     #[inline]
     fn calculate_row(&self, index: usize) -> Option<U> {
         U::from_wide(self.row(index).to_wide())
     }
+}
+
+impl<'a, T: NativeInteger, U: NativeInteger> IntegerCalculation<U> for Operand<'a, T> {
+    fn are_integers(&self) {}
 }

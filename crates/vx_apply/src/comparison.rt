@@ -26,7 +26,7 @@ use crate::boolean::valid_bools;
 use crate::operand::{Operand, operand_of};
 use std::alloc::{AllocError, Global};
 use vx_mask::{BitBuffer, BitBuilder};
-use vx_native::NativeInteger;
+use vx_native::{NativeInteger, NativeNumber};
 use vx_rows::{BytesOperand, IntegerOperand, ValidRows};
 use vx_tree::Canonical;
 use vx_value::{VortexError, VortexResult};
@@ -37,7 +37,7 @@ pub(crate) trait Comparison {
     ghost operator: { OperatorOf };
 
     /// Compares one row.
-    fn compare_row<T: NativeInteger>(lhs: T, rhs: T) -> bool
+    fn compare_row<T: NativeNumber>(lhs: T, rhs: T) -> bool
         ensures { result ≡ holds operator (int_cmp (T.value lhs) (T.value rhs)) };
 
     /// Compares bytes by the first that differs; bytes come before those that they begin.
@@ -52,7 +52,7 @@ impl Comparison for Equal {
     ghost operator = { Eq };
 
     #[inline]
-    fn compare_row<T: NativeInteger>(lhs: T, rhs: T) -> bool {
+    fn compare_row<T: NativeNumber>(lhs: T, rhs: T) -> bool {
         lhs == rhs
     }
 
@@ -70,7 +70,7 @@ impl Comparison for Different {
     ghost operator = { NotEq };
 
     #[inline]
-    fn compare_row<T: NativeInteger>(lhs: T, rhs: T) -> bool {
+    fn compare_row<T: NativeNumber>(lhs: T, rhs: T) -> bool {
         lhs != rhs
     }
 
@@ -88,7 +88,7 @@ impl Comparison for Above {
     ghost operator = { Gt };
 
     #[inline]
-    fn compare_row<T: NativeInteger>(lhs: T, rhs: T) -> bool {
+    fn compare_row<T: NativeNumber>(lhs: T, rhs: T) -> bool {
         lhs > rhs
     }
 
@@ -105,7 +105,7 @@ impl Comparison for NotBelow {
     ghost operator = { Gte };
 
     #[inline]
-    fn compare_row<T: NativeInteger>(lhs: T, rhs: T) -> bool {
+    fn compare_row<T: NativeNumber>(lhs: T, rhs: T) -> bool {
         lhs >= rhs
     }
 
@@ -122,7 +122,7 @@ impl Comparison for Below {
     ghost operator = { Lt };
 
     #[inline]
-    fn compare_row<T: NativeInteger>(lhs: T, rhs: T) -> bool {
+    fn compare_row<T: NativeNumber>(lhs: T, rhs: T) -> bool {
         lhs < rhs
     }
 
@@ -139,7 +139,7 @@ impl Comparison for NotAbove {
     ghost operator = { Lte };
 
     #[inline]
-    fn compare_row<T: NativeInteger>(lhs: T, rhs: T) -> bool {
+    fn compare_row<T: NativeNumber>(lhs: T, rhs: T) -> bool {
         lhs <= rhs
     }
 
@@ -164,7 +164,7 @@ pub(crate) trait OrderedRows: Copy {
         ensures { result ≡ holds C.operator (value_cmp (row_value self.now index) (row_value other.now index)) };
 }
 
-impl<'a, T: NativeInteger> OrderedRows for Operand<'a, T> {
+impl<'a, T: NativeNumber> OrderedRows for Operand<'a, T> {
     ghost has_row = { HasRow };
 
     ghost row_value = { λ s i. integer (number_in T.value s i) };

@@ -1,11 +1,12 @@
 //! The operands of a kernel.
 
 ghost use Rattle.std.specs.Prelude.{◌≡◌, ℕ};
-ghost use Rattle.vx_rows.specs.Arguments.{integer_in, ptype_in, IsInRange, HasIntegers};
+ghost use Rattle.vx_value.specs.Decimals.{smallest_width};
+ghost use Rattle.vx_rows.specs.Arguments.{integer_in, ptype_in, unscaled_in, IsInRange, HasIntegers, AreDecimals};
 ghost use Rattle.vx_apply.specs.Operands.{number_in, HasRow, HasRows};
 
-use vx_native::{NativeInteger, native_of};
-use vx_rows::{IntegerOperand, IntegerRows};
+use vx_native::{NativeDecimalType, NativeInteger, NativeNumber, narrowed, native_of};
+use vx_rows::{DecimalOperand, DecimalRows, IntegerOperand, IntegerRows};
 
 /// Numbers of a native type: one for each row, or one for every row.
 #[derive(Clone, Copy)]
@@ -14,7 +15,7 @@ pub(crate) enum Operand<'a, T> {
     Value(T),
 }
 
-impl<'a, T: NativeInteger> Operand<'a, T> {
+impl<'a, T: NativeNumber> Operand<'a, T> {
     /// Returns the number at row `index`, which must exist.
     #[inline]
     pub(crate) fn row(&self, index: usize) -> T
@@ -43,5 +44,25 @@ pub(crate) fn operand_of<'a, T: NativeInteger>(integers: IntegerOperand<'a>) -> 
             Operand::Rows(buffer.as_slice())
         }
         IntegerRows::Value(_, wide) => Operand::Value(native_of(wide)),
+    }
+}
+
+/// Returns `decimals`, which must be stored in the width of `T`, as native numbers.
+pub(crate) fn decimal_operand_of<'a, T: NativeDecimalType>(
+    decimals: DecimalOperand<'a>,
+) -> Operand<'a, T>
+    requires kind { T.kind ≡ smallest_width decimals.decimal.precision }
+    requires decimals { (n : ℕ) × AreDecimals decimals n }
+    ensures numbers { number_in T.value result ≡ unscaled_in decimals.entry }
+    ensures rows { (n : ℕ) → AreDecimals decimals.entry n → HasRows result n }
+{
+    match decimals.rows {
+        DecimalRows::Rows(values) => {
+            let Some(buffer) = T::project_decimals(values) else {
+                unreachable!()
+            };
+            Operand::Rows(buffer.as_slice())
+        }
+        DecimalRows::Value(wide) => Operand::Value(narrowed(wide)),
     }
 }

@@ -13,13 +13,14 @@ use crate::arithmetic::{Difference, Product, Quotient, Sum, calculate};
 use crate::boolean::operate_bools;
 use crate::bytes::operate_bytes;
 use crate::comparison::{Above, Below, Different, Equal, NotAbove, NotBelow, compare};
+use crate::decimals::operate_decimals;
 use crate::logic::join;
 use std::alloc::Global;
 use vx_fn::Operator;
-use vx_native::{NativeInteger, by_type};
+use vx_native::{NativeInteger, by_decimal_type, by_type};
 use vx_rows::{Argument, ArgumentRows, IntegerOperand, ValidRows};
 use vx_tree::Canonical;
-use vx_value::VortexResult;
+use vx_value::{DecimalType, VortexResult};
 
 /// Applies `operator` to `lhs` and `rhs`, `len` rows each, whose types it must accept. `Fault` if a row has no value.
 pub(crate) fn operate(
@@ -73,6 +74,12 @@ fn operate_rows(
             by_type!(
                 lhs.ptype(),
                 operate_natives(alloc, operator, lhs, rhs, valid, len)
+            )
+        }
+        (ArgumentRows::Decimals(lhs), ArgumentRows::Decimals(rhs)) => {
+            by_decimal_type!(
+                DecimalType::smallest_decimal_value_type(&lhs.decimal),
+                operate_decimals(alloc, operator, lhs, rhs, valid, len)
             )
         }
         (ArgumentRows::Bytes(lhs), ArgumentRows::Bytes(rhs)) => {

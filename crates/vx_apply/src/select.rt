@@ -6,11 +6,14 @@ ghost use Rattle.vx_mask.specs.Logic.{bit_row};
 ghost use Rattle.vx_mask.specs.Operands.{bit_in, HasBits};
 ghost use Rattle.vx_value.specs.Nullabilities.{with_nullability, union};
 ghost use Rattle.vx_value.specs.Cell.{value};
+ghost use Rattle.vx_value.specs.Decimals.{smallest_width};
+ghost use Rattle.vx_native.specs.DecimalNumbers.{numbers_of, decimal_type_of};
 ghost use Rattle.vx_native.specs.Natives.{values_of, ptype_of};
 ghost use Rattle.vx_fn.specs.declared.function.ScalarFnRef.TheVariants.{Zip, FillNull};
 ghost use Rattle.vx_tree.specs.Tree.{dtype};
 ghost use Rattle.vx_tree.specs.Columns.{canonical_tree};
-ghost use Rattle.vx_rows.specs.Arguments.{types_of, plain_type, value_at, integer_in, ptype_in, bytes_in, IsSized, HasStored, AreIntegers, AreBytes};
+ghost use Rattle.vx_rows.specs.Arguments.{types_of, plain_type, value_at, integer_in, ptype_in, unscaled_in, bytes_in};
+ghost use Rattle.vx_rows.specs.Arguments.{IsSized, HasStored, AreIntegers, AreDecimals, AreBytes};
 ghost use Rattle.vx_apply.specs.Computed.{IsTaken, IsComputed, IsMade};
 ghost use Rattle.vx_apply.specs.Operands.{number_in, HasRow, HasRows};
 ghost use Rattle.vx_apply.specs.Selected.{selected, IsSelected};
@@ -18,14 +21,17 @@ ghost use Rattle.vx_rows.specs.ValidRows.{is_valid, HasValidity, nullability_in}
 
 use crate::arithmetic::valid_integers;
 use crate::boolean::valid_bools;
-use crate::operand::{Operand, operand_of};
-use crate::stored::{bit_rows, byte_rows, integer_rows, valid_bytes};
+use crate::operand::{Operand, decimal_operand_of, operand_of};
+use crate::stored::{bit_rows, byte_rows, decimal_rows, integer_rows, valid_bytes, valid_decimals};
 use std::alloc::{AllocError, Global};
 use vx_mask::{BitAnd, BitBuffer, BitLt, BitOperand, BitOr, Buffer};
-use vx_native::{NativeInteger, PrimitiveValues, by_type};
-use vx_rows::{Argument, ArgumentRows, BytesOperand, IntegerOperand, ValidRows};
+use vx_native::{
+    DecimalValues, NativeDecimalType, NativeInteger, NativeNumber, PrimitiveValues,
+    by_decimal_type, by_type,
+};
+use vx_rows::{Argument, ArgumentRows, BytesOperand, DecimalOperand, IntegerOperand, ValidRows};
 use vx_tree::Canonical;
-use vx_value::{Nullability, VortexError, VortexResult};
+use vx_value::{DecimalType, Nullability, VortexError, VortexResult};
 use vx_views::{BinaryBuilder, BinaryViews};
 
 /// Chooses `if_true` where `mask` is true, and `if_false` where it is false or null, `len` rows each. The only error is
@@ -158,6 +164,10 @@ fn select_rows(
             let values = select_integers(alloc, choice, if_true, if_false, len)?;
             valid_integers(alloc, values, valid, len)
         }
+        (ArgumentRows::Decimals(if_true), ArgumentRows::Decimals(if_false)) => {
+            let values = select_decimals(alloc, choice, if_true, if_false, len)?;
+            valid_decimals(alloc, if_true.decimal, values, valid, len)
+        }
         (ArgumentRows::Bytes(if_true), ArgumentRows::Bytes(if_false)) => {
             let rows = select_bytes(alloc, choice, if_true, if_false, len)?;
             valid_bytes(alloc, if_true.storage, rows, valid, len)
@@ -254,8 +264,57 @@ fn select_natives<T: NativeInteger>(
     Ok(T::wrap(Buffer::from_vec(alloc, numbers)?))
 }
 
+/// Chooses among decimals of one type; if one side is chosen whole, its numbers are shared.
+fn select_decimals(
+    alloc: Global,
+    choice: BitOperand<'_>,
+    if_true: DecimalOperand<'_>,
+    if_false: DecimalOperand<'_>,
+    len: usize,
+) -> Result<DecimalValues, AllocError>
+    requires choice { HasBits choice len }
+    requires if_true { AreDecimals if_true len }
+    requires if_false { AreDecimals if_false len }
+    requires same { if_true.decimal.precision ≡ if_false.decimal.precision }
+    ensures kind { IfOk result (λ v. decimal_type_of v ≡ smallest_width if_true.entry.decimal.precision) }
+    ensures values { IfOk result (λ v. numbers_of v
+        ≡ map (selected choice.entry (unscaled_in if_true.entry) (unscaled_in if_false.entry)) (range_with_len 0 len)) }
+{
+    match choice {
+        BitOperand::Bit(true) => decimal_rows(alloc, if_true, len),
+        BitOperand::Bit(false) => decimal_rows(alloc, if_false, len),
+        BitOperand::Bits(bits) => {
+            let width = DecimalType::smallest_decimal_value_type(&if_true.decimal);
+            by_decimal_type!(width, select_unscaled(alloc, bits, if_true, if_false, len))
+        }
+    }
+}
+
+/// Chooses `if_true` at the true bits of `choice`, else `if_false`, `len` rows each, which must be stored in the width of `T`.
+fn select_unscaled<T: NativeDecimalType>(
+    alloc: Global,
+    choice: &BitBuffer,
+    if_true: DecimalOperand<'_>,
+    if_false: DecimalOperand<'_>,
+    len: usize,
+) -> Result<DecimalValues, AllocError>
+    requires choice { length choice.now ≡ len }
+    requires left { T.kind ≡ smallest_width if_true.decimal.precision }
+    requires right { T.kind ≡ smallest_width if_false.decimal.precision }
+    requires if_true { AreDecimals if_true len }
+    requires if_false { AreDecimals if_false len }
+    ensures kind { IfOk result (λ v. decimal_type_of v ≡ T.kind) }
+    ensures values { IfOk result (λ v. numbers_of v
+        ≡ map (λ i. if bit_row choice.now i then unscaled_in if_true.entry i else unscaled_in if_false.entry i) (range_with_len 0 len)) }
+{
+    let left: Operand<'_, T> = decimal_operand_of(if_true);
+    let right: Operand<'_, T> = decimal_operand_of(if_false);
+    let numbers = select_numbers(alloc, choice, left, right, len)?;
+    Ok(T::wrap_decimals(Buffer::from_vec(alloc, numbers)?))
+}
+
 /// Chooses `left` at the true bits of `choice`, else `right`, `len` rows each.
-fn select_numbers<T: NativeInteger>(
+fn select_numbers<T: NativeNumber>(
     alloc: Global,
     choice: &BitBuffer,
     left: Operand<'_, T>,
@@ -278,7 +337,7 @@ fn select_numbers<T: NativeInteger>(
 
 /// Returns row `index`, which must exist, of `left` if `choice` is true, else of `right`.
 #[inline]
-fn select_row<T: NativeInteger>(
+fn select_row<T: NativeNumber>(
     left: &Operand<'_, T>,
     right: &Operand<'_, T>,
     index: usize,

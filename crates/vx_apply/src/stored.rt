@@ -1,16 +1,19 @@
 //! Columns that store the rows of an argument.
 
-ghost use Rattle.std.specs.Prelude.{◌≡◌, [], true, map, length, slice_index_or, IfOk, IfErr};
+ghost use Rattle.std.specs.Prelude.{◌≡◌, [], true, pos, map, length, slice_index_or, IfOk, IfErr};
 ghost use Rattle.std.specs.List.{range_with_len};
 ghost use Rattle.vx_value.specs.Nullabilities.{with_nullability};
 ghost use Rattle.vx_value.specs.Cell.{value};
-ghost use Rattle.vx_value.specs.Values.{bytes as bytes_value};
+ghost use Rattle.vx_value.specs.Types as type;
+ghost use Rattle.vx_value.specs.Values.{bytes as bytes_value, decimal as decimal_value};
+ghost use Rattle.vx_native.specs.DecimalNumbers.{numbers_of, decimal_type_of};
 ghost use Rattle.vx_mask.specs.Operands.{bit_in, HasBits};
 ghost use Rattle.vx_native.specs.Natives.{values_of, ptype_of};
-ghost use Rattle.vx_tree.specs.ColumnTypes.{bytes_type, are_bytes_of};
+ghost use Rattle.vx_tree.specs.ColumnTypes.{are_decimals_of, bytes_type, are_bytes_of};
 ghost use Rattle.vx_tree.specs.Columns.{canonical_tree};
 ghost use Rattle.vx_tree.specs.Tree.{dtype};
-ghost use Rattle.vx_rows.specs.Arguments.{integer_in, ptype_in, bytes_in, plain_type, value_at, HasStored, AreIntegers, AreBytes};
+ghost use Rattle.vx_rows.specs.Arguments.{integer_in, ptype_in, unscaled_in, bytes_in, plain_type, value_at, stored_decimals};
+ghost use Rattle.vx_rows.specs.Arguments.{HasStored, AreIntegers, AreDecimals, AreBytes};
 ghost use Rattle.vx_apply.specs.Computed.{IsMade};
 ghost use Rattle.vx_rows.specs.ValidRows.{HasValidity, nullability_in};
 
@@ -18,13 +21,13 @@ use crate::arithmetic::valid_integers;
 use crate::boolean::valid_bools;
 use std::alloc::{AllocError, Global};
 use vx_mask::{BitBuffer, BitOperand};
-use vx_native::PrimitiveValues;
+use vx_native::{DecimalValues, PrimitiveValues};
 use vx_rows::{
-    ArgumentRows, BytesOperand, BytesRows, IntegerOperand, IntegerRows, ValidRows,
-    varbinview_column,
+    ArgumentRows, BytesOperand, BytesRows, DecimalOperand, DecimalRows, IntegerOperand,
+    IntegerRows, ValidRows, decimal_column, varbinview_column,
 };
 use vx_tree::Canonical;
-use vx_value::{ByteBuffer, Storage, VortexError, VortexResult};
+use vx_value::{ByteBuffer, DecimalDType, DecimalType, Storage, VortexError, VortexResult};
 use vx_views::BinaryViews;
 
 /// Returns `bits` as `len` rows: shares a buffer, and writes out one bit.
@@ -58,6 +61,25 @@ pub(crate) fn integer_rows(
     }
 }
 
+/// Returns `decimals` as `len` rows: shares a buffer, and writes out one number.
+pub(crate) fn decimal_rows(
+    alloc: Global,
+    decimals: DecimalOperand<'_>,
+    len: usize,
+) -> Result<DecimalValues, AllocError>
+    requires { AreDecimals decimals len }
+    ensures stored { IfOk result (λ v. are_decimals_of (stored_decimals decimals.entry.decimal) (decimal_type_of v) (numbers_of v) ≡ true) }
+    ensures values { IfOk result (λ v. numbers_of v ≡ map (λ i. unscaled_in decimals.entry i) (range_with_len 0 len)) }
+{
+    match decimals.rows {
+        DecimalRows::Rows(values) => Ok(values.clone()?),
+        DecimalRows::Value(unscaled) => {
+            let width = DecimalType::smallest_decimal_value_type(&decimals.decimal);
+            DecimalValues::repeat(alloc, width, unscaled, len)
+        }
+    }
+}
+
 /// Returns `bytes` as `len` rows: shares a column, and copies the bytes of one value once.
 pub(crate) fn byte_rows(
     alloc: Global,
@@ -74,6 +96,26 @@ pub(crate) fn byte_rows(
             BinaryViews::repeat(alloc, value, len)
         }
     }
+}
+
+/// Makes the column of `values`, `len` decimals of type `decimal` without their points, that are null unless they are `valid`. The
+/// only error is `OutOfMemory`.
+pub(crate) fn valid_decimals(
+    alloc: Global,
+    decimal: DecimalDType,
+    values: DecimalValues,
+    valid: &ValidRows,
+    len: usize,
+) -> VortexResult<Canonical>
+    requires values { length (numbers_of values) ≡ len }
+    requires stored { are_decimals_of (stored_decimals decimal) (decimal_type_of values) (numbers_of values) ≡ true }
+    requires valid { HasValidity valid.now len }
+    ensures ok { IfOk result (λ c. (dtype (canonical_tree c) ≡ type.decimal decimal.precision decimal.scale (nullability_in valid.now))
+        × IsMade valid.now (λ i. value (decimal_value (slice_index_or (numbers_of values) i (pos 0)) decimal.scale)) len (canonical_tree c)) }
+    ensures err { IfErr result (λ e. e ≡ VortexError.OutOfMemory) }
+{
+    let validity = valid.validity(alloc, len)?;
+    decimal_column(alloc, decimal, values, &validity)
 }
 
 /// Makes the column of `rows`, `len` rows of values that are stored so, that are null unless they are `valid`. The only error is
@@ -119,6 +161,10 @@ pub(crate) fn stored_column(
         ArgumentRows::Integers(integers) => {
             let values = integer_rows(alloc, integers, len)?;
             valid_integers(alloc, values, valid, len)
+        }
+        ArgumentRows::Decimals(decimals) => {
+            let values = decimal_rows(alloc, decimals, len)?;
+            valid_decimals(alloc, decimals.decimal, values, valid, len)
         }
         ArgumentRows::Bytes(bytes) => {
             let rows = byte_rows(alloc, bytes, len)?;

@@ -21,8 +21,8 @@ returns-clause-ok c =
     let valid = c.in_ok-valid in
     IfOk-weaker c.valid_bools.result _ _
     (λ u h. between_computed c.args.options c.args.len a c.args.lower.now c.args.upper.now c.requires.array c.requires.lower c.requires.upper c.requires.taken
-    valid.valid c.in_ok-bits.bits c.in_ok-kept.kept (canonical_tree u)
+    valid.valid c.in_ok-bits.bits (canonical_tree u)
     (λ i lt. valid.ensures.rows i lt ∙ ap (λ b. is_valid a.valid i && b) (bounds.rows i lt))
     (valid.ensures.nullability ∙ ap (union (nullability_in a.valid)) bounds.nullability)
-    c.in_ok-bits.ensures c.in_ok-kept.ensures h)
+    c.in_ok-bits.ensures h)
     c.valid_bools.ensures.ok

@@ -1,6 +1,6 @@
 use Rattle.std.proofs.Common.{refl, ap}
 use Rattle.std.proofs.lemmas.Result.{IfOk-weaker}
-use Rattle.vx_value.specs.Types.{primitive, utf8, binary}
+use Rattle.vx_value.specs.Types.{primitive, decimal, utf8, binary}
 use Rattle.vx_value.specs.View.{type_of}
 use Rattle.vx_tree.specs.Columns.{canonical_tree}
 use Rattle.vx_apply.proofs.CastsLemmas.{bits_kept, cast_made}
@@ -20,6 +20,22 @@ returns-in-Integers-Primitive-clause-ok c =
     (λ u h. cast_made (primitive arm.ptype) c.args.rows _ (type_of c.args.target.now) _ c.args.valid.now c.args.len (canonical_tree u) arm.is-0
     (ap type_of arm.is-1) refl c.requires.nullability h)
     c.cast_integers.ensures.ok
+
+pub returns-in-Integers-Decimal-clause-ok : goal.returns-in-Integers-Decimal-clause-ok
+returns-in-Integers-Decimal-clause-ok c =
+    let arm = c.in-Integers-Decimal in
+    IfOk-weaker c.integers_to_decimals.result _ _
+    (λ u h. cast_made (decimal arm.decimal.precision arm.decimal.scale) c.args.rows _ (type_of c.args.target.now) _ c.args.valid.now c.args.len
+    (canonical_tree u) arm.is-0 (ap type_of arm.is-1) refl c.requires.nullability h)
+    c.integers_to_decimals.ensures.ok
+
+pub returns-in-Decimals-Decimal-clause-ok : goal.returns-in-Decimals-Decimal-clause-ok
+returns-in-Decimals-Decimal-clause-ok c =
+    let arm = c.in-Decimals-Decimal in
+    IfOk-weaker c.cast_decimals.result _ _
+    (λ u h. cast_made (decimal arm.decimal.precision arm.decimal.scale) c.args.rows _ (type_of c.args.target.now) _ c.args.valid.now c.args.len
+    (canonical_tree u) arm.is-0 (ap type_of arm.is-1) refl c.requires.nullability h)
+    c.cast_decimals.ensures.ok
 
 pub returns-in-Bytes-Utf8-clause-ok : goal.returns-in-Bytes-Utf8-clause-ok
 returns-in-Bytes-Utf8-clause-ok c =

@@ -2,11 +2,12 @@ use Rattle.std.proofs.Common.{pos, false, [], sym, ap, subst, ◌∙◌}
 use Rattle.std.proofs.lemmas.Result.{IfOk-weaker}
 use Rattle.vx_value.specs.Types.{primitive}
 use Rattle.vx_value.specs.Nullabilities.{with_nullability}
-use Rattle.vx_value.specs.Values.{boolean, integer, bytes}
+use Rattle.vx_value.specs.Values.{boolean, integer, decimal, bytes}
 use Rattle.vx_mask.specs.Operands.{bit_in}
+use Rattle.vx_native.specs.DecimalNumbers.{numbers_of}
 use Rattle.vx_native.specs.Natives.{values_of}
 use Rattle.vx_tree.specs.Columns.{canonical_tree}
-use Rattle.vx_rows.specs.Arguments.{plain_type, value_at, integer_in, bytes_in, HasStored}
+use Rattle.vx_rows.specs.Arguments.{plain_type, value_at, integer_in, unscaled_in, bytes_in, HasStored}
 use Rattle.vx_rows.specs.ValidRows.{nullability_in}
 use Rattle.vx_apply.proofs.MadeLemmas.{made_stored}
 use Rattle.vx_apply.proofs.ViewsLemmas.{rows_stored, row_stored}
@@ -38,6 +39,20 @@ returns-in_ok-values-in-Integers-clause-ok c =
           (λ i. ap (λ r. value_at r i) (sym is)) h.1,
     ))
     c.valid_integers.ensures.ok
+
+pub returns-in_ok-values-in-Decimals-clause-ok : goal.returns-in_ok-values-in-Decimals-clause-ok
+returns-in_ok-values-in-Decimals-clause-ok c =
+    let valid = c.args.valid.now in
+    let is = c.in-Decimals.is in
+    let ds = c.in-Decimals.decimals in
+    let made = c.in_ok-values-in-Decimals in
+    IfOk-weaker c.valid_decimals.result _ _
+    (λ u h. (
+      h.0 ∙ ap (λ r. with_nullability (nullability_in valid) (plain_type r)) (sym is),
+      made_stored (λ z. decimal z ds.decimal.scale) (pos 0) (unscaled_in ds) (value_at c.args.rows) valid c.args.len (numbers_of made.values) (canonical_tree u)
+          made.ensures.values (λ i. ap (λ r. value_at r i) (sym is)) h.1,
+    ))
+    c.valid_decimals.ensures.ok
 
 pub valid_bytes-requires-clause-stored : goal.valid_bytes-requires-clause-stored
 valid_bytes-requires-clause-stored c =
