@@ -1,16 +1,12 @@
--- Columns of rows: those of rows that are all there, and those by values and a validity.
-use Rattle.std.proofs.Common.{◌≡◌, ℕ, ℤ, pos, List, [], ◌∷◌, length, map, Bool, true, false, Option, Some, None, refl, sym, ap, ◌∙◌}
+-- Columns of rows: those of rows that are all there, and those by values and a validity. `d` stands under a null.
+use Rattle.std.proofs.Common.{◌≡◌, List, [], ◌∷◌, length, map, Bool, true, false, Option, Some, None, refl, sym, ap, ◌∙◌}
 use Rattle.std.proofs.lemmas.List.{length-map}
 use Rattle.std.proofs.lemmas.Option.{same_Some}
 use Rattle.std.specs.Prelude.{option_map, is_some, if◌then◌else◌}
-use Rattle.vx_value.specs.Types as type
 use Rattle.vx_value.specs.Types.{DataType}
-use Rattle.vx_value.specs.declared.dtype.Nullability.TheVariants.{NonNullable}
-use Rattle.vx_value.specs.declared.dtype.PType.{PType}
 use Rattle.vx_mask.specs.Masks.{is_all_true, is_all_false}
-use Rattle.vx_tree.specs.Tree as enc
-use Rattle.vx_tree.specs.Tree.{Tree, Data, column, booleans, integers}
-use Rattle.vx_tree.specs.Rows.{item_or, boolean_rows, integer_rows, bytes_rows}
+use Rattle.vx_tree.specs.Tree.{Tree, Data, column, booleans}
+use Rattle.vx_tree.specs.Rows.{item_or}
 use Rattle.vx_tree.specs.Validities.{child_by, truths}
 
 -- of rows that are all there
@@ -27,18 +23,12 @@ no_child xs =
     let bits = map is_some (map Some xs) in
     ap (λ b. if b then None else (if is_all_false bits then Some (truths false (length bits)) else Some (booleans bits))) (all_there xs)
 
-column_there : {A : Type 0} (d : A) (ty : DataType) (of_items : List A → Data) (xs : List A) →
-    column ty (length (map Some xs)) (of_items (map (item_or d) (map Some xs))) (child_by (map is_some (map Some xs))) ≡ column ty (length xs) (of_items xs) None
+abbrev pub column_of : {A : Type 0} → A → DataType → (List A → Data) → List (Option A) → Tree
+column_of d ty of_items rows = column ty (length rows) (of_items (map (item_or d) rows)) (child_by (map is_some rows))
+
+pub column_there : {A : Type 0} (d : A) (ty : DataType) (of_items : List A → Data) (xs : List A) →
+    column_of d ty of_items (map Some xs) ≡ column ty (length xs) (of_items xs) None
 column_there d ty of_items xs = λ i. column ty (length-map xs Some i) (of_items (items_there d xs i)) (no_child xs i)
-
-pub booleans_there : (bs : List Bool) → boolean_rows NonNullable (map Some bs) ≡ booleans bs
-booleans_there bs = column_there false (type.bool NonNullable) enc.bool bs
-
-pub integers_there : (p : PType) (zs : List ℤ) → integer_rows NonNullable p (map Some zs) ≡ integers p zs
-integers_there p zs = column_there (pos 0) (type.primitive p NonNullable) (enc.primitive p) zs
-
-pub bytes_there : (ty : DataType) (rs : List (List ℕ)) → bytes_rows ty (map Some rs) ≡ column ty (length rs) (enc.views rs) None
-bytes_there ty rs = column_there [] ty enc.views rs
 
 -- what rows hold and whether each is there are as long
 pub both_long : {A : Type 0} (d : A) (read : Option (List (Option A))) (xs : List A) (valid : List Bool) →

@@ -1,32 +1,36 @@
 -- The validities that are spelled are those of their columns.
-use Rattle.std.proofs.Common.{◌≡◌, ℕ, List, [], length, map, Bool, true, false, Option, Some, None, refl, sym, ap, subst, ◌∙◌}
+use Rattle.std.proofs.Common.{◌≡◌, ℕ, pos, List, [], length, map, Bool, true, false, Option, Some, None, refl, sym, ap, subst, ◌∙◌}
+use Rattle.std.proofs.lemmas.Bool.{and_from}
 use Rattle.std.proofs.lemmas.List.{length-map}
 use Rattle.std.proofs.lemmas.Option.{same_Some}
 use Rattle.std.specs.Cmp.{unsigned_Decides}
+use Rattle.std.specs.List.{list_all}
 use Rattle.std.specs.Prelude.{ℤ, is_some, option_map, option_and_then, if◌then◌else◌}
 use Rattle.serde_json.specs.Data.{Items, Data as Json}
 use Rattle.serde_json.specs.Find.{as_bool}
 use Rattle.vx_value.specs.Types as type
 use Rattle.vx_value.specs.Types.{DataType, nullability_of, same_type_Decides}
+use Rattle.vx_value.specs.Decimals.{has_digits, smallest_width, same_width_Decides}
+use Rattle.vx_value.specs.declared.decimal.DecimalType.{DecimalType}
 use Rattle.vx_value.specs.Nullabilities.{with_nullability}
 use Rattle.vx_value.specs.declared.dtype.Nullability.{Nullability}
 use Rattle.vx_value.specs.declared.dtype.Nullability.TheVariants.{NonNullable, Nullable}
 use Rattle.vx_value.specs.declared.dtype.Storage.{Storage}
-use Rattle.vx_value.specs.declared.dtype.Storage.TheVariants.{Bits, Integers, Text, Bytes}
+use Rattle.vx_value.specs.declared.dtype.Storage.TheVariants.{Bits, Integers, Decimals, Text, Bytes}
 use Rattle.vx_mask.specs.Masks.{is_all_true, is_all_false}
 use Rattle.vx_tree.specs.ColumnTypes.{bytes_type}
-use Rattle.vx_tree.specs.Tree.{Tree, dtype, len, column, views, booleans, integers}
-use Rattle.vx_tree.specs.Rows.{item_or, boolean_rows, integer_rows, bytes_rows}
-use Rattle.vx_tree.specs.Validities.{HasRows, nullability_by, child_of, child_by, truths, array_refusal, flat_refusal}
+use Rattle.vx_tree.specs.Tree.{Tree, Data, dtype, len, column, bool, primitive, decimals, views, booleans}
+use Rattle.vx_tree.specs.Rows.{item_or, bytes_rows}
+use Rattle.vx_tree.specs.Validities.{HasRows, nullability_by, child_of, child_by, truths, array_refusal, flat_refusal, decimal_refusal}
 use Rattle.vx_tree.specs.declared.validity.Validity.{Validity}
 use Rattle.vx_tree.specs.declared.validity.Validity.TheVariants as validity
 use Rattle.vx_tree.proofs.ConditionsLemmas.{none_refused, none_unless}
-use Rattle.vx_json.specs.SpelledValues.{integer_spelled, bytes_spelled, all_read}
+use Rattle.vx_json.specs.SpelledValues.{integer_spelled, decimal_spelled, bytes_spelled, all_read}
 use Rattle.vx_json.specs.SpelledColumns.{rows_stored, values_stored, flat_of}
 use Rattle.vx_json.specs.SpelledNulls.{validity_spelled}
 use Rattle.vx_json.specs.declared.nulls.Nulls.{Nulls}
 use Rattle.vx_json.specs.declared.nulls.Nulls.TheVariants.{Absent}
-use Rattle.vx_json.proofs.RowsLemmas.{booleans_there, integers_there, bytes_there, both_long}
+use Rattle.vx_json.proofs.RowsLemmas.{column_of, column_there, both_long}
 use Rattle.vx_json.proofs.SpelledValuesLemmas.{mapped_read}
 
 -- a validity of the nullability and the rows of a column isn't refused
@@ -64,6 +68,12 @@ pub bits_fit : (s : DataType) (bits : List Bool) (n : ℕ) (v : Validity) → ch
     flat_refusal s (with_nullability Nullable s) n v ≡ None
 bits_fit s bits n v h nullable long = not_refused s Nullable n v nullable (subst (λ k. array_refusal k v ≡ None) long (bits_kept bits v h))
 
+-- nor is one of decimals for its numbers, if each has at most as many digits
+pub decimals_fit : (p s : ℕ) (m : Nullability) (w : DecimalType) (zs : List ℤ) (v : Validity) → w ≡ smallest_width p → list_all (has_digits p) zs ≡ true →
+    flat_refusal (type.decimal p s NonNullable) (type.decimal p s m) (length zs) v ≡ None → decimal_refusal (type.decimal p s m) w zs v ≡ None
+decimals_fit p s m w zs v narrow digits flat =
+    none_refused _ _ flat (none_unless _ _ (and_from _ _ ((same_width_Decides w (smallest_width p)).1 narrow) digits))
+
 -- a type of text or bytes has the nullability that it is given
 bytes_nullability : (s : Storage) (m : Nullability) → nullability_of (with_nullability m (bytes_type s)) ≡ m
 bytes_nullability Text m = refl
@@ -88,28 +98,22 @@ bytes_column_by ty (Some rows) rs valid v e h told =
     let counted : length rows ≡ length rs = sym (length-map rows (item_or [])) ∙ ap length held in
     ap Some (λ i. column ty (counted i) (views (held i)) (child i))
 
-bytes_are_values : (ty : DataType) (read : Json → Option (List ℕ)) (ds : Items) →
-    option_map (bytes_rows ty) (all_read (λ d. option_map Some (read d)) ds)
-    ≡ option_and_then (λ rs. Some (column ty (length rs) (views rs) None)) (all_read read ds)
-bytes_are_values ty read ds = ap (option_map (bytes_rows ty)) (mapped_read Some read ds) ∙ by_read (all_read read ds)
+-- rows that are all there are the column of what they hold without nulls
+values_there : {A : Type 0} (d : A) (ty : DataType) (of_items : List A → Data) (read : Json → Option A) (ds : Items) →
+    option_map (column_of d ty of_items) (all_read (λ j. option_map Some (read j)) ds)
+    ≡ option_and_then (λ xs. Some (column ty (length xs) (of_items xs) None)) (all_read read ds)
+values_there d ty of_items read ds = ap (option_map (column_of d ty of_items)) (mapped_read Some read ds) ∙ by_read (all_read read ds)
   where
-    by_read : (o : Option (List (List ℕ))) →
-        option_map (bytes_rows ty) (option_map (map Some) o) ≡ option_and_then (λ rs. Some (column ty (length rs) (views rs) None)) o
+    by_read : (o : Option (List _)) →
+        option_map (column_of d ty of_items) (option_map (map Some) o) ≡ option_and_then (λ xs. Some (column ty (length xs) (of_items xs) None)) o
     by_read None = refl
-    by_read (Some rs) = ap Some (bytes_there ty rs)
+    by_read (Some xs) = ap Some (column_there d ty of_items xs)
 
 -- a column of a non-nullable type by its rows is one by its values
 pub rows_are_values : (s : Storage) (ds : Items) → rows_stored NonNullable s ds ≡ values_stored NonNullable s Absent ds
-rows_are_values Bits ds = ap (option_map (boolean_rows NonNullable)) (mapped_read Some as_bool ds) ∙ by_read (all_read as_bool ds)
-  where
-    by_read : (o : Option (List Bool)) → option_map (boolean_rows NonNullable) (option_map (map Some) o) ≡ option_and_then (λ bs. Some (booleans bs)) o
-    by_read None = refl
-    by_read (Some bs) = ap Some (booleans_there bs)
-rows_are_values (Integers p) ds = ap (option_map (integer_rows NonNullable p)) (mapped_read Some (integer_spelled p) ds) ∙ by_read (all_read (integer_spelled p) ds)
-  where
-    by_read : (o : Option (List ℤ)) → option_map (integer_rows NonNullable p) (option_map (map Some) o) ≡ option_and_then (λ zs. Some (integers p zs)) o
-    by_read None = refl
-    by_read (Some zs) = ap Some (integers_there p zs)
-rows_are_values Text ds = bytes_are_values (type.utf8 NonNullable) (bytes_spelled Text) ds
-rows_are_values Bytes ds = bytes_are_values (type.binary NonNullable) (bytes_spelled Bytes) ds
+rows_are_values Bits ds = values_there false (type.bool NonNullable) bool as_bool ds
+rows_are_values (Integers p) ds = values_there (pos 0) (type.primitive p NonNullable) (primitive p) (integer_spelled p) ds
+rows_are_values (Decimals p s) ds = values_there (pos 0) (type.decimal p s NonNullable) (decimals (smallest_width p)) (decimal_spelled p) ds
+rows_are_values Text ds = values_there [] (type.utf8 NonNullable) views (bytes_spelled Text) ds
+rows_are_values Bytes ds = values_there [] (type.binary NonNullable) views (bytes_spelled Bytes) ds
 rows_are_values _ ds = refl

@@ -1,6 +1,9 @@
 -- Reading a list item by item.
 use Rattle.std.proofs.Common.{◌≡◌, ℕ, suc, ◌+◌, ◌<◌, ◌≤◌, List, [], ◌∷◌, ◌++◌, length, map, drop, Bool, true, false, Option, Some, None, refl, sym, ap, ◌∙◌, append_assoc, append-nil, add-one, drop-cons, slice_index_or}
+use Rattle.std.proofs.lemmas.Bool.{and_from}
 use Rattle.std.proofs.lemmas.List.{drop_all}
+use Rattle.std.proofs.lemmas.Option.{same_Some}
+use Rattle.std.specs.List.{list_all}
 use Rattle.std.specs.Prelude.{not, option_map, option_and_then, is_some, if◌then◌else◌}
 use Rattle.serde_json.specs.declared.value.Value.{Value}
 use Rattle.serde_json.specs.Data.{Data, Items, no_items, item}
@@ -73,6 +76,20 @@ pub mapped_none : {A B : Type 0} (f : A → B) (read : Data → Option A) (vs : 
     (v : Value) → i < length vs → v ≡ slice_index_or vs i v → read (view v) ≡ None → all_read read (items_view vs) ≡ None
 mapped_none f read vs i done so_far v h p e =
     unmapped_none f read (items_view vs) (read_none (λ d. option_map f (read d)) vs i done so_far v h p (ap (option_map f) e))
+
+-- what a list gives passes a test that each item passes
+pub all_pass : {A : Type 0} (test : A → Bool) (read : Data → Option A) → ((d : Data) (a : A) → read d ≡ Some a → test a ≡ true) →
+    (ds : Items) (xs : List A) → all_read read ds ≡ Some xs → list_all test xs ≡ true
+all_pass test read each no_items xs h = ap (list_all test) (sym (same_Some _ _ h))
+all_pass test read each (item d ds) xs h = by_item (all_pass test read each ds) (read d) (all_read read ds) refl refl h
+  where
+    by_item : ((l : List _) → all_read read ds ≡ Some l → list_all test l ≡ true) →
+        (o : Option _) (rest : Option (List _)) → read d ≡ o → all_read read ds ≡ rest →
+        option_and_then (λ a. option_map (λ l. a ∷ l) rest) o ≡ Some xs → list_all test xs ≡ true
+    by_item rest_pass None rest one more e = absurd (cc)
+    by_item rest_pass (Some a) None one more e = absurd (cc)
+    by_item rest_pass (Some a) (Some l) one more e =
+        ap (list_all test) (sym (same_Some _ _ e)) ∙ and_from (test a) (list_all test l) (each d a one) (rest_pass l more)
 
 -- of a row that is read, whether it is there
 pub there : {A B : Type 0} (f : Option A → B) (read : Data → Option A) (d : Data) (b : B) → option_map f (or_null Nullable read d) ≡ Some b →

@@ -16,6 +16,10 @@ member_count _ = 0
 abbrev pub keyed : {A : Type 0} → ℕ → Data → Option A → Option A
 keyed n d answer = if member_count d == n then answer else None
 
+-- an unsigned whole number
+abbrev pub whole_number : Data → Option ℕ
+whole_number d = option_and_then as_u64 (as_number d)
+
 -- the boolean, the text, the unsigned whole number and the list under the key k
 abbrev pub boolean_at : List ℕ → Data → Option Bool
 boolean_at k d = option_and_then as_bool (get k d)
@@ -24,7 +28,7 @@ abbrev pub text_at : List ℕ → Data → Option (List ℕ)
 text_at k d = option_and_then as_str (get k d)
 
 abbrev pub number_at : List ℕ → Data → Option ℕ
-number_at k d = option_and_then (λ e. option_and_then as_u64 (as_number e)) (get k d)
+number_at k d = option_and_then whole_number (get k d)
 
 abbrev pub items_at : List ℕ → Data → Option Items
 items_at k d = option_and_then as_array (get k d)

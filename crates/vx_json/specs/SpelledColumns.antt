@@ -4,18 +4,19 @@ use Rattle.serde_json.specs.Data.{Data, Items}
 use Rattle.serde_json.specs.Find.{as_bool}
 use Rattle.vx_value.specs.Types as type
 use Rattle.vx_value.specs.Types.{DataType, nullability_of}
+use Rattle.vx_value.specs.Decimals.{smallest_width}
 use Rattle.vx_value.specs.Storage.{storage_of}
 use Rattle.vx_value.specs.declared.dtype.Nullability.{Nullability}
 use Rattle.vx_value.specs.declared.dtype.Storage.{Storage}
-use Rattle.vx_value.specs.declared.dtype.Storage.TheVariants.{Bits, Integers, Text, Bytes}
+use Rattle.vx_value.specs.declared.dtype.Storage.TheVariants.{Bits, Integers, Decimals, Text, Bytes}
 use Rattle.vx_tree.specs.Tree as enc
 use Rattle.vx_tree.specs.Tree.{Tree, column}
-use Rattle.vx_tree.specs.Rows.{boolean_rows, integer_rows, bytes_rows}
+use Rattle.vx_tree.specs.Rows.{boolean_rows, integer_rows, decimal_rows, bytes_rows}
 use Rattle.vx_tree.specs.Validities.{child_of}
 use Rattle.vx_json.specs.Fields.{keyed, items_at}
 use Rattle.vx_json.specs.SpelledNulls.{null_keys, validity_spelled}
 use Rattle.vx_json.specs.SpelledTypes.{type_at}
-use Rattle.vx_json.specs.SpelledValues.{integer_spelled, bytes_spelled, or_null, all_read}
+use Rattle.vx_json.specs.SpelledValues.{integer_spelled, decimal_spelled, bytes_spelled, or_null, all_read}
 use Rattle.vx_json.specs.declared.nulls.Nulls.{Nulls}
 
 -- `{"enc":"col","type":T,"rows":[..]}`: a column of the rows, null among them if the type is nullable; a line for each storage
@@ -23,6 +24,7 @@ use Rattle.vx_json.specs.declared.nulls.Nulls.{Nulls}
 abbrev pub rows_stored : Nullability → Storage → Items → Option Tree
 rows_stored m Bits ds = option_map (boolean_rows m) (all_read (or_null m as_bool) ds)
 rows_stored m (Integers p) ds = option_map (integer_rows m p) (all_read (or_null m (integer_spelled p)) ds)
+rows_stored m (Decimals p s) ds = option_map (decimal_rows (type.decimal p s m)) (all_read (or_null m (decimal_spelled p)) ds)
 rows_stored m Text ds = option_map (bytes_rows (type.utf8 m)) (all_read (or_null m (bytes_spelled Text)) ds)
 rows_stored m Bytes ds = option_map (bytes_rows (type.binary m)) (all_read (or_null m (bytes_spelled Bytes)) ds)
 rows_stored m _ ds = None
@@ -42,6 +44,8 @@ abbrev pub values_stored : Nullability → Storage → Nulls → Items → Optio
 values_stored m Bits nulls ds = option_and_then (λ bs. flat_of (type.bool m) (length bs) (enc.bool bs) nulls) (all_read as_bool ds)
 values_stored m (Integers p) nulls ds =
     option_and_then (λ zs. flat_of (type.primitive p m) (length zs) (enc.primitive p zs) nulls) (all_read (integer_spelled p) ds)
+values_stored m (Decimals p s) nulls ds =
+    option_and_then (λ zs. flat_of (type.decimal p s m) (length zs) (enc.decimals (smallest_width p) zs) nulls) (all_read (decimal_spelled p) ds)
 values_stored m Text nulls ds = option_and_then (λ rs. flat_of (type.utf8 m) (length rs) (enc.views rs) nulls) (all_read (bytes_spelled Text) ds)
 values_stored m Bytes nulls ds = option_and_then (λ rs. flat_of (type.binary m) (length rs) (enc.views rs) nulls) (all_read (bytes_spelled Bytes) ds)
 values_stored m _ nulls ds = None

@@ -1,9 +1,11 @@
 -- The function that an object spells.
-use Rattle.std.specs.Prelude.{ℕ, List, [], ◌∷◌, Bool, true, false, Option, Some, None, option_map, option_and_then, codes, bytes_eq}
+use Rattle.std.specs.Prelude.{◌≡◌, refl, ℕ, List, [], ◌∷◌, Bool, true, false, Option, Some, None, option_map, option_and_then, codes, bytes_eq}
 use Rattle.std.specs.Map.{lookup}
 use Rattle.serde_json.specs.Data.{Data}
 use Rattle.vx_value.specs.Types as type
 use Rattle.vx_value.specs.Types.{DataType}
+use Rattle.vx_value.specs.Decimals.{IsDecimal}
+use Rattle.vx_value.specs.declared.decimal.DecimalDType.{DecimalDType}
 use Rattle.vx_value.specs.declared.dtype.DType.{DType}
 use Rattle.vx_value.specs.declared.dtype.DType.TheVariants as dtype
 use Rattle.vx_fn.specs.declared.function.Operator.{Operator}
@@ -14,7 +16,7 @@ use Rattle.vx_fn.specs.declared.functions.between.BetweenOptions.{BetweenOptions
 use Rattle.vx_fn.specs.declared.functions.between.StrictComparison.{StrictComparison}
 use Rattle.vx_fn.specs.declared.functions.between.StrictComparison.TheVariants.{Strict, NonStrict}
 use Rattle.vx_json.specs.Fields.{keyed, text_at, boolean_at}
-use Rattle.vx_json.specs.SpelledTypes.{type_at}
+use Rattle.vx_json.specs.SpelledTypes.{is_decimal, is_decimal_Decides, type_at}
 
 -- a function without options: its object has exactly the keys `enc`, `fn` and `args`
 abbrev pub without_options : ScalarFnRef → Data → Option ScalarFnRef
@@ -39,10 +41,19 @@ between_options d =
 abbrev pub between : Data → Option ScalarFnRef
 between d = keyed 5 d (option_map function.Between (between_options d))
 
+-- the decimal type of the program of so many digits, if there is one
+abbrev pub dtype_if : (precision scale : ℕ) (b : Bool) → (b ≡ true → IsDecimal precision scale) → Option DecimalDType
+dtype_if precision scale true holds = Some (record { precision = precision; scale = scale; is_decimal = holds refl })
+dtype_if precision scale false holds = None
+
+abbrev pub decimal_dtype : ℕ → ℕ → Option DecimalDType
+decimal_dtype precision scale = dtype_if precision scale (is_decimal precision scale) (is_decimal_Decides precision scale).0
+
 -- the type of the program that a type with columns is: a line for each kind
 abbrev pub declared : DataType → Option DType
 declared (type.bool m) = Some (dtype.Bool m)
 declared (type.primitive p m) = Some (dtype.Primitive p m)
+declared (type.decimal p s m) = option_map (λ d. dtype.Decimal d m) (decimal_dtype p s)
 declared (type.utf8 m) = Some (dtype.Utf8 m)
 declared (type.binary m) = Some (dtype.Binary m)
 declared _ = None

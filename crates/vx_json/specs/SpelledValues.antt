@@ -1,17 +1,20 @@
 -- The value that JSON spells, by type, and the values that a list spells.
-use Rattle.std.specs.Prelude.{ℕ, ℤ, List, [], ◌∷◌, Bool, ◌&&◌, if◌then◌else◌, Option, Some, None, is_some, option_map, option_and_then}
+use Rattle.std.specs.Prelude.{ℕ, ℤ, List, [], ◌∷◌, Bool, ◌&&◌, if◌then◌else◌, Option, Some, None, is_some, option_map, option_and_then, bytes_eq}
 use Rattle.std.specs.Char.{is_ascii_uppercase}
+use Rattle.std.specs.Fmt.{signed_decimal}
 use Rattle.std.specs.List.{list_any}
 use Rattle.std.specs.Result.{result_ok}
+use Rattle.std.specs.Str.Parse.{signed_digits_value}
 use Rattle.hex.specs.Hex.{decode_of}
 use Rattle.serde_json.specs.Data.{Data, Items, no_items, item}
 use Rattle.serde_json.specs.Find.{as_null, as_bool, as_number, as_integer, as_str}
 use Rattle.vx_value.specs.Types.{DataType, nullability_of, is_nullable}
-use Rattle.vx_value.specs.Values.{Value, null, boolean, integer, bytes}
+use Rattle.vx_value.specs.Values.{Value, null, boolean, integer, decimal, bytes}
+use Rattle.vx_value.specs.Decimals.{has_digits}
 use Rattle.vx_value.specs.Storage.{storage_of}
 use Rattle.vx_value.specs.IsOf.{in_range}
 use Rattle.vx_value.specs.declared.dtype.Storage.{Storage}
-use Rattle.vx_value.specs.declared.dtype.Storage.TheVariants.{Bits, Integers, Text, Bytes}
+use Rattle.vx_value.specs.declared.dtype.Storage.TheVariants.{Bits, Integers, Decimals, Text, Bytes}
 use Rattle.vx_value.specs.declared.dtype.PType.{PType}
 use Rattle.vx_value.specs.declared.dtype.Nullability.{Nullability}
 use Rattle.vx_tree.specs.Rows.{item_or}
@@ -24,6 +27,18 @@ within p z = if in_range p z then Some z else None
 abbrev pub integer_spelled : PType → Data → Option ℤ
 integer_spelled p d = option_and_then (within p) (option_and_then as_integer (as_number d))
 
+-- z, if it has at most p digits and the text is what a row has for it: without `+`, leading zeros or `-0`
+abbrev pub written_so : ℕ → List ℕ → ℤ → Option ℤ
+written_so p text z = if has_digits p z && bytes_eq (signed_decimal z) text then Some z else None
+
+-- the number that the digits of the text write
+abbrev pub decimal_in : ℕ → List ℕ → Option ℤ
+decimal_in p text = written_so p text (signed_digits_value 10 text)
+
+-- a string of it: the unscaled integer of a decimal
+abbrev pub decimal_spelled : ℕ → Data → Option ℤ
+decimal_spelled p d = option_and_then (decimal_in p) (as_str d)
+
 -- the bytes of two hexadecimal digits each, whose letters are lower-case
 abbrev pub hex_bytes : List ℕ → Option (List ℕ)
 hex_bytes digits = if list_any is_ascii_uppercase digits then None else result_ok (decode_of digits)
@@ -34,10 +49,12 @@ bytes_spelled Text d = as_str d
 bytes_spelled Bytes d = option_and_then hex_bytes (as_str d)
 bytes_spelled _ d = None
 
--- `true` or `false` for a boolean, a whole number for an integer, a string for text and bytes: a line for each storage that is spelled
+-- `true` or `false` for a boolean, a whole number for an integer, a string for a decimal, text and bytes: a line for each storage
+-- that is spelled
 abbrev pub value_stored : Storage → Data → Option Value
 value_stored Bits d = option_map boolean (as_bool d)
 value_stored (Integers p) d = option_map integer (integer_spelled p d)
+value_stored (Decimals p s) d = option_map (λ z. decimal z s) (decimal_spelled p d)
 value_stored Text d = option_map bytes (bytes_spelled Text d)
 value_stored Bytes d = option_map bytes (bytes_spelled Bytes d)
 value_stored _ d = None

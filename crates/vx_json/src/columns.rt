@@ -15,14 +15,17 @@ ghost use Rattle.vx_json.specs.SpelledColumns.{column_of_rows, rows_stored, col_
 
 use crate::BAD_VALUE;
 use crate::bytes::{byte_rows, nullable_byte_rows};
+use crate::decimals::{decimals, nullable_decimals};
 use crate::fields::{check_keys, items};
 use crate::nulls::Nulls;
 use crate::types::type_at;
 use crate::values::{booleans, integers, nullable_booleans, nullable_integers};
 use serde_json::Value;
 use std::alloc::Global;
-use vx_tree::{ArrayRef, BoolArray, IntoArray, PrimitiveArray, Validity, VarBinViewArray};
-use vx_value::{DType, Nullability, PType, Storage, VortexResult};
+use vx_tree::{
+    ArrayRef, BoolArray, DecimalArray, IntoArray, PrimitiveArray, Validity, VarBinViewArray,
+};
+use vx_value::{DType, DecimalDType, Nullability, PType, Storage, VortexResult};
 
 /// Reads a column by its rows.
 pub(crate) fn col(alloc: Global, value: &Value) -> VortexResult<ArrayRef>
@@ -43,20 +46,23 @@ fn column_of_rows(alloc: Global, dtype: &DType, list: &Vec<Value>) -> VortexResu
 {
     match dtype.nullability() {
         Nullability::NonNullable => column_of_values(alloc, dtype, list, &Nulls::Absent),
-        Nullability::Nullable => nullable_column(alloc, dtype.storage(), list),
+        Nullability::Nullable => nullable_column(alloc, dtype, list),
     }
 }
 
 /// Reads a nullable column with the rows in `list`, null among them.
-fn nullable_column(alloc: Global, storage: Storage, list: &Vec<Value>) -> VortexResult<ArrayRef>
-    ensures ok { IfOk result (λ t. rows_stored Nullability.Nullable storage (items_view list.now.items) ≡ Some t) }
-    ensures err { IfErr result (IsRefused (rows_stored Nullability.Nullable storage (items_view list.now.items) ≡ None)) }
+fn nullable_column(alloc: Global, dtype: &DType, list: &Vec<Value>) -> VortexResult<ArrayRef>
+    ensures ok { IfOk result (λ t. rows_stored Nullability.Nullable (storage_of (type_of dtype.now)) (items_view list.now.items) ≡ Some t) }
+    ensures err { IfErr result (IsRefused
+        (rows_stored Nullability.Nullable (storage_of (type_of dtype.now)) (items_view list.now.items) ≡ None)) }
 {
-    match storage {
-        Storage::Bits => nullable_bool_column(alloc, list),
-        Storage::Integers(ptype) => nullable_primitive_column(alloc, ptype, list),
-        Storage::Text | Storage::Bytes => nullable_bytes_column(alloc, storage, list),
-        _ => Err(BAD_VALUE),
+    match dtype {
+        DType::Bool(_) => nullable_bool_column(alloc, list),
+        DType::Primitive(ptype, _) => nullable_primitive_column(alloc, *ptype, list),
+        DType::Decimal(decimal, _) => nullable_decimal_column(alloc, *decimal, list),
+        DType::Utf8(_) => nullable_bytes_column(alloc, Storage::Text, list),
+        DType::Binary(_) => nullable_bytes_column(alloc, Storage::Bytes, list),
+        DType::Null => Err(BAD_VALUE),
     }
 }
 
@@ -87,6 +93,23 @@ fn nullable_primitive_column(
     let validity = Validity::from_bits(alloc, valid)?;
     let dtype = DType::Primitive(ptype, Nullability::Nullable);
     Ok(PrimitiveArray::try_new(alloc, dtype, values, &validity)?.into_array())
+}
+
+/// Reads a nullable column of the numbers of type `decimal` in `list`, null among them.
+fn nullable_decimal_column(
+    alloc: Global,
+    decimal: DecimalDType,
+    list: &Vec<Value>,
+) -> VortexResult<ArrayRef>
+    ensures ok { IfOk result (λ t. rows_stored Nullability.Nullable (Storage.Decimals decimal.precision decimal.scale) (items_view list.now.items)
+        ≡ Some t) }
+    ensures err { IfErr result (IsRefused
+        (rows_stored Nullability.Nullable (Storage.Decimals decimal.precision decimal.scale) (items_view list.now.items) ≡ None)) }
+{
+    let (values, valid) = nullable_decimals(alloc, &decimal, list)?;
+    let validity = Validity::from_bits(alloc, valid)?;
+    let dtype = DType::Decimal(decimal, Nullability::Nullable);
+    Ok(DecimalArray::new_unchecked(alloc, dtype, values, &validity)?.into_array())
 }
 
 /// Returns the type of text or bytes that are stored so: text, else bytes.
@@ -139,12 +162,13 @@ fn column_of_values(
     ensures err { IfErr result (IsRefused (column_of_values nulls.now (type_of dtype.now) (items_view list.now.items) ≡ None)) }
 {
     let nullability = dtype.nullability();
-    let storage = dtype.storage();
-    match storage {
-        Storage::Bits => bool_column(alloc, nullability, list, nulls),
-        Storage::Integers(ptype) => primitive_column(alloc, ptype, nullability, list, nulls),
-        Storage::Text | Storage::Bytes => bytes_column(alloc, storage, nullability, list, nulls),
-        _ => Err(BAD_VALUE),
+    match dtype {
+        DType::Bool(_) => bool_column(alloc, nullability, list, nulls),
+        DType::Primitive(ptype, _) => primitive_column(alloc, *ptype, nullability, list, nulls),
+        DType::Decimal(decimal, _) => decimal_column(alloc, *decimal, nullability, list, nulls),
+        DType::Utf8(_) => bytes_column(alloc, Storage::Text, nullability, list, nulls),
+        DType::Binary(_) => bytes_column(alloc, Storage::Bytes, nullability, list, nulls),
+        DType::Null => Err(BAD_VALUE),
     }
 }
 
@@ -179,6 +203,25 @@ fn primitive_column(
     let validity = nulls.validity(nullability, values.len())?;
     let dtype = DType::Primitive(ptype, nullability);
     Ok(PrimitiveArray::try_new(alloc, dtype, values, &validity)?.into_array())
+}
+
+/// Reads a column of the numbers of type `decimal` in `list`.
+fn decimal_column(
+    alloc: Global,
+    decimal: DecimalDType,
+    nullability: Nullability,
+    list: &Vec<Value>,
+    nulls: &Nulls,
+) -> VortexResult<ArrayRef>
+    ensures ok { IfOk result (λ t. values_stored nullability (Storage.Decimals decimal.precision decimal.scale) nulls.now (items_view list.now.items)
+        ≡ Some t) }
+    ensures err { IfErr result (IsRefused
+        (values_stored nullability (Storage.Decimals decimal.precision decimal.scale) nulls.now (items_view list.now.items) ≡ None)) }
+{
+    let values = decimals(alloc, &decimal, list)?;
+    let validity = nulls.validity(nullability, values.len())?;
+    let dtype = DType::Decimal(decimal, nullability);
+    Ok(DecimalArray::new_unchecked(alloc, dtype, values, &validity)?.into_array())
 }
 
 /// Reads a column of the text or bytes in `list`, which are stored so.

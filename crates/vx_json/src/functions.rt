@@ -64,7 +64,6 @@ fn between(value: &Value) -> Option<ScalarFnRef>
 }
 
 /// Returns the cast to the type under `type`, if the object has exactly the keys `enc`, `fn`, `args` and `type`.
-#[tactic(auto, using(crate::proofs::SpelledFunctionsLemmas::target_named))]
 fn cast(value: &Value) -> Option<ScalarFnRef>
     ensures { result ≡ cast (view value.now) }
 {

@@ -3,6 +3,7 @@
 
 mod bytes;
 mod columns;
+mod decimals;
 mod fields;
 mod functions;
 mod key;

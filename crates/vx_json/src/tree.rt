@@ -6,7 +6,11 @@
 //! `{"enc":"filter","mask":[true,false],"child":{..}}`, `{"enc":"masked","child":{..},"validity":{..}}`, of which `validity` may be
 //! absent, `{"enc":"is_valid","child":{..}}` and `{"enc":"fn","fn":"add","args":[{..},{..}]}`.
 //!
-//! A value of type `utf8` is a string, and one of type `binary` a string of two lower-case hexadecimal digits for each byte.
+//! A type is a name, with `?` behind it if the type is nullable. A type of decimals is an object: `{"decimal":[4,2]}` has 4 digits, 2 of
+//! them behind the point, and `{"decimal":[4,2],"null":true}` is nullable.
+//!
+//! A value of type `utf8` is a string, and one of type `binary` a string of two lower-case hexadecimal digits for each byte. A
+//! decimal is a string of its unscaled integer, without `+`, leading zeros or `-0`: `"4200"` for 42.00.
 
 ghost use Rattle.std.specs.Prelude.{◌≡◌, ◌⊎◌, Some, None, IfOk, IfErr};
 ghost use Rattle.serde_json.specs.View.{view, items_view};

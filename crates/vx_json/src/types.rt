@@ -1,14 +1,16 @@
-//! The names of types.
+//! The types that JSON spells.
 
-ghost use Rattle.std.specs.Prelude.{◌≡◌, true, option_map, IfSome};
-ghost use Rattle.serde_json.specs.View.{view};
+ghost use Rattle.std.specs.Prelude.{◌≡◌, true, option_map, codes, IfSome};
+ghost use Rattle.serde_json.specs.View.{view, items_view};
+ghost use Rattle.serde_json.specs.Find.{get};
 ghost use Rattle.vx_value.specs.View.{type_of};
 ghost use Rattle.vx_tree.specs.ColumnTypes.{has_column};
-ghost use Rattle.vx_json.specs.SpelledTypes.{type_named, type_spelled, type_at};
+ghost use Rattle.vx_json.specs.SpelledTypes.{type_named, type_spelled, type_in, type_at};
+ghost use Rattle.vx_json.specs.SpelledTypes.{decimal_sized, decimal_listed, nullability_spelled, decimal_keys, decimal_type_spelled};
 
-use crate::fields::text;
+use crate::fields::{count, items};
 use serde_json::Value;
-use vx_value::{DType, Nullability, PType};
+use vx_value::{DType, DecimalDType, Nullability, PType};
 
 /// Returns the type named `name`, of this nullability. Only types that there are columns of are accepted so far.
 fn type_named(name: &str, nullability: Nullability) -> Option<DType>
@@ -43,10 +45,80 @@ fn type_spelled(text: &str) -> Option<DType>
     }
 }
 
+/// Returns the type of decimals of `precision` digits, `scale` of them behind the point.
+fn decimal_sized(nullability: Nullability, precision: u64, scale: u64) -> Option<DType>
+    ensures sized { option_map type_of result ≡ decimal_sized nullability precision scale }
+    ensures column { IfSome result (λ t. has_column (type_of t) ≡ true) }
+{
+    let precision = u8::try_from(precision).ok()?;
+    let scale = u8::try_from(scale).ok()?;
+    let decimal = DecimalDType::try_new(precision, scale).ok()?;
+    Some(DType::Decimal(decimal, nullability))
+}
+
+/// Returns the type of decimals whose precision and scale are listed.
+#[tactic(auto, using(crate::proofs::SpelledTypesLemmas::listed_none))]
+fn decimal_listed(nullability: Nullability, list: &Vec<Value>) -> Option<DType>
+    ensures listed { option_map type_of result ≡ decimal_listed nullability (items_view list.now.items) }
+    ensures column { IfSome result (λ t. has_column (type_of t) ≡ true) }
+{
+    match list.as_slice() {
+        [precision, scale] => decimal_sized(nullability, precision.as_u64()?, scale.as_u64()?),
+        _ => None,
+    }
+}
+
+/// Returns the nullability of a type of decimals: nullable if `true` stands under `null`.
+fn nullability_at(value: &Value) -> Option<Nullability>
+    ensures { result ≡ nullability_spelled (get (codes "null") (view value.now)) }
+{
+    let Some(spelled) = value.get("null") else {
+        return Some(Nullability::NonNullable);
+    };
+    if spelled.as_bool()? {
+        Some(Nullability::Nullable)
+    } else {
+        Some(Nullability::NonNullable)
+    }
+}
+
+/// Returns the number of keys that spell a type of decimals: 2 with `null`, else 1.
+fn decimal_keys(value: &Value) -> usize
+    ensures { result ≡ decimal_keys (get (codes "null") (view value.now)) }
+{
+    match value.get("null") {
+        Some(_) => 2,
+        None => 1,
+    }
+}
+
+/// Returns the type of decimals that an object spells.
+fn decimal_type_spelled(value: &Value) -> Option<DType>
+    ensures spelled { option_map type_of result ≡ decimal_type_spelled (view value.now) }
+    ensures column { IfSome result (λ t. has_column (type_of t) ≡ true) }
+{
+    if count(value) != decimal_keys(value) {
+        return None;
+    }
+    decimal_listed(nullability_at(value)?, items(value, "decimal")?)
+}
+
+/// Returns the type that `value` spells, of which there are columns.
+fn type_in(value: &Value) -> Option<DType>
+    ensures spelled { option_map type_of result ≡ type_in (view value.now) }
+    ensures column { IfSome result (λ t. has_column (type_of t) ≡ true) }
+{
+    match value {
+        Value::String(text) => type_spelled(text.as_str()),
+        Value::Object(_) => decimal_type_spelled(value),
+        _ => None,
+    }
+}
+
 /// Returns the type under `type`, of which there are columns.
 pub(crate) fn type_at(value: &Value) -> Option<DType>
     ensures spelled { option_map type_of result ≡ type_at (view value.now) }
     ensures column { IfSome result (λ t. has_column (type_of t) ≡ true) }
 {
-    type_spelled(text(value, "type")?)
+    type_in(value.get("type")?)
 }

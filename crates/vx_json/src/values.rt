@@ -11,11 +11,12 @@ ghost use Rattle.vx_json.specs.SpelledValues.{integer_spelled, value_spelled, or
 
 use crate::BAD_VALUE;
 use crate::bytes::bytes;
+use crate::decimals::decimal_value;
 use serde_json::Value;
 use std::alloc::Global;
 use vx_mask::{BitBuffer, BitBuilder, Buffer};
 use vx_native::{NativeInteger, PrimitiveValues, by_type, native_of};
-use vx_value::{ByteBuffer, DType, Nullability, PType, Scalar, ScalarValue, Storage, VortexResult};
+use vx_value::{ByteBuffer, DType, Nullability, PType, Scalar, ScalarValue, VortexResult};
 
 /// Reads an integer in the range of `i64` or `u64`.
 fn integer(value: &Value) -> Option<i128>
@@ -177,12 +178,13 @@ pub(crate) fn scalar(alloc: Global, dtype: DType, value: &Value) -> VortexResult
     if value.is_null() {
         return Scalar::try_new(dtype, None);
     }
-    let value = match dtype.storage() {
-        Storage::Bits => ScalarValue::Bool(value.as_bool().ok_or(BAD_VALUE)?),
-        Storage::Integers(_) => ScalarValue::Integer(integer(value).ok_or(BAD_VALUE)?),
-        storage => {
+    let value = match &dtype {
+        DType::Bool(_) => ScalarValue::Bool(value.as_bool().ok_or(BAD_VALUE)?),
+        DType::Primitive(_, _) => ScalarValue::Integer(integer(value).ok_or(BAD_VALUE)?),
+        DType::Decimal(decimal, _) => ScalarValue::Decimal(decimal_value(decimal, value)?),
+        _ => {
             let mut decoded = Vec::new(alloc);
-            let bytes = bytes(storage, value, &mut decoded)?;
+            let bytes = bytes(dtype.storage(), value, &mut decoded)?;
             ScalarValue::Bytes(ByteBuffer::copy_from(alloc, bytes)?)
         }
     };

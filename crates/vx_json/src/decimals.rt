@@ -1,0 +1,165 @@
+//! Values of decimals, and lists of them.
+
+ghost use Rattle.std.specs.Prelude.{◌≡◌, ◌≢◌, ℤ, pos, true, map, Some, None, is_some, option_map, IfSome, IfNone, IfOk, IfErr};
+ghost use Rattle.std.specs.Fmt.{signed_decimal};
+ghost use Rattle.serde_json.specs.View.{view, items_view};
+ghost use Rattle.vx_value.specs.Decimals.{has_digits, smallest_width};
+ghost use Rattle.vx_native.specs.DecimalNumbers.{numbers_of, decimal_type_of};
+ghost use Rattle.vx_tree.specs.Rows.{item_or};
+ghost use Rattle.vx_json.specs.Refused.{IsRefused};
+ghost use Rattle.vx_json.specs.SpelledValues.{decimal_in, decimal_spelled, or_null, all_read};
+
+use crate::BAD_VALUE;
+use itoa::Buffer as TextBuffer;
+use serde_json::Value;
+use std::alloc::Global;
+use vx_mask::{BitBuffer, BitBuilder, Buffer};
+use vx_native::{DecimalValues, NativeDecimalType, by_decimal_type, narrowed};
+use vx_value::{DecimalDType, DecimalType, DecimalValue, Nullability, VortexResult};
+
+/// Reads the number that `text` is the decimal form of: without `+`, without a leading zero and not `-0`. It has at most as many
+/// digits as the precision of `decimal`.
+#[tactic(auto, using(crate::proofs::SpelledDecimalsLemmas::unparsed, crate::proofs::SpelledDecimalsLemmas::unwritten))]
+fn unscaled(text: &str, decimal: &DecimalDType) -> Option<i128>
+    ensures value { result ≡ decimal_in decimal.now.precision text.now }
+    ensures written { IfSome result (λ z. signed_decimal z ≡ text.now) }
+    ensures digits { IfSome result (λ z. has_digits decimal.now.precision z ≡ true) }
+    ensures unwritten { IfNone result ((z : ℤ) → has_digits decimal.now.precision z ≡ true → signed_decimal z ≢ text.now) }
+{
+    let unscaled = text.parse::<i128>().ok()?;
+    if decimal.has_digits(unscaled) && TextBuffer::new().format(unscaled) == text {
+        Some(unscaled)
+    } else {
+        None
+    }
+}
+
+/// Reads a number of type `decimal`, without its point.
+fn decimal(decimal: &DecimalDType, value: &Value) -> Option<i128>
+    ensures value { result ≡ decimal_spelled decimal.now.precision (view value.now) }
+    ensures digits { IfSome result (λ z. has_digits decimal.now.precision z ≡ true) }
+{
+    unscaled(value.as_str()?, decimal)
+}
+
+/// Reads a value of type `decimal`. `InvalidArgument(BadValue)` if it isn't one.
+pub(crate) fn decimal_value(dtype: &DecimalDType, value: &Value) -> VortexResult<DecimalValue>
+    ensures ok { IfOk result (λ d. decimal_spelled dtype.now.precision (view value.now) ≡ Some d.unscaled) }
+    ensures scale { IfOk result (λ d. d.scale ≡ dtype.now.scale) }
+    ensures err { IfErr result (IsRefused (decimal_spelled dtype.now.precision (view value.now) ≡ None)) }
+{
+    let unscaled = decimal(dtype, value).ok_or(BAD_VALUE)?;
+    let scale = dtype.scale();
+    Ok(DecimalValue { unscaled, scale })
+}
+
+/// Reads a number of type `decimal` in the narrowest integers that hold all of these.
+#[tactic(auto, using(vx_native::proofs::DecimalNumbersLemmas::digits_fit))]
+fn native_decimal<T: NativeDecimalType>(dtype: &DecimalDType, value: &Value) -> Option<T>
+    requires { T.kind ≡ smallest_width dtype.now.precision }
+    ensures { option_map T.value result ≡ decimal_spelled dtype.now.precision (view value.now) }
+{
+    Some(narrowed(decimal(dtype, value)?))
+}
+
+/// Reads a list of numbers of type `decimal` in the narrowest integers that hold all of these. `InvalidArgument(BadValue)` if an
+/// item isn't one.
+fn native_decimals<T: NativeDecimalType>(
+    alloc: Global,
+    decimal: &DecimalDType,
+    list: &Vec<Value>,
+) -> VortexResult<DecimalValues>
+    requires { T.kind ≡ smallest_width decimal.now.precision }
+    ensures kind { IfOk result (λ v. decimal_type_of v ≡ T.kind) }
+    ensures ok { IfOk result (λ v. all_read (decimal_spelled decimal.now.precision) (items_view list.now.items) ≡ Some (numbers_of v)) }
+    ensures err { IfErr result (IsRefused (all_read (decimal_spelled decimal.now.precision) (items_view list.now.items) ≡ None)) }
+{
+    let mut values: Vec<T> = Vec::with_capacity(alloc, list.len())?;
+    for value in list {
+        match native_decimal(decimal, value) {
+            Some(native) => values.push(native)?,
+            None => return Err(BAD_VALUE),
+        }
+    }
+    Ok(T::wrap_decimals(Buffer::from_vec(alloc, values)?))
+}
+
+/// Reads a list of numbers of type `decimal`, without their points. `InvalidArgument(BadValue)` if an item isn't one.
+pub(crate) fn decimals(
+    alloc: Global,
+    decimal: &DecimalDType,
+    list: &Vec<Value>,
+) -> VortexResult<DecimalValues>
+    ensures kind { IfOk result (λ v. decimal_type_of v ≡ smallest_width decimal.now.precision) }
+    ensures ok { IfOk result (λ v. all_read (decimal_spelled decimal.now.precision) (items_view list.now.items) ≡ Some (numbers_of v)) }
+    ensures err { IfErr result (IsRefused (all_read (decimal_spelled decimal.now.precision) (items_view list.now.items) ≡ None)) }
+{
+    let width = DecimalType::smallest_decimal_value_type(decimal);
+    by_decimal_type!(width, native_decimals(alloc, decimal, list))
+}
+
+/// Reads a number of type `decimal`, as `native_decimal` does. Null is read as `zero`.
+fn native_decimal_or<T: NativeDecimalType>(
+    zero: T,
+    decimal: &DecimalDType,
+    value: &Value,
+) -> Option<T>
+    requires { T.kind ≡ smallest_width decimal.now.precision }
+    ensures { option_map T.value result
+        ≡ option_map (item_or (T.value zero)) (or_null Nullability.Nullable (decimal_spelled decimal.now.precision) (view value.now)) }
+{
+    if value.is_null() {
+        Some(zero)
+    } else {
+        native_decimal(decimal, value)
+    }
+}
+
+/// Reads a list of numbers of type `decimal` in the narrowest integers that hold all of these, null among them. Returns their
+/// values, 0 for null, and whether each isn't null. `InvalidArgument(BadValue)` if an item is neither.
+fn nullable_native_decimals<T: NativeDecimalType>(
+    alloc: Global,
+    decimal: &DecimalDType,
+    list: &Vec<Value>,
+) -> VortexResult<(DecimalValues, BitBuffer)>
+    requires { T.kind ≡ smallest_width decimal.now.precision }
+    ensures kind { IfOk result (λ v. decimal_type_of v.0 ≡ T.kind) }
+    ensures values { IfOk result (λ v. option_map (map (item_or (pos 0)))
+        (all_read (or_null Nullability.Nullable (decimal_spelled decimal.now.precision)) (items_view list.now.items)) ≡ Some (numbers_of v.0)) }
+    ensures valid { IfOk result (λ v. option_map (map is_some)
+        (all_read (or_null Nullability.Nullable (decimal_spelled decimal.now.precision)) (items_view list.now.items)) ≡ Some v.1) }
+    ensures err { IfErr result (IsRefused
+        (all_read (or_null Nullability.Nullable (decimal_spelled decimal.now.precision)) (items_view list.now.items) ≡ None)) }
+{
+    let zero: T = narrowed(0);
+    let mut values: Vec<T> = Vec::with_capacity(alloc, list.len())?;
+    let mut valid = BitBuilder::with_capacity(alloc, list.len())?;
+    for value in list {
+        match native_decimal_or(zero, decimal, value) {
+            Some(native) => values.push(native)?,
+            None => return Err(BAD_VALUE),
+        }
+        valid.push(!value.is_null())?;
+    }
+    let values = T::wrap_decimals(Buffer::from_vec(alloc, values)?);
+    Ok((values, valid.finish(alloc)?))
+}
+
+/// Reads a list of numbers of type `decimal`, without their points, null among them. Returns their values, 0 for null, and whether
+/// each isn't null. `InvalidArgument(BadValue)` if an item is neither.
+pub(crate) fn nullable_decimals(
+    alloc: Global,
+    decimal: &DecimalDType,
+    list: &Vec<Value>,
+) -> VortexResult<(DecimalValues, BitBuffer)>
+    ensures kind { IfOk result (λ v. decimal_type_of v.0 ≡ smallest_width decimal.now.precision) }
+    ensures values { IfOk result (λ v. option_map (map (item_or (pos 0)))
+        (all_read (or_null Nullability.Nullable (decimal_spelled decimal.now.precision)) (items_view list.now.items)) ≡ Some (numbers_of v.0)) }
+    ensures valid { IfOk result (λ v. option_map (map is_some)
+        (all_read (or_null Nullability.Nullable (decimal_spelled decimal.now.precision)) (items_view list.now.items)) ≡ Some v.1) }
+    ensures err { IfErr result (IsRefused
+        (all_read (or_null Nullability.Nullable (decimal_spelled decimal.now.precision)) (items_view list.now.items) ≡ None)) }
+{
+    let width = DecimalType::smallest_decimal_value_type(decimal);
+    by_decimal_type!(width, nullable_native_decimals(alloc, decimal, list))
+}
