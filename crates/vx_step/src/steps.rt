@@ -75,7 +75,6 @@ pub fn step(alloc: Global, array: &ArrayRef) -> VortexResult<ExecutionStep>
 }
 
 /// Returns `column` as the result of a step.
-#[tactic(auto, using(vx_tree::proofs::ColumnsLemmas::column_known, vx_tree::proofs::ColumnsLemmas::canonical_columnar))]
 pub(crate) fn done(column: Canonical) -> ExecutionStep
     ensures done { result ≡ ExecutionStep.Done (canonical_tree column) }
     ensures canonical { is_canonical (datum (canonical_tree column)) ≡ true }
