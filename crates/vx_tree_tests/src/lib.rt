@@ -4,6 +4,8 @@
 #[cfg(test)]
 mod buffers;
 #[cfg(test)]
+mod decimals;
+#[cfg(test)]
 mod trees;
 #[cfg(test)]
 mod views;
