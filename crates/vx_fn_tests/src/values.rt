@@ -189,13 +189,14 @@ static DECIMALS: [(u8, u8, Option<DecimalType>); 13] = [
     (2, 3, None),
 ];
 
-static ERROR_TEXTS: [(VortexError, &str); 17] = [
+static ERROR_TEXTS: [(VortexError, &str); 18] = [
     (VortexError::OutOfMemory, "out of memory"),
     (
         VortexError::IterationLimit { limit: 4 },
         "Exceeded maximum execution iterations (4) while executing array",
     ),
     (VortexError::Fault, "fault"),
+    (VortexError::TooLong { len: 3, factor: 4 }, "too long"),
     (
         VortexError::OutOfBounds {
             start: 2,

@@ -1,12 +1,12 @@
 -- What a cast gives: of the target type, the same for the type itself, and by the target alone; what 128 bits hold of the numbers in it.
-use Rattle.std.proofs.Common.{◌≡◌, ◌≤◌, ◌<◌, ◌^◌, ℕ, zero, suc, ◌-◌, nat_le, Bool, true, false, ◌&&◌, ◌==◌, refl, ap, sym, ◌∙◌, subst}
+use Rattle.std.proofs.Common.{◌≡◌, ◌≤◌, ◌<◌, ◌^◌, ℕ, suc, ◌-◌, nat_le, Bool, true, false, ◌&&◌, ◌==◌, refl, ap, sym, ◌∙◌, subst}
 use Rattle.std.proofs.Common.{if◌then◌else◌, Some, None, is_some}
 use Rattle.std.proofs.Common.{ℤ, pos, negsuc, ◌*ℤ◌, ◌<ℤ◌, nat_abs, of_z, to_z, FitsSigned, arith, ltb-true}
 use Rattle.std.specs.Prelude.{int_div, int_rem, neg_ℤ}
 use Rattle.std.specs.Int.{w128}
 use Rattle.std.specs.Ordering.{int_eq}
 use Rattle.std.specs.Cmp.{unsigned_Decides, first_so, second_so}
-use Rattle.std.proofs.Math.Nat.{mul-one, mod-eq_of_lt, sub_self, le_refl}
+use Rattle.std.proofs.Math.Nat.{mul-one, sub_self, le_refl}
 use Rattle.std.proofs.lemmas.Int.{quot_fits, fits_signed_from_abs, to_z-of_z}
 use Rattle.std.proofs.lemmas.Bool.{false_from_ne_true, le-leb}
 use Rattle.vx_value.specs.Types as type
@@ -20,6 +20,10 @@ use Rattle.vx_value.specs.Nullabilities.{same_but_nullability, same_but_nullabil
 use Rattle.vx_value.specs.Casts.{to_integer, sized, power, lengthened, shortened, rescaled, to_decimal, to_bool, to_text, to_bytes, into}
 use Rattle.vx_value.specs.Casts.{has_other_row, other_row, by_row, has_cast, cast_value, cast_to}
 use Rattle.vx_value.specs.Decimals.{has_digits}
+use Rattle.vx_value.specs.View.{type_of}
+use Rattle.vx_value.specs.Parts.{scale_in}
+use Rattle.vx_value.specs.declared.dtype.DType.{DType}
+use Rattle.vx_value.specs.declared.dtype.DType.TheVariants as dtype
 use Rattle.vx_value.specs.declared.dtype.PType.{PType}
 use Rattle.vx_value.specs.declared.dtype.Nullability.{Nullability}
 use Rattle.vx_value.specs.declared.dtype.Nullability.TheVariants.{NonNullable}
@@ -167,18 +171,19 @@ pub cast_by_target : (s t : DataType) (v : Value) → is_of s v ≡ true → has
 cast_by_target s t value.null h e = refl
 cast_by_target s t v h e = row_by_target (same_but_nullability s t) s t v refl refl h e
 
+-- a value of a type has at most 38 digits behind the point: a line for each kind of value
+pub scale_few : (t : DType) (v : Value) → is_of (type_of t) v ≡ true → scale_in v ≤ 38
+scale_few (dtype.Decimal d n) (value.decimal z r) h =
+    let same : r ≡ d.scale = (unsigned_Decides r d.scale).0 (first_so (r == d.scale) (has_digits d.precision z) h) in
+    omega (arith, same, d.is_decimal.1, d.is_decimal.2)
+scale_few _ (value.decimal z r) h = absurd (cc)
+scale_few _ _ h = omega arith
+
 -- ---- numbers of so many digits beside those that 128 bits hold
 
 -- 128 bits hold each power of ten of at most 38 zeros
 pub power_fits : (k : ℕ) → k ≤ 38 → FitsSigned w128 (power k)
 power_fits k h = let most : 10 ^ k ≤ 10 ^ 38 = ten_to h in record { sfits = omega arith }
-
--- and no power of more
-power_past : (k : ℕ) → ¬ FitsSigned w128 (power k) → 10 ^ 39 ≤ 10 ^ k
-power_past k past =
-    let zeros : ¬ (k ≤ 38) = λ h. past (power_fits k h) in
-    let more : 39 ≤ k = omega (arith, zeros) in
-    ten_to more
 
 -- they hold each number of at most 38 digits
 digits_fit : (p : ℕ) (z : ℤ) → p ≤ 38 → has_digits p z ≡ true → FitsSigned w128 z
@@ -206,18 +211,3 @@ power_divides z d k f g e =
     let same : FitsSigned w128 (int_div (to_z w128 (of_z w128 z)) (to_z w128 (of_z w128 (power k)))) =
     simp (to_z-of_z w128 z f, to_z-of_z w128 (power k) g) fits in
     subst (λ x. (0 < of_z w128 x) × FitsSigned w128 (int_div (to_z w128 (of_z w128 z)) (to_z w128 (of_z w128 x)))) (sym e) (some, same)
-
--- a number that 128 bits hold is its own rest by a power that they don't
-rest_is : (z : ℤ) (k : ℕ) → FitsSigned w128 z → ¬ FitsSigned w128 (power k) → int_rem z (power k) ≡ z
-rest_is (pos n) k f past = let large : 10 ^ 39 ≤ 10 ^ k = power_past k past in ap pos (mod-eq_of_lt (omega (arith, f.sfits)))
-rest_is (negsuc n) k f past = let large : 10 ^ 39 ≤ 10 ^ k = power_past k past in ap (λ m. neg_ℤ (pos m)) (mod-eq_of_lt (omega (arith, f.sfits)))
-
-not_zero : (z : ℤ) → ¬ (of_z w128 z ≡ 0) → int_eq z (pos 0) ≡ false
-not_zero (pos zero) there = absurd (there refl)
-not_zero (pos (suc n)) there = grind arith
-not_zero (negsuc n) there = refl
-
--- so none but 0 ends in so many zeros
-pub shortened_past : (p s : ℕ) (z : ℤ) (k : ℕ) → FitsSigned w128 z → ¬ FitsSigned w128 (power k) → ¬ (of_z w128 z ≡ 0) → shortened p s z k ≡ cell.fault
-shortened_past p s z k f past there =
-    ap (λ b. if b then sized p s (int_div z (power k)) else cell.fault) (ap (λ x. int_eq x (pos 0)) (rest_is z k f past) ∙ not_zero z there)

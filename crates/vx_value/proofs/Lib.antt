@@ -4,4 +4,5 @@ pub mod StorageLemmas
 pub mod DecimalsLemmas
 pub mod NullabilitiesLemmas
 pub mod CastsLemmas
+pub mod PowersLemmas
 pub mod BytesLemmas

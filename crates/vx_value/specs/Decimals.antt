@@ -1,5 +1,5 @@
 -- Decimal types: which there are, which numbers have so many digits, and how wide an integer holds these.
-use Rattle.std.specs.Prelude.{◌≡◌, ℕ, ℤ, ◌≤◌, ◌^◌, Bool, true, nat_lt, nat_le, nat_abs, if◌then◌else◌, FitsSigned}
+use Rattle.std.specs.Prelude.{◌≡◌, ℕ, ℤ, pos, ◌≤◌, ◌^◌, Bool, true, nat_lt, nat_le, nat_abs, if◌then◌else◌, FitsSigned}
 use Rattle.std.specs.Int.{Width, w8, w16, w32, w64, w128}
 use Rattle.std.specs.Bool.{Decides}
 use Rattle.std.specs.Coded.{Coded, coded_ℕ}
@@ -17,6 +17,10 @@ IsDecimal precision scale = (1 ≤ precision) × (precision ≤ 38) × (scale �
 -- the number, without its point, has at most so many digits
 abbrev pub has_digits : ℕ → ℤ → Bool
 has_digits precision z = nat_lt (nat_abs z) (10 ^ precision)
+
+-- the first number with more than so many digits, of at most 38
+abbrev pub IsBeyond : ℕ → ℤ → Type 0
+IsBeyond precision z = (precision ≤ 38) × (z ≡ pos (10 ^ precision))
 
 abbrev pub width_of : DecimalType → Width
 width_of I8 = w8

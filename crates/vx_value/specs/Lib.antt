@@ -9,6 +9,7 @@ pub mod View
 pub mod Storage
 pub mod IsOf
 pub mod Casts
+pub mod Powers
 pub mod Typed
 pub mod Defaults
 pub mod Parts

@@ -21,6 +21,11 @@ abbrev pub decimal_in : Value → Option (ℤ × ℕ)
 decimal_in (value.decimal z s) = Some (z, s)
 decimal_in _ = None
 
+-- how many digits stand behind the point, none but of a decimal
+abbrev pub scale_in : Value → ℕ
+scale_in (value.decimal z s) = s
+scale_in _ = 0
+
 -- the bytes; none for any other value
 abbrev pub bytes_in : Value → Option (List ℕ)
 bytes_in (value.bytes bs) = Some bs

@@ -1,15 +1,16 @@
 //! Casts of scalars, as in the original's `scalar` module.
 
-ghost use Rattle.std.specs.Prelude.{◌≡◌, ◌↔◌, ◌⊎◌, ◌≤◌, IfOk, IfErr, IsErrOf, MatchOption, true, false};
+ghost use Rattle.std.specs.Prelude.{◌≡◌, ◌↔◌, ◌⊎◌, ◌≤◌, IfOk, IfErr, IsErrOf, true, false};
 ghost use Rattle.vx_value.specs.View.{type_of, value_of, cell_of, cell_seen};
-ghost use Rattle.vx_value.specs.Values.{integer, decimal};
+ghost use Rattle.vx_value.specs.Values.{integer};
+ghost use Rattle.vx_value.specs.Parts.{scale_in};
 ghost use Rattle.vx_value.specs.IsOf.{is_of};
 ghost use Rattle.vx_value.specs.Cell as cell;
-ghost use Rattle.vx_value.specs.Casts.{to_integer, sized, lengthened, shortened, rescaled, into, has_other_row, has_cast, cast_value};
+ghost use Rattle.vx_value.specs.Casts.{to_integer, rescaled, into, has_other_row, has_cast, cast_value};
 
 use crate::scalar::in_range;
 use crate::{
-    ArgKind, DType, DecimalDType, DecimalValue, PType, Scalar, ScalarValue, VortexError,
+    ArgKind, DType, DecimalDType, DecimalValue, PType, Rescaling, Scalar, ScalarValue, VortexError,
     VortexResult,
 };
 
@@ -73,12 +74,14 @@ fn has_other_row(from: &DType, to: &DType) -> bool
 }
 
 /// Casts a value of type `from`, where `None` is null.
+#[tactic(auto, using(crate::proofs::CastsLemmas::scale_few))]
 fn cast_value(
     from: &DType,
     to: &DType,
     value: Option<&ScalarValue>,
 ) -> VortexResult<Option<ScalarValue>>
-    requires { has_cast (type_of from.now) (type_of to.now) ≡ true }
+    requires typed { is_of (type_of from.now) (cell_seen value) ≡ true }
+    requires row { has_cast (type_of from.now) (type_of to.now) ≡ true }
     ensures ok { IfOk result (λ v. cast_value (type_of from.now) (type_of to.now) (cell_seen value.entry) ≡ cell.value (cell_of v)) }
     ensures err { IfErr result (λ e. (e ≡ VortexError.OutOfMemory)
         ⊎ ((e ≡ VortexError.Fault) × (cast_value (type_of from.now) (type_of to.now) (cell_seen value.entry) ≡ cell.fault))) }
@@ -93,6 +96,7 @@ fn cast_value(
 
 /// Casts a value to type `to`, whose kind may differ from its own.
 fn into(to: &DType, value: &ScalarValue) -> VortexResult<ScalarValue>
+    requires { scale_in (value_of value.now) ≤ 38 }
     ensures ok { IfOk result (λ v. into (type_of to.now) (value_of value.now) ≡ cell.value (value_of v)) }
     ensures err { IfErr result (λ e. (e ≡ VortexError.OutOfMemory)
         ⊎ ((e ≡ VortexError.Fault) × (into (type_of to.now) (value_of value.now) ≡ cell.fault))) }
@@ -128,73 +132,15 @@ fn to_integer(ptype: PType, number: i128) -> VortexResult<ScalarValue>
 
 /// Casts `number`, `scale` of whose digits stand behind the point, to the decimal type `dtype`.
 fn to_decimal(dtype: DecimalDType, number: i128, scale: u8) -> VortexResult<ScalarValue>
+    requires { scale ≤ 38 }
     ensures ok { IfOk result (λ v. rescaled dtype.precision dtype.scale number scale ≡ cell.value (value_of v)) }
     ensures err { IfErr result (λ e. (e ≡ VortexError.Fault) × (rescaled dtype.precision dtype.scale number scale ≡ cell.fault)) }
 {
-    match dtype.rescale(number, scale) {
+    match Rescaling::new(dtype, scale).rescale(number) {
         Some(unscaled) => Ok(ScalarValue::Decimal(DecimalValue {
             unscaled,
             scale: dtype.scale(),
         })),
         None => Err(VortexError::Fault),
-    }
-}
-
-impl DecimalDType {
-    /// Returns `number`, `scale` of whose digits stand behind the point, as a number of this type, without its point.
-    ///
-    /// `None` exactly if the type doesn't have it: the number has a digit other than 0 past the type's scale, or, written to that
-    /// scale, more digits than its precision. (own)
-    pub fn rescale(self, number: i128, scale: u8) -> Option<i128>
-        ensures { MatchOption result
-            (rescaled self.precision self.scale number scale ≡ cell.fault)
-            (λ z. rescaled self.precision self.scale number scale ≡ cell.value (decimal z self.scale)) }
-    {
-        let dtype = self;
-        if scale <= dtype.scale() {
-            lengthened(dtype, number, dtype.scale() - scale)
-        } else {
-            shortened(dtype, number, scale - dtype.scale())
-        }
-    }
-}
-
-/// Returns the number of type `dtype` whose digits are those of `number` and `digits` zeros more.
-fn lengthened(dtype: DecimalDType, number: i128, digits: u8) -> Option<i128>
-    requires { digits ≤ dtype.scale }
-    ensures { MatchOption result
-        (lengthened dtype.precision dtype.scale number digits ≡ cell.fault)
-        (λ z. lengthened dtype.precision dtype.scale number digits ≡ cell.value (decimal z dtype.scale)) }
-{
-    match number.checked_mul(10_i128.pow(digits as u32)) {
-        Some(unscaled) => sized(dtype, unscaled),
-        None => None,
-    }
-}
-
-/// Returns the number of type `dtype` whose digits are those of `number` without its last `digits`, which must be zeros.
-fn shortened(dtype: DecimalDType, number: i128, digits: u8) -> Option<i128>
-    ensures { MatchOption result
-        (shortened dtype.precision dtype.scale number digits ≡ cell.fault)
-        (λ z. shortened dtype.precision dtype.scale number digits ≡ cell.value (decimal z dtype.scale)) }
-{
-    match 10_i128.checked_pow(digits as u32) {
-        Some(power) if number % power == 0 => sized(dtype, number / power),
-        Some(_) => None,
-        None if number == 0 => sized(dtype, 0),
-        None => None,
-    }
-}
-
-/// Returns `unscaled` if it is a number of type `dtype` without its point.
-fn sized(dtype: DecimalDType, unscaled: i128) -> Option<i128>
-    ensures { MatchOption result
-        (sized dtype.precision dtype.scale unscaled ≡ cell.fault)
-        (λ z. sized dtype.precision dtype.scale unscaled ≡ cell.value (decimal z dtype.scale)) }
-{
-    if dtype.has_digits(unscaled) {
-        Some(unscaled)
-    } else {
-        None
     }
 }

@@ -47,7 +47,7 @@ impl DecimalDType {
     pub fn has_digits(&self, unscaled: i128) -> bool
         ensures { result ≡ has_digits self.now.precision unscaled }
     {
-        has_digits(self.precision, unscaled)
+        self.digits().contain(unscaled)
     }
 }
 
@@ -79,16 +79,6 @@ impl DecimalType {
         ensures narrowest { IsNarrowest result decimal.now.precision }
     {
         smallest_width(decimal.precision)
-    }
-}
-
-/// Checks whether `number` has at most `precision` digits.
-pub(crate) fn has_digits(precision: u8, number: i128) -> bool
-    ensures { result ≡ has_digits precision number }
-{
-    match 10_u128.checked_pow(precision as u32) {
-        Some(bound) => number.unsigned_abs() < bound,
-        None => true,
     }
 }
 

@@ -67,6 +67,13 @@ pub enum VortexError {
     /// A row has no value: a result is out of its type's range, or a divisor is 0.
     #[error("fault")]
     Fault,
+    /// The product or the sum of `len` and `factor`, rows, passes `usize::MAX`: a length and the size of a fixed list, or a length
+    /// so far and what is joined to it.
+    #[error("too long")]
+    TooLong {
+        len: usize,
+        factor: usize,
+    },
     /// The rows `start..stop` aren't within a tree of `len` rows. For a single row, both are its index.
     #[error("OutOfBounds: {start}..{stop} of length {len}")]
     OutOfBounds {

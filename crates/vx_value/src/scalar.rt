@@ -13,7 +13,6 @@ ghost use Rattle.vx_value.specs.Types as type;
 ghost use Rattle.vx_value.specs.Values.{boolean, integer, decimal};
 ghost use Rattle.vx_value.specs.Decimals.{has_digits};
 
-use crate::decimal::has_digits;
 use crate::{
     ArgKind, ByteBuffer, DType, DecimalDType, DecimalValue, Nullability, PType, Storage,
     VortexError, VortexResult,
@@ -315,15 +314,17 @@ pub(crate) fn in_range(ptype: PType, number: i128) -> bool
 fn is_of(dtype: &DType, value: Option<&ScalarValue>) -> bool
     ensures { result ≡ is_of (type_of dtype.now) (cell_seen value.entry) }
 {
-    match (dtype.storage(), value) {
+    match (dtype, value) {
         (_, None) => dtype.is_nullable(),
-        (Storage::Bits, Some(ScalarValue::Bool(_))) => true,
-        (Storage::Integers(ptype), Some(ScalarValue::Integer(number))) => in_range(ptype, *number),
-        (Storage::Decimals { precision, scale }, Some(ScalarValue::Decimal(decimal))) => {
-            decimal.scale == scale && has_digits(precision, decimal.unscaled)
+        (DType::Bool(_), Some(ScalarValue::Bool(_))) => true,
+        (DType::Primitive(ptype, _), Some(ScalarValue::Integer(number))) => {
+            in_range(*ptype, *number)
         }
-        (Storage::Text, Some(ScalarValue::Bytes(bytes))) => bytes.as_str().is_some(),
-        (Storage::Bytes, Some(ScalarValue::Bytes(_))) => true,
+        (DType::Decimal(dtype, _), Some(ScalarValue::Decimal(number))) => {
+            number.scale == dtype.scale() && dtype.has_digits(number.unscaled)
+        }
+        (DType::Utf8(_), Some(ScalarValue::Bytes(bytes))) => bytes.as_str().is_some(),
+        (DType::Binary(_), Some(ScalarValue::Bytes(_))) => true,
         _ => false,
     }
 }
