@@ -1,8 +1,9 @@
 -- Parts of parts of lists, and lists that are made row by row.
 use Rattle.std.specs.Prelude.{slice_get}
-use Rattle.std.proofs.Common.{◌≡◌, ◌<◌, ◌≤◌, ◌+◌, ◌-◌, ℕ, zero, suc, List, [], ◌∷◌, length, take, drop, slice_range, map, replicate, arith, refl, sym, ◌∙◌, ap, ap₂}
+use Rattle.std.proofs.Common.{◌≡◌, ◌<◌, ◌≤◌, ◌+◌, ◌-◌, ℕ, zero, suc, List, [], ◌∷◌, ◌++◌, length, take, drop, slice_range, map, replicate}
+use Rattle.std.proofs.Common.{arith, refl, sym, ◌∙◌, ap, ap₂}
 use Rattle.std.specs.List.{range_with_len}
-use Rattle.std.proofs.lemmas.List.{drop-take, drop-drop, take-take, length-take}
+use Rattle.std.proofs.lemmas.List.{take_all, drop-take, drop-drop, take-take, length-take}
 use Rattle.std.proofs.lemmas.Option.{none-some}
 
 -- the items from s + a to s + b are those from a to b of the n items from s on
@@ -40,3 +41,10 @@ same_items (x ∷ xs) (y ∷ ys) h =
     let first = h 0 in
     let same : x ≡ y = cc in
     ap₂ (λ z l. z ∷ l) same (same_items xs ys (λ k. h (suc k)))
+
+-- a list that is made longer by k copies of an item, n items long before
+pub lengthened : {X : Type 0} (xs ys : List X) (n m k : ℕ) (x : X) → xs ≡ take (m + k) ys ++ replicate (m + k - n) x → n ≡ length ys → m ≡ n
+    → xs ≡ ys ++ replicate k x
+lengthened xs ys n m k x e long same =
+    let more : m + k - n ≡ k = omega (arith, same) in
+    e ∙ ap₂ (λ l j. l ++ replicate j x) (take_all (m + k) ys (omega arith)) more

@@ -1,16 +1,18 @@
--- More bits above the bits that a builder has.
-use Rattle.std.specs.Prelude.{◌==◌}
-use Rattle.std.proofs.Common.{◌≡◌, ◌<◌, ◌≤◌, ◌+◌, ◌-◌, ◌*◌, ◌/◌, ◌%◌, ◌^◌, ℕ, zero, suc, Bool, true, false, List, [], ◌∷◌, ◌++◌, length, take}
-use Rattle.std.proofs.Common.{arith, sym, ◌∙◌, ap, ap₂, refl, pow-suc, add-zero}
+-- The bits of a builder: more of them above those that it has, copies of a bit, and the first ones alone.
+use Rattle.std.specs.Prelude.{◌==◌, bit_and}
+use Rattle.std.proofs.Common.{◌≡◌, ◌<◌, ◌≤◌, ◌+◌, ◌-◌, ◌*◌, ◌/◌, ◌%◌, ◌^◌, ℕ, zero, suc, Bool, true, false, cond}
+use Rattle.std.proofs.Common.{List, [], ◌∷◌, ◌++◌, length, take, drop, get_or, replicate}
+use Rattle.std.proofs.Common.{arith, sym, ◌∙◌, ap, ap₂, refl, pow-suc, add-zero, drop-cons}
 use Rattle.std.proofs.Math.Nat.{div-div-eq-div-mul, zero-div}
 use Rattle.std.proofs.Math.Seq.{take-append-add}
-use Rattle.std.proofs.lemmas.List.{append_assoc, append-nil}
-use Rattle.std.proofs.lemmas.Nat.{pow_pos, pow-add, mod-pow-add, div-mul-add, mod-mul-add, mul-add-lt}
+use Rattle.std.proofs.lemmas.List.{append_assoc, append-nil, take-append-drop, take-take, take-replicate, replicate-append-replicate, length-append}
+use Rattle.std.proofs.lemmas.Nat.{pow_pos, pow-add, mod-pow-add, div-mul-add, mod-mul-add, mul-add-lt, and_mask, one_shl}
 use mir.Val.{bool_byte}
-use Rattle.vx_mask.specs.Bits.{bits_of}
+use Rattle.vx_mask.specs.Bits.{bit_of, bits_of}
 use Rattle.vx_mask.specs.Words.{low_bits}
+use Rattle.vx_mask.proofs.BitsLemmas.{before, first_bits}
 use Rattle.vx_mask.proofs.CombinedWords.{length-bits_of, bits_of_push}
-use Rattle.vx_mask.proofs.Parts.{take-low_bits, low_bits-rest}
+use Rattle.vx_mask.proofs.Parts.{take-low_bits, low_bits-rest, low_bits-falses, low_bits-trues}
 
 -- ---- a number with `last` below place `fill`, and w from there on
 -- what a word keeps of it
@@ -139,3 +141,80 @@ flag_full ws last fill b small full =
     ap₂ (λ n x. take (64 * length new + n) (bits_of (new ++ x ∷ []))) left rest
     ∙ push_full ws last fill (bool_byte b) 1 small (omega arith) (omega arith) (omega arith)
     ∙ ap (λ l. take (64 * length ws + fill) (bits_of (ws ++ last ∷ [])) ++ l) (flag_bits b)
+
+-- ---- copies of a bit: words of them, and the lowest bits of one
+word_of : (b : Bool) (m : ℕ) → m ≤ 64 → low_bits m (cond b (2 ^ 64 - 1) 0) ≡ replicate m b
+word_of true m few =
+    sym (take-low_bits m 64 (2 ^ 64 - 1) few) ∙ ap (take m) (low_bits-trues 64) ∙ take-replicate m 64 true few
+word_of false m few = low_bits-falses m
+
+words_of : (b : Bool) (k : ℕ) (ws : List ℕ) → bits_of (ws ++ replicate k (cond b (2 ^ 64 - 1) 0)) ≡ bits_of ws ++ replicate (64 * k) b
+words_of b zero ws = ap bits_of (append-nil ws) ∙ sym (append-nil (bits_of ws))
+words_of b (suc k) ws =
+    let w = cond b (2 ^ 64 - 1) 0 in
+    let size : 64 + 64 * k ≡ 64 * suc k = omega arith in
+    ap bits_of (sym (append_assoc ws (w ∷ []) (replicate k w))) ∙ words_of b k (ws ++ w ∷ [])
+    ∙ ap (λ l. l ++ replicate (64 * k) b) (bits_of_push ws w) ∙ append_assoc (bits_of ws) (low_bits 64 w) (replicate (64 * k) b)
+    ∙ ap (λ l. bits_of ws ++ (l ++ replicate (64 * k) b)) (word_of b 64 (omega arith))
+    ∙ ap (λ l. bits_of ws ++ l) (replicate-append-replicate 64 (64 * k) b ∙ ap (λ n. replicate n b) size)
+
+-- they fill the last word, then whole words, and a part of the next one
+pub push_copied : (ws : List ℕ) (last fill count next : ℕ) (b : Bool) → last < 2 ^ fill → fill < 64 → 64 - fill ≤ count
+    → low_bits ((count - (64 - fill)) % 64) next ≡ replicate ((count - (64 - fill)) % 64) b
+    → take
+    (64 * length ((ws ++ (cond b (2 ^ 64 - 1) 0 * 2 ^ fill % 2 ^ 64 + last) ∷ []) ++ replicate ((count - (64 - fill)) / 64) (cond b (2 ^ 64 - 1) 0))
+    + (count - (64 - fill)) % 64)
+    (bits_of
+    (((ws ++ (cond b (2 ^ 64 - 1) 0 * 2 ^ fill % 2 ^ 64 + last) ∷ []) ++ replicate ((count - (64 - fill)) / 64) (cond b (2 ^ 64 - 1) 0)) ++ next ∷ []))
+    ≡ take (64 * length ws + fill) (bits_of (ws ++ last ∷ [])) ++ replicate count b
+push_copied ws last fill count next b small h many copies =
+    let w = cond b (2 ^ 64 - 1) 0 in
+    let joined = w * 2 ^ fill % 2 ^ 64 + last in
+    let room = 64 - fill in
+    let rest = count - room in
+    let old = bits_of ws ++ low_bits fill last in
+    let fit : 64 ≡ fill + room = omega arith in
+    let size : room + (64 * (rest / 64) + rest % 64) ≡ count = omega arith in
+    let first : bits_of (ws ++ joined ∷ []) ≡ old ++ replicate room b =
+    bits_of_push ws joined
+    ∙ ap (λ l. bits_of ws ++ l)
+    (low_bits-joined 64 w last fill (omega arith) small h ∙ ap (λ n. low_bits n (w * 2 ^ fill + last)) fit
+    ∙ low_bits-whole w last fill room small ∙ ap (λ l. low_bits fill last ++ l) (word_of b room (omega arith)))
+    ∙ sym (append_assoc (bits_of ws) (low_bits fill last) (replicate room b)) in
+    held ((ws ++ joined ∷ []) ++ replicate (rest / 64) w) next (rest % 64) (omega arith)
+    ∙ ap₂ (λ l r. l ++ r) (words_of b (rest / 64) (ws ++ joined ∷ []) ∙ ap (λ l. l ++ replicate (64 * (rest / 64)) b) first) copies
+    ∙ append_assoc (old ++ replicate room b) (replicate (64 * (rest / 64)) b) (replicate (rest % 64) b)
+    ∙ append_assoc old (replicate room b) (replicate (64 * (rest / 64)) b ++ replicate (rest % 64) b)
+    ∙ ap (λ l. old ++ (replicate room b ++ l)) (replicate-append-replicate (64 * (rest / 64)) (rest % 64) b)
+    ∙ ap (λ l. old ++ l) (replicate-append-replicate room (64 * (rest / 64) + rest % 64) b ∙ ap (λ n. replicate n b) size)
+    ∙ ap (λ l. l ++ replicate count b) (sym (held ws last fill (omega arith)))
+
+-- ---- the first bits: those of the words before one, and the lowest of that one
+first_words : (ws rest : List ℕ) → take (64 * length ws) (bits_of (ws ++ rest)) ≡ bits_of ws
+first_words ws rest = first_bits (ws ++ rest) (64 * length ws) (bit_of ws) (omega (arith, length-append ws rest)) (λ i lt. before ws rest i (omega arith))
+
+up_to_word : (ws : List ℕ) (w : ℕ) (rest : List ℕ) (n : ℕ) → n ≤ 64 → take (64 * length ws + n) (bits_of (ws ++ w ∷ rest)) ≡ bits_of ws ++ low_bits n w
+up_to_word ws w rest n few =
+    let size : 64 * length (ws ++ w ∷ []) ≡ 64 * length ws + 64 = omega (arith, length-append ws (w ∷ [])) in
+    sym (take-take (64 * length ws + n) (64 * length (ws ++ w ∷ [])) (bits_of (ws ++ w ∷ rest)) (omega arith))
+    ∙ ap (λ vs. take (64 * length ws + n) (take (64 * length (ws ++ w ∷ [])) (bits_of vs))) (sym (append_assoc ws (w ∷ []) rest))
+    ∙ ap (take (64 * length ws + n)) (first_words (ws ++ w ∷ []) rest) ∙ held ws w n few
+
+pub at_word : (ws : List ℕ) (i x last : ℕ) → i < length ws → x ≡ get_or ws i x → ws ++ last ∷ [] ≡ take i ws ++ x ∷ (drop (suc i) ws ++ last ∷ [])
+at_word ws i x last within is =
+    ap (λ l. l ++ last ∷ [])
+    (sym (take-append-drop i ws) ∙ ap (λ l. take i ws ++ l) (drop-cons ws i x within) ∙ ap (λ y. take i ws ++ y ∷ drop (suc i) ws) (sym is))
+    ∙ append_assoc (take i ws) (x ∷ drop (suc i) ws) (last ∷ [])
+
+pub cut : (ws vs rest : List ℕ) (w last fill len : ℕ) → ws ++ last ∷ [] ≡ vs ++ w ∷ rest → length vs ≡ len / 64 → len ≤ 64 * length ws + fill
+    → take (64 * length vs + len % 64) (bits_of (vs ++ bit_and w (1 * 2 ^ (len % 64) % 2 ^ 64 - 1) ∷ []))
+    ≡ take len (take (64 * length ws + fill) (bits_of (ws ++ last ∷ [])))
+cut ws vs rest w last fill len are long within =
+    let n = len % 64 in
+    let size : 64 * length vs + n ≡ len = omega (arith, long) in
+    let low : bit_and w (1 * 2 ^ n % 2 ^ 64 - 1) ≡ w % 2 ^ n = ap (λ m. bit_and w (m - 1)) (one_shl n 64 (omega arith)) ∙ and_mask w n in
+    held vs (bit_and w (1 * 2 ^ n % 2 ^ 64 - 1)) n (omega arith)
+    ∙ ap (λ l. bits_of vs ++ l) (ap (low_bits n) low ∙ low_bits-mod n w)
+    ∙ sym (up_to_word vs w rest n (omega arith))
+    ∙ ap₂ (λ k l. take k (bits_of l)) size (sym are)
+    ∙ sym (take-take len (64 * length ws + fill) (bits_of (ws ++ last ∷ [])) within)

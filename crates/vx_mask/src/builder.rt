@@ -1,11 +1,20 @@
 //! Building bit buffers bit by bit.
 
-ghost use Rattle.std.specs.Prelude.{◌≡◌, ◌<◌, ◌≤◌, ◌^◌, ◌∷◌, [], ◌++◌, IfOk, OnOk, OnErr};
+ghost use Rattle.std.specs.Prelude.{◌≡◌, ◌<◌, ◌≤◌, ◌^◌, ◌∷◌, [], ◌++◌, IfOk, OnOk, OnErr, length, take, replicate};
 ghost use Rattle.vx_mask.specs.Words.{low_bits};
 
-use crate::bits::BitBuffer;
+use crate::bits::{BitBuffer, filled_word};
 use std::alloc::{AllocError, Global};
 use std::marker::Model;
+
+/// Returns a word whose `count` lowest bits are `bit`, and the others 0.
+fn repeated_bit(bit: bool, count: usize) -> u64
+    requires { count < 64 }
+    ensures bits { low_bits count result ≡ replicate count bit }
+    ensures above { result < 2 ^ count }
+{
+    if bit { (1 << count) - 1 } else { 0 }
+}
 
 /// Builds a `BitBuffer`: holds the full words, and the bits that don't fill a word yet. (own)
 #[derive(Debug, Drop)]
@@ -27,6 +36,17 @@ impl Model for BitBuilder {
 }
 
 impl BitBuilder {
+    /// Makes an empty builder without allocating.
+    pub fn new(alloc: Global) -> BitBuilder
+        ensures { result ≡ [] }
+    {
+        BitBuilder {
+            words: Vec::new(alloc),
+            last: 0,
+            fill: 0,
+        }
+    }
+
     /// Makes an empty builder with room for `bits` bits. Fails only if there is no memory for them.
     pub fn with_capacity(alloc: Global, bits: usize) -> Result<BitBuilder, AllocError>
         ensures { IfOk result (λ b. b ≡ []) }
@@ -80,6 +100,40 @@ impl BitBuilder {
             self.fill = fill - 64;
         }
         Ok(())
+    }
+
+    /// Appends `bit` `count` times, a word at a time and in one allocation. Fails only if there is no memory for the words; the bits
+    /// are then unchanged.
+    pub fn push_copies(&mut self, bit: bool, count: usize) -> Result<(), AllocError>
+        ensures ok { OnOk result (self.new ≡ self.old ++ replicate count bit) }
+        ensures err { OnErr result (self.new ≡ self.old) }
+    {
+        let room = 64 - self.fill;
+        if count < room {
+            return self.push_bits(repeated_bit(bit, count), count);
+        }
+        let word = filled_word(bit);
+        let rest = count - room;
+        self.words.reserve(rest / 64 + 1)?;
+        self.words.push((word << self.fill) + self.last)?;
+        self.words.resize(self.words.len() + rest / 64, word)?;
+        self.last = repeated_bit(bit, rest % 64);
+        self.fill = rest % 64;
+        Ok(())
+    }
+
+    /// Shortens the builder to its first `len` bits, of which there must be as many.
+    pub fn truncate(&mut self, len: usize)
+        requires { len ≤ length self.old }
+        ensures { self.new ≡ take len self.old }
+    {
+        let full = len / 64;
+        if full < self.words.len() {
+            self.last = self.words[full];
+            self.words.truncate(full);
+        }
+        self.fill = len % 64;
+        self.last &= (1 << self.fill) - 1;
     }
 
     /// Returns the bits in a buffer. Fails only if there is no memory for the last word or for the reference count, or

@@ -5,3 +5,4 @@ pub mod Ranges
 pub mod Natives
 pub mod Widths
 pub mod DecimalNumbers
+pub mod NativeVecs

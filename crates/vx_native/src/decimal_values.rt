@@ -44,8 +44,9 @@ fn wide_at<T: NativeDecimalType>(buffer: &Buffer<T>, index: usize) -> i128
 fn all_digits<T: NativeDecimalType>(buffer: &Buffer<T>, decimal: &DecimalDType) -> bool
     ensures { result ≡ list_all (has_digits decimal.now.precision) (map T.value buffer.now) }
 {
+    let digits = decimal.digits();
     for value in buffer.as_slice() {
-        if !decimal.has_digits(value.wide()) {
+        if !digits.contain(value.wide()) {
             return false;
         }
     }

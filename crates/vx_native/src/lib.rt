@@ -7,12 +7,14 @@ mod decimal_values;
 mod impls;
 mod integer;
 mod macros;
+mod native_vec;
 mod number;
 mod values;
 
 pub use decimal::{NativeDecimalType, narrowed};
 pub use decimal_values::DecimalValues;
 pub use integer::{NativeInteger, native_of};
+pub use native_vec::NativeVec;
 pub use number::NativeNumber;
 pub use values::PrimitiveValues;
 pub use vx_value::{DecimalType, PType};

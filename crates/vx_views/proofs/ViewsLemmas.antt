@@ -3,8 +3,9 @@ use Rattle.std.proofs.Common.{◌≡◌, ◌<◌, ◌≤◌, ◌+◌, ◌-◌, �
 use Rattle.std.proofs.Common.{arith, refl, sym, ◌∙◌, ap, ap₂}
 use Rattle.std.specs.Prelude.{slice_index_or}
 use Rattle.std.specs.List.{All}
-use Rattle.std.proofs.lemmas.List.{take_all, take-append-le, drop_at, drop-append-le, length-drop, length-append, take-map, drop-map, map_push}
-use Rattle.std.proofs.lemmas.List.Elements.{All-nil, All-cons, All-head, All-tail, All-same, All-take, All-drop, All-push, All-weaker, All-replicate}
+use Rattle.std.proofs.lemmas.List.{map-append, take_all, take-append-le, drop_at, drop-append-le, length-drop, length-append, take-map, drop-map, map_push}
+use Rattle.std.proofs.lemmas.List.Elements.{All-nil, All-cons, All-head, All-tail, All-same, All-take, All-drop, All-push, All-weaker}
+use Rattle.std.proofs.lemmas.List.Elements.{All-replicate, All-append}
 use Rattle.vx_mask.specs.Places.{chosen}
 use Rattle.vx_mask.proofs.PlacesLemmas.{chosen-nil}
 use Rattle.vx_mask.proofs.ChosenLemmas.{chosen_map}
@@ -86,3 +87,18 @@ rows_push xs ys views lie =
 pub lie_in_push : (xs ys : List ℕ) (views : List View) → AllLieIn (xs ∷ []) views → AllLieIn ((xs ++ ys) ∷ []) (views ++ last xs ys ∷ [])
 lie_in_push xs ys views lie =
     All-push (LiesIn ((xs ++ ys) ∷ [])) views (last xs ys) (lie_in_more xs ys views lie) (omega arith, omega (arith, length-append xs ys))
+
+-- and n more views, of no bytes
+abbrev pub none : View
+none = record { buffer = 0; start = 0; size = 0 }
+
+pub rows_empty : (xs : List ℕ) (views : List View) (n : ℕ) → rows_of (xs ∷ []) (views ++ replicate n none) ≡ rows_of (xs ∷ []) views ++ replicate n []
+rows_empty xs views n = map-append (bytes_at (xs ∷ [])) views (replicate n none) ∙ ap (λ l. rows_of (xs ∷ []) views ++ l) (all_empty n)
+  where
+    all_empty : (n : ℕ) → rows_of (xs ∷ []) (replicate n none) ≡ replicate n []
+    all_empty zero = refl
+    all_empty (suc n) = ap (λ l. [] ∷ l) (all_empty n)
+
+pub lie_in_empty : (xs : List ℕ) (views : List View) (n : ℕ) → AllLieIn (xs ∷ []) views → AllLieIn (xs ∷ []) (views ++ replicate n none)
+lie_in_empty xs views n lie =
+    All-append (LiesIn (xs ∷ [])) views (replicate n none) lie (All-replicate (LiesIn (xs ∷ [])) n none (omega arith, omega arith))

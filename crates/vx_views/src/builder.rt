@@ -1,6 +1,6 @@
 //! Building columns of bytes row by row.
 
-ghost use Rattle.std.specs.Prelude.{◌≡◌, ◌↔◌, ◌∷◌, [], ◌++◌, IsTrue, IfOk, OnOk, OnErr, length};
+ghost use Rattle.std.specs.Prelude.{◌≡◌, ◌↔◌, ◌∷◌, [], ◌++◌, IsTrue, IfOk, OnOk, OnErr, length, replicate};
 
 use crate::view::View;
 use crate::views::BinaryViews;
@@ -65,6 +65,23 @@ impl BinaryBuilder {
             start,
             size: bytes.len(),
         })?;
+        Ok(())
+    }
+
+    /// Appends `count` rows without bytes, in one allocation. Fails only if there is no memory for the views; the rows are then
+    /// unchanged.
+    #[tactic(auto, using(crate::proofs::ViewsLemmas::lie_in_empty))]
+    pub fn push_empty(&mut self, count: usize) -> Result<(), AllocError>
+        ensures ok { OnOk result (self.new ≡ self.old ++ replicate count []) }
+        ensures err { OnErr result (self.new ≡ self.old) }
+    {
+        let view = View {
+            buffer: 0,
+            start: 0,
+            size: 0,
+        };
+        self.views.reserve(count)?;
+        self.views.resize(self.views.len() + count, view)?;
         Ok(())
     }
 

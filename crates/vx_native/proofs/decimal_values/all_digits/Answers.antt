@@ -1,4 +1,4 @@
-use Rattle.std.proofs.Common.{◌≡◌, ◌≤◌, ◌<◌, ℕ, ℤ, List, Bool, true, false, map, take, length, get_or, FitsSigned, to_z, of_z, sym, ap, ◌∙◌, arith}
+use Rattle.std.proofs.Common.{◌≡◌, ◌≤◌, ◌<◌, ℕ, ℤ, List, Bool, true, false, map, take, length, get_or, FitsSigned, to_z, of_z, sym, ap, subst, ◌∙◌, arith}
 use Rattle.std.proofs.Math.Facts.{to_z-of_z}
 use Rattle.std.specs.Int.{w128}
 use Rattle.std.specs.List.{list_all}
@@ -22,13 +22,15 @@ passed_all f test xs ys i same past passed =
     sym (ap (λ l. list_all test (map f l)) (sym same) ∙ list_all-map test f ys
     ∙ ap (list_all (λ y. test (f y))) (sym (take_all i ys past)) ∙ passed)
 
-pub returns-then-not-has_digits : goal.returns-then-not-has_digits
-returns-then-not-has_digits g c =
+pub returns-then-not-contain : goal.returns-then-not-contain
+returns-then-not-contain g c =
     let z = c.wide.result in
     let fits : FitsSigned w128 z = record { sfits = c.wide.type_inv } in
+    let tested : c.contain.result ≡ has_digits c.args.decimal.now.precision (to_z w128 (of_z w128 z)) =
+    subst (λ p. c.contain.result ≡ has_digits p (to_z w128 (of_z w128 z))) c.digits-digits.ensures c.contain.ensures in
     fails_at g.T.Number.value (has_digits c.args.decimal.now.precision) c.args.buffer.now c.as_slice-value-items.result.now c.loop-value.value-index
-    c.value-item.result z (to_z w128 (of_z w128 z)) c.has_digits.result c.as_slice-value-items.ensures (omega arith) c.value-item.is c.wide.ensures
-    (to_z-of_z fits) c.has_digits.ensures c.if-not-has_digits.true
+    c.value-item.result z (to_z w128 (of_z w128 z)) c.contain.result c.as_slice-value-items.ensures (omega arith) c.value-item.is c.wide.ensures
+    (to_z-of_z fits) tested c.if-not-contain.true
 
 pub returns : goal.returns
 returns g c =
