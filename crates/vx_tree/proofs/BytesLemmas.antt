@@ -12,15 +12,15 @@ use Rattle.vx_value.specs.declared.dtype.Nullability.{Nullability}
 use Rattle.vx_value.specs.declared.dtype.Storage.{Storage}
 use Rattle.vx_value.specs.declared.dtype.Storage.TheVariants.{Text}
 use Rattle.vx_value.specs.declared.id.Id.TheVariants.{VarBinView}
-use Rattle.vx_tree.specs.ColumnTypes.{has_column, bytes_type, are_bytes_of}
+use Rattle.vx_tree.specs.ColumnTypes.{bytes_type, are_bytes_of}
 use Rattle.vx_tree.specs.Columns.{canonical_id}
 use Rattle.vx_tree.specs.Tree.{views}
 use Rattle.vx_tree.specs.Well.{Shape, IsFlat, IsNode}
 
--- what its type is, whatever the nullability: there are columns of it, and their encoding
-pub bytes_columns : (m : Nullability) (s : Storage) → (has_column (with_nullability m (bytes_type s)) ≡ true) × (canonical_id (with_nullability m (bytes_type s)) ≡ VarBinView)
-bytes_columns m Text = (refl, refl)
-bytes_columns m _ = (refl, refl)
+-- its encoding, whatever the nullability
+pub bytes_columns : (m : Nullability) (s : Storage) → canonical_id (with_nullability m (bytes_type s)) ≡ VarBinView
+bytes_columns m Text = refl
+bytes_columns m _ = refl
 
 -- a type of text or bytes is told by how it is stored, and so are its rows
 bytes_again : (s : Storage) (ty : DataType) (rows : List (List ℕ)) → ty ≡ with_nullability (nullability_of ty) (bytes_type s)

@@ -9,7 +9,7 @@ use Rattle.vx_fn.specs.ReturnTypes.{return_type}
 use Rattle.vx_fn.specs.declared.function.ScalarFnRef.{ScalarFnRef}
 use Rattle.vx_tree.specs.Tree.{Tree, Slots, node, function, no_slots, absent, slot, filled_slots, slots_of, dtype, len, call_of}
 use Rattle.vx_tree.specs.Well.{shape, shapes, IsNode}
-use Rattle.vx_tree.specs.Refusals.{lengths_refusal, arity_refusal, column_type_refusal, all_present, all_long, types_in}
+use Rattle.vx_tree.specs.Refusals.{lengths_refusal, arity_refusal, all_present, all_long, types_in}
 use Rattle.vx_tree.specs.Conditions.{unless}
 use Rattle.vx_tree.specs.Calls.{all_of_len, row_refusal, call_refusal, called}
 use Rattle.vx_tree.proofs.ConditionsLemmas.{first_refused, later_refused, none_refused, unless_none}
@@ -78,28 +78,21 @@ module _ (f : ScalarFnRef) (ts : List Tree) (n : ℕ) (ss : Slots) (filled : ss 
         later_refused (arity_refusal f (length ts)) _ _ count
         (later_refused (unless (all_of_len n ts) (InvalidArgument ChildLen)) _ _ (sym lengths_are ∙ long) (ap row_refusal (sym row_is ∙ row)))
 
-    pub call_type_refused : (ty : DataType) (e : VortexError) → arity_refusal f (length ts) ≡ None → lengths_refusal n (shapes ss) ≡ None →
-        return_type f tys ≡ Some ty → column_type_refusal ty ≡ Some e → call_refusal f ts n ≡ Some e
-    call_type_refused ty e count long row column =
-        later_refused (arity_refusal f (length ts)) _ _ count
-        (later_refused (unless (all_of_len n ts) (InvalidArgument ChildLen)) _ _ (sym lengths_are ∙ long) (ap row_refusal (sym row_is ∙ row) ∙ column))
-
     pub call_taken : (ty : DataType) → arity_refusal f (length ts) ≡ None → lengths_refusal n (shapes ss) ≡ None →
-        return_type f tys ≡ Some ty → column_type_refusal ty ≡ None → call_refusal f ts n ≡ None
-    call_taken ty count long row column =
+        return_type f tys ≡ Some ty → call_refusal f ts n ≡ None
+    call_taken ty count long row =
         none_refused (arity_refusal f (length ts)) _ count
-        (none_refused (unless (all_of_len n ts) (InvalidArgument ChildLen)) _ (sym lengths_are ∙ long) (ap row_refusal (sym row_is ∙ row) ∙ column))
+        (none_refused (unless (all_of_len n ts) (InvalidArgument ChildLen)) _ (sym lengths_are ∙ long) (ap row_refusal (sym row_is ∙ row)))
 
     pub call_made : (ty : DataType) → return_type f tys ≡ Some ty → called f ts n ≡ Some (node ty n (function f) ss)
     call_made ty row =
         ap (option_map (λ t. call_of f t n ts)) (sym row_is ∙ row) ∙ ap (λ x. Some (node ty n (function f) x)) (sym filled)
 
-    pub call_is_node : (ty : DataType) → lengths_refusal n (shapes ss) ≡ None → return_type f tys ≡ Some ty → column_type_refusal ty ≡ None
-        → IsNode ty n (function f) (shapes ss)
-    call_is_node ty long row column =
+    pub call_is_node : (ty : DataType) → lengths_refusal n (shapes ss) ≡ None → return_type f tys ≡ Some ty → IsNode ty n (function f) (shapes ss)
+    call_is_node ty long row =
         let present : all_present (shapes ss) ≡ true = ap (λ x. all_present (shapes x)) filled ∙ filled_present ts in
         let same = shapes_of_types n (shapes ss) present (unless_none _ _ long) ∙ ap (map (λ s. Some (shape s n))) (sym typed) in
-        (tys, same, row, unless_none _ _ column)
+        (tys, same, row)
 
 -- what a call's constructor needs
-pub ruleset calls = (call_count_refused, call_lengths_refused, call_row_refused, call_type_refused, call_taken, call_made, call_is_node)
+pub ruleset calls = (call_count_refused, call_lengths_refused, call_row_refused, call_taken, call_made, call_is_node)

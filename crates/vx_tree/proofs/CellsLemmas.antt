@@ -6,7 +6,7 @@ use Rattle.std.proofs.lemmas.List.FromFn.{length-map-range_with_len}
 use Rattle.vx_value.specs.Types.{DataType, bool, primitive, nullability_of}
 use Rattle.vx_value.specs.declared.dtype.Nullability.{Nullability}
 use Rattle.vx_value.specs.declared.dtype.Nullability.TheVariants.{NonNullable, Nullable}
-use Rattle.vx_value.specs.Values.{boolean, integer, bytes, decimal}
+use Rattle.vx_value.specs.Values.{null, boolean, integer, bytes, decimal}
 use Rattle.vx_value.specs.Storage.{storage_of}
 use Rattle.vx_tree.specs.ColumnTypes.{bytes_type, scale_of, decimal_type}
 use Rattle.vx_tree.specs.Tree as enc
@@ -83,6 +83,7 @@ node_counted ty n (enc.filter bits) css ss h k = choice_counted ty n bits css ss
 node_counted ty n enc.masked css ss h k = mask_counted h.0 n h.1 css h.4 (subst (AreCounted css) h.2 k)
 node_counted ty n enc.is_valid css ss h k = length-map (cells_at css 0) shown_cell ∙ one_counted css h.0 n (subst (AreCounted css) h.1 k)
 node_counted ty n (enc.function f) css ss h k = length-map-range_with_len (λ i. apply f ty (row_at css i)) 0 n
+node_counted ty n enc.nulls css ss h k = length-replicate n (value null)
 node_counted ty n (enc.bool bs) css ss h k = flat_counted (bool NonNullable) _ ty n css ss (map (λ b. value (boolean b)) bs) h k (length-map bs (λ b. value (boolean b)))
 node_counted ty n (enc.primitive p zs) css ss h k = flat_counted (primitive p NonNullable) _ ty n css ss (map (λ z. value (integer z)) zs) h k (length-map zs (λ z. value (integer z)))
 node_counted ty n (enc.decimals w zs) css ss h k =

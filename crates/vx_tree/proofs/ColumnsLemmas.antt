@@ -49,11 +49,12 @@ canonical_known ty n d ss h lawful = record {
 -- a line for each encoding that is a column
 pub column_known : (t : Tree) → IsWell t → is_columnar (datum t) ≡ true → IsColumn t
 column_known (node ty n (enc.constant v) ss) w h =
-    subst IsColumn (λ i. node (sym w.0.0 i) n (enc.constant v) (sym (no_shapes ss w.0.3) i)) (constant_known v n)
+    subst IsColumn (λ i. node (sym w.0.0 i) n (enc.constant v) (sym (no_shapes ss w.0.2) i)) (constant_known v n)
+column_known (node ty n enc.nulls ss) w h = canonical_known ty n _ ss refl (sym (ap canonical_id w.0.0))
 column_known (node ty n (enc.bool bs) ss) w h = canonical_known ty n _ ss refl (sym (ap canonical_id w.0.1))
 column_known (node ty n (enc.primitive p zs) ss) w h = canonical_known ty n _ ss refl (sym (ap canonical_id w.0.1))
 column_known (node ty n (enc.decimals d zs) ss) w h =
-    canonical_known ty n _ ss refl (sym (ap canonical_id w.0.0.1 ∙ (decimal_columns (nullability_of ty) (storage_of ty)).1))
+    canonical_known ty n _ ss refl (sym (ap canonical_id w.0.0.1 ∙ decimal_columns (nullability_of ty) (storage_of ty)))
 column_known (node ty n (enc.views rs) ss) w h =
-    canonical_known ty n _ ss refl (sym (ap canonical_id w.0.0.1 ∙ (bytes_columns (nullability_of ty) (storage_of ty)).1))
+    canonical_known ty n _ ss refl (sym (ap canonical_id w.0.0.1 ∙ bytes_columns (nullability_of ty) (storage_of ty)))
 column_known _ w h = absurd (cc)

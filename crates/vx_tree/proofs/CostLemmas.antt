@@ -43,6 +43,7 @@ unreached (slot t ss) = unreached ss
 
 -- a column costs one turn
 pub column_cost : (ty : DataType) (n : ℕ) (d : Data) (ss : Slots) → is_canonical d ≡ true → cost (node ty n d ss) ≡ 1
+column_cost ty n enc.nulls ss h = omega (arith, unpaid enc.nulls ss)
 column_cost ty n (enc.bool bs) ss h = omega (arith, unpaid (enc.bool bs) ss)
 column_cost ty n (enc.primitive p zs) ss h = omega (arith, unpaid (enc.primitive p zs) ss)
 column_cost ty n (enc.decimals w zs) ss h = omega (arith, unpaid (enc.decimals w zs) ss)
@@ -50,6 +51,7 @@ column_cost ty n (enc.views rs) ss h = omega (arith, unpaid (enc.views rs) ss)
 column_cost ty n _ ss h = absurd (cc)
 
 pub column_reach : (ty : DataType) (n : ℕ) (d : Data) (ss : Slots) → is_canonical d ≡ true → reach (node ty n d ss) ≡ 1
+column_reach ty n enc.nulls ss h = refl
 column_reach ty n (enc.bool bs) ss h = refl
 column_reach ty n (enc.primitive p zs) ss h = refl
 column_reach ty n (enc.decimals w zs) ss h = refl

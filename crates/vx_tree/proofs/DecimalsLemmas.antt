@@ -12,16 +12,16 @@ use Rattle.vx_value.specs.declared.dtype.Nullability.{Nullability}
 use Rattle.vx_value.specs.declared.dtype.Storage.{Storage}
 use Rattle.vx_value.specs.declared.dtype.Storage.TheVariants.{Decimals}
 use Rattle.vx_value.specs.declared.id.Id.TheVariants.{Decimal}
-use Rattle.vx_tree.specs.ColumnTypes.{has_column, decimal_type, are_decimals_of}
+use Rattle.vx_tree.specs.ColumnTypes.{decimal_type, are_decimals_of}
 use Rattle.vx_tree.specs.Columns.{canonical_id}
 use Rattle.vx_tree.specs.Tree.{decimals}
 use Rattle.vx_tree.specs.Well.{Shape, IsFlat, IsNode}
 use Rattle.vx_tree.proofs.BytesLemmas.{range_passes}
 
--- what its type is, whatever the nullability: there are columns of it, and their encoding
-pub decimal_columns : (m : Nullability) (s : Storage) → (has_column (with_nullability m (decimal_type s)) ≡ true) × (canonical_id (with_nullability m (decimal_type s)) ≡ Decimal)
-decimal_columns m (Decimals p s) = (refl, refl)
-decimal_columns m _ = (refl, refl)
+-- its encoding, whatever the nullability
+pub decimal_columns : (m : Nullability) (s : Storage) → canonical_id (with_nullability m (decimal_type s)) ≡ Decimal
+decimal_columns m (Decimals p s) = refl
+decimal_columns m _ = refl
 
 -- numbers that are stored so make columns of their type alone
 pub decimals_node : (s : Storage) (w : DecimalType) (zs : List ℤ) → are_decimals_of s w zs ≡ true

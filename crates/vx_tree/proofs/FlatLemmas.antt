@@ -6,7 +6,7 @@ use Rattle.vx_value.specs.Values.{boolean, integer, decimal, bytes}
 use Rattle.vx_value.specs.declared.dtype.Nullability.TheVariants.{NonNullable}
 use Rattle.vx_tree.specs.ColumnTypes.{decimal_type, scale_of, bytes_type}
 use Rattle.vx_tree.specs.Tree as enc
-use Rattle.vx_tree.specs.Tree.{Tree, Data, node, dtype, len, datum, slots, slots_of, column, slice_of, is_canonical}
+use Rattle.vx_tree.specs.Tree.{Tree, Data, node, dtype, len, datum, slots, slots_of, column, slice_of, is_flat}
 use Rattle.vx_tree.specs.Well.{Shape, IsNode, IsNodeOf, IsWell, shapes}
 use Rattle.vx_tree.specs.Columns.{count_in, data_range}
 use Rattle.vx_tree.specs.Keeps.{KeepsExactly}
@@ -16,8 +16,8 @@ use Rattle.vx_tree.proofs.BytesLemmas.{bytes_node, bytes_part}
 use Rattle.vx_tree.proofs.DecimalsLemmas.{decimals_node, decimals_part}
 use Rattle.vx_tree.proofs.ValiditiesLemmas.{flat_part}
 
--- it has as many rows as values: a line for each canonical encoding
-pub flat_count : (t : Tree) → IsNodeOf t → is_canonical (datum t) ≡ true → len t ≡ count_in (datum t)
+-- it has as many rows as values: a line for each such encoding
+pub flat_count : (t : Tree) → IsNodeOf t → is_flat (datum t) ≡ true → len t ≡ count_in (datum t)
 flat_count (node ty n (enc.bool bs) ss) w h = w.2
 flat_count (node ty n (enc.primitive p zs) ss) w h = w.2
 flat_count (node ty n (enc.decimals d zs) ss) w h = w.0.2
@@ -25,7 +25,7 @@ flat_count (node ty n (enc.views rs) ss) w h = w.0.2
 flat_count _ w h = absurd (cc)
 
 -- the range of its values is a column of the range's rows: a line for each
-pub flat_range_kept : (t : Tree) (v w : Option Tree) (a b : ℕ) → IsWell t → is_canonical (datum t) ≡ true → slots t ≡ slots_of (v ∷ []) → b ≤ len t
+pub flat_range_kept : (t : Tree) (v w : Option Tree) (a b : ℕ) → IsWell t → is_flat (datum t) ≡ true → slots t ≡ slots_of (v ∷ []) → b ≤ len t
     → IsValidityPart a b v w
     → IsNode (dtype t) (b - a) (data_range a b (datum t)) (shapes (slots_of (w ∷ [])))
     × KeepsExactly (slice_of a b t) (column (dtype t) (b - a) (data_range a b (datum t)) w)
@@ -47,7 +47,7 @@ flat_range_kept (node ty n (enc.views rs) ss) v w a b well h s within part =
 flat_range_kept _ v w a b well h s within part = absurd (cc)
 
 -- it has one slot: a line for each
-flat_shape : (t : Tree) → IsNodeOf t → is_canonical (datum t) ≡ true → (x : Option Shape) × (shapes (slots t) ≡ x ∷ [])
+flat_shape : (t : Tree) → IsNodeOf t → is_flat (datum t) ≡ true → (x : Option Shape) × (shapes (slots t) ≡ x ∷ [])
 flat_shape (node ty n (enc.bool bs) ss) w h = (w.0, w.3)
 flat_shape (node ty n (enc.primitive p zs) ss) w h = (w.0, w.3)
 flat_shape (node ty n (enc.decimals d zs) ss) w h = (w.0.0, w.0.3)
@@ -57,9 +57,9 @@ flat_shape _ w h = absurd (cc)
 well_node : (t : Tree) → IsWell t → IsNodeOf t
 well_node (node ty n d ss) w = w.0
 
-pub flat_slot : (t : Tree) (d : Data) (xs : List (Option Tree)) → IsWell t → d ≡ datum t → is_canonical d ≡ true → slots_of xs ≡ slots t
+pub flat_slot : (t : Tree) (d : Data) (xs : List (Option Tree)) → IsWell t → d ≡ datum t → is_flat d ≡ true → slots_of xs ≡ slots t
     → (v : Option Tree) × (xs ≡ v ∷ [])
 flat_slot t d xs w same h e =
-    let shape = flat_shape t (well_node t w) (ap is_canonical (sym same) ∙ h) in
+    let shape = flat_shape t (well_node t w) (ap is_flat (sym same) ∙ h) in
     let found = only_slot xs shape.0 (ap shapes e ∙ shape.1) in
     (found.0, found.1)

@@ -2,7 +2,7 @@
 use Rattle.std.proofs.Common.{◌≡◌, ℕ, zero, suc, ◌-◌, Bool, true, false, List, [], ◌∷◌, take, drop, map, replicate, get_or, refl, ◌∙◌, ap, subst}
 use Rattle.std.specs.List.{range_with_len}
 use Rattle.vx_value.specs.Types.{DataType}
-use Rattle.vx_value.specs.Values.{Value, boolean, integer, bytes, decimal}
+use Rattle.vx_value.specs.Values.{Value, null, boolean, integer, bytes, decimal}
 use Rattle.vx_value.specs.Storage.{storage_of}
 use Rattle.vx_tree.specs.ColumnTypes.{scale_of}
 use Rattle.vx_tree.specs.Tree as enc
@@ -152,6 +152,7 @@ node_mono ty n enc.masked css dss h = valid_keep _ _ _ _ (at_keep css dss 1 h) (
 node_mono ty n enc.is_valid css dss h = shown_keep _ _ (at_keep css dss 0 h)
 node_mono ty n (enc.function f) css dss h =
     map_keep _ _ (range_with_len 0 n) (λ i. values_keep (value_of f ty) _ _ (row_keep i css dss h))
+node_mono ty n enc.nulls css dss h = rows_refl (replicate n (value null))
 node_mono ty n (enc.bool bs) css dss h = column_keep css dss (map (λ b. value (boolean b)) bs) h
 node_mono ty n (enc.primitive p zs) css dss h = column_keep css dss (map (λ z. value (integer z)) zs) h
 node_mono ty n (enc.decimals w zs) css dss h = column_keep css dss (map (λ z. value (decimal z (scale_of (storage_of ty)))) zs) h

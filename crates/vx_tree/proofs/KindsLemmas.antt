@@ -8,10 +8,9 @@ use Rattle.vx_value.specs.View.{type_of}
 use Rattle.vx_value.specs.IsOf.{is_of}
 use Rattle.vx_value.specs.declared.dtype.PType.{PType}
 use Rattle.vx_fn.specs.declared.function.ScalarFnRef.{ScalarFnRef}
-use Rattle.vx_tree.specs.ColumnTypes.{has_column}
 use Rattle.vx_value.specs.declared.decimal.DecimalType.{DecimalType}
 use Rattle.vx_tree.specs.Tree as enc
-use Rattle.vx_tree.specs.Tree.{Tree, Data, node, slots_of, dtype, len, column, constant_of, slice_of, filter_of, masked_of, validity_in}
+use Rattle.vx_tree.specs.Tree.{Tree, Data, node, slots_of, dtype, len, column, nulls_of, constant_of, slice_of, filter_of, masked_of, validity_in}
 use Rattle.vx_tree.specs.Well.{Shape, shape, shapes, IsNode, IsNodeOf}
 use Rattle.vx_tree.specs.TreeView.{data_of, tree_of}
 use Rattle.vx_tree.specs.declared.array.node.Node.{Node}
@@ -29,12 +28,17 @@ module _ (n : Node) (well : IsNodeOf (tree_of n)) where
   of_data d e = subst (λ x. IsNode (type_of n.dtype) n.len x (shapes (slots_of n.slots.items))) e well
 
   pub kind_constant : (v : Typed) → data_of n.encoding ≡ enc.constant v →
-      (tree_of n ≡ constant_of v n.len) × (has_column v.of_type ≡ true) × (is_of v.of_type v.value ≡ true)
+      (tree_of n ≡ constant_of v n.len) × (is_of v.of_type v.value ≡ true)
   kind_constant v e =
       let h = of_data (enc.constant v) e in
-      let i = none_there n.slots.items h.3 in
-      let column = subst (λ x. has_column x ≡ true) h.0 h.1 in
-      ((λ j. node (h.0 j) n.len (e j) (slots_of (i j))), column, subst (λ x. is_of x v.value ≡ true) h.0 h.2)
+      let i = none_there n.slots.items h.2 in
+      ((λ j. node (h.0 j) n.len (e j) (slots_of (i j))), subst (λ x. is_of x v.value ≡ true) h.0 h.1)
+
+  pub kind_nulls : data_of n.encoding ≡ enc.nulls → tree_of n ≡ nulls_of n.len
+  kind_nulls e =
+      let h = of_data enc.nulls e in
+      let i = none_there n.slots.items h.1 in
+      λ j. node (h.0 j) n.len (e j) (slots_of (i j))
 
   -- a node with one child, of type s and m rows
   child_is : (s : DataType) (m : ℕ) (z : Option Tree) (c : Tree) → shapes (slots_of n.slots.items) ≡ Some (shape s m) ∷ [] → z ≡ get_or n.slots.items 0 z → z ≡ Some c

@@ -15,3 +15,4 @@ pub mod ValiditiesLemmas
 pub mod FlatLemmas
 pub mod TypedLemmas
 pub mod NodeValiditiesLemmas
+pub mod NullsLemmas

@@ -58,7 +58,7 @@ module _ (t u : Tree) (n : ℕ) (first : HasRows (validity.Array t) n) (second :
 
   and_sized : HasRows (validity.Array (both_of n t u)) n
   and_sized =
-      (((dtype t ∷ dtype u ∷ [], (λ i. Some (shape (dtype t) (first.2 i)) ∷ Some (shape (dtype u) (second.2 i)) ∷ []), returned, refl), (first.0, (second.0, tt))), refl, refl)
+      (((dtype t ∷ dtype u ∷ [], (λ i. Some (shape (dtype t) (first.2 i)) ∷ Some (shape (dtype u) (second.2 i)) ∷ []), returned), (first.0, (second.0, tt))), refl, refl)
 
 abbrev pub and_cell : Cell → Cell → Cell
 and_cell c d = apply (Binary And) (type.bool NonNullable) (c ∷ d ∷ [])
@@ -316,7 +316,7 @@ chosen_nullable : (f : Tree → Tree) (v : Validity) → nullability_by (on_arra
 chosen_nullable f validity.NonNullable = refl
 chosen_nullable f _ = refl
 
-part_copies : (c : Cell) (a b m : ℕ) → a ≤ b → b ≤ m → replicate (b - a) c ≡ take (b - a) (drop a (replicate m c))
+pub part_copies : (c : Cell) (a b m : ℕ) → a ≤ b → b ≤ m → replicate (b - a) c ≡ take (b - a) (drop a (replicate m c))
 part_copies c a b m h k = sym (ap (take (b - a)) (drop-replicate a m c) ∙ take-replicate (b - a) (m - a) c (omega arith))
 
 part_rows : (v : Validity) (a b m : ℕ) → a ≤ b → b ≤ m → valid_rows (on_array (slice_of a b) v) (b - a) ≡ take (b - a) (drop a (valid_rows v m))
@@ -466,7 +466,7 @@ first_tree (Some t) = refl
 constant_node : (ty : DataType) (n : ℕ) (v : Typed) (xs : List (Option Tree)) → IsNode ty n (enc.constant v) (shapes (slots_of xs)) → nullability_of ty ≡ Nullable
     → Tells (node ty n (enc.constant v) (slots_of xs)) (constant_validity v.value)
 constant_node ty n v xs h e =
-    let is : constant_of v n ≡ node ty n (enc.constant v) (slots_of xs) = λ i. node (sym h.0 i) n (enc.constant v) (slots_of (sym (none_there xs h.3) i)) in
+    let is : constant_of v n ≡ node ty n (enc.constant v) (slots_of xs) = λ i. node (sym h.0 i) n (enc.constant v) (slots_of (sym (none_there xs h.2) i)) in
     subst (λ t. Tells t (constant_validity v.value)) is (constant_tells v n (sym (ap nullability_of h.0) ∙ e))
 
 slice_node : (ty : DataType) (n a b : ℕ) (xs : List (Option Tree)) → IsNode ty n (enc.slice a b) (shapes (slots_of xs)) → FirstTells (slots_of xs)
@@ -543,6 +543,9 @@ data_tells ty n (enc.filter bits) xs h w e f = filter_node ty n bits xs h f
 data_tells ty n enc.masked xs h w e f = masked_node ty n xs h w f
 data_tells ty n enc.is_valid xs h w e f = let no : NonNullable ≡ Nullable = sym (ap nullability_of h.2) ∙ e in absurd (cc no)
 data_tells ty n (enc.function g) xs h w e f = function_tells (node ty n (enc.function g) (slots_of xs)) (h, w) e
+data_tells ty n enc.nulls xs h w e f =
+    let told = constant_tells (record { of_type = ty; value = null }) n e in
+    record { nullable = told.nullable; sized = tt; told = told.told; clean = λ h. tt }
 data_tells ty n (enc.bool bs) xs h w e f =
     column_node (type.bool NonNullable) ty (length bs) n (enc.bool bs) (map (λ b. value (boolean b)) bs) xs (λ css. refl) (length-map bs (λ b. value (boolean b)))
     (stored_valid boolean (λ b. refl) bs) h w e
@@ -611,3 +614,10 @@ function_told t f ss is e =
         → validity.Array (validity_in (node (dtype t) (len t) (enc.function f) ss)) ≡ if_nullable m (validity.Array (validity_in (node (dtype t) (len t) (enc.function f) ss)))
     by_nullability NonNullable e = absurd (cc)
     by_nullability Nullable e = refl
+
+pub masked_told : (t c : Tree) (w : Option Tree) → t ≡ masked_of c w → joined (len t) (validity_of Nullable w) (node_validity c) ≡ node_validity t
+masked_told t c w is =
+    let both = joined (len c) (validity_of Nullable (slot_tree 0 (slots_of (w ∷ [])))) (node_validity c) in
+    ap (λ n. joined n (validity_of Nullable w) (node_validity c)) (ap len is)
+    ∙ ap (λ x. joined (len c) (validity_of Nullable x) (node_validity c)) (sym (first_tree w))
+    ∙ ap (λ m. if_nullable m both) (sym (nullable_set (dtype c))) ∙ sym (ap node_validity is)

@@ -6,7 +6,7 @@ use Rattle.std.proofs.lemmas.List.{length-map}
 use Rattle.std.proofs.lemmas.List.Recursion.{and_push, and_fails_at}
 use Rattle.std.specs.Cmp.{unsigned_Decides, first_so, second_so}
 use Rattle.std.specs.Prelude.{◌==◌, option_map}
-use Rattle.vx_value.specs.Types.{DataType, bool, primitive, nullability_of, same_type_Decides}
+use Rattle.vx_value.specs.Types.{DataType, null, bool, primitive, nullability_of, same_type_Decides}
 use Rattle.vx_value.specs.Storage.{storage_of}
 use Rattle.vx_tree.specs.ColumnTypes.{bytes_type, decimal_type, are_decimals_of, are_bytes_of}
 use Rattle.vx_value.specs.Nullabilities.{with_nullability}
@@ -24,12 +24,11 @@ use Rattle.vx_fn.specs.Functions.{arity, function_id}
 use Rattle.vx_fn.specs.ReturnTypes.{return_type}
 use Rattle.vx_fn.specs.declared.function.ScalarFnRef.{ScalarFnRef}
 use Rattle.vx_fn.proofs.ReturnTypesLemmas.{arity_of_row}
-use Rattle.vx_tree.specs.ColumnTypes.{has_column}
 use Rattle.vx_tree.specs.Tree as enc
 use Rattle.vx_tree.specs.Tree.{Tree, Data, id_of, slots_of, dtype, len}
 use Rattle.vx_tree.specs.Well.{Shape, shape, shape_of, shapes, IsValidity, IsFlat, IsNode}
-use Rattle.vx_tree.specs.Refusals.{tested_refusal, refusal, column_refusal, constant_refusal, of_child, slice_refusal, filter_refusal, validity_refusal, mask_refusal, masked_refusal, function_refusal}
-use Rattle.vx_tree.specs.Refusals.{slots_refusal, types_refusal, lengths_refusal, result_refusal, arity_refusal, column_type_refusal}
+use Rattle.vx_tree.specs.Refusals.{tested_refusal, refusal, column_refusal, constant_refusal, of_child, slice_refusal, filter_refusal, validity_refusal, mask_refusal, masked_refusal, function_refusal, nulls_refusal}
+use Rattle.vx_tree.specs.Refusals.{slots_refusal, types_refusal, lengths_refusal, result_refusal, arity_refusal}
 use Rattle.vx_tree.specs.Conditions.{unless, first_of_both}
 use Rattle.vx_tree.specs.Refusals.{validity_type_refusal, validity_len_refusal, all_present, all_long, types_in, type_in, is_present, is_long}
 use Rattle.vx_tree.proofs.ConditionsLemmas.{none_refused, first_none, second_none, unless_none, none_unless}
@@ -148,8 +147,12 @@ constant_kept : (ty : DataType) (n : ℕ) (v : Typed) (ss : List (Option Shape))
 constant_kept ty n v [] h =
     let later = second_none _ _ h in
     let typed : ty ≡ v.of_type = (same_type_Decides ty v.of_type).0 (unless_none _ _ (first_none _ _ h)) in
-    (typed, unless_none _ _ (first_none _ _ later), unless_none _ _ (second_none _ _ later), refl)
+    (typed, unless_none _ _ later, refl)
 constant_kept ty n v (s ∷ ss) h = absurd (cc)
+
+nulls_kept : (ty : DataType) (n : ℕ) (ss : List (Option Shape)) → nulls_refusal ty ss ≡ None → IsNode ty n enc.nulls ss
+nulls_kept ty n [] h = ((same_type_Decides ty null).0 (unless_none _ _ h), refl)
+nulls_kept ty n (s ∷ ss) h = absurd (cc)
 
 -- the child of a node that has one
 child_kept : (later : DataType → ℕ → Option VortexError) (ss : List (Option Shape)) → of_child later ss ≡ None
@@ -206,11 +209,9 @@ function_kept i ty n f ss h =
     let types : types_refusal i ty f ss ≡ None = first_none (types_refusal i ty f ss) (lengths_refusal n ss) later in
     let lengths : lengths_refusal n ss ≡ None = second_none (types_refusal i ty f ss) (lengths_refusal n ss) later in
     let present : unless (all_present ss) (InvalidArgument FnSlotMissing) ≡ None = first_none _ (arity_refusal f (length ss)) slots in
-    let typed : first_of_both (result_refusal ty (return_type f (types_in ss))) (column_type_refusal ty) ≡ None =
-    second_none (unless (same_id i (function_id f)) (InvalidArgument NodeType)) _ types in
-    let result = result_none ty (return_type f (types_in ss)) (first_none _ (column_type_refusal ty) typed) in
-    let column : has_column ty ≡ true = unless_none _ _ (second_none (result_refusal ty (return_type f (types_in ss))) _ typed) in
-    (types_in ss, shapes_of_types n ss (unless_none _ _ present) (unless_none _ _ lengths), result, column)
+    let typed = second_none (unless (same_id i (function_id f)) (InvalidArgument NodeType)) (result_refusal ty (return_type f (types_in ss))) types in
+    let result = result_none ty (return_type f (types_in ss)) typed in
+    (types_in ss, shapes_of_types n ss (unless_none _ _ present) (unless_none _ _ lengths), result)
 
 -- ---- and the parts that meet them aren't refused
 
@@ -226,8 +227,13 @@ constant_taken : (ty : DataType) (n : ℕ) (v : Typed) (ss : List (Option Shape)
     IsNode ty n (enc.constant v) ss → constant_refusal ty v ss ≡ None
 constant_taken ty n v ss h =
     let typed = none_unless _ _ ((same_type_Decides ty v.of_type).1 h.0) in
-    let e : constant_refusal ty v [] ≡ None = none_refused _ _ typed (none_refused _ _ (none_unless _ _ h.1) (none_unless _ _ h.2)) in
-    subst (λ l. constant_refusal ty v l ≡ None) (sym h.3) e
+    let e : constant_refusal ty v [] ≡ None = none_refused _ _ typed (none_unless _ _ h.1) in
+    subst (λ l. constant_refusal ty v l ≡ None) (sym h.2) e
+
+nulls_taken : (ty : DataType) (n : ℕ) (ss : List (Option Shape)) → IsNode ty n enc.nulls ss → nulls_refusal ty ss ≡ None
+nulls_taken ty n ss h =
+    let e : nulls_refusal ty [] ≡ None = none_unless _ _ ((same_type_Decides ty null).1 h.0) in
+    subst (λ l. nulls_refusal ty l ≡ None) (sym h.1) e
 
 slice_taken : (ty : DataType) (n a b : ℕ) (ss : List (Option Shape)) → IsNode ty n (enc.slice a b) ss → of_child (slice_refusal ty n a b) ss ≡ None
 slice_taken ty n a b ss h =
@@ -272,9 +278,7 @@ function_taken ty n f ss h =
     let slots : slots_refusal f made ≡ None = none_refused _ _ (none_unless _ _ (present_types n tys)) (none_unless _ _ count) in
     let named : unless (same_id (function_id f) (function_id f)) (InvalidArgument NodeType) ≡ None =
     none_unless _ _ ((same_id_Decides (function_id f) (function_id f)).1 refl) in
-    let column : column_type_refusal ty ≡ None = none_unless _ _ h.3 in
-    let types : types_refusal (function_id f) ty f made ≡ None =
-    none_refused _ _ named (none_refused (result_refusal ty (return_type f (types_in made))) (column_type_refusal ty) result column) in
+    let types : types_refusal (function_id f) ty f made ≡ None = none_refused _ _ named result in
     let lengths : lengths_refusal n made ≡ None = none_unless _ _ (long_types n tys) in
     let e : function_refusal (function_id f) ty n f made ≡ None =
     none_refused (slots_refusal f made) _ slots (none_refused (types_refusal (function_id f) ty f made) _ types lengths) in
@@ -298,6 +302,7 @@ decided ty n (enc.filter bits) ss = (λ i. filter_kept ty n bits ss, filter_take
 decided ty n enc.masked ss = (λ i. masked_kept ty n ss, masked_taken ty n ss)
 decided ty n enc.is_valid ss = (λ i. test_kept ty n ss, test_taken ty n ss)
 decided ty n (enc.function f) ss = (λ i. function_kept i ty n f ss, function_taken ty n f ss)
+decided ty n enc.nulls ss = (λ i. nulls_kept ty n ss, nulls_taken ty n ss)
 decided ty n (enc.bool bs) ss = (λ i. column_kept ty n (bool NonNullable) _ ss, column_taken ty n (bool NonNullable) _ ss)
 decided ty n (enc.primitive p zs) ss = (λ i. column_kept ty n (primitive p NonNullable) _ ss, column_taken ty n (primitive p NonNullable) _ ss)
 decided ty n (enc.decimals w zs) ss = tested_decided ty n (decimal_type (storage_of ty)) (length zs) (are_decimals_of (storage_of ty) w zs) ss
@@ -359,6 +364,11 @@ pub constant_slot_count : (ty : DataType) (v : Typed) (xs : List (Option Tree)) 
 constant_slot_count ty v [] h = absurd (h refl)
 constant_slot_count ty v (None ∷ xs) h = refl
 constant_slot_count ty v (Some t ∷ xs) h = refl
+
+pub nulls_slot_count : (ty : DataType) (xs : List (Option Tree)) → length xs ≢ 0 → nulls_refusal ty (shapes (slots_of xs)) ≡ Some (InvalidArgument SlotCount)
+nulls_slot_count ty [] h = absurd (h refl)
+nulls_slot_count ty (None ∷ xs) h = refl
+nulls_slot_count ty (Some t ∷ xs) h = refl
 
 pub the_slot : (xs : List (Option Tree)) (s : Option Tree) → length xs ≡ 1 → s ≡ get_or xs 0 s → xs ≡ s ∷ []
 the_slot [] s h e = absurd (omega arith)

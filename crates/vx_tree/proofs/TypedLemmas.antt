@@ -387,7 +387,7 @@ decimal_other _ = refl
 
 -- a line for each encoding
 node_fits : (ty : DataType) (n : ℕ) (d : Data) (css : List (List Cell)) (ss : List (Option Shape)) → IsNode ty n d ss → SlotsFit css ss → AllFit ty (node_cells ty n d css)
-node_fits ty n (enc.constant v) css ss h k = copies_fit n ty (value v.value) (constant_fits v.value ty h.2)
+node_fits ty n (enc.constant v) css ss h k = copies_fit n ty (value v.value) (constant_fits v.value ty h.1)
 node_fits ty n (enc.slice a b) css ss h k = take_fits _ _ ty (drop_fits a _ ty (first_fits css ty h.0 [] (subst (SlotsFit css) h.1 k)))
 node_fits ty n (enc.filter bits) css ss h k = kept_fit bits _ ty (first_fits css ty _ [] (subst (SlotsFit css) h.0 k))
 node_fits ty n enc.masked css ss h k =
@@ -399,6 +399,7 @@ node_fits ty n (enc.function f) css ss h k =
     map_fits (λ i. apply f ty (row_at css i)) (range_with_len 0 n) ty
     (λ i. row_values_fit ty (value_of f ty) h.0 (row_at css i) (row_fits css h.0 n i (subst (SlotsFit css) h.1 k))
     (λ vs fit. values_fit f h.0 ty vs h.2 fit))
+node_fits ty n enc.nulls css ss h k = copies_fit n ty (value null) (constant_fits null ty (ap (λ t. is_of t null) h.0))
 node_fits ty n (enc.bool bs) css ss h k =
     column_fits ty (nullability_of ty) n h.0 css (map (λ b. value (boolean b)) bs) refl h.4 (subst (SlotsFit css) h.3 k) (map_fits (λ b. value (boolean b)) bs ty (λ b. refl))
 node_fits ty n (enc.primitive p zs) css ss h k =

@@ -8,17 +8,17 @@ use Rattle.vx_fn.specs.ReturnTypes.{return_type}
 use Rattle.vx_fn.specs.declared.function.ScalarFnRef.{ScalarFnRef}
 use Rattle.vx_tree.specs.Tree.{Tree, dtype, len, call_of}
 use Rattle.vx_tree.specs.Conditions.{first_of_both, unless}
-use Rattle.vx_tree.specs.Refusals.{arity_refusal, column_type_refusal}
+use Rattle.vx_tree.specs.Refusals.{arity_refusal}
 
 -- each has so many rows
 abbrev pub all_of_len : ℕ → List Tree → Bool
 all_of_len n [] = true
 all_of_len n (t ∷ ts) = (len t == n) && all_of_len n ts
 
--- where the function takes no such arguments, or there are no columns of their result's type
+-- where the function takes no such arguments
 abbrev pub row_refusal : Option DataType → Option VortexError
 row_refusal None = Some (InvalidArgument NoRow)
-row_refusal (Some ty) = column_type_refusal ty
+row_refusal (Some ty) = None
 
 -- for so many rows
 abbrev pub call_refusal : ScalarFnRef → List Tree → ℕ → Option VortexError

@@ -1,4 +1,4 @@
--- Which types there are columns of.
+-- What columns of decimals and of rows of bytes have beside their values.
 use Rattle.std.specs.Prelude.{ℕ, ℤ, List, Bool, true, false, ◌&&◌}
 use Rattle.std.specs.List.{list_all}
 use Rattle.std.specs.Str.{is_utf8}
@@ -6,23 +6,9 @@ use Rattle.vx_value.specs.Types.{DataType, decimal, utf8, binary}
 use Rattle.vx_value.specs.Decimals.{has_digits, smallest_width, same_width}
 use Rattle.vx_value.specs.declared.decimal.DecimalType.{DecimalType}
 use Rattle.vx_value.specs.declared.decimal.DecimalType.TheVariants.{I8}
-use Rattle.vx_value.specs.Storage.{storage_of}
 use Rattle.vx_value.specs.declared.dtype.Nullability.TheVariants.{NonNullable}
 use Rattle.vx_value.specs.declared.dtype.Storage.{Storage}
-use Rattle.vx_value.specs.declared.dtype.Storage.TheVariants.{Bits, Integers, Decimals, Text, Bytes}
-
--- a column stores such values: a line for each storage that columns have
-abbrev pub is_column_stored : Storage → Bool
-is_column_stored Bits = true
-is_column_stored (Integers p) = true
-is_column_stored (Decimals p s) = true
-is_column_stored Text = true
-is_column_stored Bytes = true
-is_column_stored _ = false
-
--- a column stores the type's values
-abbrev pub has_column : DataType → Bool
-has_column ty = is_column_stored (storage_of ty)
+use Rattle.vx_value.specs.declared.dtype.Storage.TheVariants.{Decimals, Text}
 
 -- the type of decimals that are stored so; of no other column's storage is it the type
 abbrev pub decimal_type : Storage → DataType

@@ -6,20 +6,21 @@ use Rattle.vx_value.specs.Cell.{Cell, value}
 use Rattle.vx_value.specs.Decimals.{smallest_width}
 use Rattle.vx_value.specs.Storage.{storage_of}
 use Rattle.vx_value.specs.declared.dtype.Storage.{Storage}
-use Rattle.vx_value.specs.declared.dtype.Storage.TheVariants.{Integers, Decimals, Text, Bytes}
+use Rattle.vx_value.specs.declared.dtype.Storage.TheVariants.{Nulls, Integers, Decimals, Text, Bytes}
 use Rattle.vx_value.specs.declared.id.Id.{Id}
 use Rattle.vx_value.specs.declared.id.Id.TheVariants as id
 use Rattle.vx_tree.specs.Tree as enc
-use Rattle.vx_tree.specs.Tree.{Tree, Data, column, dtype, datum, id_of, is_canonical}
+use Rattle.vx_tree.specs.Tree.{Tree, Data, column, nulls_of, dtype, datum, id_of, is_canonical}
 use Rattle.vx_tree.specs.Cells.{rows}
 use Rattle.vx_tree.specs.Cost.{cost}
 use Rattle.vx_tree.specs.declared.canonical.Canonical.{Canonical}
-use Rattle.vx_tree.specs.declared.canonical.Canonical.TheVariants.{Bool, Primitive, Decimal, VarBinView}
+use Rattle.vx_tree.specs.declared.canonical.Canonical.TheVariants.{Null, Bool, Primitive, Decimal, VarBinView}
 use Rattle.vx_tree.specs.declared.columnar.Columnar.{Columnar}
 use Rattle.vx_tree.specs.declared.columnar.Columnar.TheVariants as columnar
 
--- the canonical encoding of a type that has columns, by how they store its values
+-- the canonical encoding of a type, by how its values are stored
 abbrev pub stored_id : Storage → Id
+stored_id Nulls = id.Null
 stored_id (Integers p) = id.Primitive
 stored_id (Decimals p s) = id.Decimal
 stored_id Text = id.VarBinView
@@ -40,12 +41,17 @@ pub record IsColumn (t : Tree) : Type 0 where
   pub canonical_settled : is_canonical (datum t) ≡ true → cost t ≡ 1
 
 abbrev pub canonical_tree : Canonical → Tree
+canonical_tree (Null t) = t
 canonical_tree (Bool t) = t
 canonical_tree (Primitive t) = t
 canonical_tree (Decimal t) = t
 canonical_tree (VarBinView t) = t
 
--- the column if it is one of booleans, of integers, of decimals, and of text or bytes
+-- the column if it is one of nulls, of booleans, of integers, of decimals, and of text or bytes
+abbrev pub null_column : Canonical → Option Tree
+null_column (Null t) = Some t
+null_column _ = None
+
 abbrev pub bool_column : Canonical → Option Tree
 bool_column (Bool t) = Some t
 bool_column _ = None
@@ -66,7 +72,7 @@ abbrev pub columnar_tree : Columnar → Tree
 columnar_tree (columnar.Canonical c) = canonical_tree c
 columnar_tree (columnar.Constant t) = t
 
--- the column without rows of a type that has columns, by how they store its values
+-- the column without rows of a type, by how its values are stored
 abbrev pub no_rows : Storage → Data
 no_rows (Integers p) = enc.primitive p []
 no_rows (Decimals p s) = enc.decimals (smallest_width p) []
@@ -74,10 +80,14 @@ no_rows Text = enc.views []
 no_rows Bytes = enc.views []
 no_rows _ = enc.bool []
 
-abbrev pub empty_of : DataType → Tree
-empty_of ty = column ty 0 (no_rows (storage_of ty)) None
+abbrev pub empty_stored : Storage → DataType → Tree
+empty_stored Nulls ty = nulls_of 0
+empty_stored s ty = column ty 0 (no_rows s) None
 
--- ---- data that hold their rows themselves: a line for each canonical encoding
+abbrev pub empty_of : DataType → Tree
+empty_of ty = empty_stored (storage_of ty) ty
+
+-- ---- data that hold their rows themselves: a line for each such encoding
 
 -- how many rows there are
 abbrev pub count_in : Data → ℕ

@@ -51,6 +51,7 @@ charge (enc.filter bits) = flat_charge 3 3
 charge enc.masked = record { own = 3; by_reach = 0; extra = all_reached }
 charge enc.is_valid = flat_charge 2 0
 charge (enc.function f) = record { own = 3; by_reach = 0; extra = all_reached }
+charge enc.nulls = flat_charge 1 0
 charge (enc.bool bs) = flat_charge 1 0
 charge (enc.primitive p zs) = flat_charge 1 0
 charge (enc.decimals w zs) = flat_charge 1 0

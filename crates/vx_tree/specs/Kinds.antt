@@ -1,25 +1,24 @@
 -- A node, opened: its children by their roles.
 use Rattle.std.specs.Prelude.{◌≡◌, ◌≤◌, length, true}
 use Rattle.vx_value.specs.IsOf.{is_of}
-use Rattle.vx_tree.specs.ColumnTypes.{has_column}
 use Rattle.vx_mask.specs.Masks.{bits_in}
 use Rattle.vx_native.specs.Natives.{values_of, ptype_of}
 use Rattle.vx_native.specs.DecimalNumbers.{numbers_of, decimal_type_of}
-use Rattle.vx_tree.specs.Tree.{Tree, node, function, bool, primitive, decimals, views, slots_of, dtype, len, column, constant_of, slice_of, filter_of, masked_of, validity_in}
+use Rattle.vx_tree.specs.Tree.{Tree, node, function, bool, primitive, decimals, views, slots_of, dtype, len, column, nulls_of, constant_of, slice_of, filter_of, masked_of, validity_in}
 use Rattle.vx_tree.specs.Well.{IsNode, IsNodeOf, shapes}
 use Rattle.vx_tree.specs.declared.array.kind.ArrayKind.{ArrayKind}
 use Rattle.vx_tree.specs.declared.array.kind.ArrayKind.TheVariants as kind
 
 -- the whole shape of the tree: a line for each encoding
 abbrev pub IsKindOf : ArrayKind → Tree → Type 0
-IsKindOf (kind.Constant v) t =
-    (t ≡ constant_of v.now (len t)) × (has_column v.now.of_type ≡ true) × (is_of v.now.of_type v.now.value ≡ true)
+IsKindOf (kind.Constant v) t = (t ≡ constant_of v.now (len t)) × (is_of v.now.of_type v.now.value ≡ true)
 IsKindOf (kind.Slice c a b) t = (t ≡ slice_of a b c.now) × (a ≤ b) × (b ≤ len c.now)
 IsKindOf (kind.Filter c m) t = (t ≡ filter_of (bits_in m.now) c.now) × (length (bits_in m.now) ≡ len c.now)
 IsKindOf (kind.Masked c v) t = (t ≡ masked_of c.now v.now) × IsNodeOf t
 IsKindOf (kind.ScalarFnValidity c) t = t ≡ validity_in c.now
 IsKindOf (kind.ScalarFn f ss) t =
     (t ≡ node (dtype t) (len t) (function f.now) (slots_of ss.now)) × IsNode (dtype t) (len t) (function f.now) (shapes (slots_of ss.now))
+IsKindOf kind.Null t = t ≡ nulls_of (len t)
 IsKindOf (kind.Bool bs v) t = (t ≡ column (dtype t) (len t) (bool bs.now) v.now) × IsNodeOf t
 IsKindOf (kind.Primitive vs v) t = (t ≡ column (dtype t) (len t) (primitive (ptype_of vs.now) (values_of vs.now)) v.now) × IsNodeOf t
 IsKindOf (kind.Decimal ds v) t = (t ≡ column (dtype t) (len t) (decimals (decimal_type_of ds.now) (numbers_of ds.now)) v.now) × IsNodeOf t

@@ -54,6 +54,7 @@ data_validity ty n (enc.filter bits) ss child = on_array (filter_of bits) child
 data_validity ty n enc.masked ss child = joined n (validity_of Nullable (slot_tree 1 ss)) child
 data_validity ty n enc.is_valid ss child = validity.NonNullable
 data_validity ty n (enc.function f) ss child = validity.Array (validity_in (node ty n (enc.function f) ss))
+data_validity ty n enc.nulls ss child = validity.AllInvalid
 data_validity ty n (enc.bool bs) ss child = validity_of Nullable (slot_tree 0 ss)
 data_validity ty n (enc.primitive p zs) ss child = validity_of Nullable (slot_tree 0 ss)
 data_validity ty n (enc.decimals w zs) ss child = validity_of Nullable (slot_tree 0 ss)

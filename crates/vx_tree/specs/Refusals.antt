@@ -18,7 +18,7 @@ use Rattle.vx_fn.specs.Functions.{arity, function_id}
 use Rattle.vx_fn.specs.ReturnTypes.{return_type}
 use Rattle.vx_fn.specs.declared.function.ScalarFnRef.{ScalarFnRef}
 use Rattle.vx_value.specs.Storage.{storage_of}
-use Rattle.vx_tree.specs.ColumnTypes.{has_column, decimal_type, are_decimals_of, bytes_type, are_bytes_of}
+use Rattle.vx_tree.specs.ColumnTypes.{decimal_type, are_decimals_of, bytes_type, are_bytes_of}
 use Rattle.vx_tree.specs.Tree as enc
 use Rattle.vx_tree.specs.Tree.{Tree, Data, dtype, len}
 use Rattle.vx_tree.specs.Well.{Shape, shape}
@@ -50,9 +50,12 @@ tested_refusal ty n of_type k pass ss = first_of_both (column_refusal ty n of_ty
 abbrev pub constant_refusal : DataType → Typed → List (Option Shape) → Option VortexError
 constant_refusal ty v [] =
     first_of_both (unless (same_type ty v.of_type) (InvalidArgument NodeType))
-    (first_of_both (unless (has_column ty) (InvalidArgument BadType))
-    (unless (is_of ty v.value) (InvalidArgument BadValue)))
+    (unless (is_of ty v.value) (InvalidArgument BadValue))
 constant_refusal ty v (s ∷ ss) = Some (InvalidArgument SlotCount)
+
+abbrev pub nulls_refusal : DataType → List (Option Shape) → Option VortexError
+nulls_refusal ty [] = unless (same_type ty type.null) (InvalidArgument BadType)
+nulls_refusal ty (s ∷ ss) = Some (InvalidArgument SlotCount)
 
 -- of a node with one child, by the child's type and length
 abbrev pub of_child : (DataType → ℕ → Option VortexError) → List (Option Shape) → Option VortexError
@@ -125,10 +128,6 @@ abbrev pub result_refusal : DataType → Option DataType → Option VortexError
 result_refusal ty None = Some (InvalidArgument NoRow)
 result_refusal ty (Some s) = unless (same_type ty s) (InvalidArgument NodeType)
 
--- where there are no columns of the type
-abbrev pub column_type_refusal : DataType → Option VortexError
-column_type_refusal ty = unless (has_column ty) (InvalidArgument BadType)
-
 -- of a function: its slots, its types where the node is to go by the id, and its lengths
 abbrev pub slots_refusal : ScalarFnRef → List (Option Shape) → Option VortexError
 slots_refusal f ss = first_of_both (unless (all_present ss) (InvalidArgument FnSlotMissing)) (arity_refusal f (length ss))
@@ -136,7 +135,7 @@ slots_refusal f ss = first_of_both (unless (all_present ss) (InvalidArgument FnS
 abbrev pub types_refusal : Id → DataType → ScalarFnRef → List (Option Shape) → Option VortexError
 types_refusal i ty f ss =
     first_of_both (unless (same_id i (function_id f)) (InvalidArgument NodeType))
-    (first_of_both (result_refusal ty (return_type f (types_in ss))) (column_type_refusal ty))
+    (result_refusal ty (return_type f (types_in ss)))
 
 abbrev pub lengths_refusal : ℕ → List (Option Shape) → Option VortexError
 lengths_refusal n ss = unless (all_long n ss) (InvalidArgument ChildLen)
@@ -153,6 +152,7 @@ refusal i ty n (enc.filter bits) ss = of_child (filter_refusal ty n bits) ss
 refusal i ty n enc.masked ss = masked_refusal ty n ss
 refusal i ty n enc.is_valid ss = of_child (validity_refusal ty n) ss
 refusal i ty n (enc.function f) ss = function_refusal i ty n f ss
+refusal i ty n enc.nulls ss = nulls_refusal ty ss
 refusal i ty n (enc.bool bs) ss = column_refusal ty n (type.bool NonNullable) (length bs) ss
 refusal i ty n (enc.primitive p zs) ss = column_refusal ty n (type.primitive p NonNullable) (length zs) ss
 refusal i ty n (enc.decimals w zs) ss = tested_refusal ty n (decimal_type (storage_of ty)) (length zs) (are_decimals_of (storage_of ty) w zs) ss

@@ -26,6 +26,7 @@ pub data Data : Type 0 where
   masked : Data
   is_valid : Data
   function : ScalarFnRef → Data
+  nulls : Data
   bool : List Bool → Data
   primitive : PType → List ℤ → Data
   -- decimals of the column's type, without their points, in integers of this width
@@ -88,6 +89,10 @@ booleans bs = column (type.bool NonNullable) (length bs) (bool bs) None
 abbrev pub integers : PType → List ℤ → Tree
 integers p zs = column (type.primitive p NonNullable) (length zs) (primitive p zs) None
 
+-- n rows of type null
+abbrev pub nulls_of : ℕ → Tree
+nulls_of n = node type.null n nulls no_slots
+
 -- n rows of one value
 abbrev pub constant_of : Typed → ℕ → Tree
 constant_of v n = node v.of_type n (constant v) no_slots
@@ -120,6 +125,7 @@ id_of (filter bits) = id.Filter
 id_of masked = id.Masked
 id_of is_valid = id.ScalarFnValidity
 id_of (function f) = function_id f
+id_of nulls = id.Null
 id_of (bool bs) = id.Bool
 id_of (primitive p zs) = id.Primitive
 id_of (decimals w zs) = id.Decimal
@@ -150,6 +156,10 @@ abbrev pub is_function : Data → Bool
 is_function (function f) = true
 is_function _ = false
 
+abbrev pub is_nulls : Data → Bool
+is_nulls nulls = true
+is_nulls _ = false
+
 abbrev pub is_bool : Data → Bool
 is_bool (bool bs) = true
 is_bool _ = false
@@ -166,9 +176,13 @@ abbrev pub is_views : Data → Bool
 is_views (views rs) = true
 is_views _ = false
 
--- the encodings that hold their rows themselves
+-- the encodings that hold their rows themselves, beside a validity
+abbrev pub is_flat : Data → Bool
+is_flat d = is_bool d || is_primitive d || is_decimals d || is_views d
+
+-- each type's own encoding: those, and that of nulls
 abbrev pub is_canonical : Data → Bool
-is_canonical d = is_bool d || is_primitive d || is_decimals d || is_views d
+is_canonical d = is_nulls d || is_flat d
 
 -- the canonical encodings, and those that repeat one value
 abbrev pub is_columnar : Data → Bool
@@ -188,6 +202,7 @@ data_parts =
     or part coded_unit (λ u. is_valid)
     or part (coded_list (coded_list coded_ℕ)) views
     or part (coded× coded_width (coded_list coded_ℤ)) (λ p. decimals p.0 p.1)
+    or part coded_unit (λ u. nulls)
     or no_part
 
 abbrev pub data_split : Data → data_parts.holds
@@ -201,6 +216,7 @@ data_split masked = inr (inr (inr (inr (inr (inr (inl tt))))))
 data_split is_valid = inr (inr (inr (inr (inr (inr (inr (inl tt)))))))
 data_split (views rs) = inr (inr (inr (inr (inr (inr (inr (inr (inl rs))))))))
 data_split (decimals w zs) = inr (inr (inr (inr (inr (inr (inr (inr (inr (inl (w, zs))))))))))
+data_split nulls = inr (inr (inr (inr (inr (inr (inr (inr (inr (inr (inl tt))))))))))
 
 pub data_back : (d : Data) → data_parts.make (data_split d) ≡ d
 data_back (constant v) = refl

@@ -16,6 +16,7 @@ data_of (encoding.Filter f) = enc.filter (bits_in f.mask)
 data_of (encoding.Masked m) = enc.masked
 data_of (encoding.ScalarFnValidity v) = enc.is_valid
 data_of (encoding.ScalarFn f) = enc.function f.scalar_fn
+data_of (encoding.Null n) = enc.nulls
 data_of (encoding.Bool b) = enc.bool b.bits
 data_of (encoding.Primitive p) = enc.primitive (ptype_of p.values) (values_of p.values)
 data_of (encoding.Decimal d) = enc.decimals (decimal_type_of d.values) (numbers_of d.values)

@@ -9,7 +9,7 @@ use Rattle.vx_value.specs.declared.dtype.Nullability.TheVariants.{NonNullable, N
 use Rattle.vx_mask.specs.Places.{true_count}
 use Rattle.vx_fn.specs.ReturnTypes.{return_type}
 use Rattle.vx_value.specs.Storage.{storage_of}
-use Rattle.vx_tree.specs.ColumnTypes.{has_column, decimal_type, are_decimals_of, bytes_type, are_bytes_of}
+use Rattle.vx_tree.specs.ColumnTypes.{decimal_type, are_decimals_of, bytes_type, are_bytes_of}
 use Rattle.vx_tree.specs.Tree as enc
 use Rattle.vx_tree.specs.Tree.{Tree, Data, Slots, node, no_slots, absent, slot, dtype, len}
 
@@ -42,13 +42,14 @@ IsMasked ty n ss = (s : DataType) × (v : Option Shape) × (ss ≡ Some (shape s
 
 -- the conditions on a node, its slots' own apart: a line for each encoding
 abbrev pub IsNode : DataType → ℕ → Data → List (Option Shape) → Type 0
-IsNode ty n (enc.constant v) ss = (ty ≡ v.of_type) × (has_column ty ≡ true) × (is_of ty v.value ≡ true) × (ss ≡ [])
+IsNode ty n (enc.constant v) ss = (ty ≡ v.of_type) × (is_of ty v.value ≡ true) × (ss ≡ [])
 IsNode ty n (enc.slice a b) ss = (m : ℕ) × (ss ≡ Some (shape ty m) ∷ []) × (a ≤ b) × (b ≤ m) × (n ≡ b - a)
 IsNode ty n (enc.filter bits) ss = (ss ≡ Some (shape ty (length bits)) ∷ []) × (n ≡ true_count bits)
 IsNode ty n enc.masked ss = IsMasked ty n ss
 IsNode ty n enc.is_valid ss = (s : DataType) × (ss ≡ Some (shape s n) ∷ []) × (ty ≡ type.bool NonNullable)
 IsNode ty n (enc.function f) ss =
-    (tys : List DataType) × (ss ≡ map (λ s. Some (shape s n)) tys) × (return_type f tys ≡ Some ty) × (has_column ty ≡ true)
+    (tys : List DataType) × (ss ≡ map (λ s. Some (shape s n)) tys) × (return_type f tys ≡ Some ty)
+IsNode ty n enc.nulls ss = (ty ≡ type.null) × (ss ≡ [])
 IsNode ty n (enc.bool bs) ss = IsFlat (type.bool NonNullable) (length bs) ty n ss
 IsNode ty n (enc.primitive p zs) ss = IsFlat (type.primitive p NonNullable) (length zs) ty n ss
 IsNode ty n (enc.decimals w zs) ss =

@@ -1,22 +1,23 @@
 //! Columns in the canonical encoding of their type.
 
-ghost use Rattle.std.specs.Prelude.{◌≡◌, ◌⊎◌, ◌==◌, true, false, is_ok, IfOk, IfErr, OnOk};
+ghost use Rattle.std.specs.Prelude.{◌≡◌, ◌==◌, true, is_ok, IfOk, IfErr};
 ghost use Rattle.vx_value.specs.View.{type_of};
-ghost use Rattle.vx_tree.specs.ColumnTypes.{has_column};
 ghost use Rattle.vx_tree.specs.Tree.{Tree, dtype, len, datum, is_canonical};
 ghost use Rattle.vx_tree.specs.Columns.{canonical_tree, empty_of};
 
 use crate::array::{Array, ArrayRef, Encoding, IntoArray};
 use crate::arrays::boolean::BoolArray;
 use crate::arrays::decimal::DecimalArray;
+use crate::arrays::null::NullArray;
 use crate::arrays::primitive::PrimitiveArray;
 use crate::arrays::varbinview::VarBinViewArray;
 use std::alloc::Global;
-use vx_value::{ArgKind, DType, VortexError, VortexResult};
+use vx_value::{DType, VortexError, VortexResult};
 
 /// A column in the canonical encoding of its type.
 #[derive(Clone, Debug, Drop)]
 pub enum Canonical {
+    Null(NullArray),
     Bool(BoolArray),
     Primitive(PrimitiveArray),
     Decimal(DecimalArray),
@@ -24,15 +25,13 @@ pub enum Canonical {
 }
 
 impl Canonical {
-    /// Makes the column of type `dtype` without rows. `InvalidArgument` with `BadType` exactly if there are no columns of
-    /// that type.
+    /// Makes the column of type `dtype` without rows. The only error is `OutOfMemory`.
     pub fn empty(alloc: Global, dtype: &DType) -> VortexResult<Canonical>
         ensures ok { IfOk result (λ c. canonical_tree c ≡ empty_of (type_of dtype.now)) }
-        ensures valid { OnOk result (has_column (type_of dtype.now) ≡ true) }
-        ensures refused { IfErr result (λ e. (e ≡ VortexError.OutOfMemory)
-            ⊎ ((e ≡ VortexError.InvalidArgument ArgKind.BadType) × (has_column (type_of dtype.now) ≡ false))) }
+        ensures err { IfErr result (λ e. e ≡ VortexError.OutOfMemory) }
     {
         match dtype {
+            DType::Null => Ok(Canonical::Null(NullArray::new(alloc, 0)?)),
             DType::Bool(nullability) => Canonical::empty_bool(alloc, *nullability),
             DType::Primitive(ptype, nullability) => {
                 Canonical::empty_primitive(alloc, *ptype, *nullability)
@@ -41,7 +40,6 @@ impl Canonical {
                 Canonical::empty_decimal(alloc, *decimal, *nullability)
             }
             DType::Utf8(_) | DType::Binary(_) => Canonical::empty_varbinview(alloc, dtype),
-            DType::Null => Err(VortexError::InvalidArgument(ArgKind::BadType)),
         }
     }
 
@@ -52,6 +50,7 @@ impl Canonical {
         ensures err { IfErr result (λ a. a ≡ array) }
     {
         match array.encoding() {
+            Encoding::Null(_) => Ok(Canonical::Null(Array::try_from_array_ref(array)?)),
             Encoding::Bool(_) => Ok(Canonical::Bool(Array::try_from_array_ref(array)?)),
             Encoding::Primitive(_) => Ok(Canonical::Primitive(Array::try_from_array_ref(array)?)),
             Encoding::Decimal(_) => Ok(Canonical::Decimal(Array::try_from_array_ref(array)?)),
@@ -67,6 +66,7 @@ impl Canonical {
         ensures canonical { is_canonical (datum (canonical_tree self.now)) ≡ true }
     {
         match self {
+            Canonical::Null(column) => column.as_array(),
             Canonical::Bool(column) => column.as_array(),
             Canonical::Primitive(column) => column.as_array(),
             Canonical::Decimal(column) => column.as_array(),
@@ -101,6 +101,7 @@ impl IntoArray for Canonical {
 
     fn into_array(self) -> ArrayRef {
         match self {
+            Canonical::Null(column) => column.into_array(),
             Canonical::Bool(column) => column.into_array(),
             Canonical::Primitive(column) => column.into_array(),
             Canonical::Decimal(column) => column.into_array(),

@@ -1,8 +1,7 @@
 //! Columns whose rows can be read without executing anything.
 
-ghost use Rattle.std.specs.Prelude.{◌≡◌, ◌⊎◌, ◌==◌, true, false, is_ok, IfOk, IfErr, OnOk};
+ghost use Rattle.std.specs.Prelude.{◌≡◌, ◌==◌, true, is_ok, IfOk, IfErr};
 ghost use Rattle.vx_value.specs.View.{type_of};
-ghost use Rattle.vx_tree.specs.ColumnTypes.{has_column};
 ghost use Rattle.vx_tree.specs.Tree.{Tree, dtype, len, datum, is_columnar, constant_of};
 ghost use Rattle.vx_tree.specs.Columns.{columnar_tree};
 
@@ -10,7 +9,7 @@ use crate::array::{ArrayRef, IntoArray};
 use crate::arrays::constant::ConstantArray;
 use crate::canonical::Canonical;
 use std::alloc::Global;
-use vx_value::{ArgKind, DType, Scalar, VortexError, VortexResult};
+use vx_value::{DType, Scalar, VortexError, VortexResult};
 
 /// A canonical column, or a constant.
 #[derive(Clone, Debug, Drop)]
@@ -20,13 +19,10 @@ pub enum Columnar {
 }
 
 impl Columnar {
-    /// Makes the constant of `len` rows, each `scalar`. `InvalidArgument` with `BadType` exactly if there are no
-    /// columns of its type.
+    /// Makes the constant of `len` rows, each `scalar`. The only error is `OutOfMemory`.
     pub fn constant(alloc: Global, scalar: Scalar, len: usize) -> VortexResult<Columnar>
         ensures ok { IfOk result (λ c. columnar_tree c ≡ constant_of scalar len) }
-        ensures valid { OnOk result (has_column scalar.of_type ≡ true) }
-        ensures refused { IfErr result (λ e. (e ≡ VortexError.OutOfMemory)
-            ⊎ ((e ≡ VortexError.InvalidArgument ArgKind.BadType) × (has_column scalar.of_type ≡ false))) }
+        ensures err { IfErr result (λ e. e ≡ VortexError.OutOfMemory) }
     {
         Ok(Columnar::Constant(ConstantArray::new(alloc, scalar, len)?))
     }

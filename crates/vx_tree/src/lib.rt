@@ -4,7 +4,6 @@
 pub mod array;
 pub mod arrays;
 mod canonical;
-mod column_types;
 mod columnar;
 mod laws;
 mod matcher;
@@ -22,13 +21,13 @@ pub use arrays::constant::{Constant, ConstantArray, ConstantData};
 pub use arrays::decimal::{Decimal, DecimalArray, DecimalData, decimal_type};
 pub use arrays::filter::{Filter, FilterArray, FilterData, FilterDataParts};
 pub use arrays::masked::{Masked, MaskedArray, MaskedData};
+pub use arrays::null::{Null, NullArray};
 pub use arrays::primitive::{Primitive, PrimitiveArray, PrimitiveData};
 pub use arrays::scalar_fn::{ScalarFn, ScalarFnArray, ScalarFnData};
 pub use arrays::scalar_fn_validity::{EmptyArrayData, ScalarFnValidity, ScalarFnValidityArray};
 pub use arrays::slice::{Slice, SliceArray, SliceData, SliceDataParts};
 pub use arrays::varbinview::{VarBinView, VarBinViewArray, VarBinViewData, bytes_type};
 pub use canonical::Canonical;
-pub use column_types::has_column;
 pub use columnar::Columnar;
 pub use laws::{
     choice_laws, column_laws, execution_bounds, keeping_laws, node_validity_laws, refused_exactly,

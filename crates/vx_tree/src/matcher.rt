@@ -7,6 +7,7 @@ use crate::array::{ArrayRef, VTable};
 use crate::arrays::boolean::Bool;
 use crate::arrays::constant::Constant;
 use crate::arrays::decimal::Decimal;
+use crate::arrays::null::Null;
 use crate::arrays::primitive::Primitive;
 use crate::arrays::scalar_fn::ScalarFn;
 use crate::arrays::varbinview::VarBinView;
@@ -40,7 +41,8 @@ impl Matcher for AnyCanonical {
     ghost fits = { λ t. is_canonical (datum t) };
 
     fn matches(array: &ArrayRef) -> bool {
-        Bool::matches(array)
+        Null::matches(array)
+            || Bool::matches(array)
             || Primitive::matches(array)
             || Decimal::matches(array)
             || VarBinView::matches(array)

@@ -42,6 +42,7 @@ impl ArrayRef {
             }
             ArrayKind::ScalarFnValidity(_) => Ok(Validity::NonNullable),
             ArrayKind::ScalarFn(_, _) => test_lazily(alloc, self),
+            ArrayKind::Null => Ok(Validity::AllInvalid),
             ArrayKind::Bool(_, own) => slot_validity(own),
             ArrayKind::Primitive(_, own) => slot_validity(own),
             ArrayKind::Decimal(_, own) => slot_validity(own),

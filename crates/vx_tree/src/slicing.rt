@@ -23,6 +23,7 @@ pub fn slice_canonical(
     ensures err { IfErr result (λ e. e ≡ VortexError.OutOfMemory) }
 {
     Ok(match column {
+        Canonical::Null(column) => Canonical::Null(column.slice(alloc, range)?),
         Canonical::Bool(column) => Canonical::Bool(flat_slice(alloc, column, range)?),
         Canonical::Primitive(column) => Canonical::Primitive(flat_slice(alloc, column, range)?),
         Canonical::Decimal(column) => Canonical::Decimal(flat_slice(alloc, column, range)?),

@@ -6,6 +6,8 @@ mod buffers;
 #[cfg(test)]
 mod decimals;
 #[cfg(test)]
+mod nulls;
+#[cfg(test)]
 mod trees;
 #[cfg(test)]
 mod views;

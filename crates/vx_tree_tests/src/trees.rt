@@ -8,8 +8,8 @@ use vx_tree::{
     AnyCanonical, AnyColumnar, Array, ArrayKind, ArrayParts, ArrayRef, ArrayView, BoolArray,
     Canonical, Columnar, Constant, ConstantArray, ConstantData, Filter, FilterArray, FilterData,
     IntoArray, Primitive, PrimitiveArray, PrimitiveData, PrimitiveValues, ScalarFn, ScalarFnArray,
-    ScalarFnData, Slice, SliceArray, SliceData, Validity, child_to_validity, has_column,
-    slice_canonical, validity_nchildren, validity_to_child,
+    ScalarFnData, Slice, SliceArray, SliceData, Validity, child_to_validity, slice_canonical,
+    validity_nchildren, validity_to_child,
 };
 use vx_value::{
     ArgKind, DType, DecimalDType, DecimalValue, Id, Nullability, PType, Scalar, ScalarValue,
@@ -308,12 +308,6 @@ fn parts_of_a_column_are_refused_in_order(rt: HostRuntime) {
 }
 
 #[test]
-fn constants_of_a_type_without_columns(rt: HostRuntime) {
-    let null = ConstantArray::new(rt.alloc(), Scalar::null(DType::Null), 1);
-    assert!(rt; is_refused(null, ArgKind::BadType));
-}
-
-#[test]
 fn constants_of_any_length(rt: HostRuntime) -> Result<(), Fail> {
     let alloc = rt.alloc();
     assert!(rt; sevens(alloc, Nullability::Nullable, 1).is_ok());
@@ -349,7 +343,7 @@ fn canonical_columns(rt: HostRuntime) -> Result<(), Fail> {
     let alloc = rt.alloc();
     assert!(rt; is_empty_column(alloc, &I32) && is_empty_column(alloc, &BOOL));
     assert!(rt; is_empty_column(alloc, &NULLABLE) && is_empty_column(alloc, &UTF8));
-    assert!(rt; is_refused(Canonical::empty(alloc, &DType::Null), ArgKind::BadType));
+    assert!(rt; is_empty_column(alloc, &DType::Null));
     let flags = Canonical::Bool(booleans(alloc, 3)?);
     assert!(rt; flags.as_bool().is_some() && flags.as_primitive().is_none());
     assert!(rt; flags.clone()?.into_primitive().is_none());
@@ -470,12 +464,6 @@ fn nodes_tell_their_validity(rt: HostRuntime) -> Result<(), Fail> {
     let slice = SliceArray::try_new(alloc, sum, 1..3)?.into_array();
     assert!(rt; is_lazy(&slice.validity(alloc)?, Id::Slice, 2));
     Ok(())
-}
-
-#[test]
-fn types_with_columns(rt: HostRuntime) {
-    assert!(rt; has_column(&BOOL) && has_column(&U8) && has_column(&NULLABLE));
-    assert!(rt; has_column(&UTF8) && !has_column(&DType::Null));
 }
 
 #[test]

@@ -7,7 +7,6 @@ ghost use Rattle.vx_tree.specs.Names.{slot_names};
 ghost use Rattle.vx_tree.specs.TreeView.{data_of};
 ghost use Rattle.vx_tree.specs.Cells.{rows};
 ghost use Rattle.vx_tree.specs.Well.{IsWell};
-ghost use Rattle.vx_tree.specs.ColumnTypes.{has_column};
 
 use crate::array::{ArrayRef, ArrayView, Encoding, VTable};
 use crate::matcher::Matcher;
@@ -53,6 +52,7 @@ impl ArrayRef {
             Encoding::Masked(_) => Id::Masked,
             Encoding::ScalarFnValidity(_) => Id::ScalarFnValidity,
             Encoding::ScalarFn(data) => data.scalar_fn.id(),
+            Encoding::Null(_) => Id::Null,
             Encoding::Bool(_) => Id::Bool,
             Encoding::Primitive(_) => Id::Primitive,
             Encoding::Decimal(_) => Id::Decimal,
@@ -88,13 +88,11 @@ impl ArrayRef {
         }
     }
 
-    /// States what holds of every tree: it is well formed, its meaning has one cell per row, and there are columns of its type.
-    /// (own)
-    #[tactic(auto, using(crate::proofs::CellsLemmas::rows_counted, crate::proofs::ColumnTypesLemmas::well_typed))]
+    /// States what holds of every tree: it is well formed, and its meaning has one cell per row. (own)
+    #[tactic(auto, using(crate::proofs::CellsLemmas::rows_counted))]
     pub fn well(&self)
         ensures formed { IsWell self.now }
         ensures counted { length (rows self.now) ≡ len self.now }
-        ensures typed { has_column (dtype self.now) ≡ true }
     {
         let _well = &self.node;
     }

@@ -28,6 +28,8 @@ pub enum ArrayKind<'a> {
     ScalarFnValidity(&'a ArrayRef),
     /// The function, and the slots of its arguments. Each slot has a tree.
     ScalarFn(&'a ScalarFnRef, &'a [Option<ArrayRef>]),
+    /// Nothing: each row is null.
+    Null,
     /// The rows of a column of booleans, and the slot of its validity.
     Bool(&'a BitBuffer, &'a Option<ArrayRef>),
     /// The rows of a column of integers, and the slot of its validity.
@@ -63,6 +65,7 @@ fn kind_of(node: &Node) -> ArrayKind<'_>
         Encoding::Masked(_) => ArrayKind::Masked(present(&node.slots[0]), &node.slots[1]),
         Encoding::ScalarFnValidity(_) => ArrayKind::ScalarFnValidity(present(&node.slots[0])),
         Encoding::ScalarFn(data) => ArrayKind::ScalarFn(&data.scalar_fn, &node.slots),
+        Encoding::Null(_) => ArrayKind::Null,
         Encoding::Bool(data) => ArrayKind::Bool(&data.bits, &node.slots[0]),
         Encoding::Primitive(data) => ArrayKind::Primitive(&data.values, &node.slots[0]),
         Encoding::Decimal(data) => ArrayKind::Decimal(&data.values, &node.slots[0]),

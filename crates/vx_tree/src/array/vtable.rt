@@ -33,7 +33,7 @@ pub trait VTable: EncodingVariant + Drop + Sized {
     /// The first condition that fails gives the error: `InvalidArgument` with `SlotCount`, `SlotMissing`, then `BadType`,
     /// `SlotType` or `NodeType`, then `NodeLen`, and last `OutOfBounds`. For a function node the kinds are `FnSlotMissing`,
     /// `Arity`, `NodeType` if the tag is another function's, `NoRow`, `NodeType` if `dtype` isn't the function's result
-    /// type, `BadType` if there are no columns of that type, and last `ChildLen`.
+    /// type, and last `ChildLen`.
     fn validate(alloc: Global, parts: &ArrayParts<Self>) -> VortexResult<()>
         ensures valid { OnOk result (refusal (named parts.now.vtable) (type_of parts.now.dtype) parts.now.len
             (Self.stands_for parts.now.payload) (shapes (slots_of parts.now.slots.items)) ≡ None) }

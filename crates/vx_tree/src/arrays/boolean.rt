@@ -121,7 +121,7 @@ impl Canonical {
 }
 
 impl FlatEncoding for Bool {
-    fn know_canonical(_payload: &BoolData) {}
+    fn know_flat(_payload: &BoolData) {}
 
     fn slice_values(payload: &BoolData, range: Range<usize>) -> Result<BoolData, AllocError> {
         Ok(BoolData {

@@ -3,7 +3,7 @@
 ghost use Rattle.std.specs.Prelude.{◌≡◌, ◌⊎◌, ◌≤◌, true, ℕ, List, [], ◌∷◌, Option, MatchResult, IfOk, IfErr, OnOk, Some, None, option_map};
 ghost use Rattle.vx_value.specs.Types.{DataType, nullability_of};
 ghost use Rattle.vx_value.specs.View.{type_of};
-ghost use Rattle.vx_tree.specs.Tree.{column, slots, slots_of, len, is_canonical, slice_of};
+ghost use Rattle.vx_tree.specs.Tree.{column, slots, slots_of, len, is_flat, slice_of};
 ghost use Rattle.vx_tree.specs.Columns.{count_in, data_range};
 ghost use Rattle.vx_tree.specs.Keeps.{KeepsExactly};
 ghost use Rattle.vx_tree.specs.Well.{Shape, shape_of, IsFlat, IsNode, shapes};
@@ -143,9 +143,9 @@ pub(crate) fn flat_column<V: VTable>(
 
 /// Encodings of columns that hold the values of their rows themselves, and have one slot, for their validity. (own)
 pub trait FlatEncoding: VTable {
-    /// States that a node with this data is a column.
-    fn know_canonical(payload: &Self::TypedArrayData)
-        ensures { is_canonical (Self.stands_for payload.now) ≡ true };
+    /// States that a node with this data is such a column.
+    fn know_flat(payload: &Self::TypedArrayData)
+        ensures { is_flat (Self.stands_for payload.now) ≡ true };
 
     /// Returns the values of the rows in `range`, which must be in order and in bounds. They share their storage with `payload`.
     fn slice_values(
@@ -168,7 +168,7 @@ pub(crate) fn flat_slice<V: FlatEncoding>(
     ensures ok { IfOk result (λ a. KeepsExactly (slice_of range.start range.end column.now) a) }
     ensures err { IfErr result (λ e. e ≡ VortexError.OutOfMemory) }
 {
-    V::know_canonical(column.data());
+    V::know_flat(column.data());
     let array = column.as_array();
     array.well();
     let validity = flat_validity(column);
@@ -184,7 +184,7 @@ pub(crate) fn flat_slice<V: FlatEncoding>(
 fn flat_validity<V: FlatEncoding>(column: &Array<V>) -> &Option<ArrayRef>
     ensures { slots column.now ≡ slots_of (result.now ∷ []) }
 {
-    V::know_canonical(column.data());
+    V::know_flat(column.data());
     column.as_array().well();
     &column.slots()[0]
 }

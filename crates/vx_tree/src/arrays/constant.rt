@@ -1,16 +1,14 @@
 //! Arrays that repeat one value.
 
-ghost use Rattle.std.specs.Prelude.{◌≡◌, ◌⊎◌, IfOk, IfErr, OnOk, true, false, refl};
+ghost use Rattle.std.specs.Prelude.{◌≡◌, IfOk, IfErr, refl};
 ghost use Rattle.vx_value.specs.declared.id.Id.TheVariants as id;
-ghost use Rattle.vx_tree.specs.ColumnTypes.{has_column};
 ghost use Rattle.vx_tree.specs.Tree.{constant, constant_of, is_constant};
 
 use crate::array::{Array, ArrayId, ArrayParts, Encoded, Encoding, EncodingVariant, VTable};
 use crate::arrays::payload;
 use crate::arrays::types::is_same_type;
-use crate::column_types::has_column;
 use std::alloc::Global;
-use vx_value::{ArgKind, DType, Id, Scalar, VortexError, VortexResult};
+use vx_value::{ArgKind, Id, Scalar, VortexError, VortexResult};
 
 /// The tag of the constant encoding.
 #[derive(Clone, Copy, Debug)]
@@ -60,26 +58,17 @@ impl VTable for Constant {
         if !is_same_type(&parts.dtype, parts.payload.scalar.dtype()) {
             return Err(VortexError::InvalidArgument(ArgKind::NodeType));
         }
-        if !has_column(&parts.dtype) {
-            return Err(VortexError::InvalidArgument(ArgKind::BadType));
-        }
         Ok(())
     }
 }
 
 impl ConstantArray {
-    /// Makes the constant of `len` rows, each `scalar`. `InvalidArgument` with `BadType` exactly if there are no
-    /// columns of its type.
+    /// Makes the constant of `len` rows, each `scalar`. The only error is `OutOfMemory`.
     pub fn new(alloc: Global, scalar: Scalar, len: usize) -> VortexResult<ConstantArray>
         ensures ok { IfOk result (λ a. a ≡ constant_of scalar len) }
-        ensures valid { OnOk result (has_column scalar.of_type ≡ true) }
-        ensures refused { IfErr result (λ e. (e ≡ VortexError.OutOfMemory)
-            ⊎ ((e ≡ VortexError.InvalidArgument ArgKind.BadType) × (has_column scalar.of_type ≡ false))) }
+        ensures err { IfErr result (λ e. e ≡ VortexError.OutOfMemory) }
     {
         let dtype = scalar.dtype().clone()?;
-        if !has_column(&dtype) {
-            return Err(VortexError::InvalidArgument(ArgKind::BadType));
-        }
         let parts = ArrayParts::new(
             Constant,
             dtype,

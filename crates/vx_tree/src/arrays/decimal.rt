@@ -195,7 +195,7 @@ impl Canonical {
 }
 
 impl FlatEncoding for Decimal {
-    fn know_canonical(_payload: &DecimalData) {}
+    fn know_flat(_payload: &DecimalData) {}
 
     fn slice_values(payload: &DecimalData, range: Range<usize>) -> Result<DecimalData, AllocError> {
         Ok(DecimalData {

@@ -7,6 +7,7 @@ pub mod constant;
 pub mod decimal;
 pub mod filter;
 pub mod masked;
+pub mod null;
 pub mod primitive;
 pub mod scalar_fn;
 pub mod scalar_fn_validity;

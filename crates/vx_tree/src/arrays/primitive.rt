@@ -125,7 +125,7 @@ impl Canonical {
 }
 
 impl FlatEncoding for Primitive {
-    fn know_canonical(_payload: &PrimitiveData) {}
+    fn know_flat(_payload: &PrimitiveData) {}
 
     fn slice_values(
         payload: &PrimitiveData,

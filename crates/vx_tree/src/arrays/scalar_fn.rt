@@ -4,7 +4,7 @@ ghost use Rattle.std.specs.Prelude.{◌≡◌, ◌⊎◌, ◌++◌, map, IfOk, I
 ghost use Rattle.vx_value.specs.View.{type_of};
 ghost use Rattle.vx_tree.specs.Tree.{function, slots_of, filled_slots, is_function};
 ghost use Rattle.vx_tree.specs.Well.{shapes};
-ghost use Rattle.vx_tree.specs.Refusals.{arity_refusal, slots_refusal, types_refusal, lengths_refusal, result_refusal, column_type_refusal};
+ghost use Rattle.vx_tree.specs.Refusals.{arity_refusal, slots_refusal, types_refusal, lengths_refusal, result_refusal};
 ghost use Rattle.vx_tree.specs.Refusals.{all_present, all_long, types_in, is_present, is_long, type_in};
 ghost use Rattle.vx_tree.specs.Calls.{call_refusal, inferred_refusal, called, inferred};
 ghost use Rattle.vx_fn.specs.ReturnTypes.{return_type};
@@ -14,7 +14,6 @@ use crate::array::{
 };
 use crate::arrays::payload;
 use crate::arrays::types::is_same_type;
-use crate::column_types::has_column;
 use std::alloc::{AllocError, Global};
 use vx_fn::{Arity, ScalarFnRef};
 use vx_value::{ArgKind, DType, VortexError, VortexResult};
@@ -175,8 +174,7 @@ fn push_type(types: &mut Vec<DType>, slot: &Option<ArrayRef>) -> Result<(), Allo
     }
 }
 
-/// Checks that `tag` is the function's id, that `function` gives `dtype` on arguments of the slots' types, and that it
-/// computes columns of that type.
+/// Checks that `tag` is the function's id, and that `function` gives `dtype` on arguments of the slots' types.
 #[tactic(auto, using(crate::proofs::ConditionsLemmas::in_turn))]
 fn check_types(
     alloc: Global,
@@ -193,8 +191,7 @@ fn check_types(
         return Err(VortexError::InvalidArgument(ArgKind::NodeType));
     }
     let types = types_of(alloc, slots)?;
-    check_result(function, dtype, types.as_slice())?;
-    check_column_type(dtype)
+    check_result(function, dtype, types.as_slice())
 }
 
 /// Checks that `function` gives `dtype` on arguments of these types.
@@ -207,18 +204,6 @@ fn check_result(function: &ScalarFnRef, dtype: &DType, types: &[DType]) -> Vorte
         Ok(())
     } else {
         Err(VortexError::InvalidArgument(ArgKind::NodeType))
-    }
-}
-
-/// Checks that there are columns of type `dtype`.
-fn check_column_type(dtype: &DType) -> VortexResult<()>
-    ensures valid { OnOk result (column_type_refusal (type_of dtype.now) ≡ None) }
-    ensures refused { IfErr result (λ e. column_type_refusal (type_of dtype.now) ≡ Some e) }
-{
-    if has_column(dtype) {
-        Ok(())
-    } else {
-        Err(VortexError::InvalidArgument(ArgKind::BadType))
     }
 }
 
@@ -258,8 +243,7 @@ impl ScalarFnArray {
     /// Makes a node that applies `scalar_fn` to `children`, with `len` rows.
     ///
     /// The first condition that fails gives the error: `InvalidArgument` with `Arity` if the function takes another number
-    /// of arguments, `ChildLen` if a child doesn't have `len` rows, `NoRow` if the function takes no such types, and `BadType`
-    /// if there are no columns of the result's type.
+    /// of arguments, `ChildLen` if a child doesn't have `len` rows, and `NoRow` if the function takes no such types.
     #[tactic(auto, using(crate::proofs::CallsLemmas::calls))]
     pub fn try_new_with_len(
         alloc: Global,
@@ -277,7 +261,6 @@ impl ScalarFnArray {
         check_lengths(len, slots.as_slice())?;
         let types = types_of(alloc, slots.as_slice())?;
         let dtype = scalar_fn.return_dtype(types.as_slice())?;
-        check_column_type(&dtype)?;
         let parts = ArrayParts {
             vtable: ScalarFn { id: scalar_fn.id() },
             dtype,

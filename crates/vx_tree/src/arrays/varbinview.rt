@@ -173,7 +173,7 @@ impl Canonical {
 }
 
 impl FlatEncoding for VarBinView {
-    fn know_canonical(_payload: &VarBinViewData) {}
+    fn know_flat(_payload: &VarBinViewData) {}
 
     fn slice_values(
         payload: &VarBinViewData,

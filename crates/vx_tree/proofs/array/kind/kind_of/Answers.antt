@@ -3,7 +3,7 @@ use Rattle.vx_mask.specs.Masks.{bits_in}
 use Rattle.vx_native.specs.Natives.{values_of, ptype_of}
 use Rattle.vx_native.specs.DecimalNumbers.{numbers_of, decimal_type_of}
 use Rattle.vx_tree.specs.TreeView.{data_of}
-use Rattle.vx_tree.proofs.KindsLemmas.{kind_constant, kind_slice, kind_filter, kind_validity, kind_masked, kind_bool, kind_primitive, kind_decimals, kind_views}
+use Rattle.vx_tree.proofs.KindsLemmas.{kind_constant, kind_slice, kind_filter, kind_validity, kind_masked, kind_nulls, kind_bool, kind_primitive, kind_decimals, kind_views}
 use Rattle.vx_tree.proofs.array.kind.kind_of.Goals as goal
 
 pub returns-in-Constant : goal.returns-in-Constant
@@ -31,6 +31,9 @@ pub returns-in-ScalarFnValidity : goal.returns-in-ScalarFnValidity
 returns-in-ScalarFnValidity c =
     kind_validity c.args.node.now c.requires c.index-in-ScalarFnValidity.result.now c.present-in-ScalarFnValidity.result.now (ap data_of c.in-ScalarFnValidity.is)
     c.index-in-ScalarFnValidity.ensures c.present-in-ScalarFnValidity.ensures
+
+pub returns-in-Null : goal.returns-in-Null
+returns-in-Null c = kind_nulls c.args.node.now c.requires (ap data_of c.in-Null.is)
 
 pub returns-in-Bool : goal.returns-in-Bool
 returns-in-Bool c =

@@ -1,6 +1,6 @@
 use Rattle.std.proofs.Common.{◌≡◌, ◌-◌, true, rules, ap, sym, subst, ◌∙◌}
 use Rattle.vx_value.specs.View.{type_of}
-use Rattle.vx_tree.specs.Tree.{node, dtype, slots_of, slice_of, is_canonical}
+use Rattle.vx_tree.specs.Tree.{node, dtype, slots_of, slice_of, is_flat}
 use Rattle.vx_tree.specs.Well.{IsNode, IsWell, shapes}
 use Rattle.vx_tree.specs.Columns.{data_range}
 use Rattle.vx_tree.specs.Keeps.{KeepsExactly}
@@ -13,8 +13,8 @@ from_parts_unchecked-requires g c =
     let a = c.args.range.start in
     let b = c.args.range.end in
     let well = subst IsWell c.as_array-array.ensures.of c.well.ensures.formed in
-    let canonical = subst (λ d. is_canonical d ≡ true) c.data.ensures c.know_canonical.ensures in
-    let kept = flat_range_kept t c.flat_validity-validity.result.now c.in_ok-slice_validity.field-0 a b well canonical c.flat_validity-validity.ensures c.requires.1
+    let flat = subst (λ d. is_flat d ≡ true) c.data.ensures c.know_flat.ensures in
+    let kept = flat_range_kept t c.flat_validity-validity.result.now c.in_ok-slice_validity.field-0 a b well flat c.flat_validity-validity.ensures c.requires.1
     c.in_ok-slice_validity.ensures.ok in
     let typed : type_of c.in_ok-dtype.dtype ≡ dtype t = search rules in
     let payload = c.in_ok-payload.ensures ∙ ap (data_range a b) c.data-2.ensures in
@@ -27,8 +27,8 @@ returns-clause-ok g c =
     let a = c.args.range.start in
     let b = c.args.range.end in
     let well = subst IsWell c.as_array-array.ensures.of c.well.ensures.formed in
-    let canonical = subst (λ d. is_canonical d ≡ true) c.data.ensures c.know_canonical.ensures in
-    let kept = flat_range_kept t c.flat_validity-validity.result.now c.in_ok-slice_validity.field-0 a b well canonical c.flat_validity-validity.ensures c.requires.1
+    let flat = subst (λ d. is_flat d ≡ true) c.data.ensures c.know_flat.ensures in
+    let kept = flat_range_kept t c.flat_validity-validity.result.now c.in_ok-slice_validity.field-0 a b well flat c.flat_validity-validity.ensures c.requires.1
     c.in_ok-slice_validity.ensures.ok in
     let typed : type_of c.in_ok-dtype.dtype ≡ dtype t = search rules in
     let payload = c.in_ok-payload.ensures ∙ ap (data_range a b) c.data-2.ensures in

@@ -10,5 +10,5 @@ returns g c =
     let xs = c.slots.result.now in
     let x = c.index-slots-0.result in
     let well = subst IsWell c.as_array.ensures.of c.well.ensures.formed in
-    let only = flat_slot t _ xs well c.data.ensures c.know_canonical.ensures c.slots.ensures in
+    let only = flat_slot t _ xs well c.data.ensures c.know_flat.ensures c.slots.ensures in
     sym c.slots.ensures ∙ ap slots_of (only.1 ∙ ap (λ v. v ∷ []) (sym (c.index-slots-0.is ∙ ap (λ l. slice_index_or l 0 x) only.1)))

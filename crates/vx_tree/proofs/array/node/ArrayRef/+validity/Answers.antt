@@ -3,8 +3,11 @@ use Rattle.std.proofs.lemmas.Grind.{common_steps}
 use Rattle.std.proofs.lemmas.Result.{IfOk-weaker}
 use Rattle.vx_value.specs.Types.{nullability_of, is_nullable}
 use Rattle.vx_mask.specs.Masks.{bits_in}
-use Rattle.vx_tree.specs.Tree.{dtype, slots_of}
-use Rattle.vx_tree.proofs.NodeValiditiesLemmas.{array_sized, slice_well, filter_well, own_sized, child_sized, function_told}
+use Rattle.vx_value.specs.declared.dtype.Nullability.TheVariants.{Nullable}
+use Rattle.vx_tree.specs.Tree.{dtype, len, slots_of}
+use Rattle.vx_tree.specs.Validities.{validity_of}
+use Rattle.vx_tree.specs.NodeValidities.{node_validity, joined}
+use Rattle.vx_tree.proofs.NodeValiditiesLemmas.{array_sized, slice_well, filter_well, own_sized, child_sized, masked_told, function_told}
 use Rattle.vx_tree.proofs.array.node.ArrayRef.+validity.Goals as goal
 
 pub slice_rows-requires-clause-bounds : goal.slice_rows-requires-clause-bounds
@@ -37,3 +40,13 @@ returns-in-ScalarFn-clause-ok t c =
     let nullable : is_nullable (nullability_of (dtype c.args.self.now)) ≡ true = grind (arith, common_steps) in
     let is = function_told c.args.self.now f ss c.in-ScalarFn.ensures.0 nullable in
     IfOk-weaker c.test_lazily.result _ _ (λ v e. e ∙ is) c.test_lazily.ensures.ok
+
+pub returns-in_ok-validity-in-Masked-clause-ok : goal.returns-in_ok-validity-in-Masked-clause-ok
+returns-in_ok-validity-in-Masked-clause-ok t c =
+    let child = c.in-Masked.child.now in
+    let own = c.in-Masked.own.now in
+    let is = masked_told c.args.self.now child own c.in-Masked.ensures.0 in
+    let same : joined c.len-len.result c.in_ok-slot_validity-in-Masked.field-0 c.in_ok-validity-in-Masked.field-0
+    ≡ joined (len c.args.self.now) (validity_of Nullable own) (node_validity child) =
+    λ i. joined (c.len-len.ensures i) (c.in_ok-slot_validity-in-Masked.ensures.ok i) (c.in_ok-validity-in-Masked.ensures.ok i) in
+    IfOk-weaker c.join.result _ _ (λ v e. e ∙ same ∙ is) c.join.ensures.ok

@@ -5,8 +5,8 @@ use Rattle.std.specs.Prelude.{IsErrAnd}
 use Rattle.vx_value.specs.declared.error.VortexError.{VortexError}
 use Rattle.vx_tree.specs.Tree.{Tree, slots_of}
 use Rattle.vx_tree.specs.Well.{shapes}
-use Rattle.vx_tree.specs.Refusals.{arity_refusal, lengths_refusal, column_type_refusal, types_in}
-use Rattle.vx_tree.proofs.CallsLemmas.{call_lengths_refused, call_type_refused, call_taken, call_made, call_is_node}
+use Rattle.vx_tree.specs.Refusals.{arity_refusal, lengths_refusal, types_in}
+use Rattle.vx_tree.proofs.CallsLemmas.{call_lengths_refused, call_taken, call_made, call_is_node}
 use Rattle.vx_tree.proofs.arrays.scalar_fn.ScalarFnArray.try_new_with_len.Goals as goal
 
 -- what `?` hands on
@@ -22,20 +22,6 @@ returns-in_err-check_lengths-clause-refused c =
     let long : lengths_refusal c.args.len (shapes ss) ≡ Some e = search rules in
     handed_on c.from_residual-in_err-check_lengths.result e _ c.from_residual-in_err-check_lengths.ensures.1
     (inr (call_lengths_refused c.args.scalar_fn c.args.children.items c.args.len ss c.in_ok-slots.ensures e count long))
-
-pub returns-in_err-check_column_type-clause-refused : goal.returns-in_err-check_column_type-clause-refused
-returns-in_err-check_column_type-clause-refused c =
-    let ss = slots_of c.in_ok-slots.slots.items in
-    let ty = type_of c.in_ok-dtype.dtype in
-    let tys = map type_of c.in_ok-types.types.items in
-    let e = c.in_err-check_column_type.field-0.0 in
-    let count : arity_refusal c.args.scalar_fn (length c.args.children.items) ≡ None = search rules in
-    let long : lengths_refusal c.args.len (shapes ss) ≡ None = search rules in
-    let typed : tys ≡ types_in (shapes ss) = search rules in
-    let row : return_type c.args.scalar_fn tys ≡ Some ty = search rules in
-    let column : column_type_refusal ty ≡ Some e = search rules in
-    handed_on c.from_residual-in_err-check_column_type.result e _ c.from_residual-in_err-check_column_type.ensures.1
-    (inr (call_type_refused c.args.scalar_fn c.args.children.items c.args.len ss c.in_ok-slots.ensures tys typed ty e count long row column))
 
 pub returns-clause-ok : goal.returns-clause-ok
 returns-clause-ok c =
@@ -54,8 +40,7 @@ returns-clause-valid c =
     let long : lengths_refusal c.args.len (shapes ss) ≡ None = search rules in
     let typed : tys ≡ types_in (shapes ss) = search rules in
     let row : return_type c.args.scalar_fn tys ≡ Some (type_of c.in_ok-dtype.dtype) = search rules in
-    let column : column_type_refusal (type_of c.in_ok-dtype.dtype) ≡ None = search rules in
-    call_taken c.args.scalar_fn c.args.children.items c.args.len ss c.in_ok-slots.ensures tys typed (type_of c.in_ok-dtype.dtype) count long row column
+    call_taken c.args.scalar_fn c.args.children.items c.args.len ss c.in_ok-slots.ensures tys typed (type_of c.in_ok-dtype.dtype) count long row
 
 pub from_parts_unchecked-requires : goal.from_parts_unchecked-requires
 from_parts_unchecked-requires c =
@@ -64,5 +49,4 @@ from_parts_unchecked-requires c =
     let long : lengths_refusal c.args.len (shapes ss) ≡ None = search rules in
     let typed : tys ≡ types_in (shapes ss) = search rules in
     let row : return_type c.args.scalar_fn tys ≡ Some (type_of c.in_ok-dtype.dtype) = search rules in
-    let column : column_type_refusal (type_of c.in_ok-dtype.dtype) ≡ None = search rules in
-    call_is_node c.args.scalar_fn c.args.children.items c.args.len ss c.in_ok-slots.ensures tys typed (type_of c.in_ok-dtype.dtype) long row column
+    call_is_node c.args.scalar_fn c.args.children.items c.args.len ss c.in_ok-slots.ensures tys typed (type_of c.in_ok-dtype.dtype) long row

@@ -1,0 +1,117 @@
+//! Columns of nulls.
+
+ghost use Rattle.std.specs.Prelude.{◌≡◌, ◌≤◌, IfOk, IfErr, option_map, refl};
+ghost use Rattle.vx_value.specs.declared.id.Id.TheVariants as id;
+ghost use Rattle.vx_tree.specs.Tree.{len, nulls, nulls_of, slice_of, is_nulls};
+ghost use Rattle.vx_tree.specs.Keeps.{KeepsExactly};
+ghost use Rattle.vx_tree.specs.Columns.{null_column};
+
+use crate::array::{Array, ArrayId, ArrayParts, Encoded, Encoding, EncodingVariant, VTable};
+use crate::arrays::payload;
+use crate::arrays::scalar_fn_validity::EmptyArrayData;
+use crate::arrays::types::is_same_type;
+use crate::canonical::Canonical;
+use std::alloc::Global;
+use std::ops::Range;
+use vx_value::{ArgKind, DType, Id, VortexError, VortexResult};
+
+/// The tag of the null encoding.
+#[derive(Clone, Copy, Debug)]
+pub struct Null;
+
+/// A column of type `Null`: each row is null.
+pub type NullArray = Array<Null>;
+
+impl VTable for Null {
+    ghost named = { λ _. id.Null };
+
+    fn id(&self) -> ArrayId {
+        Id::Null
+    }
+
+    fn tag(_payload: &EmptyArrayData) -> Null {
+        Null
+    }
+
+    #[tactic(auto, using(crate::proofs::RefusalsLemmas::nulls_slot_count, std::proofs::lemmas::List::nil_from_length))]
+    fn validate(_alloc: Global, parts: &ArrayParts<Null>) -> VortexResult<()> {
+        if parts.slots.len() != 0 {
+            return Err(VortexError::InvalidArgument(ArgKind::SlotCount));
+        }
+        if is_same_type(&parts.dtype, &DType::Null) {
+            Ok(())
+        } else {
+            Err(VortexError::InvalidArgument(ArgKind::BadType))
+        }
+    }
+}
+
+impl NullArray {
+    /// Makes the column of `len` nulls. The only error is `OutOfMemory`.
+    pub fn new(alloc: Global, len: usize) -> VortexResult<NullArray>
+        ensures ok { IfOk result (λ a. a ≡ nulls_of len) }
+        ensures err { IfErr result (λ e. e ≡ VortexError.OutOfMemory) }
+    {
+        let parts = ArrayParts::new(Null, DType::Null, len, EmptyArrayData, Vec::new(alloc));
+        Ok(Array::from_parts_unchecked(alloc, parts)?)
+    }
+
+    /// Returns the rows in `range`, which must be in order and in bounds. The only error is `OutOfMemory`. (own)
+    pub(crate) fn slice(&self, alloc: Global, range: Range<usize>) -> VortexResult<NullArray>
+        requires { (range.start ≤ range.end) × (range.end ≤ len self.now) }
+        ensures ok { IfOk result (λ a. KeepsExactly (slice_of range.start range.end self.now) a) }
+        ensures err { IfErr result (λ e. e ≡ VortexError.OutOfMemory) }
+    {
+        let _nulls = self.data();
+        self.as_array().well();
+        NullArray::new(alloc, range.end - range.start)
+    }
+}
+
+impl Canonical {
+    /// Returns the column if it is one of nulls, else `None`.
+    pub fn as_null(&self) -> Option<&NullArray>
+        ensures { option_map (λ c. c.now) result ≡ null_column self.now }
+    {
+        if let Canonical::Null(column) = self {
+            Some(column)
+        } else {
+            None
+        }
+    }
+
+    /// Returns the column by value if it is one of nulls, else `None`.
+    pub fn into_null(self) -> Option<NullArray>
+        ensures { result ≡ null_column self }
+    {
+        if let Canonical::Null(column) = self {
+            Some(column)
+        } else {
+            None
+        }
+    }
+}
+
+impl Encoded for Null {
+    type TypedArrayData = EmptyArrayData;
+}
+
+impl EncodingVariant for Null {
+    fn wrap(payload: EmptyArrayData) -> Encoding {
+        Encoding::Null(payload)
+    }
+
+    ghost stands_for = { λ _. nulls };
+
+    ghost is_kind = { is_nulls };
+
+    fn project(encoding: &Encoding) -> Option<&EmptyArrayData> {
+        payload!(encoding, Null)
+    }
+
+    fn into_data(encoding: Encoding) -> Option<EmptyArrayData> {
+        payload!(encoding, Null)
+    }
+
+    ghost kind_of = { λ d. refl };
+}
