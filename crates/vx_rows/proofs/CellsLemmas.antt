@@ -18,7 +18,7 @@ use Rattle.vx_mask.proofs.PlacesLemmas.{place_some}
 use Rattle.vx_fn.specs.Apply.{apply, on_values, value_of}
 use Rattle.vx_fn.specs.ReturnTypes.{return_type}
 use Rattle.vx_fn.specs.declared.function.ScalarFnRef.{ScalarFnRef}
-use Rattle.vx_tree.specs.Tree.{Tree, Data, node, function, bool, column, constant_of, slots_of, dtype, len, height, slots_height, slice_of, filter_of, masked_of, validity_in, decimals}
+use Rattle.vx_tree.specs.Tree.{Tree, Data, node, function, bool, column, nulls_of, constant_of, slots_of, dtype, len, height, slots_height, slice_of, filter_of, masked_of, validity_in, decimals}
 use Rattle.vx_tree.specs.Cells.{row_at, rows, node_cells, cells_at, slots_rows, valid_cell, valid_cells, shown_cell}
 use Rattle.vx_tree.specs.Well.{shape, shapes, IsNode, IsWell}
 use Rattle.vx_tree.proofs.CellsLemmas.{rows_counted}
@@ -56,11 +56,17 @@ slice_row t c a b i e h =
 
 -- ---- of a constant
 
+constant_row_of : (t : Tree) (v : Value) (i : ℕ) → rows t ≡ replicate (len t) (value v) → i < len t → slice_get (rows t) i ≡ Some (value v)
+constant_row_of t v i e h =
+    let copies = replicate (len t) (value v) in
+    let long = length-replicate (len t) (value v) in
+    ap (λ cs. slice_get cs i) e ∙ slice_get-get_or copies i fault (omega (arith, long)) ∙ ap Some (get_or-replicate (len t) i (value v) fault h)
+
 pub constant_row : (t : Tree) (s : Typed) (i : ℕ) → t ≡ constant_of s (len t) → i < len t → slice_get (rows t) i ≡ Some (value s.value)
-constant_row t s i e h =
-    let copies = replicate (len t) (value s.value) in
-    let long = length-replicate (len t) (value s.value) in
-    ap (λ u. slice_get (rows u) i) e ∙ slice_get-get_or copies i fault (omega (arith, long)) ∙ ap Some (get_or-replicate (len t) i (value s.value) fault h)
+constant_row t s i e h = constant_row_of t s.value i (ap rows e) h
+
+pub nulls_row : (t : Tree) (i : ℕ) → t ≡ nulls_of (len t) → i < len t → slice_get (rows t) i ≡ Some (value null)
+nulls_row t i e h = constant_row_of t null i (ap rows e) h
 
 -- ---- of a filter
 

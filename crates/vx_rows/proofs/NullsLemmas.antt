@@ -1,12 +1,12 @@
 -- Columns with their validities as arguments.
 use Rattle.std.specs.Prelude.{slice_get}
-use Rattle.std.proofs.lemmas.List.{length-map}
+use Rattle.std.proofs.lemmas.List.{length-map, length-replicate}
 use Rattle.std.proofs.lemmas.Option.{slice_get-get_or}
 use Rattle.vx_value.specs.declared.error.VortexError.{VortexError}
 use Rattle.vx_value.specs.declared.error.VortexError.TheVariants.{OutOfMemory, Fault}
 use Rattle.vx_rows.proofs.CellsLemmas.{row_told}
 use Rattle.vx_rows.proofs.ValidRowsLemmas.{one_slot}
-use Rattle.std.proofs.Common.{◌≡◌, ◌⊎◌, inl, inr, ◌<◌, ℕ, zero, suc, ℤ, pos, List, [], ◌∷◌, map, length, get_or, Bool, true, false, Option, Some, None, refl, sym, ap, subst, ◌∙◌, arith}
+use Rattle.std.proofs.Common.{◌≡◌, ◌⊎◌, inl, inr, ◌<◌, ℕ, zero, suc, ℤ, pos, List, [], ◌∷◌, map, length, replicate, get_or, Bool, true, false, Option, Some, None, refl, sym, ap, subst, ◌∙◌, arith}
 use Rattle.std.proofs.Math.Bool.{not}
 use Rattle.std.proofs.lemmas.List.{get_or-map, get_or-replicate}
 use Rattle.std.specs.Cmp.{unsigned_Decides}
@@ -25,7 +25,7 @@ use Rattle.vx_value.specs.declared.dtype.Nullability.TheVariants.{NonNullable, N
 use Rattle.vx_value.specs.declared.dtype.PType.{PType}
 use Rattle.vx_tree.specs.Tree as enc
 use Rattle.vx_tree.specs.ColumnTypes.{bytes_type, are_bytes_of, are_decimals_of, scale_of}
-use Rattle.vx_tree.specs.Tree.{Tree, Data, slots_of, dtype, len, column, constant_of}
+use Rattle.vx_tree.specs.Tree.{Tree, Data, slots_of, dtype, len, column, nulls_of, constant_of}
 use Rattle.vx_tree.specs.Cells.{rows, slots_rows, node_cells, cells_at, valid_cells}
 use Rattle.vx_tree.specs.Well.{Shape, shape, shape_of, shapes, IsValidity, IsFlat, IsNodeOf}
 use Rattle.vx_tree.specs.Validities.{nullability_by, array_refusal, flat_refusal, bytes_refusal, HasRows, decimal_refusal}
@@ -37,7 +37,7 @@ use Rattle.vx_tree.proofs.ConditionsLemmas.{none_refused, none_unless}
 use Rattle.vx_mask.specs.Logic.{bit_row}
 use Rattle.vx_mask.specs.Operands.{bit_in, HasBits}
 use Rattle.vx_mask.specs.declared.operand.BitOperand.{BitOperand}
-use Rattle.vx_rows.specs.Arguments.{IsArgument, IsUnread, AreUnread, IsRepeated, AreStored, IsInRange, HasIntegers, type_of_rows, value_at, ptype_in, integer_in, bytes_in, AreBytes, stored_decimals, unscaled_at, HasDecimals}
+use Rattle.vx_rows.specs.Arguments.{IsArgument, IsUnread, AreUnread, IsRepeated, AreStored, AreShown, IsInRange, HasIntegers, type_of_rows, value_at, ptype_in, integer_in, bytes_in, AreBytes, stored_decimals, unscaled_at, HasDecimals}
 use Rattle.vx_rows.specs.Nulls.{validity_cells}
 use Rattle.vx_rows.specs.ValidRows.{is_valid, HasValidity, nullability_in, AreTold, TellsRows, IsRepeatedValidity, null_unless}
 use Rattle.vx_rows.specs.declared.argument.ArgumentRows.{ArgumentRows}
@@ -45,6 +45,7 @@ use Rattle.vx_rows.specs.declared.argument.ArgumentRows.TheVariants as stored
 use Rattle.vx_rows.specs.declared.argument.BytesOperand.{BytesOperand}
 use Rattle.vx_rows.specs.declared.argument.IntegerOperand.{IntegerOperand}
 use Rattle.vx_rows.specs.declared.valid.ValidRows.{ValidRows}
+use Rattle.vx_rows.specs.declared.valid.ValidRows.TheVariants as rows_valid
 use Rattle.vx_value.specs.Values as of
 use Rattle.vx_value.specs.declared.decimal.DecimalDType.{DecimalDType}
 use Rattle.vx_value.specs.declared.decimal.DecimalType.{DecimalType}
@@ -153,7 +154,7 @@ module _ (c : Columnar) (v : Option Tree) (valid : ValidRows) (told : AreTold (l
         typed = flat.1 ∙ ap bool (sym same);
         shown = λ i lt. rows_by boolean false enc.bool (λ n xs css. refl) bits (sym flat.2) is_column i lt
             ∙ ap (λ b. null_unless (is_valid valid i) (value (boolean b))) (sym (read i));
-        sized = (rows_of (len (columnar_tree c)) (sym flat.2), sized);
+        sized = (rows_of (len (columnar_tree c)) (sym flat.2), sized, tt);
       }
 
   pub integers_argument : (zs : IntegerOperand) (p : PType) (ws : List ℤ) → ptype_in zs ≡ p → ((i : ℕ) → integer_in zs i ≡ get_or ws i (pos 0))
@@ -166,7 +167,7 @@ module _ (c : Columnar) (v : Option Tree) (valid : ValidRows) (told : AreTold (l
         typed = sym typed;
         shown = λ i lt. rows_by integer (pos 0) (enc.primitive p) (λ n xs css. refl) ws (sym flat.2) is_column i lt
             ∙ ap (λ z. null_unless (is_valid valid i) (value (integer z))) (sym (read i));
-        sized = (((refl, there.0, there.1, ap storage_of (typed ∙ flat.1) ∙ ap storage.Integers (sym kind)), ap nullability_of typed ∙ sym same), sized);
+        sized = (((refl, there.0, there.1, ap storage_of (typed ∙ flat.1) ∙ ap storage.Integers (sym kind)), ap nullability_of typed ∙ sym same), sized, tt);
       }
 
   pub decimals_argument : (d : DecimalDType) (ds : DecimalRows) (w : DecimalType) (zs : List ℤ) (m : Nullability) → ((i : ℕ) → unscaled_at ds i ≡ get_or zs i (pos 0))
@@ -182,7 +183,7 @@ module _ (c : Columnar) (v : Option Tree) (valid : ValidRows) (told : AreTold (l
         shown = λ i lt. rows_by (λ z. of.decimal z (scale_of (storage_of (dtype t)))) (pos 0) (enc.decimals w) (λ n xs css. refl) zs (sym flat.0.2) is_column i lt
             ∙ ap (λ z. null_unless (is_valid valid i) (value (of.decimal z (scale_of (storage_of (dtype t)))))) (sym (read i))
             ∙ ap (λ st. null_unless (is_valid valid i) (value (of.decimal (unscaled_at ds i) (scale_of st)))) kind;
-        sized = (rows_of (len t) (sym flat.0.2) (ap (λ st. are_decimals_of st w zs) (sym kind) ∙ flat.1), sized);
+        sized = (rows_of (len t) (sym flat.0.2) (ap (λ st. are_decimals_of st w zs) (sym kind) ∙ flat.1), sized, tt);
       }
 
   pub bytes_argument : (bs : BytesOperand) (rs : List (List ℕ)) → ((i : ℕ) → bytes_in bs i ≡ get_or rs i []) → bs.storage ≡ storage_of (dtype (columnar_tree c))
@@ -195,7 +196,7 @@ module _ (c : Columnar) (v : Option Tree) (valid : ValidRows) (told : AreTold (l
         typed = flat.0.1 ∙ (λ i. with_nullability (sym same i) (bytes_type (sym kind i)));
         shown = λ i lt. rows_by bytes [] enc.views (λ n xs css. refl) rs (sym flat.0.2) is_column i lt
             ∙ ap (λ r. null_unless (is_valid valid i) (value (bytes r))) (sym (read i));
-        sized = (rows_of (len t) (sym flat.0.2) (ap (λ st. are_bytes_of st rs) kind ∙ flat.1), sized);
+        sized = (rows_of (len t) (sym flat.0.2) (ap (λ st. are_bytes_of st rs) kind ∙ flat.1), sized, tt);
       }
 
 -- a fault in the validity is one in the column
@@ -226,6 +227,35 @@ null_is : (v : Value) → is_null v ≡ true → v ≡ null
 null_is null h = refl
 null_is _ h = absurd (cc)
 
+-- a value of type null isn't shown
+repeated_shown : (s : Typed) (a : ArgumentRows) (valid : ValidRows) (n : ℕ) → ((i : ℕ) → is_null s.value ≡ false → value_at a i ≡ s.value)
+    → ((i : ℕ) → is_valid valid i ≡ not (is_null s.value)) → AreShown a valid n
+repeated_shown s stored.Nulls valid n shown told = λ i lt. told i ∙ none i (is_null s.value) refl
+  where
+    none : (i : ℕ) (b : Bool) → is_null s.value ≡ b → not (is_null s.value) ≡ false
+    none i true e = ap not e
+    none i false e = ap (λ v. not (is_null v)) (sym (shown i e))
+repeated_shown s (stored.Bits bs) valid n shown told = tt
+repeated_shown s (stored.Integers zs) valid n shown told = tt
+repeated_shown s (stored.Decimals ds) valid n shown told = tt
+repeated_shown s (stored.Bytes bs) valid n shown told = tt
+
+null_always : (b : Bool) → value null ≡ null_unless b (value null)
+null_always true = refl
+null_always false = refl
+
+-- a column of type null, none of whose rows is valid
+pub nulls_argument : (c : Columnar) (bits : List Bool) (t : Tree) → t ≡ columnar_tree c → t ≡ nulls_of (len t) → bits ≡ replicate (len (columnar_tree c)) false
+    → IsArgument c (record { rows = stored.Nulls; valid = rows_valid.Bits bits })
+nulls_argument c bits t same h e =
+    let n = len (columnar_tree c) in
+    let is : columnar_tree c ≡ nulls_of n = subst (λ u. u ≡ nulls_of (len u)) same h in
+    record {
+      typed = ap dtype is;
+      shown = λ i lt. ap (λ u. get_or (rows u) i fault) is ∙ get_or-replicate n i (value null) fault lt ∙ null_always (bit_row bits i);
+      sized = (refl, ap length e ∙ length-replicate n false, λ i lt. ap (λ bs. bit_row bs i) e ∙ get_or-replicate n i false false lt);
+    }
+
 pub constant_argument : (c : Columnar) (s : Typed) (a : ArgumentRows) (valid : ValidRows) → columnar_tree c ≡ constant_of s (len (columnar_tree c)) → IsRepeated s a
     → IsRepeatedValidity s (len (columnar_tree c)) valid → IsArgument c (record { rows = a; valid = valid })
 constant_argument c s a valid is stored valids =
@@ -234,7 +264,7 @@ constant_argument c s a valid is stored valids =
       typed = ap dtype is ∙ sym stored.typed ∙ ap (λ m. type_of_rows m a) (sym valids.1);
       shown = λ i lt. ap (λ t. get_or (rows t) i fault) is ∙ get_or-replicate n i (value s.value) fault lt ∙ one i (is_null s.value) refl
           ∙ ap (λ b. null_unless b (value (value_at a i))) (sym (valids.2 i));
-      sized = (subst (λ m. AreStored m a n) (sym valids.1) (stored.sized n), valids.0);
+      sized = (subst (λ m. AreStored m a n) (sym valids.1) (stored.sized n), valids.0, repeated_shown s a valid n stored.shown valids.2);
     }
   where
     one : (i : ℕ) (b : Bool) → is_null s.value ≡ b → value s.value ≡ null_unless (not (is_null s.value)) (value (value_at a i))

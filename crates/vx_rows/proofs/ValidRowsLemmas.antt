@@ -25,7 +25,7 @@ use Rattle.vx_rows.specs.declared.valid.ValidRows.TheVariants as rows_valid
 -- ---- the validity of bits
 
 truths_well : (b : Bool) (n : ℕ) → IsWell (truths b n)
-truths_well b n = ((refl, refl, refl, refl), tt)
+truths_well b n = ((refl, refl, refl), tt)
 
 booleans_well : (bits : List Bool) → IsWell (booleans bits)
 booleans_well bits = ((None, refl, refl, refl, tt), tt)

@@ -2,7 +2,7 @@
 use Rattle.std.specs.Prelude.{◌≡◌, ◌⊎◌, ◌<◌, ℕ, ℤ, pos, List, [], ◌∷◌, map, length, true, false, Option, Some, None, slice_index_or, slice_get}
 use Rattle.vx_value.specs.Types as type
 use Rattle.vx_value.specs.Types.{DataType, nullability_of}
-use Rattle.vx_value.specs.Values.{Value, boolean, integer, decimal, bytes}
+use Rattle.vx_value.specs.Values.{Value, null, boolean, integer, decimal, bytes}
 use Rattle.vx_value.specs.Cell.{Cell, value, fault}
 use Rattle.vx_value.specs.View.{type_of}
 use Rattle.vx_value.specs.Storage.{storage_of}
@@ -12,7 +12,7 @@ use Rattle.vx_value.specs.Nullabilities.{with_nullability}
 use Rattle.vx_value.specs.Typed.{Typed}
 use Rattle.vx_value.specs.IsOf.{in_range, is_null}
 use Rattle.vx_value.specs.declared.dtype.Nullability.{Nullability}
-use Rattle.vx_value.specs.declared.dtype.Nullability.TheVariants.{NonNullable}
+use Rattle.vx_value.specs.declared.dtype.Nullability.TheVariants.{NonNullable, Nullable}
 use Rattle.vx_value.specs.declared.error.VortexError.{VortexError}
 use Rattle.vx_value.specs.declared.error.VortexError.TheVariants.{OutOfMemory, Fault}
 use Rattle.vx_value.specs.declared.dtype.PType.{PType}
@@ -38,6 +38,7 @@ use Rattle.vx_rows.specs.declared.argument.BytesRows.TheVariants as bytes_rows
 use Rattle.vx_rows.specs.declared.argument.Argument.{Argument}
 use Rattle.vx_rows.specs.declared.argument.ArgumentRows.{ArgumentRows}
 use Rattle.vx_rows.specs.declared.argument.ArgumentRows.TheVariants as stored
+use Rattle.vx_rows.specs.declared.valid.ValidRows.{ValidRows}
 use Rattle.vx_rows.specs.ValidRows.{is_valid, HasValidity, nullability_in, null_unless}
 
 -- the integer at row i, or 0 past the last one
@@ -113,6 +114,7 @@ AreBytes bs = HasBytes bs.storage bs.rows
 
 -- the value that is stored in row i, also if the row is null: a line for each storage
 abbrev pub value_at : ArgumentRows → ℕ → Value
+value_at stored.Nulls i = null
 value_at (stored.Bits bs) i = boolean (bit_in bs i)
 value_at (stored.Integers zs) i = integer (integer_in zs i)
 value_at (stored.Decimals ds) i = decimal (unscaled_in ds i) ds.decimal.scale
@@ -120,6 +122,7 @@ value_at (stored.Bytes bs) i = bytes (bytes_in bs i)
 
 -- the type of the values: a line for each storage
 abbrev pub plain_type : ArgumentRows → DataType
+plain_type stored.Nulls = type.null
 plain_type (stored.Bits bs) = type.bool NonNullable
 plain_type (stored.Integers zs) = type.primitive (ptype_in zs) NonNullable
 plain_type (stored.Decimals ds) = type.decimal ds.decimal.precision ds.decimal.scale NonNullable
@@ -127,6 +130,7 @@ plain_type (stored.Bytes bs) = bytes_type bs.storage
 
 -- the type of a column of them, by its nullability
 abbrev pub type_of_rows : Nullability → ArgumentRows → DataType
+type_of_rows m stored.Nulls = type.null
 type_of_rows m (stored.Bits bs) = type.bool m
 type_of_rows m (stored.Integers zs) = type_of zs.dtype.now
 type_of_rows m (stored.Decimals ds) = type.decimal ds.decimal.precision ds.decimal.scale m
@@ -134,6 +138,7 @@ type_of_rows m (stored.Bytes bs) = with_nullability m (bytes_type bs.storage)
 
 -- there are n of them, in a column of this nullability
 abbrev pub AreStored : Nullability → ArgumentRows → ℕ → Type 0
+AreStored m stored.Nulls n = m ≡ Nullable
 AreStored m (stored.Bits bs) n = HasBits bs n
 AreStored m (stored.Integers zs) n = AreIntegers (ptype_in zs) zs n × (nullability_of (type_of zs.dtype.now) ≡ m)
 AreStored m (stored.Decimals ds) n = AreDecimals ds n
@@ -141,17 +146,23 @@ AreStored m (stored.Bytes bs) n = AreBytes bs n
 
 -- there are n of them
 abbrev pub HasStored : ArgumentRows → ℕ → Type 0
+HasStored stored.Nulls n = Unit {0}
 HasStored (stored.Bits bs) n = HasBits bs n
 HasStored (stored.Integers zs) n = AreIntegers (ptype_in zs) zs n
 HasStored (stored.Decimals ds) n = AreDecimals ds n
 HasStored (stored.Bytes bs) n = AreBytes bs n
+
+-- of n rows, none of type null is valid
+abbrev pub AreShown : ArgumentRows → ValidRows → ℕ → Type 0
+AreShown stored.Nulls valid n = (i : ℕ) → i < n → is_valid valid i ≡ false
+AreShown _ valid n = Unit {0}
 
 abbrev pub type_of_argument : Argument → DataType
 type_of_argument a = type_of_rows (nullability_in a.valid) a.rows
 
 -- it has n rows
 abbrev pub IsSized : ℕ → Argument → Type 0
-IsSized n a = AreStored (nullability_in a.valid) a.rows n × HasValidity a.valid n
+IsSized n a = AreStored (nullability_in a.valid) a.rows n × HasValidity a.valid n × AreShown a.rows a.valid n
 
 -- the cell at row i
 abbrev pub cell_at : Argument → ℕ → Cell

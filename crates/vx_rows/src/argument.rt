@@ -2,7 +2,6 @@
 
 ghost use Rattle.std.specs.Prelude.{◌≡◌, ◌<◌, ℕ, IfOk, IfErr, true, Some};
 ghost use Rattle.std.specs.List.{AllZip};
-ghost use Rattle.vx_tree.specs.ColumnTypes.{has_column};
 ghost use Rattle.vx_tree.specs.Columns.{columnar_tree};
 ghost use Rattle.vx_tree.specs.Cells.{rows};
 ghost use Rattle.vx_rows.specs.Arguments.{IsArgument, IsUnread, IsRepeated, AreUnread, AnyUnread, AreBytes, ptype_in, bytes_in, unscaled_of};
@@ -28,6 +27,8 @@ pub struct Argument<'a> {
 /// The rows of an argument, by how they are stored: a column, or one value for every row. Null rows store a value too.
 #[derive(Clone, Copy)]
 pub enum ArgumentRows<'a> {
+    /// Nothing: each row is null.
+    Nulls,
     Bits(BitOperand<'a>),
     Integers(IntegerOperand<'a>),
     Decimals(DecimalOperand<'a>),
@@ -115,6 +116,10 @@ pub fn argument_of(alloc: Global, column: &Columnar) -> VortexResult<Argument<'_
     let dtype = column.dtype();
     let len = column.len();
     match column.as_array().kind() {
+        ArrayKind::Null => Ok(Argument {
+            rows: ArgumentRows::Nulls,
+            valid: ValidRows::Bits(BitBuffer::repeat(alloc, false, len)?),
+        }),
         ArrayKind::Bool(bits, validity) => {
             match valid_rows(alloc, validity, dtype.nullability(), len) {
                 Ok(valid) => Ok(Argument {
@@ -183,14 +188,14 @@ fn bytes_of(storage: Storage, rows: BytesRows<'_>) -> ArgumentRows<'_>
     ArgumentRows::Bytes(BytesOperand { storage, rows })
 }
 
-/// Returns the rows of a constant, each `scalar`; `false`, 0 or no bytes stand under a null.
+/// Returns the rows of a constant, each `scalar`; `false`, 0 or no bytes stand under a null. (own)
 #[tactic(auto, using(crate::proofs::StoredLemmas::stored_integer))]
-fn repeated_rows(scalar: &Scalar) -> ArgumentRows<'_>
-    requires { has_column scalar.now.of_type ≡ true }
+pub fn repeated_rows(scalar: &Scalar) -> ArgumentRows<'_>
     ensures { IsRepeated scalar.now result }
 {
     let dtype = scalar.dtype();
     match dtype.storage() {
+        Storage::Nulls => ArgumentRows::Nulls,
         Storage::Bits => ArgumentRows::Bits(BitOperand::Bit(scalar.as_bool().unwrap_or(false))),
         Storage::Integers(ptype) => {
             let wide = scalar.as_integer().unwrap_or(0);
@@ -206,7 +211,6 @@ fn repeated_rows(scalar: &Scalar) -> ArgumentRows<'_>
             let bytes = scalar.as_bytes().unwrap_or(&[]);
             bytes_of(dtype.storage(), BytesRows::Value(bytes))
         }
-        _ => unreachable!(),
     }
 }
 

@@ -5,11 +5,12 @@
 mod argument;
 mod column;
 mod probe;
+mod reader;
 mod valid;
 
 pub use argument::{
     Argument, ArgumentRows, BytesOperand, BytesRows, DecimalOperand, DecimalRows, IntegerOperand,
-    IntegerRows, argument_of, arguments_of, unscaled_of,
+    IntegerRows, argument_of, arguments_of, repeated_rows, unscaled_of,
 };
 pub use column::{bool_column, decimal_column, primitive_column, varbinview_column};
 pub use probe::{execute_scalar, truths_in};

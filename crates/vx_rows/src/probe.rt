@@ -117,6 +117,7 @@ fn scalar_at(alloc: Global, array: &ArrayRef, index: usize) -> VortexResult<Scal
 {
     let dtype = array.dtype();
     match array.kind() {
+        ArrayKind::Null => Ok(Scalar::null(DType::Null)),
         ArrayKind::Bool(bits, validity) => {
             unless_null(alloc, validity, index, bool_at(bits, index, dtype))
         }

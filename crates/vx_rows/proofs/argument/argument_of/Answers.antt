@@ -1,4 +1,4 @@
-use Rattle.std.proofs.Common.{refl, sym, ap, subst, ◌∙◌, ◌≡◌, true}
+use Rattle.std.proofs.Common.{refl, sym, ap, subst, ◌∙◌, ◌≡◌, replicate, true, false}
 use Rattle.vx_value.specs.Types.{nullability_of}
 use Rattle.vx_value.specs.Storage.{storage_of}
 use Rattle.vx_value.specs.Values.{boolean, integer, decimal, bytes}
@@ -15,10 +15,16 @@ use Rattle.vx_rows.specs.ValidRows.{HasValidity, AreTold}
 use Rattle.vx_rows.specs.declared.argument.BytesRows.TheVariants.{Rows as RowsOfBytes}
 use Rattle.vx_rows.specs.declared.argument.DecimalRows.TheVariants.{Rows as RowsOfDecimals}
 use Rattle.vx_rows.specs.declared.argument.IntegerRows.TheVariants.{Rows}
-use Rattle.vx_rows.proofs.NullsLemmas.{booleans_argument, integers_argument, decimals_argument, bytes_argument, column_unread}
+use Rattle.vx_rows.proofs.NullsLemmas.{nulls_argument, booleans_argument, integers_argument, decimals_argument, bytes_argument, column_unread}
 use Rattle.vx_rows.proofs.argument.argument_of.Goals as goal
 use Rattle.vx_value.specs.View.{type_of}
 use Rattle.vx_rows.proofs.StoredLemmas.{decimal_typed}
+
+pub returns-in_ok-repeat-in-Null-clause-ok : goal.returns-in_ok-repeat-in-Null-clause-ok
+returns-in_ok-repeat-in-Null-clause-ok c =
+    let bits = c.in_ok-repeat-in-Null.field-0 in
+    nulls_argument c.args.column.now bits c.as_array.result.now c.as_array.ensures.of c.in-Null.ensures
+    (c.in_ok-repeat-in-Null.ensures ∙ ap (λ n. replicate n false) c.len-len.ensures)
 
 pub returns-in-Ok-clause-ok : goal.returns-in-Ok-clause-ok
 returns-in-Ok-clause-ok c =

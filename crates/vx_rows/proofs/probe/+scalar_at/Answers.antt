@@ -8,8 +8,13 @@ use Rattle.vx_value.specs.View.{type_of}
 use Rattle.vx_native.specs.DecimalNumbers.{numbers_of, decimal_type_of}
 use Rattle.vx_tree.specs.Tree.{slots_of, height, slots_height, dtype, len}
 use Rattle.vx_rows.proofs.ArgumentsLemmas.{zipped_more}
-use Rattle.vx_rows.proofs.CellsLemmas.{IsRead, IsBelow, all_read, slice_row, child_below, child_faulted, function_taken, function_row, function_faulted, row_told, row_known, bits_row, constant_row, filter_row, filter_place, shown_row, shown_fault, masked_fault, decimal_row, IfOk-both}
+use Rattle.vx_rows.proofs.CellsLemmas.{IsRead, IsBelow, all_read, slice_row, child_below, child_faulted, function_taken, function_row, function_faulted, row_told, row_known, bits_row, nulls_row, constant_row, filter_row, filter_place, shown_row, shown_fault, masked_fault, decimal_row, IfOk-both}
 use Rattle.vx_rows.proofs.probe.+scalar_at.Goals as goal
+
+pub scalar_at-returns-in-Null-clause-ok : goal.scalar_at-returns-in-Null-clause-ok
+scalar_at-returns-in-Null-clause-ok t c =
+    let e = c.in-Null.ensures in
+    rw c.null.ensures (nulls_row c.args.array.now c.args.index e c.requires, sym (ap dtype e))
 
 pub scalar_at-returns-in-Slice-clause-ok : goal.scalar_at-returns-in-Slice-clause-ok
 scalar_at-returns-in-Slice-clause-ok t c =
