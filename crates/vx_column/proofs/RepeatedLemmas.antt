@@ -40,7 +40,6 @@ use Rattle.vx_rows.proofs.StoredLemmas.{column_of_bytes, stored_boolean, stored_
 use Rattle.vx_column.specs.Expanded.{repeated_validity}
 use Rattle.vx_value.specs.declared.decimal.DecimalDType.{DecimalDType}
 use Rattle.vx_value.specs.declared.decimal.DecimalType.{DecimalType}
-use Rattle.vx_value.specs.Decimals.{has_digits}
 use Rattle.vx_rows.specs.Arguments.{stored_decimals, unscaled_of}
 use Rattle.std.specs.List.{list_all}
 
@@ -147,13 +146,12 @@ module _ (s : Typed) (n : ℕ) (typed : is_of s.of_type s.value ≡ true) (v : V
       (λ c new. repeated_exactly (λ x. of.decimal x d.scale) (decimals w) s (λ n xs css. ap (λ ty. node_cells ty n (decimals w xs) css) stored) z n (canonical_tree c)
       (λ k. ap (λ x. of.decimal x d.scale) valued ∙ stored_decimal d.precision d.scale (nullability_of s.of_type) s.value there k) (new ∙ is)) column_made
 
--- one decimal, repeated, is of its type
-pub decimal_copies : (d : DecimalDType) (n : ℕ) (z : ℤ) → has_digits d.precision z ≡ true → list_all (has_digits d.precision) (replicate n z) ≡ true
-decimal_copies d zero z h = refl
-decimal_copies d (suc n) z h = and_from (has_digits d.precision z) _ h (decimal_copies d n z h)
+-- what passes, repeated, passes everywhere
+pub all_copies : {A : Type 0} (p : A → Bool) (n : ℕ) (x : A) → p x ≡ true → list_all p (replicate n x) ≡ true
+all_copies p zero x h = refl
+all_copies p (suc n) x h = and_from (p x) _ h (all_copies p n x h)
 
 -- one row's bytes, repeated, are of its type
 pub bytes_copies : (st : Storage) (n : ℕ) (x : List ℕ) → are_bytes_of st (x ∷ []) ≡ true → are_bytes_of st (replicate n x) ≡ true
-bytes_copies Text zero x h = refl
-bytes_copies Text (suc n) x h = and_from (is_utf8 x) _ (first_so (is_utf8 x) true h) (bytes_copies Text n x h)
+bytes_copies Text n x h = all_copies is_utf8 n x (first_so (is_utf8 x) true h)
 bytes_copies _ n x h = refl

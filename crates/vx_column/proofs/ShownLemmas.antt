@@ -1,6 +1,6 @@
 -- The column that tells which rows of another aren't null.
-use Rattle.std.proofs.Common.{◌≡◌, ◌<◌, ℕ, suc, List, [], ◌∷◌, length, map, get_or, Bool, true, false, refl, sym, ap, ◌∙◌, arith}
-use Rattle.vx_value.specs.Values.{boolean}
+use Rattle.std.proofs.Common.{◌≡◌, ◌<◌, ℕ, suc, List, [], ◌∷◌, length, map, get_or, Bool, true, false, refl, sym, ap, subst, ◌∙◌, arith}
+use Rattle.vx_value.specs.Values.{null, boolean}
 use Rattle.vx_value.specs.Cell.{Cell, value, fault}
 use Rattle.vx_mask.specs.Logic.{bit_row}
 use Rattle.vx_tree.specs.Tree.{len, booleans, validity_in}
@@ -8,18 +8,27 @@ use Rattle.vx_tree.specs.Cells.{rows, shown_cell}
 use Rattle.vx_tree.specs.Keeps.{KeepsExactly}
 use Rattle.vx_tree.specs.Columns.{columnar_tree}
 use Rattle.vx_tree.specs.declared.columnar.Columnar.{Columnar}
-use Rattle.vx_rows.specs.Arguments.{IsArgument, value_at}
+use Rattle.vx_rows.specs.Arguments.{IsArgument, AreShown, value_at}
 use Rattle.vx_rows.specs.ValidRows.{is_valid, null_unless}
+use Rattle.vx_rows.specs.declared.valid.ValidRows.{ValidRows}
 use Rattle.vx_rows.specs.declared.argument.Argument.{Argument}
 use Rattle.vx_rows.specs.declared.argument.ArgumentRows.{ArgumentRows}
 use Rattle.vx_rows.specs.declared.argument.ArgumentRows.TheVariants as stored
 use Rattle.vx_rows.proofs.KeepsLemmas.{same_exactly}
 
--- a stored value isn't null
-shown_stored : (a : ArgumentRows) (i : ℕ) (b : Bool) → shown_cell (null_unless b (value (value_at a i))) ≡ value (boolean b)
-shown_stored a i false = refl
-shown_stored (stored.Bits bs) i true = refl
-shown_stored _ i true = refl
+-- a row is valid exactly if it isn't null: of a row whose stored value isn't, whatever is said of it
+shown_by : (a : ArgumentRows) (i : ℕ) (b : Bool) → shown_cell (value (value_at a i)) ≡ value (boolean true) → shown_cell (null_unless b (value (value_at a i))) ≡ value (boolean b)
+shown_by a i true h = h
+shown_by a i false h = refl
+
+shown_stored : (a : ArgumentRows) (valid : ValidRows) (n i : ℕ) → AreShown a valid n → i < n
+    → shown_cell (null_unless (is_valid valid i) (value (value_at a i))) ≡ value (boolean (is_valid valid i))
+shown_stored stored.Nulls valid n i h lt =
+    subst (λ b. shown_cell (null_unless b (value null)) ≡ value (boolean b)) (sym (h i lt)) refl
+shown_stored (stored.Bits bs) valid n i h lt = shown_by (stored.Bits bs) i (is_valid valid i) refl
+shown_stored (stored.Integers zs) valid n i h lt = shown_by (stored.Integers zs) i (is_valid valid i) refl
+shown_stored (stored.Decimals ds) valid n i h lt = shown_by (stored.Decimals ds) i (is_valid valid i) refl
+shown_stored (stored.Bytes bs) valid n i h lt = shown_by (stored.Bytes bs) i (is_valid valid i) refl
 
 shown_cells : (cs : List Cell) (bits : List Bool) → length cs ≡ length bits
     → ((i : ℕ) → i < length cs → shown_cell (get_or cs i fault) ≡ value (boolean (bit_row bits i))) → map shown_cell cs ≡ map (λ b. value (boolean b)) bits
@@ -36,5 +45,5 @@ shown_exactly c a bits counted is long told =
     let within : (i : ℕ) → i < length (rows t) → i < len t = λ i lt. omega (arith, counted) in
     same_exactly (validity_in t) (booleans bits) refl (sym long)
     (shown_cells (rows t) bits (counted ∙ sym long)
-    (λ i lt. ap shown_cell (is.shown i (within i lt)) ∙ shown_stored a.rows i (is_valid a.valid i) ∙ ap (λ b. value (boolean b)) (sym (told i (within i lt)))))
+    (λ i lt. ap shown_cell (is.shown i (within i lt)) ∙ shown_stored a.rows a.valid (len t) i is.sized.2 (within i lt) ∙ ap (λ b. value (boolean b)) (sym (told i (within i lt)))))
     tt

@@ -1,4 +1,9 @@
+pub use Rattle.vx_value.specs.Values
+pub use Rattle.vx_value.specs.Cell
+pub use Rattle.vx_value.specs.View
+pub use Rattle.vx_value.specs.IsOf
 pub use Rattle.vx_tree.specs.Tree
+pub use Rattle.vx_tree.specs.Cells
 pub use Rattle.vx_tree.specs.Keeps
 pub use Rattle.vx_tree.specs.Columns
 pub use Rattle.vx_tree.specs.Validities
@@ -7,3 +12,5 @@ pub use Rattle.vx_rows.specs.Arguments
 pub mod Expanded
 pub mod Filtered
 pub mod Masked
+pub mod Built
+pub mod Growing

@@ -1,7 +1,6 @@
 //! Constants expanded to canonical columns.
 
-ghost use Rattle.std.specs.Prelude.{◌≡◌, true, IfOk, IfErr};
-ghost use Rattle.vx_tree.specs.ColumnTypes.{has_column};
+ghost use Rattle.std.specs.Prelude.{◌≡◌, IfOk, IfErr};
 ghost use Rattle.vx_tree.specs.Tree.{datum, constant, constant_of};
 ghost use Rattle.vx_tree.specs.Columns.{canonical_tree};
 ghost use Rattle.vx_tree.specs.Keeps.{KeepsExactly};
@@ -11,7 +10,7 @@ use std::alloc::Global;
 use vx_mask::BitBuffer;
 use vx_native::{DecimalValues, PrimitiveValues};
 use vx_rows::{bool_column, decimal_column, primitive_column, unscaled_of, varbinview_column};
-use vx_tree::{ArrayView, Canonical, Constant, Validity};
+use vx_tree::{ArrayView, Canonical, Constant, NullArray, Validity};
 use vx_value::{ByteBuffer, DType, DecimalType, Scalar, Storage, VortexError, VortexResult};
 use vx_views::BinaryViews;
 
@@ -36,7 +35,6 @@ pub fn constant_canonicalize(
 /// Makes the column of `len` rows, each `scalar`; `false`, 0 or no bytes stand under a null. The only error is `OutOfMemory`.
 #[tactic(auto, using(vx_rows::proofs::StoredLemmas::stored_integer, crate::proofs::RepeatedLemmas::repeated_rows))]
 fn repeat(alloc: Global, scalar: &Scalar, len: usize) -> VortexResult<Canonical>
-    requires { has_column scalar.now.of_type ≡ true }
     ensures ok { IfOk result (λ c. KeepsExactly (constant_of scalar.now len) (canonical_tree c)) }
     ensures err { IfErr result (λ e. e ≡ VortexError.OutOfMemory) }
 {
@@ -65,7 +63,7 @@ fn repeat(alloc: Global, scalar: &Scalar, len: usize) -> VortexResult<Canonical>
             let rows = BinaryViews::repeat(alloc, bytes, len)?;
             varbinview_column(alloc, scalar.dtype().storage(), rows, &validity)
         }
-        _ => unreachable!(),
+        Storage::Nulls => Ok(Canonical::Null(NullArray::new(alloc, len)?)),
     }
 }
 

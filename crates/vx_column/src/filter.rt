@@ -16,7 +16,7 @@ use std::alloc::Global;
 use vx_mask::Mask;
 use vx_rows::{bool_column, decimal_column, primitive_column, varbinview_column};
 use vx_tree::{
-    ArrayKind, ArrayRef, Canonical, FilterArray, IntoArray, Validity, child_to_validity,
+    ArrayKind, ArrayRef, Canonical, FilterArray, IntoArray, NullArray, Validity, child_to_validity,
 };
 use vx_value::{DType, Nullability, VortexError, VortexResult};
 
@@ -32,6 +32,7 @@ pub fn filter_canonical(alloc: Global, column: &Canonical, mask: &Mask) -> Vorte
     array.well();
     let nullability = array.dtype().nullability();
     match array.kind() {
+        ArrayKind::Null => Ok(Canonical::Null(NullArray::new(alloc, mask.true_count())?)),
         ArrayKind::Bool(bits, validity) => {
             let validity = filter_validity(alloc, validity, nullability, mask)?;
             bool_column(alloc, bits.filter(alloc, mask)?, &validity)

@@ -1,26 +1,33 @@
 //! Columns with some of their rows made null.
 
-ghost use Rattle.std.specs.Prelude.{◌≡◌, ◌∷◌, [], Some, map, IfOk, IfErr, IfSome};
-ghost use Rattle.vx_value.specs.Types.{bool};
+ghost use Rattle.std.specs.Prelude.{◌≡◌, ◌⊎◌, ◌∷◌, [], Some, map, IfOk, IfErr, IfSome};
+ghost use Rattle.vx_value.specs.Types.{bool, null};
 ghost use Rattle.vx_value.specs.Values.{boolean};
 ghost use Rattle.vx_value.specs.Cell.{value};
 ghost use Rattle.vx_fn.specs.declared.function.ScalarFnRef.TheVariants.{Binary};
-ghost use Rattle.vx_tree.specs.Tree.{len, call_of, masked_of};
+ghost use Rattle.vx_tree.specs.Tree.{dtype, len, nulls_of, call_of, masked_of};
 ghost use Rattle.vx_tree.specs.Cells.{rows};
 ghost use Rattle.vx_tree.specs.Keeps.{KeepsExactly};
 ghost use Rattle.vx_tree.specs.Columns.{canonical_tree};
 ghost use Rattle.vx_tree.specs.Validities.{nullability_by, child_of, HasRows};
 ghost use Rattle.vx_tree.specs.declared.validity.Validity.TheVariants.{Array};
+ghost use Rattle.vx_rows.specs.Arguments.{AreUnread};
 ghost use Rattle.vx_column.specs.Masked.{TellsAll, IsBoth};
 
 use std::alloc::Global;
 use vx_mask::{BitAnd, BitBuffer, BitOperand};
-use vx_rows::{ValidRows, bool_column, decimal_column, primitive_column, varbinview_column};
-use vx_tree::{ArrayKind, ArrayRef, Canonical, Validity, and_lazily, validity_to_child};
+use vx_rows::{
+    ValidRows, bool_column, decimal_column, primitive_column, truths_in, varbinview_column,
+};
+use vx_tree::{ArrayKind, ArrayRef, Canonical, NullArray, Validity, and_lazily, validity_to_child};
 use vx_value::{DType, Nullability, VortexError, VortexResult};
 
 /// Returns the rows of `column`, null where `validity` says so, as a nullable column that shares its values. `validity` must be
-/// a nullable one with a row for each of the column's. The only error is `OutOfMemory`. (own)
+/// a nullable one with a row for each of the column's. (own)
+///
+/// # Errors
+///
+/// `OutOfMemory`; `Fault` if the column is one of nulls and a row of `validity` has no value, as there is no place for it then.
 pub fn mask_validity_canonical(
     alloc: Global,
     column: &Canonical,
@@ -30,13 +37,15 @@ pub fn mask_validity_canonical(
     requires rows { HasRows validity.now (len (canonical_tree column.now)) }
     ensures ok { IfOk result (λ c. KeepsExactly (masked_of (canonical_tree column.now) (child_of validity.now (len (canonical_tree column.now))))
         (canonical_tree c)) }
-    ensures err { IfErr result (λ e. e ≡ VortexError.OutOfMemory) }
+    ensures err { IfErr result (λ e. (e ≡ VortexError.OutOfMemory) ⊎ ((dtype (canonical_tree column.now) ≡ null)
+        × AreUnread (len (canonical_tree column.now)) (child_of validity.now (len (canonical_tree column.now))) e)) }
 {
     let array = column.as_array();
     array.well();
     let len = array.len();
     let child = validity_to_child(alloc, validity, len)?;
     match array.kind() {
+        ArrayKind::Null => mask_nulls(alloc, &child, len),
         ArrayKind::Bool(bits, own) => {
             let both = both_valid(alloc, own, child, len)?;
             bool_column(alloc, bits.clone()?, &both)
@@ -57,6 +66,21 @@ pub fn mask_validity_canonical(
             varbinview_column(alloc, array.dtype().storage(), rows.clone()?, &both)
         }
         _ => unreachable!(),
+    }
+}
+
+/// Returns `len` nulls. `Fault` if a row of the validity in the slot `validity` has no value.
+fn mask_nulls(alloc: Global, validity: &Option<ArrayRef>, len: usize) -> VortexResult<Canonical>
+    requires { TellsAll len validity.now }
+    ensures ok { IfOk result (λ c. KeepsExactly (masked_of (nulls_of len) validity.now) (canonical_tree c)) }
+    ensures err { IfErr result (AreUnread len validity.now) }
+{
+    let Some(child) = validity else {
+        return Ok(Canonical::Null(NullArray::new(alloc, len)?));
+    };
+    match truths_in(alloc, child) {
+        Ok(_) => Ok(Canonical::Null(NullArray::new(alloc, len)?)),
+        Err(e) => Err(e),
     }
 }
 

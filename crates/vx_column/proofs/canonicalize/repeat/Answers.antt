@@ -3,14 +3,15 @@ use Rattle.std.specs.Prelude.{unwrap_or}
 use Rattle.std.proofs.Math.Facts.{to_z-of_z}
 use Rattle.std.specs.Int.{w128}
 use Rattle.vx_value.specs.Storage.{storage_of}
-use Rattle.vx_value.specs.declared.dtype.Storage.TheVariants.{Bits, Integers, Text, Bytes}
+use Rattle.vx_value.specs.declared.dtype.Storage.TheVariants.{Nulls, Bits, Integers, Text, Bytes}
 use Rattle.vx_value.specs.Types.{nullability_of}
 use Rattle.vx_value.specs.IsOf.{is_stored}
 use Rattle.vx_value.specs.Parts.{bytes_in}
 use Rattle.vx_tree.specs.ColumnTypes.{are_bytes_of}
 use Rattle.vx_rows.proofs.StoredLemmas.{bytes_kept, decimal_kept}
 use Rattle.vx_native.specs.Natives.{values_of, ptype_of}
-use Rattle.vx_column.proofs.RepeatedLemmas.{bools_repeated, integers_repeated, bytes_repeated, bytes_copies, decimals_repeated, decimal_copies}
+use Rattle.vx_column.proofs.RepeatedLemmas.{bools_repeated, integers_repeated, bytes_repeated, bytes_copies, decimals_repeated, all_copies}
+use Rattle.vx_column.proofs.NullsLemmas.{nulls_repeated}
 use Rattle.vx_column.proofs.canonicalize.repeat.Goals as goal
 use Rattle.vx_value.specs.View.{type_of}
 use Rattle.vx_value.specs.Decimals.{has_digits, same_width_Decides}
@@ -51,7 +52,7 @@ decimal_column-requires-clause-stored c =
     let width = (same_width_Decides _ _).1 (made.ensures.kind ∙ c.smallest_decimal_value_type-width.ensures.value) in
     let digits = ap (has_digits d.precision) c.unscaled_of.ensures ∙ decimal_kept d.precision d.scale m s.value there in
     let numbers = made.ensures.values ∙ ap (replicate c.args.len) (to_z-of_z fits) in
-    and_from _ _ width (ap (list_all (has_digits d.precision)) numbers ∙ decimal_copies d c.args.len c.unscaled_of.result digits)
+    and_from _ _ width (ap (list_all (has_digits d.precision)) numbers ∙ all_copies (has_digits d.precision) c.args.len c.unscaled_of.result digits)
 
 pub returns-in-Decimals-clause-ok : goal.returns-in-Decimals-clause-ok
 returns-in-Decimals-clause-ok c =
@@ -85,3 +86,9 @@ returns-in-Text-clause-ok c =
     let valued : c.in_ok-bytes-in-Text.bytes ≡ unwrap_or (bytes_in s.value) [] = search rules in
     bytes_repeated s c.args.len c.dtype.ensures.typed c.repeated_validity-validity.result c.repeated_validity-validity.ensures c.varbinview_column.result st
     c.in_ok-bytes-in-Text.bytes c.in_ok-rows-in-Text.rows kind known valued c.in_ok-rows-in-Text.ensures c.varbinview_column.ensures.ok
+
+pub returns-clause-ok : goal.returns-clause-ok
+returns-clause-ok c =
+    let s = c.args.scalar.now in
+    let stored : storage_of s.of_type ≡ Nulls = ap storage_of (sym c.dtype.ensures.dtype) ∙ sym c.storage.ensures ∙ c.in-Nulls.is in
+    nulls_repeated s c.args.len c.in_ok-new-in-Nulls.field-0 stored c.dtype.ensures.typed c.in_ok-new-in-Nulls.ensures.ok

@@ -9,11 +9,12 @@ use Rattle.vx_value.specs.declared.dtype.Nullability.TheVariants.{NonNullable}
 use Rattle.vx_mask.specs.Masks.{bits_in}
 use Rattle.vx_native.specs.Natives.{values_of, ptype_of}
 use Rattle.vx_tree.specs.Tree as enc
-use Rattle.vx_tree.specs.Tree.{dtype, len, filter_of, slots_of}
+use Rattle.vx_tree.specs.Tree.{dtype, len, nulls_of, filter_of, slots_of}
 use Rattle.vx_tree.specs.Well.{IsNodeOf, IsFlat, shapes}
 use Rattle.vx_tree.specs.Keeps.{KeepsExactly}
 use Rattle.vx_tree.specs.Columns.{canonical_tree}
 use Rattle.vx_column.proofs.FilteredLemmas.{rows_chosen, bytes_chosen, column_filtered, decimals_chosen}
+use Rattle.vx_column.proofs.NullsLemmas.{nulls_filtered}
 use Rattle.vx_column.proofs.filter.filter_canonical.Goals as goal
 use Rattle.vx_value.specs.Types as type
 use Rattle.vx_value.specs.View.{type_of}
@@ -141,3 +142,12 @@ returns-in_ok-filter-in-VarBinView-clause-ok c =
     (canonical_tree u) c.in-VarBinView.ensures.0 flat.0 long c.in_ok-filter-in-VarBinView.ensures same validity.ensures.chosen
     (made ∙ ap (λ x. bytes_column x kept validity.validity) kind)))
     c.varbinview_column.ensures.ok
+
+pub returns-in_ok-new-in-Null-clause-ok : goal.returns-in_ok-new-in-Null-clause-ok
+returns-in_ok-new-in-Null-clause-ok c =
+    let bits = bits_in c.args.mask.now in
+    let t = c.as_array-array.result.now in
+    let of = c.as_array-array.ensures.of in
+    let made = c.in_ok-new-in-Null.ensures.ok ∙ ap nulls_of c.true_count.ensures in
+    subst (λ x. KeepsExactly (filter_of bits x) c.in_ok-new-in-Null.field-0) of
+    (nulls_filtered bits t c.in_ok-new-in-Null.field-0 c.in-Null.ensures (c.requires ∙ ap len (sym of)) made)

@@ -1,0 +1,240 @@
+-- The column of the rows that a builder keeps.
+use Rattle.std.proofs.Common.{◌≡◌, ◌⊎◌, inl, inr, ◌<◌, ◌≤◌, ◌+◌, ◌-◌, ℕ, zero, suc, ℤ, pos, Bool, true, false, Option, Some, None}
+use Rattle.std.proofs.Common.{List, [], ◌∷◌, ◌++◌, length, map, replicate}
+use Rattle.std.proofs.Common.{refl, sym, ap, ap₂, ◌∙◌, arith}
+use Rattle.std.specs.Prelude.{is_some, ◌==◌, if◌then◌else◌}
+use Rattle.std.specs.Cmp.{unsigned_Decides, first_so, second_so}
+use Rattle.std.specs.List.{list_all}
+use Rattle.std.proofs.lemmas.Bool.{and_parts, and_from}
+use Rattle.std.proofs.lemmas.List.{length-map, length-replicate}
+use Rattle.std.proofs.lemmas.List.Folds.{list_all-map}
+use Rattle.std.proofs.lemmas.Option.{same_Some}
+use Rattle.vx_value.specs.Types as type
+use Rattle.vx_value.specs.Types.{DataType, nullability_of}
+use Rattle.vx_value.specs.Values as of
+use Rattle.vx_value.specs.Values.{Value, null}
+use Rattle.vx_value.specs.Cell.{value}
+use Rattle.vx_value.specs.IsOf.{is_of, is_stored}
+use Rattle.vx_value.specs.Nullabilities.{with_nullability}
+use Rattle.vx_value.specs.Parts.{boolean_in, integer_in, bytes_in}
+use Rattle.vx_value.specs.Storage.{storage_of}
+use Rattle.vx_value.specs.declared.dtype.Nullability.{Nullability}
+use Rattle.vx_value.specs.declared.dtype.Nullability.TheVariants.{Nullable}
+use Rattle.vx_value.specs.declared.dtype.PType.{PType}
+use Rattle.vx_value.specs.declared.dtype.Storage.TheVariants as storage
+use Rattle.vx_mask.specs.Masks.{is_all_true, is_all_false}
+use Rattle.vx_native.specs.NativeVecs as NativeVecs
+use Rattle.vx_native.specs.NativeVecs.{integers_in}
+use Rattle.vx_native.specs.declared.native_vec.NativeVec.{NativeVec}
+use Rattle.vx_value.specs.Decimals.{has_digits, smallest_width}
+use Rattle.vx_value.specs.declared.decimal.DecimalDType.{DecimalDType}
+use Rattle.vx_value.specs.declared.decimal.DecimalType.{DecimalType}
+use Rattle.vx_value.specs.declared.dtype.Storage.{Storage}
+use Rattle.vx_rows.specs.Arguments.{stored_decimals}
+use Rattle.vx_tree.specs.Tree as enc
+use Rattle.vx_tree.specs.Tree.{Tree, Data, column, nulls_of, booleans, slots_of}
+use Rattle.vx_tree.specs.Cells.{rows, slots_rows, cells_at, valid_cell, valid_cells}
+use Rattle.vx_tree.specs.Rows.{item_or, bytes_rows}
+use Rattle.vx_tree.specs.ColumnTypes.{width_in, bytes_type, are_bytes_of}
+use Rattle.vx_tree.specs.Validities.{nullability_by, child_of, child_by, truths}
+use Rattle.vx_tree.specs.declared.validity.Validity.{Validity}
+use Rattle.vx_rows.specs.Stored.{decimal_column}
+use Rattle.vx_rows.specs.ValidRows.{child_in, nullability_in}
+use Rattle.vx_rows.proofs.StoredLemmas.{column_of_bytes}
+use Rattle.vx_rows.proofs.ValidRowsLemmas.{child_told, one_slot}
+use Rattle.vx_column.specs.Built.{without_point, built_stored, built}
+use Rattle.vx_column.specs.declared.builder.values.Values.{Values}
+use Rattle.vx_column.specs.declared.builder.values.Values.TheVariants.{Nulls, Bits, Integers, Decimals, Bytes}
+use Rattle.vx_column.specs.Growing.{AreStored, padded, masked_by, rows_kept, IsKept, told_rows, IsColumnOf}
+use Rattle.vx_column.proofs.GrowingLemmas.{length-masked_by, stored_as, rows_counted}
+
+-- ---- the validity
+
+all_trues : (k : ℕ) → is_all_true (replicate k true) ≡ true
+all_trues zero = refl
+all_trues (suc k) = all_trues k
+
+-- rows without bits are all valid
+told_child : (m : Nullability) (n : ℕ) (bits : List Bool) → child_in (told_rows m n bits) ≡ child_by (padded n bits)
+told_child m n [] =
+    let bits = padded n [] in
+    sym (ap (λ b. if b then None else (if is_all_false bits then Some (truths false (length bits)) else Some (booleans bits))) (all_trues (n - 0)))
+told_child m n (b ∷ bits) = refl
+
+pub told_nullability : (m : Nullability) (n : ℕ) (bits : List Bool) → (0 < length bits → m ≡ Nullable) → nullability_in (told_rows m n bits) ≡ m
+told_nullability m n [] h = refl
+told_nullability m n (b ∷ bits) h = sym (h (omega arith))
+
+-- ---- rows of items: `read` has the item of a value that `make` makes of it, and none of null; `d` stands under a null
+
+module _ {A : Type 0} (read : Value → Option A) (make : A → Value) (d : A) (made : (x : A) → read (make x) ≡ Some x) (no : read null ≡ None) where
+  kept_items : (bits : List Bool) (xs : List A) → masked_by (make d) bits (map make xs) ≡ map make xs → length bits ≤ length xs
+      → map (item_or d) (map read (masked_by null bits (map make xs))) ≡ xs
+  kept_items [] [] zeros within = refl
+  kept_items [] (x ∷ xs) zeros within = ap₂ (λ y l. y ∷ l) (ap (item_or d) (made x)) (kept_items [] xs refl (omega arith))
+  kept_items (b ∷ bits) [] zeros within = absurd (omega arith)
+  kept_items (true ∷ bits) (x ∷ xs) zeros within =
+      let rest : masked_by (make d) bits (map make xs) ≡ map make xs = cc in
+      ap₂ (λ y l. y ∷ l) (ap (item_or d) (made x)) (kept_items bits xs rest (omega arith))
+  kept_items (false ∷ bits) (x ∷ xs) zeros within =
+      let first : make d ≡ make x = cc in
+      let rest : masked_by (make d) bits (map make xs) ≡ map make xs = cc in
+      ap₂ (λ y l. y ∷ l) (ap (item_or d) no ∙ same_Some d x (sym (made d) ∙ ap read first ∙ made x)) (kept_items bits xs rest (omega arith))
+
+  kept_bits : (bits : List Bool) (k : ℕ) (xs : List A) → length bits + k ≡ length xs
+      → map is_some (map read (masked_by null bits (map make xs))) ≡ bits ++ replicate k true
+  kept_bits [] zero [] e = refl
+  kept_bits [] zero (x ∷ xs) e = absurd (omega arith)
+  kept_bits [] (suc k) [] e = absurd (omega arith)
+  kept_bits [] (suc k) (x ∷ xs) e = ap₂ (λ b l. b ∷ l) (ap is_some (made x)) (kept_bits [] k xs (omega arith))
+  kept_bits (b ∷ bits) k [] e = absurd (omega arith)
+  kept_bits (true ∷ bits) k (x ∷ xs) e = ap₂ (λ b l. b ∷ l) (ap is_some (made x)) (kept_bits bits k xs (omega arith))
+  kept_bits (false ∷ bits) k (x ∷ xs) e = ap₂ (λ b l. b ∷ l) (ap is_some no) (kept_bits bits k xs (omega arith))
+
+  -- their column
+  column_kept : (s ty : DataType) (same : s ≡ ty) (of_items : List A → Data) (m : Nullability) (n : ℕ) (bits : List Bool) (xs : List A) (v : Validity)
+      → masked_by (make d) bits (map make xs) ≡ map make xs → length bits ≤ n → length (map make xs) ≡ n → child_of v n ≡ child_in (told_rows m n bits)
+      → column s (length xs) (of_items xs) (child_of v (length xs))
+      ≡ column ty (length (map read (masked_by null bits (map make xs)))) (of_items (map (item_or d) (map read (masked_by null bits (map make xs)))))
+      (child_by (map is_some (map read (masked_by null bits (map make xs)))))
+  column_kept s ty same of_items m n bits xs v zeros within counted child =
+      let kept = masked_by null bits (map make xs) in
+      let long : length xs ≡ n = sym (length-map xs make) ∙ counted in
+      let count : length xs ≡ length (map read kept) = sym (length-map kept read ∙ length-masked_by null bits (map make xs) ∙ length-map xs make) in
+      let items = kept_items bits xs zeros (omega (arith, long)) in
+      let told = kept_bits bits (n - length bits) xs (omega (arith, long)) in
+      let validity = ap (child_of v) long ∙ child ∙ told_child m n bits ∙ ap child_by (sym told) in
+      λ i. column (same i) (count i) (of_items (sym items i)) (validity i)
+
+-- ---- the column
+
+-- the width and the digits of decimals, and the bytes of text, by their type
+pub width_known : (zs : NativeVec) (st : Storage) (s : ℕ) (d : DecimalDType) (w : DecimalType) → AreStored st (Decimals zs s) → st ≡ stored_decimals d
+    → NativeVecs.width_in zs ≡ Some w → w ≡ smallest_width d.precision
+width_known zs st s d w kind is e =
+    let same : storage.Decimals kind.0 s ≡ stored_decimals d = sym kind.1 ∙ is in
+    let precision : kind.0 ≡ d.precision = cc in
+    same_Some w (smallest_width kind.0) (sym e ∙ kind.3) ∙ ap smallest_width precision
+
+pub digits_known : (ty : DataType) (d : DecimalDType) (s : ℕ) (zs : List ℤ) → storage_of ty ≡ stored_decimals d
+    → list_all (is_of ty) (map (λ z. of.decimal z s) zs) ≡ true → list_all (has_digits d.precision) zs ≡ true
+digits_known ty d s [] is all = refl
+digits_known ty d s (z ∷ zs) is all =
+    let parts = and_parts (is_of ty (of.decimal z s)) (list_all (is_of ty) (map (λ z. of.decimal z s) zs)) all in
+    and_from _ _ (second_so (s == d.scale) _ (stored_as ty (stored_decimals d) (of.decimal z s) is parts.0)) (digits_known ty d s zs is parts.1)
+
+pub bytes_known : (ty : DataType) (rs : List (List ℕ)) → list_all (is_of ty) (map (λ r. of.bytes r) rs) ≡ true → are_bytes_of (storage_of ty) rs ≡ true
+bytes_known (type.utf8 m) rs all = sym (list_all-map (is_of (type.utf8 m)) of.bytes rs) ∙ all
+bytes_known _ rs all = refl
+
+decimal_is : (p s : ℕ) (ty : DataType) → storage_of ty ≡ storage.Decimals p s → type.decimal p s (nullability_of ty) ≡ ty
+decimal_is p s (type.decimal q r m) e = let one : p ≡ q = cc in let two : s ≡ r = cc in λ i. type.decimal (one i) (two i) m
+decimal_is p s _ e = absurd (cc)
+
+bytes_stored : (ty : DataType) (vs : List Value) → (storage_of ty ≡ storage.Text) ⊎ (storage_of ty ≡ storage.Bytes)
+    → bytes_rows ty (map bytes_in vs) ≡ built_stored (storage_of ty) ty vs
+bytes_stored ty vs (inl e) = ap (λ st. built_stored st ty vs) (sym e)
+bytes_stored ty vs (inr e) = ap (λ st. built_stored st ty vs) (sym e)
+
+-- is the one of the rows
+pub column_is : (ty : DataType) (n : ℕ) (values : Values) (bits : List Bool) → IsKept ty n values bits → (v : Validity) → nullability_by v ≡ nullability_of ty
+    → child_of v n ≡ child_in (told_rows (nullability_of ty) n bits) → (t : Tree) → IsColumnOf (storage_of ty) values v t
+    → t ≡ built (record { of_type = ty; values = rows_kept values bits })
+column_is ty n (Nulls k) bits kept v nullable child t is =
+    let count : k ≡ length (rows_kept (Nulls k) bits) =
+    sym (length-replicate k null) ∙ kept.counted ∙ sym (rows_counted ty n (Nulls k) bits kept) in
+    is ∙ ap nulls_of count ∙ ap (λ st. built_stored st ty (rows_kept (Nulls k) bits)) (sym kept.kind)
+column_is ty n (Bits bs) bits kept v nullable child t is =
+    is ∙ column_kept boolean_in of.boolean false (λ x. refl) refl (type.bool (nullability_by v)) (type.bool (nullability_of ty)) (ap type.bool nullable)
+    enc.bool (nullability_of ty) n bits bs v kept.zeros kept.told kept.counted child
+    ∙ ap (λ st. built_stored st ty (rows_kept (Bits bs) bits)) (sym kept.kind)
+column_is ty n (Integers zs) bits kept v nullable child t is =
+    is.2 ∙ column_kept integer_in of.integer (pos 0) (λ x. refl) refl (type.primitive is.0 (nullability_by v)) (type.primitive is.0 (nullability_of ty))
+    (ap (type.primitive is.0) nullable) (enc.primitive is.0) (nullability_of ty) n bits (integers_in zs) v kept.zeros kept.told kept.counted child
+    ∙ ap (λ st. built_stored st ty (rows_kept (Integers zs) bits)) (sym is.1)
+column_is ty n (Decimals zs s) bits kept v nullable child t is =
+    let d = is.0 in
+    let same = ap (type.decimal d.precision d.scale) nullable ∙ decimal_is d.precision d.scale ty is.1 in
+    is.2 ∙ ap (λ w. decimal_column d w (integers_in zs) v) (ap width_in (sym is.1))
+    ∙ column_kept without_point (λ z. of.decimal z s) (pos 0) (λ x. refl) refl (type.decimal d.precision d.scale (nullability_by v)) ty same
+    (enc.decimals (width_in (storage_of ty))) (nullability_of ty) n bits (integers_in zs) v kept.zeros kept.told kept.counted child
+    ∙ ap (λ st. built_stored st ty (rows_kept (Decimals zs s) bits)) (sym is.1)
+column_is ty n (Bytes rs) bits kept v nullable child t is =
+    let same = ap (λ m. with_nullability m (bytes_type (storage_of ty))) nullable ∙ column_of_bytes ty kept.kind in
+    is ∙ column_kept bytes_in of.bytes [] (λ x. refl) refl (with_nullability (nullability_by v) (bytes_type (storage_of ty))) ty same enc.views
+    (nullability_of ty) n bits rs v kept.zeros kept.told kept.counted child
+    ∙ bytes_stored ty (rows_kept (Bytes rs) bits) kept.kind
+
+-- ---- its rows
+
+abbrev IsNullOr : {A : Type 0} → (A → Value) → Value → Type 0
+IsNullOr {A = A} make v = (v ≡ null) ⊎ ((x : A) × (v ≡ make x))
+
+-- a value of a type is null, or made of an item: a line for each storage
+null_or_boolean : (m : Nullability) (v : Value) → is_stored m storage.Bits v ≡ true → IsNullOr of.boolean v
+null_or_boolean m null h = inl refl
+null_or_boolean m (of.boolean b) h = inr (b, refl)
+null_or_boolean m _ h = absurd (cc)
+
+null_or_integer : (m : Nullability) (p : PType) (v : Value) → is_stored m (storage.Integers p) v ≡ true → IsNullOr of.integer v
+null_or_integer m p null h = inl refl
+null_or_integer m p (of.integer z) h = inr (z, refl)
+null_or_integer m p _ h = absurd (cc)
+
+null_or_decimal : (m : Nullability) (p s : ℕ) (v : Value) → is_stored m (storage.Decimals p s) v ≡ true → IsNullOr (λ z. of.decimal z s) v
+null_or_decimal m p s null h = inl refl
+null_or_decimal m p s (of.decimal z r) h = inr (z, ap (of.decimal z) ((unsigned_Decides r s).0 (first_so (r == s) _ h)))
+null_or_decimal m p s _ h = absurd (cc)
+
+null_or_text : (m : Nullability) (v : Value) → is_stored m storage.Text v ≡ true → IsNullOr of.bytes v
+null_or_text m null h = inl refl
+null_or_text m (of.bytes bs) h = inr (bs, refl)
+null_or_text m _ h = absurd (cc)
+
+null_or_bytes : (m : Nullability) (v : Value) → is_stored m storage.Bytes v ≡ true → IsNullOr of.bytes v
+null_or_bytes m null h = inl refl
+null_or_bytes m (of.bytes bs) h = inr (bs, refl)
+null_or_bytes m _ h = absurd (cc)
+
+all_null : (vs : List Value) → list_all (is_of type.null) vs ≡ true → replicate (length vs) (value null) ≡ map (λ v. value v) vs
+all_null [] h = refl
+all_null (null ∷ vs) h = ap (λ l. value null ∷ l) (all_null vs h)
+all_null (v ∷ vs) h = absurd (cc)
+
+module _ {A : Type 0} (read : Value → Option A) (make : A → Value) (d : A) (made : (x : A) → read (make x) ≡ Some x) (no : read null ≡ None) where
+  cell_read : (v : Value) → IsNullOr make v → valid_cell (value (of.boolean (is_some (read v)))) (value (make (item_or d (read v)))) ≡ value v
+  cell_read v (inl e) =
+      ap (λ w. valid_cell (value (of.boolean (is_some (read w)))) (value (make (item_or d (read w))))) e
+      ∙ ap (λ o. valid_cell (value (of.boolean (is_some o))) (value (make (item_or d o)))) no ∙ ap value (sym e)
+  cell_read v (inr w) =
+      ap (λ w. valid_cell (value (of.boolean (is_some (read w)))) (value (make (item_or d (read w))))) w.1
+      ∙ ap (λ o. valid_cell (value (of.boolean (is_some o))) (value (make (item_or d o)))) (made w.0) ∙ ap value (sym w.1)
+
+  cells_read : (p : Value → Bool) (vs : List Value) → ((v : Value) → p v ≡ true → IsNullOr make v) → list_all p vs ≡ true
+      → valid_cells (map (λ b. value (of.boolean b)) (map is_some (map read vs))) (map (λ x. value (make x)) (map (item_or d) (map read vs)))
+      ≡ map (λ v. value v) vs
+  cells_read p [] known all = refl
+  cells_read p (v ∷ vs) known all =
+      let parts = and_parts (p v) (list_all p vs) all in
+      ap₂ (λ c l. c ∷ l) (cell_read v (known v parts.0)) (cells_read p vs known parts.1)
+
+  rows_read : (p : Value → Bool) (vs : List Value) → ((v : Value) → p v ≡ true → IsNullOr make v) → list_all p vs ≡ true
+      → valid_cells (cells_at (slots_rows (slots_of (child_by (map is_some (map read vs)) ∷ []))) 0) (map (λ x. value (make x)) (map (item_or d) (map read vs)))
+      ≡ map (λ v. value v) vs
+  rows_read p vs known all =
+      let bits = map is_some (map read vs) in
+      let cells = map (λ x. value (make x)) (map (item_or d) (map read vs)) in
+      let long : length cells ≡ length bits =
+      length-map (map (item_or d) (map read vs)) (λ x. value (make x)) ∙ length-map (map read vs) (item_or d) ∙ sym (length-map (map read vs) is_some) in
+      ap (λ css. valid_cells (cells_at css 0) cells) (one_slot (child_by bits)) ∙ child_told bits cells long ∙ cells_read p vs known all
+
+-- the values: a line for each type
+pub rows_built : (ty : DataType) (vs : List Value) → list_all (is_of ty) vs ≡ true → rows (built (record { of_type = ty; values = vs })) ≡ map (λ v. value v) vs
+rows_built type.null vs all = all_null vs all
+rows_built (type.bool m) vs all = rows_read boolean_in of.boolean false (λ x. refl) refl (is_of (type.bool m)) vs (null_or_boolean m) all
+rows_built (type.primitive p m) vs all =
+    rows_read integer_in of.integer (pos 0) (λ x. refl) refl (is_of (type.primitive p m)) vs (null_or_integer m p) all
+rows_built (type.decimal p s m) vs all =
+    rows_read without_point (λ z. of.decimal z s) (pos 0) (λ x. refl) refl (is_of (type.decimal p s m)) vs (null_or_decimal m p s) all
+rows_built (type.utf8 m) vs all = rows_read bytes_in of.bytes [] (λ x. refl) refl (is_of (type.utf8 m)) vs (null_or_text m) all
+rows_built (type.binary m) vs all = rows_read bytes_in of.bytes [] (λ x. refl) refl (is_of (type.binary m)) vs (null_or_bytes m) all

@@ -1,0 +1,64 @@
+-- A type and rows of it, and their column.
+use Rattle.std.specs.Prelude.{ℕ, ℤ, ◌+◌, ◌^◌, ◌++◌, ◌==◌, if◌then◌else◌, nat_lt, refl, List, length, map, Option, Some, None}
+use Rattle.std.specs.Coded.{Coded, code_by, coded×, coded_list}
+use Rattle.vx_value.specs.Types.{DataType, coded_type, nullability_of, is_nullable, same_type}
+use Rattle.vx_value.specs.Values.{Value, coded_value, decimal}
+use Rattle.vx_value.specs.Typed.{Typed}
+use Rattle.vx_value.specs.Parts.{boolean_in, integer_in, bytes_in}
+use Rattle.vx_value.specs.Storage.{storage_of}
+use Rattle.vx_value.specs.declared.dtype.Storage.{Storage}
+use Rattle.vx_value.specs.declared.dtype.Storage.TheVariants.{Nulls, Bits, Integers, Decimals, Text, Bytes}
+use Rattle.vx_value.specs.declared.error.VortexError.{VortexError}
+use Rattle.vx_value.specs.declared.error.VortexError.TheVariants.{InvalidArgument, TooLong}
+use Rattle.vx_value.specs.declared.error.ArgKind.TheVariants.{BadType}
+use Rattle.vx_tree.specs.Conditions.{first_of_both, unless}
+use Rattle.vx_tree.specs.Rows.{boolean_rows, integer_rows, decimal_rows, bytes_rows}
+use Rattle.vx_tree.specs.Tree.{Tree, nulls_of}
+
+-- values of a type, null among them if it is nullable
+pub record TypedRows : Type 0 where
+  pub of_type : DataType
+  pub values : List Value
+
+abbrev pub coded_rows : Coded TypedRows
+coded_rows =
+    code_by (DataType × List Value) (coded× coded_type (coded_list coded_value)) (λ r. (r.of_type, r.values)) (λ p. record { of_type = p.0; values = p.1 })
+    (λ _. refl)
+
+-- the same with more values at the end
+abbrev pub appended : TypedRows → List Value → TypedRows
+appended r vs = record { of_type = r.of_type; values = r.values ++ vs }
+
+-- why nothing of this type can come to them
+abbrev pub type_refusal : TypedRows → DataType → Option VortexError
+type_refusal r ty = unless (same_type ty r.of_type) (InvalidArgument BadType)
+
+-- why n rows and k more are too many
+abbrev pub length_refusal : ℕ → ℕ → Option VortexError
+length_refusal n k = unless (nat_lt (n + k) (2 ^ 64)) (TooLong n k)
+
+-- why a scalar, and k nulls, can't come to them
+abbrev pub scalar_refusal : TypedRows → Typed → Option VortexError
+scalar_refusal r s = first_of_both (type_refusal r s.of_type) (length_refusal (length r.values) 1)
+
+abbrev pub more_nulls_refusal : TypedRows → ℕ → Option VortexError
+more_nulls_refusal r k =
+    if k == 0 then None else
+    first_of_both (unless (is_nullable (nullability_of r.of_type)) (InvalidArgument BadType)) (length_refusal (length r.values) k)
+
+-- a decimal without its point; none for any other value
+abbrev pub without_point : Value → Option ℤ
+without_point (decimal z s) = Some z
+without_point _ = None
+
+-- their column, by how the type's values are stored: a line for each storage
+abbrev pub built_stored : Storage → DataType → List Value → Tree
+built_stored Nulls ty vs = nulls_of (length vs)
+built_stored Bits ty vs = boolean_rows (nullability_of ty) (map boolean_in vs)
+built_stored (Integers p) ty vs = integer_rows (nullability_of ty) p (map integer_in vs)
+built_stored (Decimals p s) ty vs = decimal_rows ty (map without_point vs)
+built_stored Text ty vs = bytes_rows ty (map bytes_in vs)
+built_stored Bytes ty vs = bytes_rows ty (map bytes_in vs)
+
+abbrev pub built : TypedRows → Tree
+built r = built_stored (storage_of r.of_type) r.of_type r.values

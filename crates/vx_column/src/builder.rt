@@ -1,0 +1,198 @@
+//! Columns that grow row by row.
+
+ghost use Rattle.std.specs.Prelude.{◌≡◌, ◌⊎◌, ◌↔◌, ◌+◌, ◌<◌, ◌^◌, ◌∷◌, [], true, length, map, replicate, Some, None};
+ghost use Rattle.std.specs.Prelude.{IsTrue, IfOk, IfErr, OnOk, OnErr, MatchResult};
+ghost use Rattle.std.specs.List.{list_all};
+ghost use Rattle.vx_value.specs.Types.{nullability_of};
+ghost use Rattle.vx_value.specs.declared.dtype.Nullability.TheVariants.{Nullable};
+ghost use Rattle.vx_value.specs.Values.{null};
+ghost use Rattle.vx_value.specs.View.{type_of};
+ghost use Rattle.vx_value.specs.Cell.{value};
+ghost use Rattle.vx_value.specs.IsOf.{is_of};
+ghost use Rattle.vx_tree.specs.Cells.{rows};
+ghost use Rattle.vx_tree.specs.Columns.{canonical_tree};
+ghost use Rattle.vx_column.specs.Built.{appended, type_refusal, length_refusal, scalar_refusal, more_nulls_refusal, built};
+
+mod validity;
+mod values;
+
+use std::alloc::Global;
+use std::marker::Model;
+use validity::ValidityBuilder;
+use values::Values;
+use vx_tree::Canonical;
+use vx_value::{ArgKind, DType, Scalar, VortexError, VortexResult};
+
+/// Builds a column row by row. (own)
+///
+/// Memory is asked for as a `Vec` asks for it: for `capacity` rows up front, then for twice as many whenever they are full. Nulls take
+/// bits only from the first one on.
+#[derive(Debug, Drop)]
+pub struct Builder {
+    dtype: DType,
+    len: usize,
+    values: Values,
+    validity: ValidityBuilder,
+}
+
+impl Model for Builder {
+    ghost use Rattle.vx_value.specs.View.{type_of};
+    ghost use Rattle.vx_column.specs.Built.{TypedRows, coded_rows};
+
+    ghost Value = { TypedRows };
+
+    ghost coded = { coded_rows };
+
+    ghost use Rattle.vx_column.specs.Growing.{rows_kept, IsKept};
+
+    ghost view = { λ b. record { of_type = type_of b.dtype; values = rows_kept b.values b.validity } };
+
+    ghost invariant = { λ b. IsKept (type_of b.dtype) b.len b.values b.validity };
+}
+
+impl Builder {
+    /// Makes a builder of a column of type `dtype` without rows, with room for `capacity` of them. The only error is `OutOfMemory`.
+    pub fn with_capacity(alloc: Global, dtype: DType, capacity: usize) -> VortexResult<Builder>
+        ensures ok { IfOk result (λ b. b ≡ record { of_type = type_of dtype; values = [] }) }
+        ensures err { IfErr result (λ e. e ≡ VortexError.OutOfMemory) }
+    {
+        let values = Values::with_capacity(alloc, &dtype, capacity)?;
+        Ok(Builder {
+            dtype,
+            len: 0,
+            values,
+            validity: ValidityBuilder::new(alloc),
+        })
+    }
+
+    /// Returns the type of the rows.
+    pub fn dtype(&self) -> &DType
+        ensures dtype { type_of result.now ≡ self.now.of_type }
+        ensures typed { list_all (is_of self.now.of_type) self.now.values ≡ true }
+    {
+        let _values = &self.values;
+        &self.dtype
+    }
+
+    /// Returns the number of rows.
+    pub fn len(&self) -> usize
+        ensures { result ≡ length self.now.values }
+    {
+        self.len
+    }
+
+    /// Checks whether there are no rows.
+    pub fn is_empty(&self) -> bool
+        ensures { IsTrue result ↔ (length self.now.values ≡ 0) }
+    {
+        self.len == 0
+    }
+
+    /// Appends a row, `scalar`. The builder is unchanged after an error.
+    ///
+    /// The first condition that fails gives the error: `InvalidArgument` with `BadType` exactly if `scalar` isn't of the builder's type,
+    /// nullability included, and then `TooLong` exactly if there are `usize::MAX` rows. Besides, there is `OutOfMemory`.
+    pub fn append_scalar(&mut self, scalar: &Scalar) -> VortexResult<()>
+        ensures ok { OnOk result (self.new ≡ appended self.old (scalar.now.value ∷ [])) }
+        ensures err { OnErr result (self.new ≡ self.old) }
+        ensures valid { OnOk result (scalar_refusal self.old scalar.now ≡ None) }
+        ensures refused { IfErr result (λ e. (e ≡ VortexError.OutOfMemory) ⊎ (scalar_refusal self.old scalar.now ≡ Some e)) }
+    {
+        self.check_type(scalar.dtype())?;
+        self.check_len(1)?;
+        match scalar.value() {
+            Some(value) => {
+                self.values.push(value)?;
+                self.len += 1;
+                Ok(())
+            }
+            None => self.push_nulls(1),
+        }
+    }
+
+    /// Appends `count` rows that are null, in one allocation. The builder is unchanged after an error.
+    ///
+    /// The first condition that fails gives the error: `InvalidArgument` with `BadType` exactly if `count` isn't 0 and the builder's type
+    /// isn't nullable, and then `TooLong` exactly if there would be more than `usize::MAX` rows. Besides, there is `OutOfMemory`.
+    pub fn append_nulls(&mut self, count: usize) -> VortexResult<()>
+        ensures ok { OnOk result (self.new ≡ appended self.old (replicate count null)) }
+        ensures err { OnErr result (self.new ≡ self.old) }
+        ensures valid { OnOk result (more_nulls_refusal self.old count ≡ None) }
+        ensures refused { IfErr result (λ e. (e ≡ VortexError.OutOfMemory) ⊎ (more_nulls_refusal self.old count ≡ Some e)) }
+    {
+        if count == 0 {
+            return Ok(());
+        }
+        if !self.dtype.is_nullable() {
+            return Err(VortexError::InvalidArgument(ArgKind::BadType));
+        }
+        self.check_len(count)?;
+        self.push_nulls(count)
+    }
+
+    /// Checks that `dtype` is the type of the rows.
+    fn check_type(&self, dtype: &DType) -> VortexResult<()>
+        ensures { MatchResult result (λ _. type_refusal self.now (type_of dtype.now) ≡ None) (λ e. type_refusal self.now (type_of dtype.now) ≡ Some e) }
+    {
+        if *dtype == self.dtype {
+            Ok(())
+        } else {
+            Err(VortexError::InvalidArgument(ArgKind::BadType))
+        }
+    }
+
+    /// Checks that `count` more rows can be counted.
+    fn check_len(&self, count: usize) -> VortexResult<()>
+        ensures { MatchResult result (λ _. length_refusal (length self.now.values) count ≡ None)
+            (λ e. length_refusal (length self.now.values) count ≡ Some e) }
+    {
+        if count > usize::MAX - self.len {
+            return Err(VortexError::TooLong {
+                len: self.len,
+                factor: count,
+            });
+        }
+        Ok(())
+    }
+
+    /// Appends `count` nulls to the rows of a nullable type. The only error is `OutOfMemory`; the builder is then unchanged.
+    fn push_nulls(&mut self, count: usize) -> VortexResult<()>
+        requires nullable { nullability_of self.old.of_type ≡ Nullable }
+        requires fits { length self.old.values + count < 2 ^ 64 }
+        ensures ok { OnOk result (self.new ≡ appended self.old (replicate count null)) }
+        ensures err { OnErr result (self.new ≡ self.old) }
+        ensures refused { IfErr result (λ e. e ≡ VortexError.OutOfMemory) }
+    {
+        if let Values::Nulls(rows) = &mut self.values {
+            *rows += count;
+            self.len += count;
+            return Ok(());
+        }
+        let told = self.validity.len();
+        self.validity.push_nulls(self.len, count)?;
+        if let Err(e) = self.values.push_zeros(count) {
+            self.validity.truncate(told);
+            return Err(VortexError::from(e));
+        }
+        self.len += count;
+        Ok(())
+    }
+
+    /// Returns the rows as a column, without copying them. Its validity has the one form that the rows determine: `NonNullable` or
+    /// `AllValid` if no row is null, `AllInvalid` if there is a row and all are. The only error is `OutOfMemory`.
+    pub fn finish(self, alloc: Global) -> VortexResult<Canonical>
+        ensures ok { IfOk result (λ c. canonical_tree c ≡ built self) }
+        ensures rows { IfOk result (λ c. rows (canonical_tree c) ≡ map (λ v. value v) self.values) }
+        ensures err { IfErr result (λ e. e ≡ VortexError.OutOfMemory) }
+    {
+        let Builder {
+            dtype,
+            len,
+            values,
+            validity,
+        } = self;
+        let valid = validity.finish(alloc, len, dtype.nullability())?;
+        let validity = valid.validity(alloc, len)?;
+        values.finish(alloc, &dtype, &validity)
+    }
+}

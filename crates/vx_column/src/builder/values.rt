@@ -1,0 +1,131 @@
+//! The values of a column that grows.
+
+ghost use Rattle.std.specs.Prelude.{◌≡◌, ◌+◌, ◌<◌, ◌^◌, ◌∷◌, [], ◌++◌, true, IfOk, IfErr, OnOk, OnErr, length, replicate};
+ghost use Rattle.std.specs.List.{list_all};
+ghost use Rattle.vx_value.specs.IsOf.{is_of};
+ghost use Rattle.vx_tree.specs.Columns.{canonical_tree};
+ghost use Rattle.vx_tree.specs.Validities.{HasRows};
+ghost use Rattle.vx_value.specs.View.{type_of, value_of};
+ghost use Rattle.vx_value.specs.Storage.{storage_of};
+ghost use Rattle.vx_value.specs.declared.dtype.Storage.{Storage as StorageOf};
+ghost use Rattle.vx_column.specs.Growing.{stored_values, zero_in, AreStored, Accepts, IsColumnOf};
+
+use std::alloc::{AllocError, Global};
+use vx_mask::BitBuilder;
+use vx_native::NativeVec;
+use vx_rows::{bool_column, decimal_column, primitive_column, varbinview_column};
+use vx_tree::{Canonical, NullArray, Validity};
+use vx_value::{DType, DecimalType, ScalarValue, VortexError, VortexResult};
+use vx_views::BinaryBuilder;
+
+/// A value for each row, under a null too, by how the column's type stores them.
+#[derive(Debug, Drop)]
+pub(super) enum Values {
+    /// Nothing: each of this number of rows is null.
+    Nulls(usize),
+    Bits(BitBuilder),
+    Integers(NativeVec),
+    /// Decimals without their points, and how many of their digits stand behind it.
+    Decimals(NativeVec, u8),
+    Bytes(BinaryBuilder),
+}
+
+impl Values {
+    /// Makes the values of no rows of type `dtype`, with room for `capacity` of them. Fails only if there is no memory for them.
+    pub(super) fn with_capacity(
+        alloc: Global,
+        dtype: &DType,
+        capacity: usize,
+    ) -> Result<Values, AllocError>
+        ensures stored { IfOk result (AreStored (storage_of (type_of dtype.now))) }
+        ensures empty { IfOk result (λ values. stored_values values ≡ []) }
+    {
+        Ok(match dtype {
+            DType::Null => Values::Nulls(0),
+            DType::Bool(_) => Values::Bits(BitBuilder::with_capacity(alloc, capacity)?),
+            DType::Primitive(ptype, _) => {
+                Values::Integers(NativeVec::of_integers(alloc, *ptype, capacity)?)
+            }
+            DType::Decimal(decimal, _) => {
+                let width = DecimalType::smallest_decimal_value_type(decimal);
+                let values = NativeVec::of_decimals(alloc, width, capacity)?;
+                Values::Decimals(values, decimal.scale())
+            }
+            DType::Utf8(_) | DType::Binary(_) => {
+                Values::Bytes(BinaryBuilder::with_capacity(alloc, capacity)?)
+            }
+        })
+    }
+
+    /// Appends `value`, which must be of the kind of the others. Fails only if there is no memory for it; the values are then
+    /// unchanged.
+    pub(super) fn push(&mut self, value: &ScalarValue) -> Result<(), AllocError>
+        requires { Accepts self.old (value_of value.now) }
+        ensures ok { OnOk result (stored_values self.new ≡ stored_values self.old ++ value_of value.now ∷ []) }
+        ensures err { OnErr result (stored_values self.new ≡ stored_values self.old) }
+        ensures zero { zero_in self.new ≡ zero_in self.old }
+        ensures stored { (st : StorageOf) → AreStored st self.old → AreStored st self.new }
+    {
+        match (self, value) {
+            (Values::Bits(bits), ScalarValue::Bool(bit)) => bits.push(*bit),
+            (Values::Integers(values), ScalarValue::Integer(number)) => values.push(*number),
+            (Values::Decimals(values, _), ScalarValue::Decimal(decimal)) => {
+                values.push(decimal.unscaled)
+            }
+            (Values::Bytes(rows), ScalarValue::Bytes(bytes)) => rows.push(bytes.as_slice()),
+            _ => unreachable!(),
+        }
+    }
+
+    /// Appends `count` times the value that stands under a null, in one allocation. Fails only if there is no memory for them; the
+    /// values are then unchanged.
+    pub(super) fn push_zeros(&mut self, count: usize) -> Result<(), AllocError>
+        requires { length (stored_values self.old) + count < 2 ^ 64 }
+        ensures ok { OnOk result (stored_values self.new ≡ stored_values self.old ++ replicate count (zero_in self.old)) }
+        ensures err { OnErr result (stored_values self.new ≡ stored_values self.old) }
+        ensures zero { zero_in self.new ≡ zero_in self.old }
+        ensures stored { (st : StorageOf) → AreStored st self.old → AreStored st self.new }
+    {
+        match self {
+            Values::Nulls(rows) => {
+                *rows += count;
+                Ok(())
+            }
+            Values::Bits(bits) => bits.push_copies(false, count),
+            Values::Integers(values) => values.push_zeros(count),
+            Values::Decimals(values, _) => values.push_zeros(count),
+            Values::Bytes(rows) => rows.push_empty(count),
+        }
+    }
+    /// Returns the column of the values, which are of type `dtype`, whose null rows `validity` tells, without copying them. The only
+    /// error is `OutOfMemory`.
+    pub(super) fn finish(
+        self,
+        alloc: Global,
+        dtype: &DType,
+        validity: &Validity,
+    ) -> VortexResult<Canonical>
+        requires kind { AreStored (storage_of (type_of dtype.now)) self }
+        requires typed { list_all (is_of (type_of dtype.now)) (stored_values self) ≡ true }
+        requires sized { HasRows validity.now (length (stored_values self)) }
+        ensures ok { IfOk result (λ c. IsColumnOf (storage_of (type_of dtype.now)) self validity.now (canonical_tree c)) }
+        ensures err { IfErr result (λ e. e ≡ VortexError.OutOfMemory) }
+    {
+        match self {
+            Values::Nulls(rows) => Ok(Canonical::Null(NullArray::new(alloc, rows)?)),
+            Values::Bits(bits) => bool_column(alloc, bits.finish(alloc)?, validity),
+            Values::Integers(values) => {
+                primitive_column(alloc, values.into_integers(alloc)?, validity)
+            }
+            Values::Decimals(values, _) => {
+                let DType::Decimal(decimal, _) = dtype else {
+                    unreachable!()
+                };
+                decimal_column(alloc, *decimal, values.into_decimals(alloc)?, validity)
+            }
+            Values::Bytes(rows) => {
+                varbinview_column(alloc, dtype.storage(), rows.finish(alloc)?, validity)
+            }
+        }
+    }
+}

@@ -1,0 +1,69 @@
+use std::alloc::Global;
+use std::test::Fail;
+use vx_column::Builder;
+use vx_tree::{ArrayKind, Validity};
+use vx_value::{ArgKind, DType, Nullability, PType, Scalar, VortexError, VortexResult};
+
+const NULLABLE: DType = DType::Primitive(PType::I32, Nullability::Nullable);
+
+fn nine(nullability: Nullability) -> Scalar {
+    Scalar::primitive(9, PType::I32, nullability)
+}
+
+fn is_refused(appended: VortexResult<()>, error: VortexError) -> bool {
+    matches!(appended, Err(e) if e == error)
+}
+
+const BAD_TYPE: VortexError = VortexError::InvalidArgument(ArgKind::BadType);
+
+// Whether the validity has this many rows, and two of them are true: the first and the one before the last.
+fn has_two(validity: &Validity, len: usize) -> bool {
+    let Validity::Array(array) = validity else {
+        return false;
+    };
+    match array.kind() {
+        ArrayKind::Bool(bits, None) if bits.len() == len && len > 1 => {
+            bits.true_count() == 2 && bits.value(0) && bits.value(len - 2)
+        }
+        _ => false,
+    }
+}
+
+#[test]
+fn rows_and_nulls_are_appended(rt: HostRuntime) -> Result<(), Fail> {
+    let alloc = rt.alloc();
+    let mut builder = Builder::with_capacity(alloc, NULLABLE, 2)?;
+    builder.append_scalar(&nine(Nullability::Nullable))?;
+    builder.append_nulls(70)?;
+    builder.append_scalar(&nine(Nullability::Nullable))?;
+    assert!(rt;
+        is_refused(
+            builder.append_scalar(&nine(Nullability::NonNullable)),
+            BAD_TYPE
+        )
+    );
+    builder.append_nulls(1)?;
+    assert!(rt; builder.len() == 73 && builder.dtype() == &NULLABLE);
+    let column = builder.finish(alloc)?;
+    assert!(rt; column.as_primitive().is_some());
+    assert!(rt; has_two(&column.as_array().validity(alloc)?, 73));
+    Ok(())
+}
+
+fn builder_of_nulls(alloc: Global, len: usize) -> VortexResult<Builder> {
+    let mut builder = Builder::with_capacity(alloc, DType::Null, 0)?;
+    builder.append_nulls(len)?;
+    Ok(builder)
+}
+
+#[test]
+fn more_rows_than_can_be_counted(rt: HostRuntime) -> Result<(), Fail> {
+    let alloc = rt.alloc();
+    let mut nulls = builder_of_nulls(alloc, usize::MAX)?;
+    let len = usize::MAX;
+    let too_long = VortexError::TooLong { len, factor: 1 };
+    assert!(rt; is_refused(nulls.append_scalar(&Scalar::null(DType::Null)), too_long));
+    assert!(rt; is_refused(nulls.append_nulls(1), too_long));
+    assert!(rt; nulls.finish(alloc)?.as_array().len() == usize::MAX);
+    Ok(())
+}
