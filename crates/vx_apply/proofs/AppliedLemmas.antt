@@ -1,24 +1,24 @@
 -- A function of columns, from what it gives on their rows.
-use Rattle.std.proofs.Common.{◌≡◌, inl, inr, ℕ, zero, suc, ◌<◌, ◌+◌, List, [], ◌∷◌, length, map, get_or, replicate, Bool, true, false, ◌&&◌, Some, refl, sym, ◌∙◌, ap, subst, arith}
-use Rattle.std.specs.Prelude.{is_some, IsSome, IfSome, nat_lt}
+use Rattle.std.proofs.Common.{◌≡◌, inl, inr, ℕ, zero, suc, ◌<◌, ◌+◌, List, [], ◌∷◌, length}
+use Rattle.std.proofs.Common.{map, get_or, replicate, Bool, true, false, ◌&&◌, Some, refl, sym, ◌∙◌, ap, subst, arith}
+use Rattle.std.specs.Prelude.{is_some, IsSome, nat_lt}
 use Rattle.std.specs.List.{AllZip, range_with_len}
 use Rattle.std.proofs.lemmas.Bool.Decides.{nat_tests}
 use Rattle.vx_value.specs.Types.{DataType}
 use Rattle.vx_value.specs.Typed.{Typed}
-use Rattle.vx_value.specs.Cell.{Cell, value}
+use Rattle.vx_value.specs.Cell.{Cell, value, fault}
 use Rattle.vx_value.specs.declared.error.VortexError.{VortexError}
 use Rattle.vx_fn.specs.Apply.{apply, value_of}
 use Rattle.vx_fn.specs.ReturnTypes.{return_type}
 use Rattle.vx_fn.specs.declared.function.ScalarFnRef.{ScalarFnRef}
-use Rattle.vx_tree.specs.ColumnTypes.{has_column}
 use Rattle.vx_tree.specs.Tree.{Tree, filled_slots, dtype, datum, is_constant, constant_of, call_of}
 use Rattle.vx_tree.specs.Cells.{rows, row_at, slots_rows, HasNoFault}
 use Rattle.vx_tree.specs.Columns.{columnar_tree}
 use Rattle.vx_tree.specs.declared.columnar.Columnar.{Columnar}
 use Rattle.vx_apply.specs.Applied.{IsCall, IsApplied, IsUnapplied, all_constant, gives_constant, Repeats}
-use Rattle.vx_apply.specs.Computed.{IsTaken, IsResult, IsNoResult, cells_of}
+use Rattle.vx_kernel.specs.Computed.{IsTaken, IsResult, IsNoResult, cells_of}
 use Rattle.vx_apply.proofs.CallsLemmas.{AreRows, call_typed, call_lengths, unread_row}
-use Rattle.vx_apply.proofs.ComputedLemmas.{fault_among}
+use Rattle.vx_kernel.proofs.ComputedLemmas.{fault_among}
 use Rattle.vx_rows.specs.Arguments.{AnyUnread}
 use Rattle.vx_mask.proofs.Lists.{same_below}
 use Rattle.vx_rows.proofs.KeepsLemmas.{same_exactly}
@@ -27,14 +27,8 @@ pub taken : (f : ScalarFnRef) {ts : List Tree} {n : ℕ} {tys : List DataType} {
     → IsSome (return_type f tys)
 taken f {ts = ts} {n = n} same call = ap is_some (ap (return_type f) (sym same.types) ∙ call_typed f ts n call)
 
--- there are columns of its result's type
-pub column_given : (f : ScalarFnRef) {ts : List Tree} {n : ℕ} {tys : List DataType} {row : ℕ → List Cell} → AreRows ts n tys row → IsCall f ts n
-    → IfSome (return_type f tys) (λ ty. has_column ty ≡ true)
-column_given f {ts = ts} {n = n} same call =
-    subst (λ o. IfSome o (λ ty. has_column ty ≡ true)) (sym (ap (return_type f) (sym same.types) ∙ call_typed f ts n call)) call.1.3
-
 pub call_taken : (f : ScalarFnRef) {ts : List Tree} {n : ℕ} {tys : List DataType} {row : ℕ → List Cell} → AreRows ts n tys row → IsCall f ts n → IsTaken f tys
-call_taken f {ts = ts} {n = n} same call = (call.0, ap (return_type f) (sym same.types) ∙ call_typed f ts n call, call.1.3)
+call_taken f {ts = ts} {n = n} same call = (call.0, ap (return_type f) (sym same.types) ∙ call_typed f ts n call)
 
 rows_are : (f : ScalarFnRef) (ts : List Tree) (n : ℕ) (tys : List DataType) (row : ℕ → List Cell) → AreRows ts n tys row → (ty : DataType)
     → rows (call_of f ty n ts) ≡ cells_of f ty row n
@@ -63,6 +57,12 @@ unread f xs n e call h =
       | inr k ↦
           inr (k.0, λ ty typed. fault_among (λ i. apply f ty (row_at (slots_rows (filled_slots (map columnar_tree xs))) i)) n k.1 k.2 (k.3 (value_of f ty)))
     ]
+
+-- a fault in row i
+pub fault_at_row : (f : ScalarFnRef) (tys : List DataType) (row : ℕ → List Cell) (n i : ℕ) → i < n →
+    ((ty : DataType) → return_type f tys ≡ Some ty → apply f ty (row i) ≡ fault) → (ty : DataType) → return_type f tys ≡ Some ty
+    → ¬ (HasNoFault (cells_of f ty row n))
+fault_at_row f tys row n i lt h ty typed = fault_among (λ j. apply f ty (row j)) n i lt (h ty typed)
 
 -- a constant has the cells of f on the values
 pub constant_result : (f : ScalarFnRef) (tys : List DataType) (cells : List Cell) (n : ℕ) (s : Typed) (u : Tree) →

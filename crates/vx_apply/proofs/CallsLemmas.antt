@@ -100,7 +100,8 @@ unread_row n (x ∷ xs) e l (inl (inr h)) =
       h.0,
       h.1,
       subst (λ m. h.1 < m) long h.2,
-      λ g. ap (λ c. on_values g (c ∷ row_at (slots_rows (filled_slots (map columnar_tree xs))) h.1)) (get_or_from_slice_get (rows (columnar_tree x)) h.1 fault fault h.3),
+      λ g. ap (λ c. on_values g (c ∷ row_at (slots_rows (filled_slots (map columnar_tree xs))) h.1))
+          (get_or_from_slice_get (rows (columnar_tree x)) h.1 fault fault h.3),
     )
 unread_row n (x ∷ xs) e l (inr h) =
     elim (unread_row n xs e (second_so _ _ l) h) [

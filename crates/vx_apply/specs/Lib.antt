@@ -4,13 +4,3 @@ pub use Rattle.vx_tree.specs.Cells
 pub use Rattle.vx_tree.specs.Keeps
 pub use Rattle.vx_tree.specs.Columns
 pub mod Applied
-pub mod Bits
-pub mod Bounds
-pub mod Casts
-pub mod Compared
-pub mod Computed
-pub mod Digits
-pub mod Operands
-pub mod Powers
-pub mod Selected
-pub mod Truths

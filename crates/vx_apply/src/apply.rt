@@ -5,18 +5,15 @@ ghost use Rattle.std.specs.List.{AllByRecursion};
 ghost use Rattle.vx_tree.specs.Columns.{columnar_tree, canonical_tree};
 ghost use Rattle.vx_apply.specs.Applied.{IsCall, IsApplied, IsUnapplied};
 ghost use Rattle.vx_rows.specs.Arguments.{types_of, IsSized};
-ghost use Rattle.vx_apply.specs.Computed.{IsTaken, IsComputed, IsNotComputed};
+ghost use Rattle.vx_kernel.specs.Computed.{IsTaken, IsComputed, IsNotComputed};
 
-use crate::between::between;
-use crate::boolean::negate;
-use crate::cast::cast;
 use crate::constant::{apply_constants, constants};
-use crate::nulls::{is_not_null, is_null, mask};
-use crate::operate::operate;
-use crate::select::{fill_null, zip};
 use std::alloc::Global;
+use vx_cast::cast;
 use vx_fn::ScalarFnRef;
+use vx_operator::{between, negate, operate};
 use vx_rows::{Argument, arguments_of};
+use vx_select::{fill_null, is_not_null, is_null, mask, zip};
 use vx_tree::{Canonical, Columnar};
 use vx_value::VortexResult;
 
@@ -52,7 +49,7 @@ pub fn apply_fn(
     }
 }
 
-/// Applies `function` to `arguments`, `len` rows each, of which it must compute columns. `Fault` if a row has no value.
+/// Applies `function` to `arguments`, `len` rows each, whose types it must accept. `Fault` if a row has no value.
 fn apply_to_columns(
     alloc: Global,
     function: &ScalarFnRef,

@@ -3,12 +3,11 @@
 ghost use Rattle.std.specs.Prelude.{◌≡◌, ◌<◌, map, IfOk, IfErr, IfSome, IfNone, IsSome, MatchOption, true, false};
 ghost use Rattle.std.specs.List.{AllZip};
 ghost use Rattle.vx_fn.specs.ReturnTypes.{return_type};
-ghost use Rattle.vx_tree.specs.ColumnTypes.{has_column};
 ghost use Rattle.vx_tree.specs.Tree.{datum, is_constant};
 ghost use Rattle.vx_tree.specs.Columns.{columnar_tree};
 ghost use Rattle.vx_apply.specs.Applied.{Repeats, gives_constant};
 ghost use Rattle.vx_rows.specs.Arguments.{types_of_scalars, cells_of_scalars};
-ghost use Rattle.vx_apply.specs.Computed.{IsResult, IsNoResult};
+ghost use Rattle.vx_kernel.specs.Computed.{IsResult, IsNoResult};
 
 use std::alloc::{AllocError, Global};
 use vx_fn::{ScalarFnRef, apply_row};
@@ -48,8 +47,7 @@ fn constant_of(column: &Columnar) -> Result<Option<Scalar>, AllocError>
     }
 }
 
-/// Applies `function` to `scalars` once, and returns a constant of `len` rows. There must be columns of the result's type.
-/// `Fault` if there is no value.
+/// Applies `function` to `scalars` once, and returns a constant of `len` rows. `Fault` if there is no value.
 pub(crate) fn apply_constants(
     alloc: Global,
     function: &ScalarFnRef,
@@ -57,7 +55,6 @@ pub(crate) fn apply_constants(
     len: usize,
 ) -> VortexResult<Columnar>
     requires taken { IsSome (return_type function.now (types_of_scalars scalars.now)) }
-    requires column { IfSome (return_type function.now (types_of_scalars scalars.now)) (λ ty. has_column ty ≡ true) }
     requires some { 0 < len }
     ensures ok { IfOk result (λ c. IsResult function.now (types_of_scalars scalars.now) (λ _. cells_of_scalars scalars.now) len (columnar_tree c)) }
     ensures constant { IfOk result (λ c. is_constant (datum (columnar_tree c)) ≡ true) }

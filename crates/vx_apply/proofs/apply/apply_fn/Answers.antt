@@ -2,7 +2,7 @@ use Rattle.std.proofs.Common.{◌∙◌, sym}
 use Rattle.vx_tree.specs.Tree.{datum}
 use Rattle.vx_tree.specs.Columns.{canonical_tree}
 use Rattle.vx_tree.proofs.ColumnsLemmas.{canonical_open}
-use Rattle.vx_apply.proofs.AppliedLemmas.{taken, column_given, call_taken, applied, unapplied, unread, all_repeat}
+use Rattle.vx_apply.proofs.AppliedLemmas.{taken, call_taken, applied, unapplied, unread, all_repeat}
 use Rattle.vx_apply.proofs.CallsLemmas.{argument_rows, scalar_rows, arguments_sized}
 use Rattle.vx_apply.proofs.apply.apply_fn.Goals as goal
 
@@ -11,12 +11,6 @@ apply_constants-requires-clause-taken c =
     let all = rw c.in-Some.is at c.in_ok-scalars.ensures.all in
     let rows = scalar_rows c.args.function.now c.args.len c.args.arguments.now c.in-Some.scalars.items c.requires all in
     rw c.as_slice.ensures.value (taken c.args.function.now rows c.requires)
-
-pub apply_constants-requires-clause-column : goal.apply_constants-requires-clause-column
-apply_constants-requires-clause-column c =
-    let all = rw c.in-Some.is at c.in_ok-scalars.ensures.all in
-    let rows = scalar_rows c.args.function.now c.args.len c.args.arguments.now c.in-Some.scalars.items c.requires all in
-    rw c.as_slice.ensures.value (column_given c.args.function.now rows c.requires)
 
 pub returns-in-Ok-clause-ok : goal.returns-in-Ok-clause-ok
 returns-in-Ok-clause-ok c =

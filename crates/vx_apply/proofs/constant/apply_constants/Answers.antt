@@ -2,7 +2,7 @@ use Rattle.std.proofs.Common.{inl, inr}
 use Rattle.vx_tree.specs.Columns.{columnar_tree}
 use Rattle.vx_rows.specs.Arguments.{types_of_scalars, cells_of_scalars}
 use Rattle.vx_apply.proofs.AppliedLemmas.{constant_result}
-use Rattle.vx_apply.proofs.ComputedLemmas.{fault_at_row}
+use Rattle.vx_apply.proofs.AppliedLemmas.{fault_at_row}
 use Rattle.vx_apply.proofs.constant.apply_constants.Goals as goal
 
 pub returns-in-Ok-constant-clause-ok : goal.returns-in-Ok-constant-clause-ok

@@ -1,8 +1,0 @@
-use Rattle.vx_rows.specs.ValidRows.{is_valid}
-use Rattle.vx_apply.proofs.BetweenLemmas.{integers_between}
-use Rattle.vx_apply.proofs.between.between_integers.Goals as goal
-
-pub returns : goal.returns
-returns g c =
-    integers_between c.args.options c.args.array c.args.lower c.args.upper _ _ _ (is_valid c.args.valid.now) c.args.len c.between_ordered.result
-    c.operand_of-array.ensures.numbers c.operand_of-lower.ensures.numbers c.operand_of-upper.ensures.numbers c.between_ordered.ensures

@@ -1,9 +1,0 @@
-use Rattle.std.proofs.Common.{sym, ap, ◌∙◌}
-use Rattle.vx_rows.specs.Arguments.{bytes_in}
-use Rattle.vx_apply.specs.Casts.{none_unless}
-use Rattle.vx_apply.proofs.ViewsLemmas.{none_text}
-use Rattle.vx_apply.proofs.text.text_at.Goals as goal
-
-pub returns-then-not-is_valid_row : goal.returns-then-not-is_valid_row
-returns-then-not-is_valid_row c =
-    (sym (ap (λ b. none_unless b (bytes_in c.args.bytes.now c.args.index)) (sym c.is_valid_row.ensures ∙ c.if-not-is_valid_row.true)), none_text)

@@ -1,0 +1,22 @@
+use Rattle.std.proofs.Common.{ap, subst, ◌∙◌}
+use Rattle.std.specs.Prelude.{IsSome}
+use Rattle.vx_fn.specs.Binary.{operator_type}
+use Rattle.vx_fn.specs.declared.function.ScalarFnRef.TheVariants.{Binary}
+use Rattle.vx_rows.specs.Arguments.{plain_type, pair_at, AreShown}
+use Rattle.vx_rows.specs.ValidRows.{nullability_in}
+use Rattle.vx_operator.specs.Filled.{filled_type}
+use Rattle.vx_operator.proofs.FilledLemmas.{nulls_filled}
+use Rattle.vx_operator.proofs.OperatorLemmas.{nulls_typed}
+use Rattle.vx_operator.proofs.operators.operate_rows.Goals as goal
+
+pub returns-in_ok-bits-in-Nulls-Nulls-clause-ok : goal.returns-in_ok-bits-in-Nulls-Nulls-clause-ok
+returns-in_ok-bits-in-Nulls-Nulls-clause-ok c =
+    let op = c.args.operator in
+    let valid = c.args.valid.now in
+    let is = c.in-Nulls-Nulls.is-0 in
+    nulls_filled (Binary op) (operator_type op (plain_type c.args.lhs)) (pair_at c.args.lhs c.args.rhs) valid c.args.len c.valid_bools.result
+    c.in_ok-bits-in-Nulls-Nulls.bits
+    (ap (λ r. filled_type valid (operator_type op (plain_type r))) is
+    ∙ nulls_typed op (nullability_in valid) (subst (λ r. IsSome (operator_type op (plain_type r))) is c.requires.taken))
+    (subst (λ r. AreShown r valid c.args.len) is c.requires.shown)
+    c.valid_bools.ensures.ok

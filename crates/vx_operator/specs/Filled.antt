@@ -1,0 +1,33 @@
+-- What a function gives on the valid rows.
+use Rattle.std.specs.Prelude.{◌≡◌, ◌⊎◌, ℕ, List, map, Option, Some, option_map}
+use Rattle.std.specs.List.{range_with_len}
+use Rattle.vx_value.specs.Types.{DataType}
+use Rattle.vx_value.specs.Nullabilities.{with_nullability}
+use Rattle.vx_value.specs.Cell.{Cell}
+use Rattle.vx_value.specs.declared.error.VortexError.{VortexError}
+use Rattle.vx_value.specs.declared.error.VortexError.TheVariants.{OutOfMemory, Fault}
+use Rattle.vx_fn.specs.Apply.{apply}
+use Rattle.vx_fn.specs.declared.function.ScalarFnRef.{ScalarFnRef}
+use Rattle.vx_tree.specs.Tree.{Tree, dtype}
+use Rattle.vx_tree.specs.Cells.{HasNoFault}
+use Rattle.vx_rows.specs.ValidRows.{is_valid, nullability_in, null_unless}
+use Rattle.vx_rows.specs.declared.valid.ValidRows.{ValidRows}
+use Rattle.vx_kernel.specs.Computed.{IsMade}
+
+-- the type of the result, if its values have the type `of_type`
+abbrev pub filled_type : ValidRows → Option DataType → Option DataType
+filled_type valid of_type = option_map (with_nullability (nullability_in valid)) of_type
+
+-- f on n rows, of which row i is `row i`, with a result of type ty: null in those that aren't valid
+abbrev pub filled_cells : ScalarFnRef → DataType → (ℕ → List Cell) → ValidRows → ℕ → List Cell
+filled_cells f ty row valid n = map (λ i. null_unless (is_valid valid i) (apply f ty (row i))) (range_with_len 0 n)
+
+-- u is the canonical column of these cells
+pub record IsFilled (f : ScalarFnRef) (of_type : Option DataType) (row : ℕ → List Cell) (valid : ValidRows) (n : ℕ) (u : Tree) : Type 0 where
+  pub typed : filled_type valid of_type ≡ Some (dtype u)
+  pub made : IsMade valid (λ i. apply f (dtype u) (row i)) n u
+
+-- why there is none: out of memory, or one of the cells is a fault
+abbrev pub IsNotFilled : ScalarFnRef → Option DataType → (ℕ → List Cell) → ValidRows → ℕ → VortexError → Type 0
+IsNotFilled f of_type row valid n e =
+    (e ≡ OutOfMemory) ⊎ ((e ≡ Fault) × ((ty : DataType) → filled_type valid of_type ≡ Some ty → ¬ (HasNoFault (filled_cells f ty row valid n))))

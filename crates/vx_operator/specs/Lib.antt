@@ -1,0 +1,11 @@
+pub use Rattle.vx_tree.specs.Tree
+pub use Rattle.vx_tree.specs.Cells
+pub use Rattle.vx_tree.specs.Columns
+pub use Rattle.vx_rows.specs.Arguments
+pub use Rattle.vx_kernel.specs.Computed
+pub mod Bits
+pub mod Bounds
+pub mod Compared
+pub mod Digits
+pub mod Filled
+pub mod Truths

@@ -1,0 +1,143 @@
+//! Arithmetic on integers.
+
+ghost use Rattle.std.specs.Prelude.{◌≡◌, false, IfOk, IfErr, IsSome, MatchOption};
+ghost use Rattle.vx_value.specs.Values.{integer};
+ghost use Rattle.vx_value.specs.Cell.{value, fault};
+ghost use Rattle.vx_fn.specs.Binary.{is_comparison, operator_type};
+ghost use Rattle.vx_fn.specs.Arithmetic.{calculated};
+ghost use Rattle.vx_fn.specs.declared.function.Operator.{Operator as OperatorOf};
+ghost use Rattle.vx_fn.specs.declared.function.Operator.TheVariants.{Add, Sub, Mul, Div};
+ghost use Rattle.vx_fn.specs.declared.function.ScalarFnRef.TheVariants.{Binary};
+ghost use Rattle.vx_tree.specs.Columns.{canonical_tree};
+ghost use Rattle.vx_rows.specs.Arguments.{AreIntegers, plain_type, pair_at};
+ghost use Rattle.vx_operator.specs.Filled.{IsFilled, IsNotFilled};
+ghost use Rattle.vx_kernel.specs.Operands.{number_in, HasRow};
+ghost use Rattle.vx_rows.specs.ValidRows.{HasValidity};
+ghost use Rattle.vx_rows.specs.declared.argument.ArgumentRows.TheVariants.{Integers};
+
+use num_traits::{CheckedAdd, CheckedDiv, CheckedMul, CheckedSub};
+use std::alloc::Global;
+use std::marker::PhantomData;
+use vx_kernel::{Calculation, IntegerCalculation, Operand, calculated_column, operand_of};
+use vx_native::NativeInteger;
+use vx_rows::{IntegerOperand, ValidRows};
+use vx_tree::Canonical;
+use vx_value::VortexResult;
+
+/// An arithmetic operator.
+pub(crate) trait Arithmetic {
+    // its variant of `Operator`
+    ghost operator: { OperatorOf };
+
+    /// Computes one row; `None` if its value isn't in the range of `T`, or the divisor is 0.
+    fn calculate_row<T: NativeInteger>(lhs: T, rhs: T) -> Option<T>
+        ensures { MatchOption result
+            (calculated operator T.kind (T.value lhs) (T.value rhs) ≡ fault)
+            (λ r. calculated operator T.kind (T.value lhs) (T.value rhs) ≡ value (integer (T.value r))) };
+}
+
+/// `x + y`.
+pub(crate) struct Sum;
+
+impl Arithmetic for Sum {
+    ghost operator = { Add };
+
+    #[inline]
+    fn calculate_row<T: NativeInteger>(lhs: T, rhs: T) -> Option<T> {
+        lhs.checked_add(&rhs)
+    }
+}
+
+/// `x - y`.
+pub(crate) struct Difference;
+
+impl Arithmetic for Difference {
+    ghost operator = { Sub };
+
+    #[inline]
+    fn calculate_row<T: NativeInteger>(lhs: T, rhs: T) -> Option<T> {
+        lhs.checked_sub(&rhs)
+    }
+}
+
+/// `x * y`.
+pub(crate) struct Product;
+
+impl Arithmetic for Product {
+    ghost operator = { Mul };
+
+    #[inline]
+    fn calculate_row<T: NativeInteger>(lhs: T, rhs: T) -> Option<T> {
+        lhs.checked_mul(&rhs)
+    }
+}
+
+/// `x / y` truncated toward zero.
+pub(crate) struct Quotient;
+
+impl Arithmetic for Quotient {
+    ghost operator = { Div };
+
+    #[inline]
+    fn calculate_row<T: NativeInteger>(lhs: T, rhs: T) -> Option<T> {
+        if rhs.to_wide() == 0 {
+            return None;
+        }
+        lhs.checked_div(&rhs)
+    }
+}
+
+/// An arithmetic operator applied to the rows of two operands.
+#[derive(Drop)]
+struct Operation<'a, T, A> {
+    left: Operand<'a, T>,
+    right: Operand<'a, T>,
+    operator: PhantomData<A>,
+}
+
+impl<'a, T: NativeInteger, A: Arithmetic> Calculation<T> for Operation<'a, T, A> {
+    ghost has_row = { λ s i. HasRow s.left i × HasRow s.right i };
+
+    ghost cell = { λ s i. calculated A.operator T.kind (number_in T.value s.left i) (number_in T.value s.right i) };
+
+    ghost stands_for = { λ s. integer };
+
+    #[inline]
+    fn calculate_row(&self, index: usize) -> Option<T> {
+        A::calculate_row(self.left.row(index), self.right.row(index))
+    }
+}
+
+impl<'a, T: NativeInteger, A: Arithmetic> IntegerCalculation<T> for Operation<'a, T, A> {
+    fn are_integers(&self) {}
+}
+
+/// Applies `A` to the `valid` rows of `lhs` and `rhs`, `len` rows each, which must be of the type `T`; the other rows are null.
+/// `Fault` if a row has no value.
+pub(crate) fn calculate<T: NativeInteger, A: Arithmetic>(
+    alloc: Global,
+    lhs: IntegerOperand<'_>,
+    rhs: IntegerOperand<'_>,
+    valid: &ValidRows,
+    len: usize,
+) -> VortexResult<Canonical>
+    requires operator { is_comparison A.operator ≡ false }
+    requires lhs { AreIntegers T.kind lhs len }
+    requires rhs { AreIntegers T.kind rhs len }
+    requires valid { HasValidity valid.now len }
+    requires taken { IsSome (operator_type A.operator (plain_type (Integers lhs))) }
+    ensures ok { IfOk result (λ c. IsFilled (Binary A.operator) (operator_type A.operator (plain_type (Integers lhs.entry)))
+        (pair_at (Integers lhs.entry) (Integers rhs.entry)) valid.now len (canonical_tree c)) }
+    ensures err { IfErr result (IsNotFilled (Binary A.operator) (operator_type A.operator (plain_type (Integers lhs.entry)))
+        (pair_at (Integers lhs.entry) (Integers rhs.entry)) valid.now len) }
+{
+    let operation: Operation<'_, T, A> = Operation {
+        left: operand_of(lhs),
+        right: operand_of(rhs),
+        operator: PhantomData,
+    };
+    match calculated_column(alloc, &operation, valid, len) {
+        Ok(column) => Ok(column),
+        Err(e) => Err(e),
+    }
+}

@@ -1,0 +1,361 @@
+//! Whether rows lie between two bounds.
+
+ghost use Rattle.std.specs.Prelude.{◌≡◌, ◌<◌, ◌∷◌, [], ◌&&◌, ℕ, true, length, IfOk, IfErr};
+ghost use Rattle.vx_value.specs.Decimals.{smallest_width};
+ghost use Rattle.vx_mask.specs.Logic.{bit_row};
+ghost use Rattle.vx_mask.specs.Operands.{HasBits};
+ghost use Rattle.vx_fn.specs.Comparisons.{is_ordered};
+ghost use Rattle.vx_fn.specs.declared.function.ScalarFnRef.TheVariants.{Between};
+ghost use Rattle.vx_tree.specs.Columns.{canonical_tree};
+ghost use Rattle.vx_rows.specs.Arguments.{ptype_in, types_of, plain_type, value_at, IsSized, HasStored, AreIntegers, AreDecimals};
+ghost use Rattle.vx_operator.specs.Bounds.{bound_by, is_between, is_bounded, bounded_rows};
+ghost use Rattle.vx_kernel.specs.Computed.{IsTaken, IsComputed};
+ghost use Rattle.vx_rows.specs.ValidRows.{is_valid, HasValidity};
+ghost use Rattle.vx_rows.specs.declared.argument.ArgumentRows.TheVariants.{Bits, Integers, Decimals};
+
+use crate::boolean::operate_bits;
+use crate::comparison::{Below, Comparison, NotAbove, OrderedRows};
+use std::alloc::{AllocError, Global};
+use vx_fn::{BetweenOptions, Operator, StrictComparison};
+use vx_kernel::{Operand, decimal_operand_of, keep_valid, operand_of, valid_bools};
+use vx_mask::{BitAnd, BitBuffer, BitBuilder, BitOperand};
+use vx_native::{NativeDecimalType, NativeInteger, by_decimal_type, by_type};
+use vx_rows::{Argument, ArgumentRows, BytesOperand, DecimalOperand, IntegerOperand, ValidRows};
+use vx_tree::Canonical;
+use vx_value::{DecimalType, VortexError, VortexResult};
+
+/// Checks whether each row of `array` lies between `lower` and `upper`, `len` rows each; a row is null if one of the three is.
+/// The only error is `OutOfMemory`. (own)
+#[tactic(auto, using(vx_rows::proofs::ValidRowsLemmas::counted))]
+pub fn between(
+    alloc: Global,
+    options: BetweenOptions,
+    array: &Argument<'_>,
+    lower: &Argument<'_>,
+    upper: &Argument<'_>,
+    len: usize,
+) -> VortexResult<Canonical>
+    requires array { IsSized len array.now }
+    requires lower { IsSized len lower.now }
+    requires upper { IsSized len upper.now }
+    requires taken { IsTaken (Between options) (types_of (array.now ∷ lower.now ∷ upper.now ∷ [])) }
+    ensures ok { IfOk result (λ c. IsComputed (Between options) (array.now ∷ lower.now ∷ upper.now ∷ []) len (canonical_tree c)) }
+    ensures err { IfErr result (λ e. e ≡ VortexError.OutOfMemory) }
+{
+    let bounds_valid = lower.valid.and(alloc, &upper.valid, len)?;
+    let valid = array.valid.and(alloc, &bounds_valid, len)?;
+    let bits = between_rows(
+        alloc, options, array.rows, lower.rows, upper.rows, &valid, len,
+    )?;
+    valid_bools(alloc, bits, &valid, len)
+}
+
+/// Checks the `valid` rows, `len` rows each, which must be of one type that has an order; `false` stands for the others.
+fn between_rows(
+    alloc: Global,
+    options: BetweenOptions,
+    array: ArgumentRows<'_>,
+    lower: ArgumentRows<'_>,
+    upper: ArgumentRows<'_>,
+    valid: &ValidRows,
+    len: usize,
+) -> Result<BitBuffer, AllocError>
+    requires array { HasStored array len }
+    requires lower { HasStored lower len }
+    requires upper { HasStored upper len }
+    requires same_lower { plain_type array ≡ plain_type lower }
+    requires same_upper { plain_type array ≡ plain_type upper }
+    requires ordered { is_ordered (plain_type array) ≡ true }
+    requires valid { HasValidity valid.now len }
+    ensures { IfOk result (λ b.
+        b ≡ bounded_rows (is_valid valid.now) (is_between options (value_at array.entry) (value_at lower.entry) (value_at upper.entry)) len) }
+{
+    match (array, lower, upper) {
+        (ArgumentRows::Bits(array), ArgumentRows::Bits(lower), ArgumentRows::Bits(upper)) => {
+            between_bits(alloc, options, array, lower, upper, valid, len)
+        }
+        (
+            ArgumentRows::Integers(array),
+            ArgumentRows::Integers(lower),
+            ArgumentRows::Integers(upper),
+        ) => between_integers(alloc, options, array, lower, upper, valid, len),
+        (
+            ArgumentRows::Decimals(array),
+            ArgumentRows::Decimals(lower),
+            ArgumentRows::Decimals(upper),
+        ) => between_decimals(alloc, options, array, lower, upper, valid, len),
+        (ArgumentRows::Bytes(array), ArgumentRows::Bytes(lower), ArgumentRows::Bytes(upper)) => {
+            between_ordered::<BytesOperand<'_>>(alloc, options, array, lower, upper, valid, len)
+        }
+        _ => unreachable!(),
+    }
+}
+
+/// Returns the operator by which a bound is compared.
+fn bound_operator(comparison: StrictComparison) -> Operator
+    ensures { result ≡ bound_by comparison }
+{
+    match comparison {
+        StrictComparison::Strict => Operator::Lt,
+        StrictComparison::NonStrict => Operator::Lte,
+    }
+}
+
+/// Checks the `valid` rows of booleans, `len` rows each, by words; `false` stands for the others.
+#[tactic(auto, using(vx_rows::proofs::ValidRowsLemmas::counted))]
+fn between_bits(
+    alloc: Global,
+    options: BetweenOptions,
+    array: BitOperand<'_>,
+    lower: BitOperand<'_>,
+    upper: BitOperand<'_>,
+    valid: &ValidRows,
+    len: usize,
+) -> Result<BitBuffer, AllocError>
+    requires array { HasBits array len }
+    requires lower { HasBits lower len }
+    requires upper { HasBits upper len }
+    requires valid { HasValidity valid.now len }
+    ensures { IfOk result (λ b. b ≡ bounded_rows (is_valid valid.now)
+        (is_between options (value_at (Bits array.entry)) (value_at (Bits lower.entry)) (value_at (Bits upper.entry))) len) }
+{
+    let above = operate_bits(
+        alloc,
+        bound_operator(options.lower_strict),
+        lower,
+        array,
+        len,
+    )?;
+    let below = operate_bits(
+        alloc,
+        bound_operator(options.upper_strict),
+        array,
+        upper,
+        len,
+    )?;
+    let above = BitOperand::Bits(&above);
+    let bits = BitBuffer::zip::<BitAnd>(alloc, above, BitOperand::Bits(&below), len)?;
+    keep_valid(alloc, bits, valid, len)
+}
+
+/// Checks the `valid` rows of integers, `len` rows each, which must be of one type; `false` stands for the others.
+fn between_integers(
+    alloc: Global,
+    options: BetweenOptions,
+    array: IntegerOperand<'_>,
+    lower: IntegerOperand<'_>,
+    upper: IntegerOperand<'_>,
+    valid: &ValidRows,
+    len: usize,
+) -> Result<BitBuffer, AllocError>
+    requires array { AreIntegers (ptype_in array) array len }
+    requires lower { AreIntegers (ptype_in array) lower len }
+    requires upper { AreIntegers (ptype_in array) upper len }
+    requires valid { HasValidity valid.now len }
+    ensures { IfOk result (λ b. b ≡ bounded_rows (is_valid valid.now)
+        (is_between options (value_at (Integers array.entry)) (value_at (Integers lower.entry)) (value_at (Integers upper.entry))) len) }
+{
+    by_type!(
+        array.ptype(),
+        between_natives(alloc, options, array, lower, upper, valid, len)
+    )
+}
+
+/// Checks the `valid` rows of integers, `len` rows each, which must be of the type `T`; `false` stands for the others.
+fn between_natives<T: NativeInteger>(
+    alloc: Global,
+    options: BetweenOptions,
+    array: IntegerOperand<'_>,
+    lower: IntegerOperand<'_>,
+    upper: IntegerOperand<'_>,
+    valid: &ValidRows,
+    len: usize,
+) -> Result<BitBuffer, AllocError>
+    requires array { AreIntegers T.kind array len }
+    requires lower { AreIntegers T.kind lower len }
+    requires upper { AreIntegers T.kind upper len }
+    requires valid { HasValidity valid.now len }
+    ensures { IfOk result (λ b. b ≡ bounded_rows (is_valid valid.now)
+        (is_between options (value_at (Integers array.entry)) (value_at (Integers lower.entry)) (value_at (Integers upper.entry))) len) }
+{
+    let array: Operand<'_, T> = operand_of(array);
+    let lower: Operand<'_, T> = operand_of(lower);
+    let upper: Operand<'_, T> = operand_of(upper);
+    between_ordered::<Operand<'_, T>>(alloc, options, array, lower, upper, valid, len)
+}
+
+/// Checks the `valid` rows of decimals, `len` rows each, which must be of one type; `false` stands for the others.
+fn between_decimals(
+    alloc: Global,
+    options: BetweenOptions,
+    array: DecimalOperand<'_>,
+    lower: DecimalOperand<'_>,
+    upper: DecimalOperand<'_>,
+    valid: &ValidRows,
+    len: usize,
+) -> Result<BitBuffer, AllocError>
+    requires array { AreDecimals array len }
+    requires lower { AreDecimals lower len }
+    requires upper { AreDecimals upper len }
+    requires same_lower { plain_type (Decimals array) ≡ plain_type (Decimals lower) }
+    requires same_upper { plain_type (Decimals array) ≡ plain_type (Decimals upper) }
+    requires valid { HasValidity valid.now len }
+    ensures { IfOk result (λ b. b ≡ bounded_rows (is_valid valid.now)
+        (is_between options (value_at (Decimals array.entry)) (value_at (Decimals lower.entry)) (value_at (Decimals upper.entry))) len) }
+{
+    by_decimal_type!(
+        DecimalType::smallest_decimal_value_type(&array.decimal),
+        between_unscaled(alloc, options, array, lower, upper, valid, len)
+    )
+}
+
+/// Checks the `valid` rows of decimals, `len` rows each, which must be of one type and stored in the width of `T`: numbers of one
+/// scale are ordered as without their points. `false` stands for the other rows.
+fn between_unscaled<T: NativeDecimalType>(
+    alloc: Global,
+    options: BetweenOptions,
+    array: DecimalOperand<'_>,
+    lower: DecimalOperand<'_>,
+    upper: DecimalOperand<'_>,
+    valid: &ValidRows,
+    len: usize,
+) -> Result<BitBuffer, AllocError>
+    requires kind { T.kind ≡ smallest_width array.decimal.precision }
+    requires array { AreDecimals array len }
+    requires lower { AreDecimals lower len }
+    requires upper { AreDecimals upper len }
+    requires same_lower { plain_type (Decimals array) ≡ plain_type (Decimals lower) }
+    requires same_upper { plain_type (Decimals array) ≡ plain_type (Decimals upper) }
+    requires valid { HasValidity valid.now len }
+    ensures { IfOk result (λ b. b ≡ bounded_rows (is_valid valid.now)
+        (is_between options (value_at (Decimals array.entry)) (value_at (Decimals lower.entry)) (value_at (Decimals upper.entry))) len) }
+{
+    let array: Operand<'_, T> = decimal_operand_of(array);
+    let lower: Operand<'_, T> = decimal_operand_of(lower);
+    let upper: Operand<'_, T> = decimal_operand_of(upper);
+    between_ordered::<Operand<'_, T>>(alloc, options, array, lower, upper, valid, len)
+}
+
+/// Checks the `valid` rows, `len` rows each; `false` stands for the others.
+fn between_ordered<R: OrderedRows>(
+    alloc: Global,
+    options: BetweenOptions,
+    array: R,
+    lower: R,
+    upper: R,
+    valid: &ValidRows,
+    len: usize,
+) -> Result<BitBuffer, AllocError>
+    requires array { (i : ℕ) → i < len → R.has_row array i }
+    requires lower { (i : ℕ) → i < len → R.has_row lower i }
+    requires upper { (i : ℕ) → i < len → R.has_row upper i }
+    requires valid { HasValidity valid.now len }
+    ensures { IfOk result (λ b.
+        b ≡ bounded_rows (is_valid valid.now) (is_between options (R.row_value array) (R.row_value lower) (R.row_value upper)) len) }
+{
+    match (options.lower_strict, options.upper_strict) {
+        (StrictComparison::Strict, StrictComparison::Strict) => {
+            between_by::<R, Below, Below>(alloc, array, lower, upper, valid, len)
+        }
+        (StrictComparison::Strict, StrictComparison::NonStrict) => {
+            between_by::<R, Below, NotAbove>(alloc, array, lower, upper, valid, len)
+        }
+        (StrictComparison::NonStrict, StrictComparison::Strict) => {
+            between_by::<R, NotAbove, Below>(alloc, array, lower, upper, valid, len)
+        }
+        (StrictComparison::NonStrict, StrictComparison::NonStrict) => {
+            between_by::<R, NotAbove, NotAbove>(alloc, array, lower, upper, valid, len)
+        }
+    }
+}
+
+/// Compares `lower` with `array` by `L`, and `array` with `upper` by `U`, in the `valid` rows, `len` rows each; `false` stands for
+/// the others.
+fn between_by<R: OrderedRows, L: Comparison, U: Comparison>(
+    alloc: Global,
+    array: R,
+    lower: R,
+    upper: R,
+    valid: &ValidRows,
+    len: usize,
+) -> Result<BitBuffer, AllocError>
+    requires array { (i : ℕ) → i < len → R.has_row array i }
+    requires lower { (i : ℕ) → i < len → R.has_row lower i }
+    requires upper { (i : ℕ) → i < len → R.has_row upper i }
+    requires valid { HasValidity valid.now len }
+    ensures { IfOk result (λ b.
+        b ≡ bounded_rows (is_valid valid.now) (is_bounded L.operator U.operator (R.row_value array) (R.row_value lower) (R.row_value upper)) len) }
+{
+    match valid {
+        ValidRows::All(_) => between_all::<R, L, U>(alloc, array, lower, upper, len),
+        ValidRows::Bits(valid) => between_valid::<R, L, U>(alloc, array, lower, upper, valid, len),
+    }
+}
+
+/// Compares `lower` with `array` by `L`, and `array` with `upper` by `U`, in each of `len` rows.
+#[tactic(auto, using(crate::proofs::ComparisonLemmas::bits_more))]
+fn between_all<R: OrderedRows, L: Comparison, U: Comparison>(
+    alloc: Global,
+    array: R,
+    lower: R,
+    upper: R,
+    len: usize,
+) -> Result<BitBuffer, AllocError>
+    requires array { (i : ℕ) → i < len → R.has_row array i }
+    requires lower { (i : ℕ) → i < len → R.has_row lower i }
+    requires upper { (i : ℕ) → i < len → R.has_row upper i }
+    ensures { IfOk result (λ b.
+        b ≡ bounded_rows (λ i. true) (is_bounded L.operator U.operator (R.row_value array) (R.row_value lower) (R.row_value upper)) len) }
+{
+    let mut bits = BitBuilder::with_capacity(alloc, len)?;
+    for index in 0..len {
+        let above = lower.compare_at::<L>(&array, index);
+        let below = array.compare_at::<U>(&upper, index);
+        bits.push(above & below)?;
+    }
+    bits.finish(alloc)
+}
+
+/// Compares `lower` with `array` by `L`, and `array` with `upper` by `U`, in the rows at the true bits of `valid`, `len` rows each;
+/// `false` stands for the others.
+fn between_valid<R: OrderedRows, L: Comparison, U: Comparison>(
+    alloc: Global,
+    array: R,
+    lower: R,
+    upper: R,
+    valid: &BitBuffer,
+    len: usize,
+) -> Result<BitBuffer, AllocError>
+    requires array { (i : ℕ) → i < len → R.has_row array i }
+    requires lower { (i : ℕ) → i < len → R.has_row lower i }
+    requires upper { (i : ℕ) → i < len → R.has_row upper i }
+    requires valid { length valid.now ≡ len }
+    ensures { IfOk result (λ b.
+        b ≡ bounded_rows (bit_row valid.now) (is_bounded L.operator U.operator (R.row_value array) (R.row_value lower) (R.row_value upper)) len) }
+{
+    let mut bits = BitBuilder::with_capacity(alloc, len)?;
+    for index in 0..len {
+        let is_valid = valid.value(index);
+        let is_bounded = between_unless_null::<R, L, U>(&array, &lower, &upper, index, is_valid);
+        bits.push(is_bounded)?;
+    }
+    bits.finish(alloc)
+}
+
+/// Checks row `index`, which must exist: `false` if it isn't valid, without calling `L` or `U`.
+#[inline]
+fn between_unless_null<R: OrderedRows, L: Comparison, U: Comparison>(
+    array: &R,
+    lower: &R,
+    upper: &R,
+    index: usize,
+    is_valid: bool,
+) -> bool
+    requires array { R.has_row array.now index }
+    requires lower { R.has_row lower.now index }
+    requires upper { R.has_row upper.now index }
+    ensures { result ≡
+        is_valid && is_bounded L.operator U.operator (R.row_value array.now) (R.row_value lower.now) (R.row_value upper.now) index }
+{
+    is_valid && (lower.compare_at::<L>(array, index) & array.compare_at::<U>(upper, index))
+}

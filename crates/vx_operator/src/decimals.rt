@@ -1,0 +1,217 @@
+//! Operators applied to decimals of one type.
+
+ghost use Rattle.std.specs.Prelude.{◌≡◌, ℤ, true, false, IfOk, IfErr, IsSome, MatchOption};
+ghost use Rattle.vx_value.specs.Casts.{sized};
+ghost use Rattle.vx_value.specs.Cell.{Cell, fault};
+ghost use Rattle.vx_value.specs.Decimals.{smallest_width};
+ghost use Rattle.vx_value.specs.Values.{decimal};
+ghost use Rattle.vx_fn.specs.Arithmetic.{calculated_by};
+ghost use Rattle.vx_fn.specs.Binary.{is_comparison, operator_type};
+ghost use Rattle.vx_fn.specs.declared.function.ScalarFnRef.TheVariants.{Binary};
+ghost use Rattle.vx_tree.specs.Columns.{canonical_tree};
+ghost use Rattle.vx_rows.specs.Arguments.{AreDecimals, plain_type, pair_at};
+ghost use Rattle.vx_rows.specs.ValidRows.{HasValidity};
+ghost use Rattle.vx_rows.specs.declared.argument.ArgumentRows.TheVariants.{Decimals};
+ghost use Rattle.vx_operator.specs.Filled.{IsFilled, IsNotFilled};
+ghost use Rattle.vx_operator.specs.Digits.{is_within, AreLimits, HasLimits, IsWithin};
+ghost use Rattle.vx_kernel.specs.Operands.{number_in, HasRow};
+
+use crate::arithmetic::{Arithmetic, Difference, Sum};
+use crate::comparison::{
+    Above, Below, Comparison, Different, Equal, NotAbove, NotBelow, compare_ordered,
+};
+use num_traits::{CheckedAdd, CheckedSub};
+use std::alloc::Global;
+use std::marker::PhantomData;
+use vx_fn::Operator;
+use vx_kernel::{
+    Calculation, DecimalCalculation, Operand, calculated_decimals, decimal_operand_of,
+};
+use vx_native::{NativeDecimalType, NativeNumber, narrowed};
+use vx_rows::{DecimalOperand, ValidRows};
+use vx_tree::Canonical;
+use vx_value::{DecimalDType, VortexError, VortexResult};
+
+/// Applies `operator` to the `valid` rows of `lhs` and `rhs`, `len` rows each, which must be of one type and stored in the width
+/// of `T`. The other rows are null. `Fault` if a row has no value.
+pub(crate) fn operate_decimals<T: NativeDecimalType>(
+    alloc: Global,
+    operator: Operator,
+    lhs: DecimalOperand<'_>,
+    rhs: DecimalOperand<'_>,
+    valid: &ValidRows,
+    len: usize,
+) -> VortexResult<Canonical>
+    requires kind { T.kind ≡ smallest_width lhs.decimal.precision }
+    requires lhs { AreDecimals lhs len }
+    requires rhs { AreDecimals rhs len }
+    requires same { plain_type (Decimals lhs) ≡ plain_type (Decimals rhs) }
+    requires valid { HasValidity valid.now len }
+    requires taken { IsSome (operator_type operator (plain_type (Decimals lhs))) }
+    ensures ok { IfOk result (λ c. IsFilled (Binary operator) (operator_type operator (plain_type (Decimals lhs.entry)))
+        (pair_at (Decimals lhs.entry) (Decimals rhs.entry)) valid.now len (canonical_tree c)) }
+    ensures err { IfErr result (IsNotFilled (Binary operator) (operator_type operator (plain_type (Decimals lhs.entry)))
+        (pair_at (Decimals lhs.entry) (Decimals rhs.entry)) valid.now len) }
+{
+    match operator {
+        Operator::Eq => compare_decimals::<T, Equal>(alloc, lhs, rhs, valid, len),
+        Operator::NotEq => compare_decimals::<T, Different>(alloc, lhs, rhs, valid, len),
+        Operator::Gt => compare_decimals::<T, Above>(alloc, lhs, rhs, valid, len),
+        Operator::Gte => compare_decimals::<T, NotBelow>(alloc, lhs, rhs, valid, len),
+        Operator::Lt => compare_decimals::<T, Below>(alloc, lhs, rhs, valid, len),
+        Operator::Lte => compare_decimals::<T, NotAbove>(alloc, lhs, rhs, valid, len),
+        Operator::Add => calculate_decimals::<T, Sum>(alloc, lhs, rhs, valid, len),
+        Operator::Sub => calculate_decimals::<T, Difference>(alloc, lhs, rhs, valid, len),
+        _ => unreachable!(),
+    }
+}
+
+/// Applies `C` to the `valid` rows of `lhs` and `rhs`, `len` rows each, which must be of one type and stored in the width of `T`:
+/// numbers of one scale are ordered as without their points. The other rows are null. The only error is `OutOfMemory`.
+fn compare_decimals<T: NativeDecimalType, C: Comparison>(
+    alloc: Global,
+    lhs: DecimalOperand<'_>,
+    rhs: DecimalOperand<'_>,
+    valid: &ValidRows,
+    len: usize,
+) -> VortexResult<Canonical>
+    requires operator { is_comparison C.operator ≡ true }
+    requires kind { T.kind ≡ smallest_width lhs.decimal.precision }
+    requires lhs { AreDecimals lhs len }
+    requires rhs { AreDecimals rhs len }
+    requires same { plain_type (Decimals lhs) ≡ plain_type (Decimals rhs) }
+    requires valid { HasValidity valid.now len }
+    ensures ok { IfOk result (λ c. IsFilled (Binary C.operator) (operator_type C.operator (plain_type (Decimals lhs.entry)))
+        (pair_at (Decimals lhs.entry) (Decimals rhs.entry)) valid.now len (canonical_tree c)) }
+    ensures err { IfErr result (λ e. e ≡ VortexError.OutOfMemory) }
+{
+    let left: Operand<'_, T> = decimal_operand_of(lhs);
+    let right: Operand<'_, T> = decimal_operand_of(rhs);
+    compare_ordered::<Operand<'_, T>, C>(alloc, left, right, valid, len)
+}
+
+/// An arithmetic operator on decimals of one type.
+trait DecimalArithmetic: Arithmetic {
+    /// Computes one row whatever its digits; `None` if `T` doesn't have its value.
+    fn calculate_number<T: NativeNumber>(lhs: T, rhs: T) -> Option<T>
+        ensures { (fit : ℤ → Cell) → IsWithin T.fits fit → MatchOption result
+            (calculated_by Self.operator fit (T.value lhs) (T.value rhs) ≡ fault)
+            (λ r. calculated_by Self.operator fit (T.value lhs) (T.value rhs) ≡ fit (T.value r)) };
+}
+
+impl DecimalArithmetic for Sum {
+    #[inline]
+    fn calculate_number<T: NativeNumber>(lhs: T, rhs: T) -> Option<T> {
+        lhs.checked_add(&rhs)
+    }
+}
+
+impl DecimalArithmetic for Difference {
+    #[inline]
+    fn calculate_number<T: NativeNumber>(lhs: T, rhs: T) -> Option<T> {
+        lhs.checked_sub(&rhs)
+    }
+}
+
+/// The least and the greatest number of so many digits.
+#[derive(Clone, Copy)]
+struct DigitLimits<T> {
+    least: T,
+    greatest: T,
+}
+
+impl<T: NativeDecimalType> DigitLimits<T> {
+    /// Returns the limits of the numbers of `decimal`, which must be stored in the width of `T`.
+    fn of(decimal: DecimalDType) -> DigitLimits<T>
+        requires { T.kind ≡ smallest_width decimal.precision }
+        ensures { AreLimits decimal.precision (T.value result.least) (T.value result.greatest) }
+    {
+        let beyond = 10_i128.pow(decimal.precision() as u32);
+        DigitLimits {
+            least: narrowed(1 - beyond),
+            greatest: narrowed(beyond - 1),
+        }
+    }
+
+    /// Checks whether `number` is within the limits.
+    #[inline]
+    fn contains(&self, number: T) -> bool
+        ensures { result ≡ is_within (T.value self.now.least) (T.value self.now.greatest) (T.value number) }
+    {
+        self.least <= number && number <= self.greatest
+    }
+}
+
+/// An arithmetic operator applied to the rows of two operands, decimals of the type `decimal`.
+#[derive(Drop)]
+struct DecimalOperation<'a, T, A> {
+    left: Operand<'a, T>,
+    right: Operand<'a, T>,
+    decimal: DecimalDType,
+    limits: DigitLimits<T>,
+    operator: PhantomData<A>,
+}
+
+impl<'a, T: NativeDecimalType, A: DecimalArithmetic> Calculation<T> for DecimalOperation<'a, T, A> {
+    ghost has_row = { λ s i. HasRow s.left i × HasRow s.right i
+        × HasLimits T.kind s.decimal.precision (T.value s.limits.least) (T.value s.limits.greatest) };
+
+    ghost cell = { λ s i. calculated_by A.operator (sized s.decimal.precision s.decimal.scale) (number_in T.value s.left i) (number_in T.value s.right i) };
+
+    ghost stands_for = { λ s z. decimal z s.decimal.scale };
+
+    #[inline]
+    fn calculate_row(&self, index: usize) -> Option<T> {
+        let Some(number) = A::calculate_number(self.left.row(index), self.right.row(index)) else {
+            return None;
+        };
+        if self.limits.contains(number) {
+            Some(number)
+        } else {
+            None
+        }
+    }
+}
+
+impl<'a, T: NativeDecimalType, A: DecimalArithmetic> DecimalCalculation<T>
+    for DecimalOperation<'a, T, A> {
+    ghost of_type = { λ s. s.decimal };
+
+    fn decimal(&self) -> DecimalDType {
+        self.decimal
+    }
+}
+
+/// Applies `A` to the `valid` rows of `lhs` and `rhs`, `len` rows each, which must be of one type and stored in the width of `T`.
+/// The other rows are null. `Fault` if a row has no value.
+fn calculate_decimals<T: NativeDecimalType, A: DecimalArithmetic>(
+    alloc: Global,
+    lhs: DecimalOperand<'_>,
+    rhs: DecimalOperand<'_>,
+    valid: &ValidRows,
+    len: usize,
+) -> VortexResult<Canonical>
+    requires operator { is_comparison A.operator ≡ false }
+    requires kind { T.kind ≡ smallest_width lhs.decimal.precision }
+    requires lhs { AreDecimals lhs len }
+    requires rhs { AreDecimals rhs len }
+    requires same { plain_type (Decimals lhs) ≡ plain_type (Decimals rhs) }
+    requires valid { HasValidity valid.now len }
+    requires taken { IsSome (operator_type A.operator (plain_type (Decimals lhs))) }
+    ensures ok { IfOk result (λ c. IsFilled (Binary A.operator) (operator_type A.operator (plain_type (Decimals lhs.entry)))
+        (pair_at (Decimals lhs.entry) (Decimals rhs.entry)) valid.now len (canonical_tree c)) }
+    ensures err { IfErr result (IsNotFilled (Binary A.operator) (operator_type A.operator (plain_type (Decimals lhs.entry)))
+        (pair_at (Decimals lhs.entry) (Decimals rhs.entry)) valid.now len) }
+{
+    let operation: DecimalOperation<'_, T, A> = DecimalOperation {
+        left: decimal_operand_of(lhs),
+        right: decimal_operand_of(rhs),
+        decimal: lhs.decimal,
+        limits: DigitLimits::of(lhs.decimal),
+        operator: PhantomData,
+    };
+    match calculated_decimals(alloc, &operation, valid, len) {
+        Ok(column) => Ok(column),
+        Err(e) => Err(e),
+    }
+}

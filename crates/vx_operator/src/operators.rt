@@ -1,0 +1,133 @@
+//! Operators applied to two columns.
+
+ghost use Rattle.std.specs.Prelude.{◌≡◌, ◌∷◌, [], IfOk, IfErr, IsSome};
+ghost use Rattle.vx_fn.specs.Binary.{operator_type};
+ghost use Rattle.vx_fn.specs.declared.function.ScalarFnRef.TheVariants.{Binary};
+ghost use Rattle.vx_tree.specs.Columns.{canonical_tree};
+ghost use Rattle.vx_rows.specs.Arguments.{types_of, plain_type, pair_at, IsSized, HasStored, AreShown, AreIntegers};
+ghost use Rattle.vx_kernel.specs.Computed.{IsTaken, IsComputed, IsNotComputed};
+ghost use Rattle.vx_operator.specs.Filled.{IsFilled, IsNotFilled};
+ghost use Rattle.vx_rows.specs.ValidRows.{HasValidity};
+ghost use Rattle.vx_rows.specs.declared.argument.ArgumentRows.TheVariants.{Integers};
+
+use crate::arithmetic::{Difference, Product, Quotient, Sum, calculate};
+use crate::boolean::operate_bools;
+use crate::bytes::operate_bytes;
+use crate::comparison::{Above, Below, Different, Equal, NotAbove, NotBelow, compare};
+use crate::decimals::operate_decimals;
+use crate::logic::join;
+use std::alloc::Global;
+use vx_fn::Operator;
+use vx_kernel::valid_bools;
+use vx_mask::BitBuffer;
+use vx_native::{NativeInteger, by_decimal_type, by_type};
+use vx_rows::{Argument, ArgumentRows, IntegerOperand, ValidRows};
+use vx_tree::Canonical;
+use vx_value::{DecimalType, VortexResult};
+
+/// Applies `operator` to `lhs` and `rhs`, `len` rows each, whose types it must accept. `Fault` if a row has no value. (own)
+pub fn operate(
+    alloc: Global,
+    operator: Operator,
+    lhs: &Argument<'_>,
+    rhs: &Argument<'_>,
+    len: usize,
+) -> VortexResult<Canonical>
+    requires lhs { IsSized len lhs.now }
+    requires rhs { IsSized len rhs.now }
+    requires taken { IsTaken (Binary operator) (types_of (lhs.now ∷ rhs.now ∷ [])) }
+    ensures ok { IfOk result (λ c. IsComputed (Binary operator) (lhs.now ∷ rhs.now ∷ []) len (canonical_tree c)) }
+    ensures err { IfErr result (IsNotComputed (Binary operator) (lhs.now ∷ rhs.now ∷ []) len) }
+{
+    if operator.is_logical() {
+        return join(alloc, operator, lhs, rhs, len);
+    }
+    let valid = lhs.valid.and(alloc, &rhs.valid, len)?;
+    match operate_rows(alloc, operator, lhs.rows, rhs.rows, &valid, len) {
+        Ok(column) => Ok(column),
+        Err(e) => Err(e),
+    }
+}
+
+/// Applies `operator` to the `valid` rows of `lhs` and `rhs`, `len` rows each, which must be of one type; none of type null may be
+/// valid. The other rows are null. `Fault` if a row has no value.
+fn operate_rows(
+    alloc: Global,
+    operator: Operator,
+    lhs: ArgumentRows<'_>,
+    rhs: ArgumentRows<'_>,
+    valid: &ValidRows,
+    len: usize,
+) -> VortexResult<Canonical>
+    requires lhs { HasStored lhs len }
+    requires rhs { HasStored rhs len }
+    requires valid { HasValidity valid.now len }
+    requires shown { AreShown lhs valid.now len }
+    requires same { plain_type lhs ≡ plain_type rhs }
+    requires taken { IsSome (operator_type operator (plain_type lhs)) }
+    ensures ok { IfOk result (λ c.
+        IsFilled (Binary operator) (operator_type operator (plain_type lhs.entry)) (pair_at lhs.entry rhs.entry) valid.now len (canonical_tree c)) }
+    ensures err { IfErr result
+        (IsNotFilled (Binary operator) (operator_type operator (plain_type lhs.entry)) (pair_at lhs.entry rhs.entry) valid.now len) }
+{
+    match (lhs, rhs) {
+        (ArgumentRows::Nulls, ArgumentRows::Nulls) => {
+            let bits = BitBuffer::repeat(alloc, false, len)?;
+            valid_bools(alloc, bits, valid, len)
+        }
+        (ArgumentRows::Bits(lhs), ArgumentRows::Bits(rhs)) => {
+            operate_bools(alloc, operator, lhs, rhs, valid, len)
+        }
+        (ArgumentRows::Integers(lhs), ArgumentRows::Integers(rhs)) => {
+            by_type!(
+                lhs.ptype(),
+                operate_natives(alloc, operator, lhs, rhs, valid, len)
+            )
+        }
+        (ArgumentRows::Decimals(lhs), ArgumentRows::Decimals(rhs)) => {
+            by_decimal_type!(
+                DecimalType::smallest_decimal_value_type(&lhs.decimal),
+                operate_decimals(alloc, operator, lhs, rhs, valid, len)
+            )
+        }
+        (ArgumentRows::Bytes(lhs), ArgumentRows::Bytes(rhs)) => {
+            operate_bytes(alloc, operator, lhs, rhs, valid, len)
+        }
+        _ => unreachable!(),
+    }
+}
+
+/// Applies `operator` to the `valid` rows of `lhs` and `rhs`, `len` rows each, which must be of the type `T`. `Fault` if a row
+/// has no value.
+#[tactic(auto, using(crate::proofs::OperatorLemmas::integers_plain))]
+fn operate_natives<T: NativeInteger>(
+    alloc: Global,
+    operator: Operator,
+    lhs: IntegerOperand<'_>,
+    rhs: IntegerOperand<'_>,
+    valid: &ValidRows,
+    len: usize,
+) -> VortexResult<Canonical>
+    requires lhs { AreIntegers T.kind lhs len }
+    requires rhs { AreIntegers T.kind rhs len }
+    requires valid { HasValidity valid.now len }
+    requires taken { IsSome (operator_type operator (plain_type (Integers lhs))) }
+    ensures ok { IfOk result (λ c. IsFilled (Binary operator) (operator_type operator (plain_type (Integers lhs.entry)))
+        (pair_at (Integers lhs.entry) (Integers rhs.entry)) valid.now len (canonical_tree c)) }
+    ensures err { IfErr result (IsNotFilled (Binary operator) (operator_type operator (plain_type (Integers lhs.entry)))
+        (pair_at (Integers lhs.entry) (Integers rhs.entry)) valid.now len) }
+{
+    match operator {
+        Operator::Eq => compare::<T, Equal>(alloc, lhs, rhs, valid, len),
+        Operator::NotEq => compare::<T, Different>(alloc, lhs, rhs, valid, len),
+        Operator::Gt => compare::<T, Above>(alloc, lhs, rhs, valid, len),
+        Operator::Gte => compare::<T, NotBelow>(alloc, lhs, rhs, valid, len),
+        Operator::Lt => compare::<T, Below>(alloc, lhs, rhs, valid, len),
+        Operator::Lte => compare::<T, NotAbove>(alloc, lhs, rhs, valid, len),
+        Operator::Add => calculate::<T, Sum>(alloc, lhs, rhs, valid, len),
+        Operator::Sub => calculate::<T, Difference>(alloc, lhs, rhs, valid, len),
+        Operator::Mul => calculate::<T, Product>(alloc, lhs, rhs, valid, len),
+        Operator::Div => calculate::<T, Quotient>(alloc, lhs, rhs, valid, len),
+        Operator::And | Operator::Or => unreachable!(),
+    }
+}

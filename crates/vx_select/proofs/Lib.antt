@@ -1,0 +1,3 @@
+pub mod NullFunctionsLemmas
+pub mod SelectLemmas
+pub mod SelectedLemmas
