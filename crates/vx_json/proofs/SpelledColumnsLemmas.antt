@@ -1,13 +1,15 @@
 -- The validities that are spelled are those of their columns.
-use Rattle.std.proofs.Common.{◌≡◌, ℕ, pos, List, [], length, map, Bool, true, false, Option, Some, None, refl, sym, ap, subst, ◌∙◌}
+use Rattle.std.proofs.Common.{◌≡◌, ℕ, suc, pos, List, [], ◌∷◌, length, map, Bool, true, false, ◌&&◌, Option, Some, None, refl, sym, ap, subst, ◌∙◌}
 use Rattle.std.proofs.lemmas.Bool.{and_from}
 use Rattle.std.proofs.lemmas.List.{length-map}
 use Rattle.std.proofs.lemmas.Option.{same_Some}
 use Rattle.std.specs.Cmp.{unsigned_Decides}
 use Rattle.std.specs.List.{list_all}
 use Rattle.std.specs.Prelude.{ℤ, is_some, option_map, option_and_then, if◌then◌else◌}
-use Rattle.serde_json.specs.Data.{Items, Data as Json}
-use Rattle.serde_json.specs.Find.{as_bool}
+use Rattle.serde_json.specs.Data.{Items, item, null, Data as Json}
+use Rattle.serde_json.specs.declared.value.Value.{Value}
+use Rattle.serde_json.specs.Find.{as_null, as_bool}
+use Rattle.serde_json.specs.View.{view, items_view}
 use Rattle.vx_value.specs.Types as type
 use Rattle.vx_value.specs.Types.{DataType, nullability_of, same_type_Decides}
 use Rattle.vx_value.specs.Decimals.{has_digits, smallest_width, same_width_Decides}
@@ -16,17 +18,17 @@ use Rattle.vx_value.specs.Nullabilities.{with_nullability}
 use Rattle.vx_value.specs.declared.dtype.Nullability.{Nullability}
 use Rattle.vx_value.specs.declared.dtype.Nullability.TheVariants.{NonNullable, Nullable}
 use Rattle.vx_value.specs.declared.dtype.Storage.{Storage}
-use Rattle.vx_value.specs.declared.dtype.Storage.TheVariants.{Bits, Integers, Decimals, Text, Bytes}
+use Rattle.vx_value.specs.declared.dtype.Storage.TheVariants.{Text, Bytes}
 use Rattle.vx_mask.specs.Masks.{is_all_true, is_all_false}
 use Rattle.vx_tree.specs.ColumnTypes.{bytes_type}
-use Rattle.vx_tree.specs.Tree.{Tree, Data, dtype, len, column, bool, primitive, decimals, views, booleans}
+use Rattle.vx_tree.specs.Tree.{Tree, Data, dtype, len, column, nulls_of, bool, primitive, decimals, views, booleans}
 use Rattle.vx_tree.specs.Rows.{item_or, bytes_rows}
 use Rattle.vx_tree.specs.Validities.{HasRows, nullability_by, child_of, child_by, truths, array_refusal, flat_refusal, decimal_refusal}
 use Rattle.vx_tree.specs.declared.validity.Validity.{Validity}
 use Rattle.vx_tree.specs.declared.validity.Validity.TheVariants as validity
 use Rattle.vx_tree.proofs.ConditionsLemmas.{none_refused, none_unless}
-use Rattle.vx_json.specs.SpelledValues.{integer_spelled, decimal_spelled, bytes_spelled, all_read}
-use Rattle.vx_json.specs.SpelledColumns.{rows_stored, values_stored, flat_of}
+use Rattle.vx_json.specs.SpelledValues.{integer_spelled, decimal_spelled, bytes_spelled, is_null, all_read}
+use Rattle.vx_json.specs.SpelledColumns.{column_of_rows, column_of_values, flat_of}
 use Rattle.vx_json.specs.SpelledNulls.{validity_spelled}
 use Rattle.vx_json.specs.declared.nulls.Nulls.{Nulls}
 use Rattle.vx_json.specs.declared.nulls.Nulls.TheVariants.{Absent}
@@ -110,10 +112,42 @@ values_there d ty of_items read ds = ap (option_map (column_of d ty of_items)) (
     by_read (Some xs) = ap Some (column_there d ty of_items xs)
 
 -- a column of a non-nullable type by its rows is one by its values
-pub rows_are_values : (s : Storage) (ds : Items) → rows_stored NonNullable s ds ≡ values_stored NonNullable s Absent ds
-rows_are_values Bits ds = values_there false (type.bool NonNullable) bool as_bool ds
-rows_are_values (Integers p) ds = values_there (pos 0) (type.primitive p NonNullable) (primitive p) (integer_spelled p) ds
-rows_are_values (Decimals p s) ds = values_there (pos 0) (type.decimal p s NonNullable) (decimals (smallest_width p)) (decimal_spelled p) ds
-rows_are_values Text ds = values_there [] (type.utf8 NonNullable) views (bytes_spelled Text) ds
-rows_are_values Bytes ds = values_there [] (type.binary NonNullable) views (bytes_spelled Bytes) ds
-rows_are_values _ ds = refl
+pub rows_are_values : (ty : DataType) (ds : Items) → nullability_of ty ≡ NonNullable → column_of_rows ty ds ≡ column_of_values Absent ty ds
+rows_are_values (type.bool NonNullable) ds h = values_there false (type.bool NonNullable) bool as_bool ds
+rows_are_values (type.primitive p NonNullable) ds h = values_there (pos 0) (type.primitive p NonNullable) (primitive p) (integer_spelled p) ds
+rows_are_values (type.decimal p s NonNullable) ds h =
+    values_there (pos 0) (type.decimal p s NonNullable) (decimals (smallest_width p)) (decimal_spelled p) ds
+rows_are_values (type.utf8 NonNullable) ds h = values_there [] (type.utf8 NonNullable) views (bytes_spelled Text) ds
+rows_are_values (type.binary NonNullable) ds h = values_there [] (type.binary NonNullable) views (bytes_spelled Bytes) ds
+rows_are_values _ ds h = absurd (cc)
+
+-- one row more
+one_more : {A : Type 0} (x : A) (n : ℕ) (read : Option (List A)) → option_map (λ rows. nulls_of (length rows)) read ≡ Some (nulls_of n) →
+    option_map (λ rows. nulls_of (length rows)) (option_map (λ rows. x ∷ rows) read) ≡ Some (nulls_of (suc n))
+one_more x n None h = absurd (cc)
+one_more x n (Some rows) h = ap (λ t. Some (nulls_of (suc (len t)))) (same_Some _ _ h)
+
+abbrev are_nulls : List Value → Bool
+are_nulls = list_all (λ v. is_null (view v))
+
+abbrev null_rows : Items → Option Tree
+null_rows ds = option_map (λ rows. nulls_of (length rows)) (all_read as_null ds)
+
+-- a list of nulls is a column of as many, and one with another value none
+pub nulls_read : (vs : List Value) → are_nulls vs ≡ true → null_rows (items_view vs) ≡ Some (nulls_of (length vs))
+nulls_read [] h = refl
+nulls_read (v ∷ vs) h = by_item (view v) (nulls_read vs) h
+  where
+    by_item : (d : Json) → (are_nulls vs ≡ true → null_rows (items_view vs) ≡ Some (nulls_of (length vs))) → (is_null d && are_nulls vs) ≡ true →
+        null_rows (item d (items_view vs)) ≡ Some (nulls_of (suc (length vs)))
+    by_item null rest h = one_more tt (length vs) (all_read as_null (items_view vs)) (rest h)
+    by_item _ rest h = absurd (cc)
+
+pub nulls_unread : (vs : List Value) → are_nulls vs ≡ false → all_read as_null (items_view vs) ≡ None
+nulls_unread [] h = absurd (cc)
+nulls_unread (v ∷ vs) h = by_item (view v) (nulls_unread vs) h
+  where
+    by_item : (d : Json) → (are_nulls vs ≡ false → all_read as_null (items_view vs) ≡ None) → (is_null d && are_nulls vs) ≡ false →
+        all_read as_null (item d (items_view vs)) ≡ None
+    by_item null rest h = ap (option_map (λ rows. tt ∷ rows)) (rest h)
+    by_item _ rest h = refl

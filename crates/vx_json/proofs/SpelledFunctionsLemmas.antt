@@ -6,7 +6,6 @@ use Rattle.vx_value.specs.Types.{DataType}
 use Rattle.vx_value.specs.View.{type_of}
 use Rattle.vx_value.specs.declared.dtype.DType.{DType}
 use Rattle.vx_value.specs.declared.dtype.DType.TheVariants as dtype
-use Rattle.vx_tree.specs.ColumnTypes.{has_column}
 use Rattle.vx_value.specs.Decimals.{IsDecimal}
 use Rattle.vx_value.specs.declared.decimal.DecimalDType.{DecimalDType}
 use Rattle.vx_json.specs.SpelledTypes.{is_decimal, is_decimal_Decides}
@@ -22,16 +21,16 @@ dtype_again d true holds e =
     λ i. Some (record { precision = d.precision; scale = d.scale; is_decimal = one_decimal d.precision d.scale (holds refl) d.is_decimal i })
 dtype_again d false holds e = absurd (cc)
 
-declared_again : (t : DType) → has_column (type_of t) ≡ true → declared (type_of t) ≡ Some t
-declared_again (dtype.Bool m) h = refl
-declared_again (dtype.Primitive p m) h = refl
-declared_again (dtype.Decimal d m) h =
+declared_again : (t : DType) → declared (type_of t) ≡ Some t
+declared_again dtype.Null = refl
+declared_again (dtype.Bool m) = refl
+declared_again (dtype.Primitive p m) = refl
+declared_again (dtype.Decimal d m) =
     let decides = is_decimal_Decides d.precision d.scale in
     ap (option_map (λ (x : DecimalDType). dtype.Decimal x m)) (dtype_again d (is_decimal d.precision d.scale) decides.0 (decides.1 d.is_decimal))
-declared_again (dtype.Utf8 m) h = refl
-declared_again (dtype.Binary m) h = refl
-declared_again _ h = absurd (cc)
+declared_again (dtype.Utf8 m) = refl
+declared_again (dtype.Binary m) = refl
 
--- a type with columns is the one that its text names
-pub target_named : (t : DType) (o : Option DataType) → has_column (type_of t) ≡ true → Some (type_of t) ≡ o → option_and_then declared o ≡ Some t
-target_named t o column named = ap (option_and_then declared) (sym named) ∙ declared_again t column
+-- a type is the one that its text names
+pub target_named : (t : DType) (o : Option DataType) → Some (type_of t) ≡ o → option_and_then declared o ≡ Some t
+target_named t o named = ap (option_and_then declared) (sym named) ∙ declared_again t

@@ -2,7 +2,8 @@
 use Rattle.std.proofs.Common.{◌≡◌, ◌≢◌, ℕ, ◌-◌, List, ◌++◌, length, take, drop, [], ◌∷◌, Bool, true, false, None, refl, sym, ap, ◌∙◌}
 use Rattle.std.proofs.lemmas.List.{take-append-drop}
 use Rattle.std.proofs.lemmas.Slice.Eq.{bytes_eq-Decides}
-use Rattle.std.specs.Prelude.{codes, if◌then◌else◌}
+use Rattle.std.specs.Prelude.{bytes_eq, codes, if◌then◌else◌, Some}
+use Rattle.vx_value.specs.Types.{null}
 use Rattle.vx_value.specs.declared.dtype.Nullability.TheVariants.{NonNullable, Nullable}
 use Rattle.serde_json.specs.View.{items_view}
 use Rattle.serde_json.specs.declared.value.Value.{Value}
@@ -18,8 +19,11 @@ unmarked_no text h = by_test (is_marked text) refl
         absurd (h (take (length text - 1) text) (sym (take-append-drop (length text - 1) text) ∙ ap (λ l. take (length text - 1) text ++ l) last))
     by_test false e = refl
 
-pub unmarked_spelled : (text : List ℕ) → ((front : List ℕ) → text ≢ front ++ codes "?") → type_spelled text ≡ type_named text NonNullable
-unmarked_spelled text h = ap (λ b. if b then type_named (unmarked text) Nullable else type_named text NonNullable) (unmarked_no text h)
+pub unmarked_spelled : (text : List ℕ) → bytes_eq text (codes "null") ≡ false → ((front : List ℕ) → text ≢ front ++ codes "?") →
+    type_spelled text ≡ type_named text NonNullable
+unmarked_spelled text other h =
+    ap (λ b. if b then Some null else (if is_marked text then type_named (unmarked text) Nullable else type_named text NonNullable)) other
+    ∙ ap (λ b. if b then type_named (unmarked text) Nullable else type_named text NonNullable) (unmarked_no text h)
 
 -- a list of another length isn't one of a precision and a scale
 pub listed_none : (m : Nullability) (vs : List Value) → length vs ≢ 2 → decimal_listed m (items_view vs) ≡ None

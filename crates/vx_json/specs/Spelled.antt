@@ -8,7 +8,7 @@ use Rattle.serde_json.specs.Read.{read}
 use Rattle.vx_tree.specs.Tree.{Tree}
 use Rattle.vx_json.specs.Fields.{text_at, items_at}
 use Rattle.vx_json.specs.SpelledColumns.{col_spelled, flat_spelled}
-use Rattle.vx_json.specs.SpelledNodes.{constant_spelled, slice_spelled, filter_spelled, masked_spelled, is_valid_spelled, call_spelled}
+use Rattle.vx_json.specs.SpelledNodes.{constant_spelled, null_spelled, slice_spelled, filter_spelled, masked_spelled, is_valid_spelled, call_spelled}
 use Rattle.vx_json.specs.SpelledNulls.{nulls_at}
 
 -- the tree of an object by its `enc`, given the tree and the list of trees under each key: a line for each encoding
@@ -17,12 +17,13 @@ node_of d child children enc =
     if bytes_eq enc (codes "col") then col_spelled d
     else (if bytes_eq enc (codes "flat") then option_and_then (flat_spelled d) (nulls_at d (child (codes "validity")))
     else (if bytes_eq enc (codes "constant") then constant_spelled d
+    else (if bytes_eq enc (codes "null") then null_spelled d
     else (if bytes_eq enc (codes "slice") then option_and_then (slice_spelled d) (child (codes "child"))
     else (if bytes_eq enc (codes "filter") then option_and_then (filter_spelled d) (child (codes "child"))
     else (if bytes_eq enc (codes "masked") then option_and_then (λ t. option_and_then (masked_spelled d t) (nulls_at d (child (codes "validity")))) (child (codes "child"))
     else (if bytes_eq enc (codes "is_valid") then option_and_then (is_valid_spelled d) (child (codes "child"))
     else (if bytes_eq enc (codes "fn") then option_and_then (call_spelled d) (children (codes "args"))
-    else None)))))))
+    else None))))))))
 
 -- a tree in front of a list of trees
 abbrev pub tree_first : Option Tree → Option (List Tree) → Option (List Tree)

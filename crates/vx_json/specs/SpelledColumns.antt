@@ -1,16 +1,17 @@
 -- The column that JSON spells, by its rows or by its values and its validity.
 use Rattle.std.specs.Prelude.{ℕ, ◌+◌, length, Option, None, option_map, option_and_then, codes}
 use Rattle.serde_json.specs.Data.{Data, Items}
-use Rattle.serde_json.specs.Find.{as_bool}
+use Rattle.serde_json.specs.Find.{as_null, as_bool}
 use Rattle.vx_value.specs.Types as type
 use Rattle.vx_value.specs.Types.{DataType, nullability_of}
 use Rattle.vx_value.specs.Decimals.{smallest_width}
 use Rattle.vx_value.specs.Storage.{storage_of}
 use Rattle.vx_value.specs.declared.dtype.Nullability.{Nullability}
 use Rattle.vx_value.specs.declared.dtype.Storage.{Storage}
+use Rattle.vx_value.specs.declared.dtype.Storage.TheVariants as storage
 use Rattle.vx_value.specs.declared.dtype.Storage.TheVariants.{Bits, Integers, Decimals, Text, Bytes}
 use Rattle.vx_tree.specs.Tree as enc
-use Rattle.vx_tree.specs.Tree.{Tree, column}
+use Rattle.vx_tree.specs.Tree.{Tree, column, nulls_of}
 use Rattle.vx_tree.specs.Rows.{boolean_rows, integer_rows, decimal_rows, bytes_rows}
 use Rattle.vx_tree.specs.Validities.{child_of}
 use Rattle.vx_json.specs.Fields.{keyed, items_at}
@@ -20,14 +21,13 @@ use Rattle.vx_json.specs.SpelledValues.{integer_spelled, decimal_spelled, bytes_
 use Rattle.vx_json.specs.declared.nulls.Nulls.{Nulls}
 
 -- `{"enc":"col","type":T,"rows":[..]}`: a column of the rows, null among them if the type is nullable; a line for each storage
--- that is spelled
 abbrev pub rows_stored : Nullability → Storage → Items → Option Tree
+rows_stored m storage.Nulls ds = option_map (λ rows. nulls_of (length rows)) (all_read as_null ds)
 rows_stored m Bits ds = option_map (boolean_rows m) (all_read (or_null m as_bool) ds)
 rows_stored m (Integers p) ds = option_map (integer_rows m p) (all_read (or_null m (integer_spelled p)) ds)
 rows_stored m (Decimals p s) ds = option_map (decimal_rows (type.decimal p s m)) (all_read (or_null m (decimal_spelled p)) ds)
 rows_stored m Text ds = option_map (bytes_rows (type.utf8 m)) (all_read (or_null m (bytes_spelled Text)) ds)
 rows_stored m Bytes ds = option_map (bytes_rows (type.binary m)) (all_read (or_null m (bytes_spelled Bytes)) ds)
-rows_stored m _ ds = None
 
 abbrev pub column_of_rows : DataType → Items → Option Tree
 column_of_rows ty = rows_stored (nullability_of ty) (storage_of ty)

@@ -49,14 +49,14 @@ dtype_if precision scale false holds = None
 abbrev pub decimal_dtype : ℕ → ℕ → Option DecimalDType
 decimal_dtype precision scale = dtype_if precision scale (is_decimal precision scale) (is_decimal_Decides precision scale).0
 
--- the type of the program that a type with columns is: a line for each kind
+-- the type of the program that a type is: a line for each kind
 abbrev pub declared : DataType → Option DType
+declared type.null = Some dtype.Null
 declared (type.bool m) = Some (dtype.Bool m)
 declared (type.primitive p m) = Some (dtype.Primitive p m)
 declared (type.decimal p s m) = option_map (λ d. dtype.Decimal d m) (decimal_dtype p s)
 declared (type.utf8 m) = Some (dtype.Utf8 m)
 declared (type.binary m) = Some (dtype.Binary m)
-declared _ = None
 
 -- `cast` has its target under `type`
 abbrev pub cast : Data → Option ScalarFnRef

@@ -7,7 +7,7 @@ use Rattle.vx_value.specs.Typed.{Typed}
 use Rattle.vx_value.specs.declared.dtype.Nullability.TheVariants.{Nullable}
 use Rattle.vx_fn.specs.declared.function.ScalarFnRef.{ScalarFnRef}
 use Rattle.vx_tree.specs.Calls.{inferred_refusal, inferred}
-use Rattle.vx_tree.specs.Tree.{Tree, constant_of, slice_of, filter_of, masked_of, validity_in, len}
+use Rattle.vx_tree.specs.Tree.{Tree, nulls_of, constant_of, slice_of, filter_of, masked_of, validity_in, len}
 use Rattle.vx_tree.specs.Validities.{child_of}
 use Rattle.vx_json.specs.Fields.{keyed, number_at, items_at}
 use Rattle.vx_json.specs.SpelledFunctions.{function_at}
@@ -23,6 +23,10 @@ scalar_at ty d = option_map (λ v. record { of_type = ty; value = v }) (option_a
 abbrev pub constant_spelled : Data → Option Tree
 constant_spelled d =
     keyed 4 d (option_and_then (λ ty. option_and_then (λ s. option_map (constant_of s) (number_at (codes "len") d)) (scalar_at ty d)) (type_at d))
+
+-- `{"enc":"null","len":n}`: n rows of type null
+abbrev pub null_spelled : Data → Option Tree
+null_spelled d = keyed 2 d (option_map nulls_of (number_at (codes "len") d))
 
 -- `{"enc":"slice","start":a,"stop":b,"child":{..}}`: rows `a..b` of the child
 abbrev pub slice_within : Tree → ℕ → ℕ → Option Tree

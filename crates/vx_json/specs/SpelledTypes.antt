@@ -6,14 +6,14 @@ use Rattle.std.specs.Map.{lookup}
 use Rattle.std.proofs.lemmas.Bool.{and_parts, and_from, leb-true, le-leb}
 use Rattle.serde_json.specs.Data.{Data, string, object, Items, no_items, item}
 use Rattle.serde_json.specs.Find.{get, as_bool}
-use Rattle.vx_value.specs.Types.{DataType, bool, primitive, decimal, utf8, binary}
+use Rattle.vx_value.specs.Types.{DataType, null, bool, primitive, decimal, utf8, binary}
 use Rattle.vx_value.specs.Decimals.{IsDecimal}
 use Rattle.vx_value.specs.declared.dtype.Nullability.{Nullability}
 use Rattle.vx_value.specs.declared.dtype.Nullability.TheVariants.{NonNullable, Nullable}
 use Rattle.vx_value.specs.declared.dtype.PType.TheVariants.{U8, U16, U32, U64, I8, I16, I32, I64}
 use Rattle.vx_json.specs.Fields.{keyed, whole_number, items_at}
 
--- the types that have a name, each of either nullability: a line for each
+-- the types of either nullability that have a name: a line for each
 abbrev pub named_types : List (List ℕ × (Nullability → DataType))
 named_types =
     (codes "bool", bool)
@@ -40,9 +40,11 @@ is_marked text = bytes_eq (drop (length text - 1) text) (codes "?")
 abbrev pub unmarked : List ℕ → List ℕ
 unmarked text = take (length text - 1) text
 
--- the name of a type, and behind it the mark if the type is nullable
+-- the name of a type, and behind it the mark if the type is nullable; type null always is, and takes no mark
 abbrev pub type_spelled : List ℕ → Option DataType
-type_spelled text = if is_marked text then type_named (unmarked text) Nullable else type_named text NonNullable
+type_spelled text =
+    if bytes_eq text (codes "null") then Some null
+    else (if is_marked text then type_named (unmarked text) Nullable else type_named text NonNullable)
 
 -- ---- `{"decimal":[P,S]}`, or with `"null"` too: a type of decimals of P digits, S of them behind the point
 

@@ -2,11 +2,11 @@
 
 ghost use Rattle.std.specs.Prelude.{◌≡◌, length, Some, None, option_map, option_and_then, IfOk, IfErr};
 ghost use Rattle.serde_json.specs.View.{view, items_view};
-ghost use Rattle.serde_json.specs.Find.{as_bool};
+ghost use Rattle.serde_json.specs.Find.{as_null, as_bool};
 ghost use Rattle.vx_value.specs.View.{type_of};
 ghost use Rattle.vx_value.specs.Nullabilities.{with_nullability};
 ghost use Rattle.vx_value.specs.Storage.{storage_of};
-ghost use Rattle.vx_tree.specs.Tree.{views};
+ghost use Rattle.vx_tree.specs.Tree.{views, nulls_of};
 ghost use Rattle.vx_tree.specs.ColumnTypes.{bytes_type};
 ghost use Rattle.vx_tree.specs.Rows.{boolean_rows, integer_rows, bytes_rows};
 ghost use Rattle.vx_json.specs.Refused.{IsRefused};
@@ -19,11 +19,12 @@ use crate::decimals::{decimals, nullable_decimals};
 use crate::fields::{check_keys, items};
 use crate::nulls::Nulls;
 use crate::types::type_at;
-use crate::values::{booleans, integers, nullable_booleans, nullable_integers};
+use crate::values::{are_nulls, booleans, integers, nullable_booleans, nullable_integers};
 use serde_json::Value;
 use std::alloc::Global;
 use vx_tree::{
-    ArrayRef, BoolArray, DecimalArray, IntoArray, PrimitiveArray, Validity, VarBinViewArray,
+    ArrayRef, BoolArray, DecimalArray, IntoArray, NullArray, PrimitiveArray, Validity,
+    VarBinViewArray,
 };
 use vx_value::{DType, DecimalDType, Nullability, PType, Storage, VortexResult};
 
@@ -62,7 +63,20 @@ fn nullable_column(alloc: Global, dtype: &DType, list: &Vec<Value>) -> VortexRes
         DType::Decimal(decimal, _) => nullable_decimal_column(alloc, *decimal, list),
         DType::Utf8(_) => nullable_bytes_column(alloc, Storage::Text, list),
         DType::Binary(_) => nullable_bytes_column(alloc, Storage::Bytes, list),
-        DType::Null => Err(BAD_VALUE),
+        DType::Null => null_column(alloc, list),
+    }
+}
+
+/// Reads a column of type null: each item of `list` must be null.
+#[tactic(auto, using(crate::proofs::SpelledColumnsLemmas::nulls_read, crate::proofs::SpelledColumnsLemmas::nulls_unread))]
+fn null_column(alloc: Global, list: &Vec<Value>) -> VortexResult<ArrayRef>
+    ensures ok { IfOk result (λ t. option_map (λ rows. nulls_of (length rows)) (all_read as_null (items_view list.now.items)) ≡ Some t) }
+    ensures err { IfErr result (IsRefused (all_read as_null (items_view list.now.items) ≡ None)) }
+{
+    if are_nulls(list) {
+        Ok(NullArray::new(alloc, list.len())?.into_array())
+    } else {
+        Err(BAD_VALUE)
     }
 }
 

@@ -15,31 +15,31 @@ use serde_json::Value;
 use std::alloc::Global;
 use vx_mask::{BitBuffer, BitBuilder, Buffer};
 use vx_native::{DecimalValues, NativeDecimalType, by_decimal_type, narrowed};
-use vx_value::{DecimalDType, DecimalType, DecimalValue, Nullability, VortexResult};
+use vx_value::{DecimalDType, DecimalType, DecimalValue, Digits, Nullability, VortexResult};
 
-/// Reads the number that `text` is the decimal form of: without `+`, without a leading zero and not `-0`. It has at most as many
-/// digits as the precision of `decimal`.
+/// Reads the number that `text` is the decimal form of: without `+`, without a leading zero and not `-0`. It must be one of
+/// `digits`.
 #[tactic(auto, using(crate::proofs::SpelledDecimalsLemmas::unparsed, crate::proofs::SpelledDecimalsLemmas::unwritten))]
-fn unscaled(text: &str, decimal: &DecimalDType) -> Option<i128>
-    ensures value { result ≡ decimal_in decimal.now.precision text.now }
+fn unscaled(text: &str, digits: Digits) -> Option<i128>
+    ensures value { result ≡ decimal_in digits.precision text.now }
     ensures written { IfSome result (λ z. signed_decimal z ≡ text.now) }
-    ensures digits { IfSome result (λ z. has_digits decimal.now.precision z ≡ true) }
-    ensures unwritten { IfNone result ((z : ℤ) → has_digits decimal.now.precision z ≡ true → signed_decimal z ≢ text.now) }
+    ensures digits { IfSome result (λ z. has_digits digits.precision z ≡ true) }
+    ensures unwritten { IfNone result ((z : ℤ) → has_digits digits.precision z ≡ true → signed_decimal z ≢ text.now) }
 {
     let unscaled = text.parse::<i128>().ok()?;
-    if decimal.has_digits(unscaled) && TextBuffer::new().format(unscaled) == text {
+    if digits.contain(unscaled) && TextBuffer::new().format(unscaled) == text {
         Some(unscaled)
     } else {
         None
     }
 }
 
-/// Reads a number of type `decimal`, without its point.
-fn decimal(decimal: &DecimalDType, value: &Value) -> Option<i128>
-    ensures value { result ≡ decimal_spelled decimal.now.precision (view value.now) }
-    ensures digits { IfSome result (λ z. has_digits decimal.now.precision z ≡ true) }
+/// Reads a number without its point. It must be one of `digits`.
+fn decimal(digits: Digits, value: &Value) -> Option<i128>
+    ensures value { result ≡ decimal_spelled digits.precision (view value.now) }
+    ensures digits { IfSome result (λ z. has_digits digits.precision z ≡ true) }
 {
-    unscaled(value.as_str()?, decimal)
+    unscaled(value.as_str()?, digits)
 }
 
 /// Reads a value of type `decimal`. `InvalidArgument(BadValue)` if it isn't one.
@@ -48,35 +48,34 @@ pub(crate) fn decimal_value(dtype: &DecimalDType, value: &Value) -> VortexResult
     ensures scale { IfOk result (λ d. d.scale ≡ dtype.now.scale) }
     ensures err { IfErr result (IsRefused (decimal_spelled dtype.now.precision (view value.now) ≡ None)) }
 {
-    let unscaled = decimal(dtype, value).ok_or(BAD_VALUE)?;
+    let unscaled = decimal(dtype.digits(), value).ok_or(BAD_VALUE)?;
     let scale = dtype.scale();
     Ok(DecimalValue { unscaled, scale })
 }
 
-/// Reads a number of type `decimal` in the narrowest integers that hold all of these.
-#[tactic(auto, using(vx_native::proofs::DecimalNumbersLemmas::digits_fit))]
-fn native_decimal<T: NativeDecimalType>(dtype: &DecimalDType, value: &Value) -> Option<T>
-    requires { T.kind ≡ smallest_width dtype.now.precision }
-    ensures { option_map T.value result ≡ decimal_spelled dtype.now.precision (view value.now) }
+/// Reads a number without its point, which must be one of `digits`, in the narrowest integers that hold all of these.
+fn native_decimal<T: NativeDecimalType>(digits: Digits, value: &Value) -> Option<T>
+    requires { T.kind ≡ smallest_width digits.precision }
+    ensures { option_map T.value result ≡ decimal_spelled digits.precision (view value.now) }
 {
-    Some(narrowed(decimal(dtype, value)?))
+    Some(narrowed(decimal(digits, value)?))
 }
 
-/// Reads a list of numbers of type `decimal` in the narrowest integers that hold all of these. `InvalidArgument(BadValue)` if an
-/// item isn't one.
+/// Reads a list of numbers without their points, which must be among `digits`, in the narrowest integers that hold all of these.
+/// `InvalidArgument(BadValue)` if an item isn't one.
 fn native_decimals<T: NativeDecimalType>(
     alloc: Global,
-    decimal: &DecimalDType,
+    digits: Digits,
     list: &Vec<Value>,
 ) -> VortexResult<DecimalValues>
-    requires { T.kind ≡ smallest_width decimal.now.precision }
+    requires { T.kind ≡ smallest_width digits.precision }
     ensures kind { IfOk result (λ v. decimal_type_of v ≡ T.kind) }
-    ensures ok { IfOk result (λ v. all_read (decimal_spelled decimal.now.precision) (items_view list.now.items) ≡ Some (numbers_of v)) }
-    ensures err { IfErr result (IsRefused (all_read (decimal_spelled decimal.now.precision) (items_view list.now.items) ≡ None)) }
+    ensures ok { IfOk result (λ v. all_read (decimal_spelled digits.precision) (items_view list.now.items) ≡ Some (numbers_of v)) }
+    ensures err { IfErr result (IsRefused (all_read (decimal_spelled digits.precision) (items_view list.now.items) ≡ None)) }
 {
     let mut values: Vec<T> = Vec::with_capacity(alloc, list.len())?;
     for value in list {
-        match native_decimal(decimal, value) {
+        match native_decimal(digits, value) {
             Some(native) => values.push(native)?,
             None => return Err(BAD_VALUE),
         }
@@ -95,47 +94,44 @@ pub(crate) fn decimals(
     ensures err { IfErr result (IsRefused (all_read (decimal_spelled decimal.now.precision) (items_view list.now.items) ≡ None)) }
 {
     let width = DecimalType::smallest_decimal_value_type(decimal);
-    by_decimal_type!(width, native_decimals(alloc, decimal, list))
+    let digits = decimal.digits();
+    by_decimal_type!(width, native_decimals(alloc, digits, list))
 }
 
-/// Reads a number of type `decimal`, as `native_decimal` does. Null is read as `zero`.
-fn native_decimal_or<T: NativeDecimalType>(
-    zero: T,
-    decimal: &DecimalDType,
-    value: &Value,
-) -> Option<T>
-    requires { T.kind ≡ smallest_width decimal.now.precision }
+/// Reads a number as `native_decimal` does. Null is read as `zero`.
+fn native_decimal_or<T: NativeDecimalType>(zero: T, digits: Digits, value: &Value) -> Option<T>
+    requires { T.kind ≡ smallest_width digits.precision }
     ensures { option_map T.value result
-        ≡ option_map (item_or (T.value zero)) (or_null Nullability.Nullable (decimal_spelled decimal.now.precision) (view value.now)) }
+        ≡ option_map (item_or (T.value zero)) (or_null Nullability.Nullable (decimal_spelled digits.precision) (view value.now)) }
 {
     if value.is_null() {
         Some(zero)
     } else {
-        native_decimal(decimal, value)
+        native_decimal(digits, value)
     }
 }
 
-/// Reads a list of numbers of type `decimal` in the narrowest integers that hold all of these, null among them. Returns their
-/// values, 0 for null, and whether each isn't null. `InvalidArgument(BadValue)` if an item is neither.
+/// Reads a list of numbers as `native_decimals` does, null among them. Returns their values, 0 for null, and whether each isn't
+/// null. `InvalidArgument(BadValue)` if an item is neither.
 fn nullable_native_decimals<T: NativeDecimalType>(
     alloc: Global,
-    decimal: &DecimalDType,
+    digits: Digits,
     list: &Vec<Value>,
 ) -> VortexResult<(DecimalValues, BitBuffer)>
-    requires { T.kind ≡ smallest_width decimal.now.precision }
+    requires { T.kind ≡ smallest_width digits.precision }
     ensures kind { IfOk result (λ v. decimal_type_of v.0 ≡ T.kind) }
     ensures values { IfOk result (λ v. option_map (map (item_or (pos 0)))
-        (all_read (or_null Nullability.Nullable (decimal_spelled decimal.now.precision)) (items_view list.now.items)) ≡ Some (numbers_of v.0)) }
+        (all_read (or_null Nullability.Nullable (decimal_spelled digits.precision)) (items_view list.now.items)) ≡ Some (numbers_of v.0)) }
     ensures valid { IfOk result (λ v. option_map (map is_some)
-        (all_read (or_null Nullability.Nullable (decimal_spelled decimal.now.precision)) (items_view list.now.items)) ≡ Some v.1) }
+        (all_read (or_null Nullability.Nullable (decimal_spelled digits.precision)) (items_view list.now.items)) ≡ Some v.1) }
     ensures err { IfErr result (IsRefused
-        (all_read (or_null Nullability.Nullable (decimal_spelled decimal.now.precision)) (items_view list.now.items) ≡ None)) }
+        (all_read (or_null Nullability.Nullable (decimal_spelled digits.precision)) (items_view list.now.items) ≡ None)) }
 {
     let zero: T = narrowed(0);
     let mut values: Vec<T> = Vec::with_capacity(alloc, list.len())?;
     let mut valid = BitBuilder::with_capacity(alloc, list.len())?;
     for value in list {
-        match native_decimal_or(zero, decimal, value) {
+        match native_decimal_or(zero, digits, value) {
             Some(native) => values.push(native)?,
             None => return Err(BAD_VALUE),
         }
@@ -161,5 +157,6 @@ pub(crate) fn nullable_decimals(
         (all_read (or_null Nullability.Nullable (decimal_spelled decimal.now.precision)) (items_view list.now.items) ≡ None)) }
 {
     let width = DecimalType::smallest_decimal_value_type(decimal);
-    by_decimal_type!(width, nullable_native_decimals(alloc, decimal, list))
+    let digits = decimal.digits();
+    by_decimal_type!(width, nullable_native_decimals(alloc, digits, list))
 }

@@ -14,7 +14,7 @@ mod tree;
 mod types;
 mod values;
 
-pub use rows::{push_row, row_text};
+pub use rows::{push_integer, push_row, row_text};
 pub use tree::{tree_of, tree_of_bytes};
 use vx_value::{ArgKind, VortexError};
 

@@ -3,7 +3,7 @@
 ghost use Rattle.std.specs.Prelude.{◌≡◌, Some, None, IfOk, IfErr};
 ghost use Rattle.serde_json.specs.View.{view};
 ghost use Rattle.vx_json.specs.Refused.{IsRefused};
-ghost use Rattle.vx_json.specs.SpelledNodes.{constant_spelled, slice_spelled, filter_spelled, masked_spelled, is_valid_spelled, call_spelled};
+ghost use Rattle.vx_json.specs.SpelledNodes.{constant_spelled, null_spelled, slice_spelled, filter_spelled, masked_spelled, is_valid_spelled, call_spelled};
 
 use crate::BAD_VALUE;
 use crate::fields::{check_keys, items, number};
@@ -15,7 +15,7 @@ use serde_json::Value;
 use std::alloc::Global;
 use vx_mask::Mask;
 use vx_tree::{
-    ArrayRef, ConstantArray, FilterArray, IntoArray, MaskedArray, ScalarFnArray,
+    ArrayRef, ConstantArray, FilterArray, IntoArray, MaskedArray, NullArray, ScalarFnArray,
     ScalarFnValidityArray, SliceArray,
 };
 use vx_value::{Nullability, VortexError, VortexResult};
@@ -31,6 +31,16 @@ pub(crate) fn constant(alloc: Global, value: &Value) -> VortexResult<ArrayRef>
     let scalar = scalar(alloc, dtype, spelled)?;
     let len = number(value, "len").ok_or(BAD_VALUE)?;
     Ok(ConstantArray::new(alloc, scalar, len as usize)?.into_array())
+}
+
+/// Reads a column of type null: `len` rows.
+pub(crate) fn null(alloc: Global, value: &Value) -> VortexResult<ArrayRef>
+    ensures ok { IfOk result (λ t. null_spelled (view value.now) ≡ Some t) }
+    ensures err { IfErr result (IsRefused (null_spelled (view value.now) ≡ None)) }
+{
+    check_keys(value, 2)?;
+    let len = number(value, "len").ok_or(BAD_VALUE)?;
+    Ok(NullArray::new(alloc, len as usize)?.into_array())
 }
 
 /// Reads a lazy slice of `child`.

@@ -24,13 +24,21 @@ pub fn push_row(text: &mut String, scalar: &Scalar) -> Result<(), AllocError>
         None => text.push_str("null"),
         Some(ScalarValue::Bool(true)) => text.push_str("true"),
         Some(ScalarValue::Bool(false)) => text.push_str("false"),
-        Some(ScalarValue::Integer(number)) => text.push_str(Buffer::new().format(*number)),
+        Some(ScalarValue::Integer(number)) => push_integer(text, *number),
         Some(ScalarValue::Decimal(decimal)) => push_decimal(text, decimal.unscaled),
         Some(ScalarValue::Bytes(bytes)) => match scalar.dtype() {
             DType::Utf8(_) => push_utf8(text, bytes.as_slice()),
             _ => push_hex(text, bytes.as_slice()),
         },
     }
+}
+
+/// Appends the text of an integer: `number` in decimal. If memory runs out, part of it may have been appended. (own)
+#[inline]
+pub fn push_integer(text: &mut String, number: i128) -> Result<(), AllocError>
+    ensures { OnOk result (string_bytes text.new ≡ string_bytes text.old ++ signed_decimal number) }
+{
+    text.push_str(Buffer::new().format(number))
 }
 
 // These three aren't inlined and don't see the scalar: the rows of booleans and integers then take fewer instructions.

@@ -2,15 +2,17 @@
 //!
 //! A tree is an object whose `enc` names the encoding. Each encoding has exactly its own keys:
 //! `{"enc":"col","type":"i32?","rows":[1,null]}`, `{"enc":"flat","type":"i32?","values":[1,-2],"validity":{..}}`, of which
-//! `validity` may be absent, `{"enc":"constant","type":"bool","value":true,"len":3}`, `{"enc":"slice","start":0,"stop":1,"child":{..}}`,
-//! `{"enc":"filter","mask":[true,false],"child":{..}}`, `{"enc":"masked","child":{..},"validity":{..}}`, of which `validity` may be
-//! absent, `{"enc":"is_valid","child":{..}}` and `{"enc":"fn","fn":"add","args":[{..},{..}]}`.
+//! `validity` may be absent, `{"enc":"constant","type":"bool","value":true,"len":3}`, `{"enc":"null","len":3}`,
+//! `{"enc":"slice","start":0,"stop":1,"child":{..}}`, `{"enc":"filter","mask":[true,false],"child":{..}}`,
+//! `{"enc":"masked","child":{..},"validity":{..}}`, of which `validity` may be absent, `{"enc":"is_valid","child":{..}}` and
+//! `{"enc":"fn","fn":"add","args":[{..},{..}]}`.
 //!
-//! A type is a name, with `?` behind it if the type is nullable. A type of decimals is an object: `{"decimal":[4,2]}` has 4 digits, 2 of
-//! them behind the point, and `{"decimal":[4,2],"null":true}` is nullable.
+//! A type is a name, with `?` behind it if the type is nullable; `null` always is, and takes no `?`. A type of decimals is an object:
+//! `{"decimal":[4,2]}` has 4 digits, 2 of them behind the point, and `{"decimal":[4,2],"null":true}` is nullable.
 //!
-//! A value of type `utf8` is a string, and one of type `binary` a string of two lower-case hexadecimal digits for each byte. A
-//! decimal is a string of its unscaled integer, without `+`, leading zeros or `-0`: `"4200"` for 42.00.
+//! The only value of type `null` is `null`. A value of type `utf8` is a string, and one of type `binary` a string of two lower-case
+//! hexadecimal digits for each byte. A decimal is a string of its unscaled integer, without `+`, leading zeros or `-0`: `"4200"` for
+//! 42.00.
 
 ghost use Rattle.std.specs.Prelude.{◌≡◌, ◌⊎◌, Some, None, IfOk, IfErr};
 ghost use Rattle.serde_json.specs.View.{view, items_view};
@@ -23,7 +25,7 @@ use crate::BAD_VALUE;
 use crate::columns::{col, flat};
 use crate::fields::{items, text};
 use crate::key::Key;
-use crate::nodes::{call, constant, filter, is_valid, masked, slice};
+use crate::nodes::{call, constant, filter, is_valid, masked, null, slice};
 use crate::nulls::Nulls;
 use serde_json::Value;
 use std::alloc::Global;
@@ -108,6 +110,7 @@ pub fn tree_of(alloc: Global, value: &Value) -> VortexResult<ArrayRef>
             Err(e) => Err(e),
         },
         Some("constant") => constant(alloc, value),
+        Some("null") => null(alloc, value),
         Some("slice") => match child(alloc, value, Key::Child) {
             Ok(child) => slice(alloc, value, child),
             Err(e) => Err(e),

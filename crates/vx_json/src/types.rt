@@ -1,10 +1,9 @@
 //! The types that JSON spells.
 
-ghost use Rattle.std.specs.Prelude.{◌≡◌, true, option_map, codes, IfSome};
+ghost use Rattle.std.specs.Prelude.{◌≡◌, option_map, codes};
 ghost use Rattle.serde_json.specs.View.{view, items_view};
 ghost use Rattle.serde_json.specs.Find.{get};
 ghost use Rattle.vx_value.specs.View.{type_of};
-ghost use Rattle.vx_tree.specs.ColumnTypes.{has_column};
 ghost use Rattle.vx_json.specs.SpelledTypes.{type_named, type_spelled, type_in, type_at};
 ghost use Rattle.vx_json.specs.SpelledTypes.{decimal_sized, decimal_listed, nullability_spelled, decimal_keys, decimal_type_spelled};
 
@@ -12,10 +11,9 @@ use crate::fields::{count, items};
 use serde_json::Value;
 use vx_value::{DType, DecimalDType, Nullability, PType};
 
-/// Returns the type named `name`, of this nullability. Only types that there are columns of are accepted so far.
+/// Returns the type named `name`, of this nullability, which type null alone has not.
 fn type_named(name: &str, nullability: Nullability) -> Option<DType>
-    ensures named { option_map type_of result ≡ type_named name.now nullability }
-    ensures column { IfSome result (λ t. has_column (type_of t) ≡ true) }
+    ensures { option_map type_of result ≡ type_named name.now nullability }
 {
     let ptype = match name {
         "bool" => return Some(DType::Bool(nullability)),
@@ -34,11 +32,14 @@ fn type_named(name: &str, nullability: Nullability) -> Option<DType>
     Some(DType::Primitive(ptype, nullability))
 }
 
-/// Returns the type that `text` spells: its name, and `?` behind it if the type is nullable.
+/// Returns the type that `text` spells: its name, and `?` behind it if the type is nullable. Type null is always nullable, and takes
+/// no `?`.
 fn type_spelled(text: &str) -> Option<DType>
-    ensures spelled { option_map type_of result ≡ type_spelled text.now }
-    ensures column { IfSome result (λ t. has_column (type_of t) ≡ true) }
+    ensures { option_map type_of result ≡ type_spelled text.now }
 {
+    if text == "null" {
+        return Some(DType::Null);
+    }
     match text.strip_suffix('?') {
         Some(name) => type_named(name, Nullability::Nullable),
         None => type_named(text, Nullability::NonNullable),
@@ -47,8 +48,7 @@ fn type_spelled(text: &str) -> Option<DType>
 
 /// Returns the type of decimals of `precision` digits, `scale` of them behind the point.
 fn decimal_sized(nullability: Nullability, precision: u64, scale: u64) -> Option<DType>
-    ensures sized { option_map type_of result ≡ decimal_sized nullability precision scale }
-    ensures column { IfSome result (λ t. has_column (type_of t) ≡ true) }
+    ensures { option_map type_of result ≡ decimal_sized nullability precision scale }
 {
     let precision = u8::try_from(precision).ok()?;
     let scale = u8::try_from(scale).ok()?;
@@ -59,8 +59,7 @@ fn decimal_sized(nullability: Nullability, precision: u64, scale: u64) -> Option
 /// Returns the type of decimals whose precision and scale are listed.
 #[tactic(auto, using(crate::proofs::SpelledTypesLemmas::listed_none))]
 fn decimal_listed(nullability: Nullability, list: &Vec<Value>) -> Option<DType>
-    ensures listed { option_map type_of result ≡ decimal_listed nullability (items_view list.now.items) }
-    ensures column { IfSome result (λ t. has_column (type_of t) ≡ true) }
+    ensures { option_map type_of result ≡ decimal_listed nullability (items_view list.now.items) }
 {
     match list.as_slice() {
         [precision, scale] => decimal_sized(nullability, precision.as_u64()?, scale.as_u64()?),
@@ -94,8 +93,7 @@ fn decimal_keys(value: &Value) -> usize
 
 /// Returns the type of decimals that an object spells.
 fn decimal_type_spelled(value: &Value) -> Option<DType>
-    ensures spelled { option_map type_of result ≡ decimal_type_spelled (view value.now) }
-    ensures column { IfSome result (λ t. has_column (type_of t) ≡ true) }
+    ensures { option_map type_of result ≡ decimal_type_spelled (view value.now) }
 {
     if count(value) != decimal_keys(value) {
         return None;
@@ -103,10 +101,9 @@ fn decimal_type_spelled(value: &Value) -> Option<DType>
     decimal_listed(nullability_at(value)?, items(value, "decimal")?)
 }
 
-/// Returns the type that `value` spells, of which there are columns.
+/// Returns the type that `value` spells.
 fn type_in(value: &Value) -> Option<DType>
-    ensures spelled { option_map type_of result ≡ type_in (view value.now) }
-    ensures column { IfSome result (λ t. has_column (type_of t) ≡ true) }
+    ensures { option_map type_of result ≡ type_in (view value.now) }
 {
     match value {
         Value::String(text) => type_spelled(text.as_str()),
@@ -115,10 +112,9 @@ fn type_in(value: &Value) -> Option<DType>
     }
 }
 
-/// Returns the type under `type`, of which there are columns.
+/// Returns the type under `type`.
 pub(crate) fn type_at(value: &Value) -> Option<DType>
-    ensures spelled { option_map type_of result ≡ type_at (view value.now) }
-    ensures column { IfSome result (λ t. has_column (type_of t) ≡ true) }
+    ensures { option_map type_of result ≡ type_at (view value.now) }
 {
     type_in(value.get("type")?)
 }

@@ -1,13 +1,14 @@
 //! Single values of a type, and lists of them.
 
 ghost use Rattle.std.specs.Prelude.{◌≡◌, pos, false, map, Some, None, is_some, option_map, option_and_then, IfOk, IfErr};
+ghost use Rattle.std.specs.List.{list_all};
 ghost use Rattle.serde_json.specs.View.{view, items_view};
 ghost use Rattle.serde_json.specs.Find.{as_bool, as_number, as_integer};
 ghost use Rattle.vx_value.specs.View.{type_of};
 ghost use Rattle.vx_native.specs.Natives.{values_of, ptype_of};
 ghost use Rattle.vx_tree.specs.Rows.{item_or};
 ghost use Rattle.vx_json.specs.Refused.{IsRefused};
-ghost use Rattle.vx_json.specs.SpelledValues.{integer_spelled, value_spelled, or_null, all_read};
+ghost use Rattle.vx_json.specs.SpelledValues.{integer_spelled, is_null, value_spelled, or_null, all_read};
 
 use crate::BAD_VALUE;
 use crate::bytes::bytes;
@@ -17,6 +18,13 @@ use std::alloc::Global;
 use vx_mask::{BitBuffer, BitBuilder, Buffer};
 use vx_native::{NativeInteger, PrimitiveValues, by_type, native_of};
 use vx_value::{ByteBuffer, DType, Nullability, PType, Scalar, ScalarValue, VortexResult};
+
+/// Checks whether each item of `list` is null.
+pub(crate) fn are_nulls(list: &Vec<Value>) -> bool
+    ensures { result ≡ list_all (λ v. is_null (view v)) list.now.items }
+{
+    list.iter().all(|value| value.is_null())
+}
 
 /// Reads an integer in the range of `i64` or `u64`.
 fn integer(value: &Value) -> Option<i128>

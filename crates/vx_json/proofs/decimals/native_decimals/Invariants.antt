@@ -5,4 +5,4 @@ use Rattle.vx_json.proofs.decimals.native_decimals.Given as goal
 
 -- the numbers so far, and then those of the items that are left
 abbrev pub invariant-loop-value : goal.invariant-loop-value
-invariant-loop-value g l = IsReadTo (decimal_spelled l.decimal.precision) l.list.items l.value-index (map g.T.Number.value l.values.items)
+invariant-loop-value g l = IsReadTo (decimal_spelled l.digits.precision) l.list.items l.value-index (map g.T.Number.value l.values.items)

@@ -10,7 +10,7 @@ use Rattle.vx_json.proofs.decimals.nullable_native_decimals.Goals as goal
 
 pub returns-in-None-clause-err : goal.returns-in-None-clause-err
 returns-in-None-clause-err g c =
-    let p = c.args.decimal.now.precision in
+    let p = c.args.digits.precision in
     let list = c.args.list.now.items in
     let read = or_null Nullable (decimal_spelled p) in
     let within = rw c.deref-value-items.ensures.value at c.loop-value-test.true in
@@ -21,7 +21,7 @@ returns-in-None-clause-err g c =
 
 pub loop-value-preserved : goal.loop-value-preserved
 loop-value-preserved g c =
-    let p = c.args.decimal.now.precision in
+    let p = c.args.digits.precision in
     let list = c.args.list.now.items in
     let index = c.loop-value.value-index in
     let value = c.value-item.result in
@@ -39,7 +39,7 @@ loop-value-preserved g c =
 
 pub returns-clause-values : goal.returns-clause-values
 returns-clause-values g c =
-    let p = c.args.decimal.now.precision in
+    let p = c.args.digits.precision in
     let list = c.args.list.now.items in
     let past = rw c.deref-value-items.ensures.value at c.loop-value-test.false in
     sym (mapped_read (item_or (pos 0)) (or_null Nullable (decimal_spelled p)) (items_view list))
@@ -48,7 +48,7 @@ returns-clause-values g c =
 
 pub returns-clause-valid : goal.returns-clause-valid
 returns-clause-valid g c =
-    let p = c.args.decimal.now.precision in
+    let p = c.args.digits.precision in
     let list = c.args.list.now.items in
     let past = rw c.deref-value-items.ensures.value at c.loop-value-test.false in
     sym (mapped_read is_some (or_null Nullable (decimal_spelled p)) (items_view list))

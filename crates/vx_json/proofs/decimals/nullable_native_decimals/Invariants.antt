@@ -10,7 +10,7 @@ use Rattle.vx_json.proofs.decimals.nullable_native_decimals.Given as goal
 abbrev pub invariant-loop-value : goal.invariant-loop-value
 invariant-loop-value g l = record {
   zero : g.T.Number.value l.zero ≡ pos 0;
-  values : IsReadTo (λ d. option_map (item_or (pos 0)) (or_null Nullable (decimal_spelled l.decimal.precision) d)) l.list.items l.value-index
+  values : IsReadTo (λ d. option_map (item_or (pos 0)) (or_null Nullable (decimal_spelled l.digits.precision) d)) l.list.items l.value-index
       (map g.T.Number.value l.values.items);
-  valid : IsReadTo (λ d. option_map is_some (or_null Nullable (decimal_spelled l.decimal.precision) d)) l.list.items l.value-index l.valid;
+  valid : IsReadTo (λ d. option_map is_some (or_null Nullable (decimal_spelled l.digits.precision) d)) l.list.items l.value-index l.valid;
 }
