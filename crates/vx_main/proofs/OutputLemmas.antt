@@ -1,17 +1,24 @@
 -- The text of the rows so far.
 use Rattle.std.proofs.Common.{◌≡◌, ◌⊎◌, ℕ, ◌+◌, ◌<◌, ◌≤◌, List, [], ◌∷◌, ◌++◌, length, zero, suc, add-one, subst, take, map, slice_get, Some, refl, sym, ◌∙◌, ap, append_assoc, arith, flat_map, inl, inr}
-use Rattle.std.specs.Prelude.{codes}
+use Rattle.std.specs.Prelude.{codes, Bool, true, false}
 use Rattle.std.proofs.lemmas.Grind.{common_steps, flat_map-append}
 use Rattle.vx_value.specs.Types.{DataType}
-use Rattle.vx_value.specs.Values.{Value}
+use Rattle.vx_value.specs.Values.{Value, null}
 use Rattle.vx_value.specs.declared.error.VortexError.{VortexError}
-use Rattle.vx_value.specs.declared.error.VortexError.TheVariants.{OutOfMemory, Fault, OutOfBounds}
+use Rattle.vx_value.specs.declared.error.VortexError.TheVariants.{OutOfMemory, Fault}
 use Rattle.vx_value.specs.declared.id.Id.{Id}
 use Rattle.vx_value.specs.Cell.{Cell, value, fault}
 use Rattle.vx_tree.specs.Cells.{rows}
 use Rattle.vx_json.specs.RowText.{row_text}
 use Rattle.vx_tree.specs.Tree.{Tree, len}
+use Rattle.vx_tree.specs.Columns.{columnar_tree}
+use Rattle.vx_tree.specs.declared.columnar.Columnar.{Columnar}
 use Rattle.vx_tree.proofs.CellsLemmas.{no_fault_at}
+use Rattle.vx_rows.specs.Arguments.{IsArgument, cell_at, value_at}
+use Rattle.vx_rows.specs.ValidRows.{is_valid, null_unless}
+use Rattle.vx_rows.specs.Arguments.{IsUnread as IsNotRead}
+use Rattle.vx_rows.specs.declared.argument.Argument.{Argument}
+use Rattle.std.proofs.lemmas.Option.{slice_get-get_or}
 use Rattle.vx_main.specs.Output.{Shows, IsUnread, head_lines, line}
 
 -- the lines of the type and of the encoding, as they are appended
@@ -61,9 +68,21 @@ shows_more ty id cs i v text longer s e j = record {
 pub shows_all : (ty : DataType) (id : Id) (cs : List Cell) (i : ℕ) (text : List ℕ) → Shows ty id (take i cs) text → length cs ≤ i → Shows ty id cs text
 shows_all ty id cs i text s h = let e : take i cs ≡ cs = grind (arith, common_steps) in subst (λ l. Shows ty id l text) e s
 
--- a row that isn't read
-pub row_unread : (t : Tree) (i : ℕ) (e : VortexError) → i < len t
-    → (e ≡ OutOfMemory) ⊎ ((e ≡ OutOfBounds i i (len t)) × (len t ≤ i)) ⊎ ((e ≡ Fault) × (slice_get (rows t) i ≡ Some fault)) → IsUnread t e
-row_unread t i e lt (inl m) = inl m
-row_unread t i e lt (inr (inl b)) = absurd (omega (arith, b.1))
-row_unread t i e lt (inr (inr f)) = inr (f.0, λ whole. no_fault_at (rows t) i whole f.1)
+-- rows that aren't read
+pub column_unread : (t : Tree) (e : VortexError) → IsNotRead t e → IsUnread t e
+column_unread t e (inl m) = inl m
+column_unread t e (inr f) = inr (f.0, λ whole. no_fault_at (rows t) f.1 whole f.3)
+
+-- each of its cells is a value
+pub value_opened : (a : Argument) (i : ℕ) → (v : Value) × (value v ≡ cell_at a i)
+value_opened a i = by_validity (is_valid a.valid i)
+  where
+    by_validity : (b : Bool) → (v : Value) × (value v ≡ null_unless b (value (value_at a.rows i)))
+    by_validity true = (value_at a.rows i, refl)
+    by_validity false = (null, refl)
+
+-- row i of a column, by its rows as they were opened
+pub row_opened : (c : Columnar) (a : Argument) (i : ℕ) (v : Value) → IsArgument c a → length (rows (columnar_tree c)) ≡ len (columnar_tree c)
+    → i < len (columnar_tree c) → value v ≡ cell_at a i → slice_get (rows (columnar_tree c)) i ≡ Some (value v)
+row_opened c a i v is counted lt read =
+    slice_get-get_or (rows (columnar_tree c)) i fault (omega (arith, counted)) ∙ ap Some (is.shown i lt ∙ sym read)

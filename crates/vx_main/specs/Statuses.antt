@@ -1,7 +1,7 @@
 -- The code and the text of each status, and which may come before the input or the tree is there.
 use Rattle.std.specs.Prelude.{ℕ, List, codes, Bool, true, false}
 use Rattle.vx_value.specs.declared.error.VortexError.{VortexError}
-use Rattle.vx_value.specs.declared.error.VortexError.TheVariants.{OutOfMemory, Fault, IterationLimit, OutOfBounds, InvalidArgument}
+use Rattle.vx_value.specs.declared.error.VortexError.TheVariants.{OutOfMemory, Fault, IterationLimit, TooLong, OutOfBounds, InvalidArgument}
 use Rattle.vx_main.specs.declared.top.status.Status.{Status}
 use Rattle.vx_main.specs.declared.top.status.Status.TheVariants.{Done, Usage, BadInput, TurnLimit, Memory, ReadFault, WriteFault, TooLarge}
 use Rattle.vx_main.specs.declared.top.status.Status.TheVariants as status
@@ -57,5 +57,6 @@ abbrev pub status_of : VortexError → Status
 status_of OutOfMemory = Memory
 status_of Fault = status.Fault
 status_of (IterationLimit limit) = TurnLimit limit limit
+status_of (TooLong len factor) = BadInput
 status_of (OutOfBounds start stop len) = BadInput
 status_of (InvalidArgument kind) = BadInput

@@ -1,12 +1,9 @@
 -- The steps of a filter: by its mask alone, and of its child as a column.
-use Rattle.std.proofs.Common.{◌≡◌, ◌⊎◌, inl, inr, ℕ, ◌<◌, ◌≤◌, ◌-◌, List, [], None, length, take, drop, Bool, true, false, refl, sym, ◌∙◌, ap, subst, arith}
+use Rattle.std.proofs.Common.{◌≡◌, ◌⊎◌, inl, inr, ℕ, ◌<◌, ◌≤◌, ◌-◌, List, [], length, drop, Bool, true, false, refl, sym, ◌∙◌, ap, subst, arith}
 use Rattle.std.proofs.lemmas.Bool.{cases_Bool}
 use Rattle.std.proofs.lemmas.List.{length-take-le, length-drop, take_all}
 use Rattle.std.specs.Cmp.{unsigned_Decides}
-use Rattle.vx_value.specs.Types.{DataType}
-use Rattle.vx_value.specs.Storage.{storage_of}
-use Rattle.vx_value.specs.declared.dtype.Storage.{Storage}
-use Rattle.vx_value.specs.declared.dtype.Storage.TheVariants.{Integers}
+use Rattle.vx_value.specs.Types.{DataType, null}
 use Rattle.vx_mask.specs.Masks.{is_all_true}
 use Rattle.vx_mask.specs.Places.{true_count, chosen, IsRun}
 use Rattle.vx_mask.proofs.MasksLemmas.{all_true_is}
@@ -15,8 +12,8 @@ use Rattle.vx_mask.proofs.ChosenLemmas.{chosen-all, chosen-none, run_chosen, run
 use Rattle.vx_tree.specs.Tree as enc
 use Rattle.vx_tree.specs.Tree.{Tree, Data, Slots, node, no_slots, absent, slot, filter_of, slice_of, column, dtype, len, datum, slots, is_canonical}
 use Rattle.vx_tree.specs.Cells.{rows, HasNoFault, IsClean}
-use Rattle.vx_tree.specs.Columns.{IsColumn, empty_of, no_rows}
-use Rattle.vx_tree.specs.Cost.{cost, counted}
+use Rattle.vx_tree.specs.Columns.{IsColumn, empty_of}
+use Rattle.vx_tree.specs.Cost.{cost}
 use Rattle.vx_tree.specs.Keeps.{KeepsExactly}
 use Rattle.vx_tree.proofs.CostLemmas.{column_cost}
 use Rattle.vx_tree.proofs.KeepsLemmas.{rows_equal, exactly_trans}
@@ -29,13 +26,9 @@ use Rattle.vx_step.proofs.TurnsLemmas.{top_paid}
 
 -- ---- columns without rows
 
-empty_rows : (s : Storage) (ty : DataType) → rows (column ty 0 (no_rows s) None) ≡ []
-empty_rows (Integers p) ty = refl
-empty_rows _ ty = refl
-
-empty_clean : (s : Storage) (ty : DataType) → IsClean (column ty 0 (no_rows s) None)
-empty_clean (Integers p) ty = (tt, tt)
-empty_clean _ ty = (tt, tt)
+empty_known : (ty : DataType) → (dtype (empty_of ty) ≡ ty) × (len (empty_of ty) ≡ 0) × (rows (empty_of ty) ≡ []) × IsClean (empty_of ty)
+empty_known null = (refl, refl, refl, (tt, tt))
+empty_known _ = (refl, refl, refl, (tt, tt))
 
 canonical_cost : (c : Tree) → is_canonical (datum c) ≡ true → cost c ≡ 1
 canonical_cost (node ty n d ss) h = column_cost ty n d ss h
@@ -64,8 +57,8 @@ module _ (bits : List Bool) (c t : Tree) (shown : t ≡ filter_of bits c) (count
 
   nothing_exactly : true_count bits ≡ 0 → KeepsExactly (filter_of bits c) (empty_of (dtype c))
   nothing_exactly none =
-      let s = storage_of (dtype c) in
-      exactly_by (empty_of (dtype c)) refl none (chosen-none bits (rows c) none ∙ sym (empty_rows s (dtype c))) (λ h. empty_clean s (dtype c))
+      let known = empty_known (dtype c) in
+      exactly_by (empty_of (dtype c)) (sym known.0) (none ∙ sym known.1) (chosen-none bits (rows c) none ∙ sym known.2) (λ h. known.3)
 
   whole_exactly : is_all_true bits ≡ true → KeepsExactly (filter_of bits c) c
   whole_exactly all =

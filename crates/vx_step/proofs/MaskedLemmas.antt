@@ -1,13 +1,19 @@
 -- The step of a masked node whose child is a column.
-use Rattle.std.proofs.Common.{◌≡◌, ℕ, [], ◌∷◌, Option, Some, None, true, refl, sym, ap, subst}
-use Rattle.vx_value.specs.Types.{DataType, bool}
+use Rattle.std.proofs.Common.{◌≡◌, ◌⊎◌, inl, inr, ℕ, Option, Some, None, true, refl, sym, ap, subst}
+use Rattle.vx_value.specs.Types.{DataType, null, bool}
+use Rattle.vx_value.specs.declared.error.VortexError.{VortexError}
+use Rattle.vx_value.specs.declared.error.VortexError.TheVariants.{OutOfMemory}
 use Rattle.vx_value.specs.declared.dtype.Nullability.TheVariants.{NonNullable, Nullable}
-use Rattle.vx_tree.specs.Tree.{Tree, datum, len, masked_of, is_canonical}
-use Rattle.vx_tree.specs.Well.{Shape, shape, shape_of, IsWell, IsMasked, IsValidity}
+use Rattle.vx_tree.specs.Tree.{Tree, dtype, datum, len, masked_of, is_canonical}
+use Rattle.vx_tree.specs.Cells.{rows, IsClean}
+use Rattle.vx_tree.proofs.CellsLemmas.{no_fault_at}
+use Rattle.vx_tree.proofs.ValiditiesLemmas.{whole}
+use Rattle.vx_rows.specs.Arguments.{AreUnread}
+use Rattle.vx_tree.specs.Well.{Shape, shape, shape_of, IsWell, IsValidity}
 use Rattle.vx_tree.specs.Columns.{IsColumn}
 use Rattle.vx_tree.specs.Keeps.{KeepsExactly}
 use Rattle.vx_tree.specs.Validities.{HasRows, nullability_by, child_of}
-use Rattle.vx_step.specs.Steps.{IsDone}
+use Rattle.vx_step.specs.Steps.{IsDone, IsStopped}
 use Rattle.vx_step.specs.Told.{told_by}
 use Rattle.vx_step.proofs.StepsLemmas.{masked_done}
 
@@ -43,3 +49,15 @@ pub told_done : (c t s u : Tree) (v : Option Tree) → t ≡ masked_of c v → s
 told_done c t s u v shown same whole known canonical exactly =
     let child = subst (λ x. KeepsExactly (masked_of x v) u) same (subst (λ x. KeepsExactly (masked_of s x) u) (told_child v (len s)) exactly) in
     masked_done c t u v shown (subst (λ x. is_canonical (datum x) ≡ true) same whole) known canonical (subst (λ x. KeepsExactly x u) (sym shown) child)
+
+-- a fault in the validity is one in the node
+unread_stopped : (c t : Tree) (v : Option Tree) (n : ℕ) (e : VortexError) → t ≡ masked_of c v → AreUnread n v e → IsStopped t e
+unread_stopped c t None n e shown m = inl m
+unread_stopped c t (Some u) n e shown (inl m) = inl m
+unread_stopped c t (Some u) n e shown (inr f) =
+    inr (f.0, λ clean. let parts = subst IsClean shown clean in no_fault_at (rows u) f.1 (whole u parts.1.1.0) f.3)
+
+pub told_stopped : (c t s : Tree) (v : Option Tree) (e : VortexError) → t ≡ masked_of c v
+    → (e ≡ OutOfMemory) ⊎ ((dtype s ≡ null) × AreUnread (len s) (child_of (told_by v) (len s)) e) → IsStopped t e
+told_stopped c t s v e shown (inl m) = inl m
+told_stopped c t s v e shown (inr h) = unread_stopped c t v (len s) e shown (subst (λ x. AreUnread (len s) x e) (told_child v (len s)) h.1)

@@ -1,6 +1,6 @@
 -- The turns that are left: they are at most the cost, and fall where a slot is taken out and where it is put back.
 use Rattle.std.proofs.Common.{◌≡◌, ℕ, zero, suc, ◌+◌, ◌<◌, ◌≤◌, Bool, true, false, refl, ap, ◌∙◌, arith}
-use Rattle.vx_tree.specs.Tree.{Tree, Data, Slots, node, no_slots, absent, slot, datum, is_columnar}
+use Rattle.vx_tree.specs.Tree.{Tree, Data, Slots, node, no_slots, absent, slot, datum}
 use Rattle.vx_tree.specs.Slots.{set_slot, put, IsAbsentAt, IsHole}
 use Rattle.vx_tree.proofs.CostLemmas.{base_positive}
 use Rattle.vx_tree.specs.Cost.{Executed, executed, is_next, after, is_executed, counted, cost, base_cost, slot_cost, slots_cost, extra}

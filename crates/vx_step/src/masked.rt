@@ -12,7 +12,7 @@ use vx_tree::{ArrayRef, Canonical, Validity};
 use vx_value::VortexResult;
 
 /// Requests `child` as a canonical column; joins its validity with `validity` once it is one.
-#[tactic(auto, using(crate::proofs::MaskedLemmas::told_rows, crate::proofs::MaskedLemmas::told_nullable, crate::proofs::MaskedLemmas::told_done, crate::proofs::StepsLemmas::masked_waits))]
+#[tactic(auto, using(crate::proofs::MaskedLemmas::told_rows, crate::proofs::MaskedLemmas::told_nullable, crate::proofs::MaskedLemmas::told_done, crate::proofs::MaskedLemmas::told_stopped, crate::proofs::StepsLemmas::masked_waits))]
 pub(crate) fn mask_or_wait(
     alloc: Global,
     array: &ArrayRef,

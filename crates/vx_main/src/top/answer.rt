@@ -17,5 +17,5 @@ pub(crate) fn answer(alloc: Global, bytes: &[u8], limit: u64) -> Result<String, 
     let array = tree_of_bytes(alloc, bytes)?;
     let mut ctx = ExecutionCtx::new(alloc).with_limit(limit);
     let column = execute(array, &mut ctx)?;
-    Ok(column_text(alloc, column.as_array())?)
+    Ok(column_text(alloc, &column)?)
 }

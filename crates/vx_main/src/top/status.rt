@@ -41,6 +41,7 @@ impl From<VortexError> for Status {
                 limit,
                 turns: limit,
             },
+            VortexError::TooLong { .. } => Status::BadInput,
             VortexError::OutOfBounds { .. } => Status::BadInput,
             VortexError::InvalidArgument(_) => Status::BadInput,
         }

@@ -9,10 +9,8 @@ use Rattle.vx_main.proofs.top.answer.answer.Goals as goal
 pub returns-clause-ok : goal.returns-clause-ok
 returns-clause-ok c =
     let text = string_bytes c.in_ok-column_text.field-0 in
-    let of : c.as_array.result.now ≡ columnar_tree c.in_ok-column.column = c.as_array.ensures.of in
-    let shown = subst (λ (t : Tree). Shows (dtype t) (id_of (datum t)) (rows t) text) of c.in_ok-column_text.ensures.ok in
-    let lawful = subst (λ (t : Tree). IsLawful (id_of (datum t)) (dtype t) (rows t)) of c.in_ok-column_text.ensures.lawful in
     let within = c.in_ok-column.ensures.within in
     answers_of c.args.bytes.now text c.args.limit c.execute.new.ctx.turns c.in_ok-array.array (columnar_tree c.in_ok-column.column)
     c.in_ok-array.ensures.ok c.in_ok-column.ensures.ok c.in_ok-column.ensures.executed
-    (within.0, subst (λ l. c.execute.new.ctx.turns ≤ l) (ap (λ x. x.limit) c.with_limit-ctx.ensures) within.1) c.in_ok-column.ensures.as_it_is shown lawful
+    (within.0, subst (λ l. c.execute.new.ctx.turns ≤ l) (ap (λ x. x.limit) c.with_limit-ctx.ensures) within.1) c.in_ok-column.ensures.as_it_is
+    c.in_ok-column_text.ensures.ok c.in_ok-column_text.ensures.lawful
