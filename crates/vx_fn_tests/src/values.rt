@@ -189,11 +189,18 @@ static DECIMALS: [(u8, u8, Option<DecimalType>); 13] = [
     (2, 3, None),
 ];
 
-static ERROR_TEXTS: [(VortexError, &str); 18] = [
+static ERROR_TEXTS: [(VortexError, &str); 19] = [
     (VortexError::OutOfMemory, "out of memory"),
     (
         VortexError::IterationLimit { limit: 4 },
         "Exceeded maximum execution iterations (4) while executing array",
+    ),
+    (
+        VortexError::RewriteLimit {
+            at_root: 101,
+            total: 101,
+        },
+        "Exceeded maximum optimization iterations (possible infinite loop)",
     ),
     (VortexError::Fault, "fault"),
     (VortexError::TooLong { len: 3, factor: 4 }, "too long"),

@@ -64,6 +64,13 @@ pub enum VortexError {
     IterationLimit {
         limit: u64,
     },
+    /// An optimization wasn't done at the rewrite at which one of its limits is passed: the `at_root`th at one root, and the `total`th of
+    /// the call.
+    #[error("Exceeded maximum optimization iterations (possible infinite loop)")]
+    RewriteLimit {
+        at_root: u32,
+        total: u32,
+    },
     /// A row has no value: a result is out of its type's range, or a divisor is 0.
     #[error("fault")]
     Fault,
