@@ -1,5 +1,5 @@
 -- Which encodings are columns, and what every column is.
-use Rattle.std.proofs.Common.{◌≡◌, ℕ, [], replicate, true, false}
+use Rattle.std.proofs.Common.{◌≡◌, ℕ, replicate, true, false}
 use Rattle.std.proofs.Common.{refl, sym, ap, subst, ◌∙◌, inl, inr, arith}
 use Rattle.std.proofs.lemmas.Bool.{or_left}
 use Rattle.std.proofs.lemmas.List.{length-replicate}
@@ -8,13 +8,14 @@ use Rattle.vx_value.specs.Storage.{storage_of}
 use Rattle.vx_value.specs.Typed.{Typed}
 use Rattle.vx_value.specs.Cell.{value}
 use Rattle.vx_tree.specs.Tree as enc
-use Rattle.vx_tree.specs.Tree.{Tree, Data, Slots, node, no_slots, absent, slot, column, datum, id_of, constant_of, slice_of}
+use Rattle.vx_tree.specs.Tree.{Tree, Data, Slots, node, column, datum, id_of, constant_of, slice_of}
 use Rattle.vx_tree.specs.Tree.{is_constant, is_canonical, is_columnar}
-use Rattle.vx_tree.specs.Well.{IsWell, shapes}
+use Rattle.vx_tree.specs.Well.{IsWell}
 use Rattle.vx_tree.specs.Columns.{IsColumn, canonical_id}
 use Rattle.vx_tree.proofs.BytesLemmas.{bytes_columns}
 use Rattle.vx_tree.proofs.DecimalsLemmas.{decimal_columns}
 use Rattle.vx_tree.proofs.CostLemmas.{column_cost}
+use Rattle.vx_tree.proofs.SlotsLemmas.{no_shapes}
 
 pub canonical_columnar : (d : Data) → is_canonical d ≡ true → is_columnar d ≡ true
 canonical_columnar d h = or_left (is_canonical d) (is_constant d) h
@@ -24,12 +25,6 @@ canonical_open (enc.constant v) h = absurd (cc)
 canonical_open _ h = refl
 
 -- ---- what every column is
-
--- the slots of a constant, from its conditions
-no_shapes : (ss : Slots) → shapes ss ≡ [] → ss ≡ no_slots
-no_shapes no_slots h = refl
-no_shapes (absent ss) h = absurd (cc)
-no_shapes (slot t ss) h = absurd (cc)
 
 constant_known : (v : Typed) (n : ℕ) → IsColumn (constant_of v n)
 constant_known v n = record {

@@ -1,5 +1,5 @@
 -- Refusals in turn: the first of several, and that there is none.
-use Rattle.std.proofs.Common.{◌≡◌, Bool, true, false, Option, Some, None, refl, ◌∙◌, ap}
+use Rattle.std.proofs.Common.{◌≡◌, ◌≢◌, Bool, true, false, Option, Some, None, refl, ◌∙◌, ap}
 use Rattle.vx_value.specs.declared.error.VortexError.{VortexError}
 use Rattle.vx_tree.specs.Conditions.{first_of_both, unless}
 
@@ -29,3 +29,7 @@ unless_none false e h = absurd (cc)
 
 pub none_unless : (b : Bool) (e : VortexError) → b ≡ true → unless b e ≡ None
 none_unless b e h = ap (λ x. unless x e) h
+
+pub some_unless : (b : Bool) (e : VortexError) → b ≢ true → unless b e ≡ Some e
+some_unless true e h = absurd (h refl)
+some_unless false e h = refl

@@ -31,12 +31,12 @@ pub function_reach : (ty : DataType) (n : ℕ) (f : ScalarFnRef) (ss : Slots) �
 function_reach ty n f ss = omega (arith, slots_reached ss)
 
 -- slots that aren't executed cost nothing, and reach nowhere
-unpaid : (d : Data) (ss : Slots) → slots_cost d none ss ≡ 0
+pub unpaid : (d : Data) (ss : Slots) → slots_cost d none ss ≡ 0
 unpaid d no_slots = refl
 unpaid d (absent ss) = unpaid d ss
 unpaid d (slot t ss) = omega (arith, unpaid d ss)
 
-unreached : (ss : Slots) → slots_extra none ss ≡ []
+pub unreached : (ss : Slots) → slots_extra none ss ≡ []
 unreached no_slots = refl
 unreached (absent ss) = unreached ss
 unreached (slot t ss) = unreached ss

@@ -1,20 +1,21 @@
 -- Ranges of columns that hold their rows themselves.
-use Rattle.std.proofs.Common.{◌≡◌, ◌≤◌, ℕ, ◌-◌, List, [], ◌∷◌, slice_range, true, Option, refl, sym, ap, ◌∙◌}
+use Rattle.std.proofs.Common.{◌≡◌, ◌≤◌, ℕ, ◌-◌, List, [], ◌∷◌, length, slice_range, true, Option, refl, sym, ap, ◌∙◌, subst}
 use Rattle.vx_value.specs.Types as type
+use Rattle.vx_value.specs.Types.{DataType}
 use Rattle.vx_value.specs.Storage.{storage_of}
 use Rattle.vx_value.specs.Values.{boolean, integer, decimal, bytes}
 use Rattle.vx_value.specs.declared.dtype.Nullability.TheVariants.{NonNullable}
 use Rattle.vx_tree.specs.ColumnTypes.{decimal_type, scale_of, bytes_type}
 use Rattle.vx_tree.specs.Tree as enc
-use Rattle.vx_tree.specs.Tree.{Tree, Data, node, dtype, len, datum, slots, slots_of, column, slice_of, is_flat}
-use Rattle.vx_tree.specs.Well.{Shape, IsNode, IsNodeOf, IsWell, shapes}
+use Rattle.vx_tree.specs.Tree.{Tree, Data, Slots, node, dtype, len, datum, slots, slots_of, column, slice_of, is_flat}
+use Rattle.vx_tree.specs.Well.{Shape, IsFlat, IsNode, IsNodeOf, IsWell, shapes}
 use Rattle.vx_tree.specs.Columns.{count_in, data_range}
 use Rattle.vx_tree.specs.Keeps.{KeepsExactly}
-use Rattle.vx_tree.specs.Validities.{IsValidityPart}
+use Rattle.vx_tree.specs.Validities.{HasRange, IsValidityPart}
 use Rattle.vx_tree.proofs.SlotsLemmas.{only_slot}
 use Rattle.vx_tree.proofs.BytesLemmas.{bytes_node, bytes_part}
 use Rattle.vx_tree.proofs.DecimalsLemmas.{decimals_node, decimals_part}
-use Rattle.vx_tree.proofs.ValiditiesLemmas.{flat_part}
+use Rattle.vx_tree.proofs.ValiditiesLemmas.{flat_range, flat_part}
 
 -- it has as many rows as values: a line for each such encoding
 pub flat_count : (t : Tree) → IsNodeOf t → is_flat (datum t) ≡ true → len t ≡ count_in (datum t)
@@ -45,6 +46,18 @@ flat_range_kept (node ty n (enc.views rs) ss) v w a b well h s within part =
     flat_part (bytes_type stored) bytes enc.views a b rs (slice_range rs a b) v (node ty n (enc.views rs) ss) (λ n xs css. refl) (ap (node ty n (enc.views rs)) s) well within
     refl (λ ss h. h.0) (bytes_node stored (slice_range rs a b) (bytes_part stored rs (slice_range rs a b) a b well.0.1 refl)) w part
 flat_range_kept _ v w a b well h s within part = absurd (cc)
+
+range_in : (of_type ty : DataType) (k n a b : ℕ) (v : Option Tree) (ss : Slots) → IsFlat of_type k ty n (shapes ss) → ss ≡ slots_of (v ∷ []) → a ≤ b → b ≤ n
+    → HasRange a b v
+range_in of_type ty k n a b v ss h s p q = flat_range of_type ty k n a b v (subst (λ x. IsFlat of_type k ty n (shapes x)) s h) p q
+
+-- its validity has the range of its rows: a line for each
+pub flat_has_range : (t : Tree) (v : Option Tree) (a b : ℕ) → IsWell t → is_flat (datum t) ≡ true → slots t ≡ slots_of (v ∷ []) → a ≤ b → b ≤ len t → HasRange a b v
+flat_has_range (node ty n (enc.bool bs) ss) v a b w h s p q = range_in (type.bool NonNullable) ty (length bs) n a b v ss w.0 s p q
+flat_has_range (node ty n (enc.primitive k zs) ss) v a b w h s p q = range_in (type.primitive k NonNullable) ty (length zs) n a b v ss w.0 s p q
+flat_has_range (node ty n (enc.decimals d zs) ss) v a b w h s p q = range_in (decimal_type (storage_of ty)) ty (length zs) n a b v ss w.0.0 s p q
+flat_has_range (node ty n (enc.views rs) ss) v a b w h s p q = range_in (bytes_type (storage_of ty)) ty (length rs) n a b v ss w.0.0 s p q
+flat_has_range _ v a b w h s p q = absurd (cc)
 
 -- it has one slot: a line for each
 flat_shape : (t : Tree) → IsNodeOf t → is_flat (datum t) ≡ true → (x : Option Shape) × (shapes (slots t) ≡ x ∷ [])

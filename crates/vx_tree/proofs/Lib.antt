@@ -9,10 +9,13 @@ pub mod ConditionsLemmas
 pub mod RefusalsLemmas
 pub mod CallsLemmas
 pub mod CostLemmas
+pub mod WeightLemmas
 pub mod ColumnsLemmas
 pub mod DecimalsLemmas
 pub mod ValiditiesLemmas
 pub mod FlatLemmas
+pub mod PartsLemmas
 pub mod TypedLemmas
 pub mod NodeValiditiesLemmas
 pub mod NullsLemmas
+pub mod ReplacementsLemmas

@@ -1,10 +1,10 @@
 -- Slots as a list and as a tree has them: taking one out, filling it, and what a node's conditions say of them.
-use Rattle.std.proofs.Common.{◌≡◌, ◌≢◌, ℕ, zero, suc, ◌<◌, List, [], ◌∷◌, ◌++◌, length, get_or, set, Option, Some, None, IfSome, refl, sym, ap, arith}
+use Rattle.std.proofs.Common.{◌≡◌, ◌≢◌, ℕ, zero, suc, ◌<◌, List, [], ◌∷◌, ◌++◌, length, get_or, set, Option, Some, None, IfSome, refl, sym, ap, arith, subst, ◌∙◌}
 use Rattle.std.specs.Prelude.{option_map}
 use Rattle.vx_value.specs.Types.{DataType}
-use Rattle.vx_tree.specs.Tree.{Tree, absent, slot, slots_of}
-use Rattle.vx_tree.specs.Well.{Shape, shape, shape_of, shapes, AreWell, IsWell}
-use Rattle.vx_tree.specs.Slots.{set_slot, IsAbsentAt, IsPresentAt}
+use Rattle.vx_tree.specs.Tree.{Tree, Data, Slots, node, no_slots, absent, slot, slots_of, dtype, len}
+use Rattle.vx_tree.specs.Well.{Shape, shape, shape_of, shapes, AreWell, IsWell, IsNode, IsNodeOf}
+use Rattle.vx_tree.specs.Slots.{set_slot, put, IsAbsentAt, IsHole, IsPresentAt, IsPresent, HoldsAt, HasSlot}
 
 pub well_append : (xs : List (Option Tree)) (s : Option Tree) → AreWell (slots_of xs) → IfSome s IsWell → AreWell (slots_of (xs ++ s ∷ []))
 well_append [] None h w = tt
@@ -100,6 +100,11 @@ none_there [] h = refl
 none_there (None ∷ xs) h = absurd (cc)
 none_there (Some t ∷ xs) h = absurd (cc)
 
+pub no_shapes : (ss : Slots) → shapes ss ≡ [] → ss ≡ no_slots
+no_shapes no_slots h = refl
+no_shapes (absent ss) h = absurd (cc)
+no_shapes (slot t ss) h = absurd (cc)
+
 -- the first of some slots
 pub first_shape : (x : Option Tree) (xs : List (Option Tree)) → shapes (slots_of (x ∷ xs)) ≡ option_map shape_of x ∷ shapes (slots_of xs)
 first_shape None xs = refl
@@ -114,3 +119,134 @@ not_one answer e none more (None ∷ None ∷ xs) h = more _ _ _
 not_one answer e none more (None ∷ Some u ∷ xs) h = more _ _ _
 not_one answer e none more (Some t ∷ None ∷ xs) h = more _ _ _
 not_one answer e none more (Some t ∷ Some u ∷ xs) h = more _ _ _
+
+-- ---- a slot replaced
+
+set_same : (i : ℕ) (c : Tree) (ss : Slots) → HoldsAt i c ss → set_slot i c ss ≡ ss
+set_same i c no_slots h = absurd h
+set_same zero c (absent ss) h = absurd h
+set_same zero c (slot t ss) h = ap (λ x. slot x ss) (sym h)
+set_same (suc i) c (absent ss) h = ap absent (set_same i c ss h)
+set_same (suc i) c (slot t ss) h = ap (slot t) (set_same i c ss h)
+
+-- by the tree that it holds
+pub put_same : (i : ℕ) (c t : Tree) → HasSlot i c t → put i c t ≡ t
+put_same i c (node ty n d ss) h = ap (node ty n d) (set_same i c ss h)
+
+set_twice : (i : ℕ) (c d : Tree) (ss : Slots) → set_slot i d (set_slot i c ss) ≡ set_slot i d ss
+set_twice i c d no_slots = refl
+set_twice zero c d (absent ss) = refl
+set_twice zero c d (slot t ss) = refl
+set_twice (suc i) c d (absent ss) = ap absent (set_twice i c d ss)
+set_twice (suc i) c d (slot t ss) = ap (slot t) (set_twice i c d ss)
+
+-- and once more
+pub put_twice : (i : ℕ) (c d t : Tree) → put i d (put i c t) ≡ put i d t
+put_twice i c d (node ty n e ss) = ap (node ty n e) (set_twice i c d ss)
+
+set_holds : (i : ℕ) (d : Tree) (ss : Slots) → IsPresentAt i ss → HoldsAt i d (set_slot i d ss)
+set_holds i d no_slots h = absurd h
+set_holds zero d (absent ss) h = absurd h
+set_holds zero d (slot t ss) h = refl
+set_holds (suc i) d (absent ss) h = set_holds i d ss h
+set_holds (suc i) d (slot t ss) h = set_holds i d ss h
+
+pub put_has : (i : ℕ) (d t : Tree) → IsPresent i t → HasSlot i d (put i d t)
+put_has i d (node ty n e ss) h = set_holds i d ss h
+
+set_hole : (i : ℕ) (d : Tree) (ss : Slots) → IsAbsentAt i ss → HoldsAt i d (set_slot i d ss)
+set_hole i d no_slots h = absurd h
+set_hole zero d (absent ss) h = refl
+set_hole zero d (slot t ss) h = absurd h
+set_hole (suc i) d (absent ss) h = set_hole i d ss h
+set_hole (suc i) d (slot t ss) h = set_hole i d ss h
+
+pub put_hole : (i : ℕ) (d t : Tree) → IsHole i t → HasSlot i d (put i d t)
+put_hole i d (node ty n e ss) h = set_hole i d ss h
+
+holds_present : (i : ℕ) (c : Tree) (ss : Slots) → HoldsAt i c ss → IsPresentAt i ss
+holds_present i c no_slots h = h
+holds_present zero c (absent ss) h = h
+holds_present zero c (slot t ss) h = tt
+holds_present (suc i) c (absent ss) h = holds_present i c ss h
+holds_present (suc i) c (slot t ss) h = holds_present i c ss h
+
+pub has_present : (i : ℕ) (c t : Tree) → HasSlot i c t → IsPresent i t
+has_present i c (node ty n d ss) h = holds_present i c ss h
+
+set_present : (i j : ℕ) (c d : Tree) (ss : Slots) → IsPresentAt j (set_slot i c ss) → IsPresentAt j (set_slot i d ss)
+set_present i j c d no_slots h = h
+set_present zero zero c d (absent ss) h = tt
+set_present zero zero c d (slot t ss) h = tt
+set_present zero (suc j) c d (absent ss) h = h
+set_present zero (suc j) c d (slot t ss) h = h
+set_present (suc i) zero c d (absent ss) h = h
+set_present (suc i) zero c d (slot t ss) h = h
+set_present (suc i) (suc j) c d (absent ss) h = set_present i j c d ss h
+set_present (suc i) (suc j) c d (slot t ss) h = set_present i j c d ss h
+
+-- which slots are present doesn't depend on the tree that is put in
+pub put_present : (i j : ℕ) (c d t : Tree) → IsPresent j (put i c t) → IsPresent j (put i d t)
+put_present i j c d (node ty n e ss) h = set_present i j c d ss h
+
+holds_one : (i : ℕ) (c d : Tree) (ss : Slots) → HoldsAt i c ss → HoldsAt i d ss → c ≡ d
+holds_one i c d no_slots h g = absurd h
+holds_one zero c d (absent ss) h g = absurd h
+holds_one zero c d (slot t ss) h g = sym h ∙ g
+holds_one (suc i) c d (absent ss) h g = holds_one i c d ss h g
+holds_one (suc i) c d (slot t ss) h g = holds_one i c d ss h g
+
+-- a slot holds one tree
+pub has_unique : (i : ℕ) (c d t : Tree) → HasSlot i c t → HasSlot i d t → c ≡ d
+has_unique i c d (node ty n e ss) h g = holds_one i c d ss h g
+
+holds_well : (i : ℕ) (c : Tree) (ss : Slots) → AreWell ss → HoldsAt i c ss → IsWell c
+holds_well i c no_slots w h = absurd h
+holds_well zero c (absent ss) w h = absurd h
+holds_well zero c (slot t ss) w h = subst IsWell h w.0
+holds_well (suc i) c (absent ss) w h = holds_well i c ss w h
+holds_well (suc i) c (slot t ss) w h = holds_well i c ss w.1 h
+
+-- and a well-formed one
+pub slot_well : (i : ℕ) (c t : Tree) → IsWell t → HasSlot i c t → IsWell c
+slot_well i c (node ty n d ss) w h = holds_well i c ss w.1 h
+
+set_shapes : (i : ℕ) (c d : Tree) (ss : Slots) → HoldsAt i c ss → shape_of c ≡ shape_of d → shapes ss ≡ shapes (set_slot i d ss)
+set_shapes i c d no_slots h e = absurd h
+set_shapes zero c d (absent ss) h e = absurd h
+set_shapes zero c d (slot t ss) h e = ap (λ s. Some s ∷ shapes ss) (ap shape_of h ∙ e)
+set_shapes (suc i) c d (absent ss) h e = ap (λ l. None ∷ l) (set_shapes i c d ss h e)
+set_shapes (suc i) c d (slot t ss) h e = ap (λ l. Some (shape_of t) ∷ l) (set_shapes i c d ss h e)
+
+-- a tree of the same shape fits
+pub put_node : (i : ℕ) (c d t : Tree) → HasSlot i c t → dtype c ≡ dtype d → len c ≡ len d → IsNodeOf t → IsNodeOf (put i d t)
+put_node i c d (node ty n e ss) h s l w = subst (IsNode ty n e) (set_shapes i c d ss h (λ j. shape (s j) (l j))) w
+
+set_well : (i : ℕ) (d : Tree) (ss : Slots) → AreWell ss → IsWell d → AreWell (set_slot i d ss)
+set_well i d no_slots w g = tt
+set_well zero d (absent ss) w g = (g, w)
+set_well zero d (slot t ss) w g = (g, w.1)
+set_well (suc i) d (absent ss) w g = set_well i d ss w g
+set_well (suc i) d (slot t ss) w g = (w.0, set_well i d ss w.1 g)
+
+pub put_well : (i : ℕ) (c d t : Tree) → HasSlot i c t → dtype c ≡ dtype d → len c ≡ len d → IsWell t → IsWell d → IsWell (put i d t)
+put_well i c d (node ty n e ss) h s l w g = (put_node i c d (node ty n e ss) h s l w.0, set_well i d ss w.1 g)
+
+-- ---- a slot of a node of the program, taken out and filled
+
+module _ (ty : DataType) (n : ℕ) (d : Data) (xs : List (Option Tree)) (i : ℕ) (c t : Tree) (e : node ty n d (slots_of xs) ≡ t) where
+  -- v is what is found in the slot, and s what is left there
+  pub slot_taken : (v s : Option Tree) → IsPresent i t → IsWell t → get_or xs i v ≡ Some c → s ≡ None
+      → (put i c (node ty n d (slots_of (set xs i s))) ≡ t) × IsHole i (node ty n d (slots_of (set xs i s))) × IsNodeOf t × HasSlot i c t
+  slot_taken v s present well found empty =
+      let here = subst (λ x. IsPresent i x) (sym e) present in
+      let back : put i c (node ty n d (slots_of (set xs i None))) ≡ t = ap (node ty n d) (put_back xs i v c here found) ∙ e in
+      let root = subst IsWell (sym e) well in (
+        subst (λ x. put i c (node ty n d (slots_of (set xs i x))) ≡ t) (sym empty) back,
+        subst (λ x. IsHole i (node ty n d (slots_of (set xs i x)))) (sym empty) (hole_after xs i here),
+        subst IsNodeOf e root.0,
+        subst (HasSlot i c) back (put_hole i c (node ty n d (slots_of (set xs i None))) (hole_after xs i here)),
+      )
+
+  pub slot_filled : node ty n d (slots_of (set xs i (Some c))) ≡ put i c t
+  slot_filled = ap (node ty n d) (put_in xs i c) ∙ ap (put i c) e

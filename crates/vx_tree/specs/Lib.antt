@@ -17,10 +17,13 @@ pub mod Conditions
 pub mod Refusals
 pub mod Calls
 pub mod Slots
+pub mod Replacements
 pub mod Keeps
 pub mod Kinds
 pub mod Cost
 pub mod Columns
+pub mod Parts
+pub mod Weight
 pub mod Validities
 pub mod Rows
 pub mod NodeValidities

@@ -1,5 +1,5 @@
--- A tree with one slot replaced, and a node with a slot taken out.
-use Rattle.std.specs.Prelude.{ℕ, zero, suc}
+-- A tree with one slot replaced, a node with a slot taken out, and what is made of every slot.
+use Rattle.std.specs.Prelude.{◌≡◌, ℕ, zero, suc, ◌+◌, List, [], ◌∷◌}
 use Rattle.vx_tree.specs.Tree.{Tree, Slots, node, no_slots, absent, slot}
 
 -- slot i replaced
@@ -35,3 +35,35 @@ IsPresentAt (suc i) (slot s ss) = IsPresentAt i ss
 
 abbrev pub IsPresent : ℕ → Tree → Type 0
 IsPresent i (node ty n d ss) = IsPresentAt i ss
+
+-- slot i holds t
+abbrev pub HoldsAt : ℕ → Tree → Slots → Type 0
+HoldsAt i t no_slots = ⊥
+HoldsAt zero t (absent ss) = ⊥
+HoldsAt zero t (slot s ss) = s ≡ t
+HoldsAt (suc i) t (absent ss) = HoldsAt i t ss
+HoldsAt (suc i) t (slot s ss) = HoldsAt i t ss
+
+abbrev pub HasSlot : ℕ → Tree → Tree → Type 0
+HasSlot i t (node ty n d ss) = HoldsAt i t ss
+
+-- each tree replaced
+abbrev pub map_slots : (Tree → Tree) → Slots → Slots
+map_slots f no_slots = no_slots
+map_slots f (absent ss) = absent (map_slots f ss)
+map_slots f (slot t ss) = slot (f t) (map_slots f ss)
+
+-- the numbers of the slots that hold a tree, the first of them counted from k
+abbrev pub present_from : ℕ → Slots → List ℕ
+present_from k no_slots = []
+present_from k (absent ss) = present_from (k + 1) ss
+present_from k (slot t ss) = k ∷ present_from (k + 1) ss
+
+-- of a tree's root
+abbrev pub present_in : Tree → List ℕ
+present_in (node ty n d ss) = present_from 0 ss
+
+abbrev pub count_slots : Slots → ℕ
+count_slots no_slots = 0
+count_slots (absent ss) = count_slots ss + 1
+count_slots (slot t ss) = count_slots ss + 1

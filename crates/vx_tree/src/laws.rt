@@ -8,9 +8,10 @@ ghost use Rattle.vx_tree.specs.Cells.{rows};
 ghost use Rattle.vx_tree.specs.Well.{Shape, IsNode, IsWell};
 ghost use Rattle.vx_mask.specs.Places.{combined};
 ghost use Rattle.vx_tree.specs.Refusals.{refusal};
-ghost use Rattle.vx_tree.specs.Slots.{put};
+ghost use Rattle.vx_tree.specs.Slots.{put, HasSlot};
 ghost use Rattle.vx_tree.specs.Keeps.{Keeps, KeepsExactly};
 ghost use Rattle.vx_tree.specs.Cost.{cost, reach, slots_sum};
+ghost use Rattle.vx_tree.specs.Weight.{weight};
 ghost use Rattle.vx_tree.specs.Columns.{IsColumn};
 ghost use Rattle.vx_tree.specs.Validities.{HasRows, nullability_by, child_of, validity_of, valid_rows};
 ghost use Rattle.vx_tree.specs.NodeValidities.{node_validity, IsValidityFor};
@@ -48,6 +49,13 @@ pub fn execution_bounds()
     ensures functions { (ty : DataType) (n : ℕ) (f : ScalarFnOf) (ss : Slots) → cost (node ty n (function f) ss) ≡ 3 + slots_sum (λ c. 1 + cost c) ss }
     ensures function_reach { (ty : DataType) (n : ℕ) (f : ScalarFnOf) (ss : Slots) → reach (node ty n (function f) ss) ≡ 1 + slots_sum reach ss }
     ensures positive { (t : Tree) → 0 < cost t }
+{}
+
+/// States what `weight` is: at least 3, above the bound on turns, and less if a slot weighs less. (own)
+pub fn weight_laws()
+    ensures least { (t : Tree) → 3 ≤ weight t }
+    ensures turns { (t : Tree) → cost t < weight t }
+    ensures in_slot { (i k : ℕ) (c d t : Tree) → HasSlot i c t → k + weight d ≤ weight c → k + weight (put i d t) ≤ weight t }
 {}
 
 /// States that a slice of a slice has the rows of one slice, and a filter of a filter those of the filter by the combined mask.

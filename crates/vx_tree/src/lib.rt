@@ -8,7 +8,9 @@ mod columnar;
 mod laws;
 mod matcher;
 mod node_validity;
+mod replace;
 mod slicing;
+mod suspended;
 mod validity;
 
 pub use array::{
@@ -31,11 +33,15 @@ pub use canonical::Canonical;
 pub use columnar::Columnar;
 pub use laws::{
     choice_laws, column_laws, execution_bounds, keeping_laws, node_validity_laws, refused_exactly,
-    validity_laws,
+    validity_laws, weight_laws,
 };
 pub use matcher::{AnyArray, AnyCanonical, AnyColumnar, AnyScalarFn, Matcher};
 pub use node_validity::and_lazily;
 pub use slicing::slice_canonical;
-pub use validity::{Validity, child_to_validity, validity_nchildren, validity_to_child};
+pub use suspended::{Suspended, take_slot};
+pub use validity::{
+    Validity, child_to_validity, choose_validity, slice_validity, validity_nchildren,
+    validity_to_child,
+};
 pub use vx_native::{DecimalValues, PrimitiveValues};
 pub use vx_views::BinaryViews;

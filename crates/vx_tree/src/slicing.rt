@@ -2,6 +2,7 @@
 
 ghost use Rattle.std.specs.Prelude.{◌≡◌, ◌≤◌, IfOk, IfErr};
 ghost use Rattle.vx_tree.specs.Tree.{len, slice_of};
+ghost use Rattle.vx_tree.specs.Parts.{column_range};
 ghost use Rattle.vx_tree.specs.Keeps.{KeepsExactly};
 ghost use Rattle.vx_tree.specs.Columns.{canonical_tree};
 
@@ -20,6 +21,7 @@ pub fn slice_canonical(
 ) -> VortexResult<Canonical>
     requires { (range.start ≤ range.end) × (range.end ≤ len (canonical_tree column.now)) }
     ensures ok { IfOk result (λ c. KeepsExactly (slice_of range.start range.end (canonical_tree column.now)) (canonical_tree c)) }
+    ensures range { IfOk result (λ c. canonical_tree c ≡ column_range range.start range.end (canonical_tree column.now)) }
     ensures err { IfErr result (λ e. e ≡ VortexError.OutOfMemory) }
 {
     Ok(match column {

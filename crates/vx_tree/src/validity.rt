@@ -2,11 +2,14 @@
 
 ghost use Rattle.std.specs.Prelude.{◌≡◌, ℕ, IfOk, IfErr, MatchResult, Some, None, length, option_map};
 ghost use Rattle.vx_value.specs.View.{type_of};
-ghost use Rattle.vx_tree.specs.Validities.{nullability_by, without_nulls, child_of, child_by, count_children, validity_of, array_refusal, IsValidityPart, HasRange};
+ghost use Rattle.vx_mask.specs.Masks.{bits_in};
+ghost use Rattle.vx_tree.specs.Validities.{nullability_by, without_nulls, child_of, child_by, count_children, validity_of, array_refusal, HasRange};
+ghost use Rattle.vx_tree.specs.Parts.{part_of, choice_of, HasLen};
 
 use crate::array::{ArrayKind, ArrayRef, IntoArray};
 use crate::arrays::boolean::BoolArray;
 use crate::arrays::constant::ConstantArray;
+use crate::arrays::filter::FilterArray;
 use crate::arrays::slice::SliceArray;
 use crate::arrays::types::is_same_type;
 use std::alloc::{AllocError, Global};
@@ -139,14 +142,14 @@ pub(crate) fn check_validity(validity: &Validity, len: usize) -> VortexResult<()
 }
 
 /// Returns the validity of the rows in `range`, which must be in order and in bounds, from the slot of their column's. A
-/// constant stays one. The only error is `OutOfMemory`.
-pub(crate) fn slice_validity(
+/// constant stays one. The only error is `OutOfMemory`. (own)
+pub fn slice_validity(
     alloc: Global,
     validity: &Option<ArrayRef>,
     range: Range<usize>,
 ) -> VortexResult<Option<ArrayRef>>
     requires { HasRange range.start range.end validity.now }
-    ensures ok { IfOk result (IsValidityPart range.start range.end validity.now) }
+    ensures ok { IfOk result (λ w. w ≡ option_map (part_of range.start range.end) validity.now) }
     ensures err { IfErr result (λ e. e ≡ VortexError.OutOfMemory) }
 {
     let Some(child) = validity else {
@@ -157,4 +160,25 @@ pub(crate) fn slice_validity(
         return Ok(Some(ConstantArray::new(alloc, scalar.clone()?, len)?.into_array()));
     }
     Ok(Some(SliceArray::new(alloc, child.clone()?, range)?.into_array()))
+}
+
+/// Returns the validity of the rows that `mask` chooses, from the slot of their column's, which must have as many rows as `mask`.
+/// A constant stays one. The only error is `OutOfMemory`. (own)
+pub fn choose_validity(
+    alloc: Global,
+    validity: &Option<ArrayRef>,
+    mask: &Mask,
+) -> VortexResult<Option<ArrayRef>>
+    requires { HasLen (length (bits_in mask.now)) validity.now }
+    ensures ok { IfOk result (λ w. w ≡ option_map (choice_of (bits_in mask.now)) validity.now) }
+    ensures err { IfErr result (λ e. e ≡ VortexError.OutOfMemory) }
+{
+    let Some(child) = validity else {
+        return Ok(None);
+    };
+    if let ArrayKind::Constant(scalar) = child.kind() {
+        let len = mask.true_count();
+        return Ok(Some(ConstantArray::new(alloc, scalar.clone()?, len)?.into_array()));
+    }
+    Ok(Some(FilterArray::new(alloc, child.clone()?, mask.clone()?)?.into_array()))
 }

@@ -5,6 +5,7 @@ ghost use Rattle.vx_value.specs.Types.{DataType, nullability_of};
 ghost use Rattle.vx_value.specs.View.{type_of};
 ghost use Rattle.vx_tree.specs.Tree.{column, slots, slots_of, len, is_flat, slice_of};
 ghost use Rattle.vx_tree.specs.Columns.{count_in, data_range};
+ghost use Rattle.vx_tree.specs.Parts.{column_range};
 ghost use Rattle.vx_tree.specs.Keeps.{KeepsExactly};
 ghost use Rattle.vx_tree.specs.Well.{Shape, shape_of, IsFlat, IsNode, shapes};
 ghost use Rattle.vx_tree.specs.Refusals.{column_refusal, validity_type_refusal, validity_len_refusal};
@@ -166,6 +167,7 @@ pub(crate) fn flat_slice<V: FlatEncoding>(
 ) -> VortexResult<Array<V>>
     requires { (range.start ≤ range.end) × (range.end ≤ len column.now) }
     ensures ok { IfOk result (λ a. KeepsExactly (slice_of range.start range.end column.now) a) }
+    ensures range { IfOk result (λ a. a ≡ column_range range.start range.end column.now) }
     ensures err { IfErr result (λ e. e ≡ VortexError.OutOfMemory) }
 {
     V::know_flat(column.data());

@@ -3,6 +3,7 @@
 ghost use Rattle.std.specs.Prelude.{◌≡◌, ◌≤◌, IfOk, IfErr, option_map, refl};
 ghost use Rattle.vx_value.specs.declared.id.Id.TheVariants as id;
 ghost use Rattle.vx_tree.specs.Tree.{len, nulls, nulls_of, slice_of, is_nulls};
+ghost use Rattle.vx_tree.specs.Parts.{column_range};
 ghost use Rattle.vx_tree.specs.Keeps.{KeepsExactly};
 ghost use Rattle.vx_tree.specs.Columns.{null_column};
 
@@ -60,6 +61,7 @@ impl NullArray {
     pub(crate) fn slice(&self, alloc: Global, range: Range<usize>) -> VortexResult<NullArray>
         requires { (range.start ≤ range.end) × (range.end ≤ len self.now) }
         ensures ok { IfOk result (λ a. KeepsExactly (slice_of range.start range.end self.now) a) }
+        ensures range { IfOk result (λ a. a ≡ column_range range.start range.end self.now) }
         ensures err { IfErr result (λ e. e ≡ VortexError.OutOfMemory) }
     {
         let _nulls = self.data();

@@ -2,9 +2,8 @@ use Rattle.std.proofs.Common.{◌<◌, length, arith, sym, ◌∙◌, subst}
 use Rattle.vx_value.specs.View.{type_of}
 use Rattle.vx_tree.specs.TreeView.{data_of}
 use Rattle.vx_tree.specs.Slots.{IsPresent}
-use Rattle.vx_tree.proofs.SlotsLemmas.{present_bound, present_some}
-use Rattle.vx_step.proofs.SlotsLemmas.{slot_taken}
-use Rattle.vx_step.proofs.suspended.take_slot.Goals as goal
+use Rattle.vx_tree.proofs.SlotsLemmas.{present_bound, present_some, slot_taken}
+use Rattle.vx_tree.proofs.suspended.take_slot.Goals as goal
 
 pub index_mut-requires : goal.index_mut-requires
 index_mut-requires c =

@@ -4,9 +4,8 @@ use Rattle.vx_value.specs.View.{type_of}
 use Rattle.vx_tree.specs.TreeView.{data_of}
 use Rattle.vx_tree.specs.Well.{IsNodeOf}
 use Rattle.vx_tree.specs.Slots.{IsHole, put}
-use Rattle.vx_tree.proofs.SlotsLemmas.{hole_bound}
-use Rattle.vx_step.proofs.SlotsLemmas.{slot_filled}
-use Rattle.vx_step.proofs.suspended.Suspended.put.Goals as goal
+use Rattle.vx_tree.proofs.SlotsLemmas.{hole_bound, slot_filled}
+use Rattle.vx_tree.proofs.suspended.Suspended.put.Goals as goal
 
 pub index_mut-requires : goal.index_mut-requires
 index_mut-requires c =

@@ -1,12 +1,12 @@
 //! Nodes with a slot taken out.
 
 ghost use Rattle.std.specs.Prelude.{◌≡◌, IfOk};
-ghost use Rattle.vx_tree.specs.Slots.{put, IsHole, IsPresent};
+ghost use Rattle.vx_tree.specs.Slots.{put, IsHole, IsPresent, HasSlot};
 ghost use Rattle.vx_tree.specs.Well.{IsNodeOf};
 
+use crate::array::{ArrayRef, Node};
 use std::alloc::{AllocError, Global};
 use std::marker::Model;
-use vx_tree::{ArrayRef, Node};
 
 /// A node with an empty slot. It is never an `ArrayRef`. (own)
 #[derive(Drop)]
@@ -33,7 +33,7 @@ pub fn take_slot(
     slot: usize,
 ) -> Result<(Suspended, ArrayRef), AllocError>
     requires { IsPresent slot array }
-    ensures { IfOk result (λ p. (put slot p.1 p.0 ≡ array) × IsHole slot p.0 × IsNodeOf array) }
+    ensures { IfOk result (λ p. (put slot p.1 p.0 ≡ array) × IsHole slot p.0 × IsNodeOf array × HasSlot slot p.1 array) }
 {
     array.well();
     let mut node = array.into_node(alloc)?;
