@@ -1,0 +1,16 @@
+pub mod FitsLemmas
+pub mod QuietLemmas
+pub mod ConstantsLemmas
+pub mod LighterLemmas
+pub mod SlotsLemmas
+pub mod CombinedLemmas
+pub mod MaskedLemmas
+pub mod PointsLemmas
+pub mod PicksLemmas
+pub mod RangesLemmas
+pub mod FiltersLemmas
+pub mod FunctionsLemmas
+pub mod MasksLemmas
+pub mod CastsLemmas
+pub mod KeepsLemmas
+pub mod PushLemmas

@@ -1,0 +1,260 @@
+-- Slices that are pushed down, by encoding.
+use Rattle.std.proofs.Common.{◌≡◌, ℕ, zero, suc, ◌+◌, ◌-◌, ◌*◌, ◌<◌, ◌≤◌, List, [], ◌∷◌, ◌++◌, length, map, take, get_or, Option, Some, None, true, false, refl, sym, ap, subst, ◌∙◌, arith}
+use Rattle.std.specs.Prelude.{option_map}
+use Rattle.std.specs.List.{AllZip}
+use Rattle.std.proofs.lemmas.List.{take_more, take_all}
+use Rattle.vx_value.specs.Types as type
+use Rattle.vx_value.specs.Types.{DataType, null}
+use Rattle.vx_value.specs.Typed.{Typed}
+use Rattle.vx_value.specs.Nullabilities.{with_nullability}
+use Rattle.vx_value.specs.declared.dtype.Nullability.TheVariants.{NonNullable, Nullable}
+use Rattle.vx_fn.specs.declared.function.ScalarFnRef.{ScalarFnRef}
+use Rattle.vx_tree.specs.Tree as enc
+use Rattle.vx_tree.specs.Tree.{Tree, Slots, node, no_slots, absent, slot, slots_of, height, slots_height, dtype, len, datum, constant_of, slice_of, masked_of, is_canonical}
+use Rattle.vx_tree.specs.Slots.{map_slots}
+use Rattle.vx_tree.specs.Parts.{part_of}
+use Rattle.vx_tree.specs.Cells.{node_cells, slots_rows, AreClean}
+use Rattle.vx_tree.specs.Columns.{empty_of}
+use Rattle.vx_tree.specs.Cost.{all, cost, reach, slots_cost, slots_extra, all_reached}
+use Rattle.vx_tree.specs.Keeps.{KeepsExactly}
+use Rattle.vx_tree.specs.Validities.{HasRange}
+use Rattle.vx_tree.specs.Well.{Shape, shape, shape_of, shapes, IsValidity, IsNode, IsNodeOf, IsWell, AreWell}
+use Rattle.vx_tree.proofs.CostLemmas.{cost_positive, column_cost, masked_cost, masked_reach}
+use Rattle.vx_tree.proofs.KeepsLemmas.{exactly_refl, exactly_trans, exactly_of_rows, put_exactly}
+use Rattle.vx_tree.proofs.PartsLemmas.{part_exact}
+use Rattle.vx_tree.proofs.KindsLemmas.{type_in, len_in}
+use Rattle.vx_tree.proofs.SlotsLemmas.{one_shape}
+use Rattle.vx_rule.specs.Pushes.{IsPushed}
+use Rattle.vx_rule.proofs.FitsLemmas.{masked_mapped}
+use Rattle.vx_rule.proofs.PicksLemmas.{IsSecond, masked_slots}
+use Rattle.vx_rule.proofs.RangesLemmas.{S_whole_keeps, S_empty_keeps, S1_keeps, S2_keeps, S4_keeps, S5_keeps}
+
+canonical_cost : (c : Tree) → is_canonical (datum c) ≡ true → cost c ≡ 1
+canonical_cost (node ty n d ss) h = column_cost ty n d ss h
+
+empty_canonical : (ty : DataType) → is_canonical (datum (empty_of ty)) ≡ true
+empty_canonical null = refl
+empty_canonical _ = refl
+
+-- a canonical column takes one turn, however it came about
+pub column_pushed : (a b : ℕ) (c u : Tree) → KeepsExactly (slice_of a b c) u → is_canonical (datum u) ≡ true → IsPushed a b c u
+column_pushed a b c u same h = record {
+  exactly = same;
+  bounded = omega (arith, canonical_cost u h, cost_positive c);
+  canonical = λ e. h;
+}
+
+pub slice_pushed : (a b : ℕ) (c u : Tree) → is_canonical (datum c) ≡ false → u ≡ slice_of a b c → IsPushed a b c u
+slice_pushed a b c u unready e =
+    subst (IsPushed a b c) (sym e) (record {
+      exactly = exactly_refl (slice_of a b c);
+      bounded = omega arith;
+      canonical = λ h. absurd (cc (unready, h));
+    })
+
+-- rows from a to b of c
+module _ (a b : ℕ) (c : Tree) (well : IsWell c) (order : a ≤ b) (bounds : b ≤ len c) where
+  sliced : IsWell (slice_of a b c)
+  sliced = ((len c, refl, order, bounds, refl), (well, tt))
+
+  pub whole_pushed : (u : Tree) → a ≡ 0 → b ≡ len c → u ≡ c → IsPushed a b c u
+  whole_pushed u z w e =
+      subst (IsPushed a b c) (sym e) (record {
+        exactly = S_whole_keeps (dtype c) (b - a) a b c sliced z w;
+        bounded = omega arith;
+        canonical = λ h. h;
+      })
+
+  pub empty_pushed : (u : Tree) → a ≡ b → u ≡ empty_of (dtype c) → IsPushed a b c u
+  empty_pushed u z e =
+      subst (IsPushed a b c) (sym e)
+      (column_pushed a b c (empty_of (dtype c)) (S_empty_keeps (dtype c) (b - a) a b c sliced z) (empty_canonical (dtype c)))
+
+-- rows from a to b of x, which is such a tree
+module _ (a b : ℕ) (x : Tree) (well : IsWell x) (order : a ≤ b) (bounds : b ≤ len x) where
+  pub constant_pushed : (v : Typed) (k : ℕ) (u : Tree) → x ≡ constant_of v k → u ≡ constant_of v (b - a) → IsPushed a b x u
+  constant_pushed v k u shown e =
+      let child = constant_of v k in
+      subst (λ y. IsPushed a b y u) (sym shown) (subst (IsPushed a b child) (sym e) (record {
+        exactly = S2_keeps v.of_type v.of_type (b - a) a b k v (subst (λ y. IsWell (slice_of a b y)) shown (sliced a b x well order bounds));
+        bounded = omega arith;
+        canonical = λ h. absurd (cc (h));
+      }))
+
+  pub inner_pushed : (s e : ℕ) (c u : Tree) → x ≡ slice_of s e c → IsPushed (s + a) (s + b) c u → IsPushed a b x u
+  inner_pushed s e c u shown h =
+      let child = slice_of s e c in
+      subst (λ y. IsPushed a b y u) (sym shown) (record {
+        exactly = exactly_trans (slice_of a b child) (slice_of (s + a) (s + b) c) u
+            (S1_keeps (dtype c) (dtype c) (b - a) a b (e - s) s e c (subst (λ y. IsWell (slice_of a b y)) shown (sliced a b x well order bounds))) h.exactly;
+        bounded = omega (arith, h.bounded);
+        canonical = λ h. absurd (cc (h));
+      })
+
+-- ---- the slots of a function
+
+-- each holds a tree, and the other its rows from a to b
+abbrev pub IsSlotPushed : ℕ → ℕ → Option Tree → Option Tree → Type 0
+IsSlotPushed a b (Some t) (Some u) = IsPushed a b t u
+IsSlotPushed a b _ _ = ⊥
+
+-- two lists that match, each with one more
+zipped_push : {A B : Type 0} (R : A → B → Type 0) (xs : List A) (ys : List B) (x : A) (y : B) → AllZip R xs ys → R x y → AllZip R (xs ++ x ∷ []) (ys ++ y ∷ [])
+zipped_push R [] [] x y h r = (r, tt)
+zipped_push R [] (b ∷ ys) x y h r = absurd h
+zipped_push R (a ∷ xs) [] x y h r = absurd h
+zipped_push R (a ∷ xs) (b ∷ ys) x y h r = (h.0, zipped_push R xs ys x y h.1 r)
+
+pub zipped_more : {A B : Type 0} (R : A → B → Type 0) (xs : List A) (ys : List B) (i : ℕ) (x : A) (y : B) →
+    i < length xs → x ≡ get_or xs i x → AllZip R (take i xs) ys → R x y → AllZip R (take (i + 1) xs) (ys ++ y ∷ [])
+zipped_more R xs ys i x y lt e h r =
+    subst (λ zs. AllZip R zs (ys ++ y ∷ [])) (sym (take_more xs i x lt)) (zipped_push R (take i xs) ys (get_or xs i x) y h (subst (λ z. R z y) e r))
+
+-- a slot holds a tree of n rows that isn't higher than h
+abbrev pub IsBelow : ℕ → ℕ → Option Tree → Type 0
+IsBelow n h None = ⊥
+IsBelow n h (Some t) = (len t ≡ n) × (height t ≤ h)
+
+slot_below : (n : ℕ) (xs : List (Option Tree)) (tys : List DataType) (k : ℕ) (d : Option Tree) (h : ℕ) →
+    shapes (slots_of xs) ≡ map (λ s. Some (shape s n)) tys → slots_height (slots_of xs) ≤ h → k < length xs → IsBelow n h (get_or xs k d)
+slot_below n [] tys k d h e l lt = absurd (omega arith)
+slot_below n (None ∷ xs) [] k d h e l lt = absurd (cc)
+slot_below n (None ∷ xs) (ty ∷ tys) k d h e l lt = absurd (cc)
+slot_below n (Some t ∷ xs) [] k d h e l lt = absurd (cc)
+slot_below n (Some t ∷ xs) (ty ∷ tys) zero d h e l lt = let same : len t ≡ n = cc in (same, omega arith)
+slot_below n (Some t ∷ xs) (ty ∷ tys) (suc k) d h e l lt =
+    let rest : shapes (slots_of xs) ≡ map (λ s. Some (shape s n)) tys = cc in slot_below n xs tys k d h rest (omega arith) (omega arith)
+
+pub child_below : (n : ℕ) (ty : DataType) (f : ScalarFnRef) (xs : List (Option Tree)) (k : ℕ) (d : Option Tree)
+    → IsNode ty n (enc.function f) (shapes (slots_of xs)) → k < length xs → IsBelow n (slots_height (slots_of xs)) (get_or xs k d)
+child_below n ty f xs k d w lt = slot_below n xs w.0 k d (slots_height (slots_of xs)) w.1 (omega arith) lt
+
+-- a loop over all slots
+pub all_pushed : (a b k : ℕ) (xs ys : List (Option Tree)) → length xs ≤ k → AllZip (IsSlotPushed a b) (take k xs) ys → AllZip (IsSlotPushed a b) xs ys
+all_pushed a b k xs ys le h = subst (λ zs. AllZip (IsSlotPushed a b) zs ys) (take_all k xs le) h
+
+module _ (a b : ℕ) where
+  slots_shown : (xs ys : List (Option Tree)) → AllZip (IsSlotPushed a b) xs ys → slots_rows (map_slots (slice_of a b) (slots_of xs)) ≡ slots_rows (slots_of ys)
+  slots_shown [] [] h = refl
+  slots_shown [] (y ∷ ys) h = absurd h
+  slots_shown (x ∷ xs) [] h = absurd h
+  slots_shown (None ∷ xs) (y ∷ ys) h = absurd h.0
+  slots_shown (Some t ∷ xs) (None ∷ ys) h = absurd h.0
+  slots_shown (Some t ∷ xs) (Some u ∷ ys) h = λ i. h.0.exactly.equal i ∷ slots_shown xs ys h.1 i
+
+  slots_clean : (xs ys : List (Option Tree)) → AllZip (IsSlotPushed a b) xs ys → AreClean (map_slots (slice_of a b) (slots_of xs)) → AreClean (slots_of ys)
+  slots_clean [] [] h c = tt
+  slots_clean [] (y ∷ ys) h c = absurd h
+  slots_clean (x ∷ xs) [] h c = absurd h
+  slots_clean (None ∷ xs) (y ∷ ys) h c = absurd h.0
+  slots_clean (Some t ∷ xs) (None ∷ ys) h c = absurd h.0
+  slots_clean (Some t ∷ xs) (Some u ∷ ys) h c = (h.0.exactly.keeps.still_clean c.0, slots_clean xs ys h.1 c.1)
+
+  slots_sized : (n : ℕ) (tys : List DataType) (xs ys : List (Option Tree)) → AllZip (IsSlotPushed a b) xs ys
+      → shapes (slots_of xs) ≡ map (λ s. Some (shape s n)) tys → shapes (slots_of ys) ≡ map (λ s. Some (shape s (b - a))) tys
+  slots_sized n [] [] [] h e = refl
+  slots_sized n (s ∷ tys) [] [] h e = absurd (cc)
+  slots_sized n tys [] (y ∷ ys) h e = absurd h
+  slots_sized n tys (x ∷ xs) [] h e = absurd h
+  slots_sized n tys (None ∷ xs) (y ∷ ys) h e = absurd h.0
+  slots_sized n tys (Some t ∷ xs) (None ∷ ys) h e = absurd h.0
+  slots_sized n [] (Some t ∷ xs) (Some u ∷ ys) h e = absurd (cc)
+  slots_sized n (s ∷ tys) (Some t ∷ xs) (Some u ∷ ys) h e =
+      let typed : dtype t ≡ s = cc in
+      let rest : shapes (slots_of xs) ≡ map (λ s. Some (shape s n)) tys = cc in
+      let kept = h.0.exactly.keeps in
+      λ i. Some (shape ((sym kept.same_type ∙ typed) i) (sym kept.same_len i)) ∷ slots_sized n tys xs ys h.1 rest i
+
+  slots_bounded : (f : ScalarFnRef) (xs ys : List (Option Tree)) → AllZip (IsSlotPushed a b) xs ys
+      → slots_cost (enc.function f) all (slots_of ys) ≤ slots_cost (enc.function f) all (slots_of xs) + 3 * all_reached (slots_extra all (slots_of xs))
+  slots_bounded f [] [] h = omega arith
+  slots_bounded f [] (y ∷ ys) h = absurd h
+  slots_bounded f (x ∷ xs) [] h = absurd h
+  slots_bounded f (None ∷ xs) (y ∷ ys) h = absurd h.0
+  slots_bounded f (Some t ∷ xs) (None ∷ ys) h = absurd h.0
+  slots_bounded f (Some t ∷ xs) (Some u ∷ ys) h = omega (arith, h.0.bounded, slots_bounded f xs ys h.1)
+
+-- a function of such slots
+module _ (a b : ℕ) (x : Tree) (f : ScalarFnRef) (xs ys : List (Option Tree)) (shown : x ≡ node (dtype x) (len x) (enc.function f) (slots_of xs)) where
+  pub function_sized : IsNode (dtype x) (len x) (enc.function f) (shapes (slots_of xs)) → AllZip (IsSlotPushed a b) xs ys
+      → IsNode (dtype x) (b - a) (enc.function f) (shapes (slots_of ys))
+  function_sized w h = (w.0, slots_sized a b (len x) w.0 xs ys h w.1, w.2)
+
+  pub function_pushed : (u : Tree) → IsWell x → a ≤ b → b ≤ len x → AllZip (IsSlotPushed a b) xs ys
+      → u ≡ node (dtype x) (b - a) (enc.function f) (slots_of ys) → IsPushed a b x u
+  function_pushed u well order bounds h e =
+      let ty = dtype x in
+      let k = len x in
+      let ss = slots_of xs in
+      let child = node ty k (enc.function f) ss in
+      let lazily = node ty (b - a) (enc.function f) (map_slots (slice_of a b) ss) in
+      let pushed = node ty (b - a) (enc.function f) (slots_of ys) in
+      let kept : KeepsExactly (slice_of a b child) lazily =
+      S4_keeps ty ty (b - a) a b k f ss (subst (λ y. IsWell (slice_of a b y)) shown (sliced a b x well order bounds)) in
+      let swapped : KeepsExactly lazily pushed =
+      exactly_of_rows ty (b - a) (enc.function f) (enc.function f) (map_slots (slice_of a b) ss) (slots_of ys)
+      (ap (node_cells ty (b - a) (enc.function f)) (slots_shown a b xs ys h)) (slots_clean a b xs ys h) in
+      subst (λ y. IsPushed a b y u) (sym shown) (subst (IsPushed a b child) (sym e) (record {
+        exactly = exactly_trans (slice_of a b child) lazily pushed kept swapped;
+        bounded = omega (arith, slots_bounded a b f xs ys h);
+        canonical = λ h. absurd (cc (h));
+      }))
+
+-- ---- a masked array
+
+module _ (a b : ℕ) (x c : Tree) (v : Option Tree) (shown : x ≡ masked_of c v) (well : IsWell x) (order : a ≤ b) (bounds : b ≤ len x) where
+  here : IsWell (masked_of c v)
+  here = subst IsWell shown well
+
+  within : b ≤ len c
+  within = subst (λ y. b ≤ len y) shown bounds
+
+  second : IsSecond (len c) (slots_of (v ∷ []))
+  second = (masked_slots (dtype (masked_of c v)) (len c) c (slots_of (v ∷ [])) here.0).1
+
+  range_of : (v : Option Tree) → IsSecond (len c) (slots_of (v ∷ [])) → HasRange a b v
+  range_of None h = tt
+  range_of (Some t) h = (order, omega (arith, within, ap len_in h))
+
+  pub masked_range : HasRange a b v
+  masked_range = range_of v second
+
+  -- the child's rows from a to b, and those of the validity
+  module _ (u : Tree) (w : Option Tree) (pushed : IsPushed a b c u) (part : w ≡ option_map (part_of a b) v) where
+    part_is : (v : Option Tree) → AreWell (slots_of (v ∷ [])) → IsSecond (len c) (slots_of (v ∷ []))
+        → IsValidity Nullable (len u) (option_map shape_of (option_map (part_of a b) v))
+    part_is None g h = tt
+    part_is (Some t) g h =
+        let kept = (part_exact a b t g.0 order (omega (arith, within, ap len_in h))).keeps in
+        let counted = pushed.exactly.keeps.same_len in
+        let typed : dtype (part_of a b t) ≡ type.bool NonNullable = sym kept.same_type ∙ ap type_in h in
+        let sized : len (part_of a b t) ≡ len u = sym kept.same_len ∙ counted in
+        λ i. shape (typed i) (sized i)
+
+    pub masked_well : IsNode (dtype x) (len u) enc.masked (shapes (slots_of (Some u ∷ w ∷ [])))
+    masked_well = (
+      dtype u,
+      option_map shape_of w,
+      ap (λ l. Some (shape_of u) ∷ l) (one_shape w),
+      ap dtype shown ∙ ap (with_nullability Nullable) pushed.exactly.keeps.same_type,
+      subst (λ y. IsValidity Nullable (len u) (option_map shape_of y)) (sym part) (part_is v here.1.1 second),
+    )
+
+    pub masked_pushed : (t : Tree) → t ≡ node (dtype x) (len u) enc.masked (slots_of (Some u ∷ w ∷ [])) → IsPushed a b x t
+    masked_pushed t e =
+        let child = masked_of c v in
+        let ty = dtype child in
+        let vs = slots_of (v ∷ []) in
+        let lazily = node ty (b - a) enc.masked (slot (slice_of a b c) (map_slots (part_of a b) vs)) in
+        let whole = node ty (b - a) enc.masked (slot u (map_slots (part_of a b) vs)) in
+        let kept : KeepsExactly (slice_of a b child) lazily =
+        S5_keeps ty ty (b - a) a b (len c) c vs (subst (λ y. IsWell (slice_of a b y)) shown (sliced a b x well order bounds)) in
+        let swapped : KeepsExactly lazily whole = put_exactly 0 (slice_of a b c) u lazily pushed.exactly in
+        let slots : slots_of (Some u ∷ w ∷ []) ≡ slot u (map_slots (part_of a b) vs) = ap (λ y. slots_of (Some u ∷ y ∷ [])) part ∙ masked_mapped (part_of a b) u v in
+        let made : t ≡ whole = e ∙ (let sized = sym pushed.exactly.keeps.same_len in λ i. node (dtype (shown i)) (sized i) enc.masked (slots i)) in
+        subst (λ y. IsPushed a b y t) (sym shown) (subst (IsPushed a b child) (sym made) (record {
+          exactly = exactly_trans (slice_of a b child) lazily whole kept swapped;
+          bounded =
+              omega (arith, pushed.bounded, masked_cost ty (b - a) u (map_slots (part_of a b) vs), masked_cost ty (len c) c vs, masked_reach ty (len c) c vs);
+          canonical = λ h. absurd (cc (h));
+        }))

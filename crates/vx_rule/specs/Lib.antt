@@ -1,0 +1,10 @@
+pub use Rattle.vx_tree.specs.Tree
+pub use Rattle.vx_tree.specs.Slots
+pub use Rattle.vx_tree.specs.Parts
+pub use Rattle.vx_tree.specs.Keeps
+pub use Rattle.vx_tree.specs.Cost
+pub use Rattle.vx_tree.specs.Weight
+pub mod Rules
+pub mod Answers
+pub mod Constants
+pub mod Pushes

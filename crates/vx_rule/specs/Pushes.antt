@@ -1,0 +1,11 @@
+-- Slices that are pushed down.
+use Rattle.std.specs.Prelude.{◌≡◌, ◌≤◌, ℕ, ◌+◌, ◌*◌, true}
+use Rattle.vx_tree.specs.Tree.{Tree, datum, slice_of, is_canonical}
+use Rattle.vx_tree.specs.Cost.{cost, reach}
+use Rattle.vx_tree.specs.Keeps.{KeepsExactly}
+
+-- u stands exactly for the rows of t from a to b, takes no more turns than the slice of t, and is canonical if t is
+pub record IsPushed (a b : ℕ) (t u : Tree) : Type 0 where
+  pub exactly : KeepsExactly (slice_of a b t) u
+  pub bounded : cost u ≤ cost t + 3 * reach t
+  pub canonical : is_canonical (datum t) ≡ true → is_canonical (datum u) ≡ true

@@ -1,0 +1,124 @@
+-- The table of rewrite rules, a constructor for each row. A row's name is the one that its users see.
+use Rattle.std.specs.Prelude.{◌≡◌, ℕ, ◌+◌, ◌-◌, ◌<◌, List, [], ◌∷◌, Option, Some, None, Bool, true, false, not, ◌||◌}
+use Rattle.vx_value.specs.Types.{DataType, bool, nullability_of}
+use Rattle.vx_value.specs.Typed.{Typed}
+use Rattle.vx_value.specs.Cell.{Cell, value}
+use Rattle.vx_value.specs.Values.{Value}
+use Rattle.vx_value.specs.View.{type_of}
+use Rattle.vx_value.specs.declared.dtype.DType.{DType}
+use Rattle.vx_value.specs.declared.dtype.Nullability.TheVariants.{NonNullable}
+use Rattle.vx_mask.specs.Masks.{is_all_true}
+use Rattle.vx_mask.specs.Places.{true_count, combined, IsRun}
+use Rattle.vx_fn.specs.Apply.{apply}
+use Rattle.vx_fn.specs.declared.function.ScalarFnRef.{ScalarFnRef}
+use Rattle.vx_fn.specs.declared.function.ScalarFnRef.TheVariants as fn_of
+use Rattle.vx_fn.specs.declared.functions.between.BetweenOptions.{BetweenOptions}
+use Rattle.vx_tree.specs.Tree as enc
+use Rattle.vx_tree.specs.Tree.{Tree, Data, Slots, node, no_slots, absent, slot, dtype, len, datum, constant_of, slice_of, filter_of, is_filter, is_validity, is_canonical}
+use Rattle.vx_tree.specs.Slots.{map_slots, present_from, present_in, IsPresent}
+use Rattle.vx_tree.specs.Parts.{part_of, choice_of, column_range}
+use Rattle.vx_tree.specs.Columns.{empty_of}
+use Rattle.vx_tree.specs.Validities.{truths}
+use Rattle.vx_tree.specs.NodeValidities.{both_of}
+
+-- a slice passes through every encoding but filters and tests for null
+abbrev pub lets_slice : Data → Bool
+lets_slice d = not (is_filter d || is_validity d)
+
+-- a range of k rows that has a row, but not all
+pub record IsPart (a b k : ℕ) : Type 0 where
+  pub some_rows : a < b
+  pub not_all : b - a < k
+
+-- n rows of one value
+abbrev pub constants : DataType → Value → ℕ → Tree
+constants ty v n = constant_of (record { of_type = ty; value = v }) n
+
+-- the validity in a masked node's second slot, as a column of n booleans: true if there is none
+abbrev pub told : ℕ → Slots → Tree
+told n (slot t ss) = t
+told n _ = truths true n
+
+-- Who answers (the node itself, or the child in a slot), the tree, the answer, and the answer's slots that are to be optimized.
+pub data Row : Option ℕ → Tree → Tree → List ℕ → Type 0 where
+  -- a filter that chooses all rows is its child, one that chooses none the empty column, one of consecutive rows a slice
+  F1 : (ty : DataType) (n : ℕ) (bits : List Bool) (c : Tree) → is_all_true bits ≡ true → Row None (node ty n (enc.filter bits) (slot c no_slots)) c []
+  F2 : (ty : DataType) (n : ℕ) (bits : List Bool) (c : Tree) → is_all_true bits ≡ false → true_count bits ≡ 0
+      → Row None (node ty n (enc.filter bits) (slot c no_slots)) (empty_of (dtype c)) []
+  F3 : (ty : DataType) (n : ℕ) (bits : List Bool) (c : Tree) (a b : ℕ) → is_all_true bits ≡ false → IsRun bits a b
+      → Row None (node ty n (enc.filter bits) (slot c no_slots)) (slice_of a b c) []
+  -- a cast to the child's own type is the child
+  C1 : (ty : DataType) (n : ℕ) (target : DType) (c : Tree) → dtype c ≡ type_of target → Row None (node ty n (enc.function (fn_of.Cast target)) (slot c no_slots)) c []
+  -- a test for null of a non-nullable child is a constant
+  N1_null : (ty : DataType) (n : ℕ) (c : Tree) → nullability_of (dtype c) ≡ NonNullable
+      → Row None (node ty n (enc.function fn_of.IsNull) (slot c no_slots)) (truths false n) []
+  N1_valid : (ty : DataType) (n : ℕ) (c : Tree) → nullability_of (dtype c) ≡ NonNullable
+      → Row None (node ty n (enc.function fn_of.IsNotNull) (slot c no_slots)) (truths true n) []
+  -- S1 to S5 begin so: all rows of the child are the child, and no row is the empty column
+  S_whole : (ty : DataType) (n a b : ℕ) (c : Tree) → lets_slice (datum c) ≡ true → a ≡ 0 → b ≡ len c
+      → Row (Some 0) (node ty n (enc.slice a b) (slot c no_slots)) c []
+  S_empty : (ty : DataType) (n a b : ℕ) (c : Tree) → lets_slice (datum c) ≡ true → a ≡ b → 0 < len c
+      → Row (Some 0) (node ty n (enc.slice a b) (slot c no_slots)) (empty_of (dtype c)) []
+  -- a slice of a slice is one slice
+  S1 : (ty sty : DataType) (n a b k s t : ℕ) (c : Tree) → IsPart a b k
+      → Row (Some 0) (node ty n (enc.slice a b) (slot (node sty k (enc.slice s t) (slot c no_slots)) no_slots)) (slice_of (s + a) (s + b) c) []
+  -- of a constant, a shorter one
+  S2 : (ty cty : DataType) (n a b k : ℕ) (v : Typed) → IsPart a b k
+      → Row (Some 0) (node ty n (enc.slice a b) (slot (node cty k (enc.constant v) no_slots) no_slots)) (constant_of v (b - a)) []
+  -- of a canonical column, one of that range
+  S3 : (ty cty : DataType) (n a b k : ℕ) (d : Data) (ss : Slots) → is_canonical d ≡ true → IsPart a b k
+      → Row (Some 0) (node ty n (enc.slice a b) (slot (node cty k d ss) no_slots)) (column_range a b (node cty k d ss)) (present_in (column_range a b (node cty k d ss)))
+  -- of a function, the function of slices
+  S4 : (ty fty : DataType) (n a b k : ℕ) (f : ScalarFnRef) (ss : Slots) → IsPart a b k
+      → Row (Some 0) (node ty n (enc.slice a b) (slot (node fty k (enc.function f) ss) no_slots)) (node fty (b - a) (enc.function f) (map_slots (slice_of a b) ss)) (present_from 0 (map_slots (slice_of a b) ss))
+  -- of a masked array, a masked slice
+  S5 : (ty mty : DataType) (n a b k : ℕ) (c : Tree) (vs : Slots) → IsPart a b k
+      → Row (Some 0) (node ty n (enc.slice a b) (slot (node mty k enc.masked (slot c vs)) no_slots))
+      (node mty (b - a) enc.masked (slot (slice_of a b c) (map_slots (part_of a b) vs))) (0 ∷ present_from 1 (map_slots (part_of a b) vs))
+  -- a filter of a filter is one filter
+  F5 : (ty fty : DataType) (n k : ℕ) (outer inner : List Bool) (c : Tree)
+      → Row (Some 0) (node ty n (enc.filter inner) (slot (node fty k (enc.filter outer) (slot c no_slots)) no_slots)) (filter_of (combined outer inner) c) []
+  -- of a constant, a shorter one
+  F6 : (ty cty : DataType) (n k : ℕ) (bits : List Bool) (v : Typed)
+      → Row (Some 0) (node ty n (enc.filter bits) (slot (node cty k (enc.constant v) no_slots) no_slots)) (constant_of v (true_count bits)) []
+  -- of a function, the function of filters
+  F7 : (ty fty : DataType) (n k : ℕ) (bits : List Bool) (f : ScalarFnRef) (ss : Slots)
+      → Row (Some 0) (node ty n (enc.filter bits) (slot (node fty k (enc.function f) ss) no_slots))
+      (node fty (true_count bits) (enc.function f) (map_slots (choice_of bits) ss)) (present_from 0 (map_slots (choice_of bits) ss))
+  -- of a masked array, a masked filter
+  F8 : (ty mty : DataType) (n k : ℕ) (bits : List Bool) (c : Tree) (vs : Slots)
+      → Row (Some 0) (node ty n (enc.filter bits) (slot (node mty k enc.masked (slot c vs)) no_slots))
+      (node mty (true_count bits) enc.masked (slot (filter_of bits c) (map_slots (choice_of bits) vs))) (0 ∷ present_from 1 (map_slots (choice_of bits) vs))
+  -- a mask of a masked array masks its child by both
+  M1 : (ty mty : DataType) (n k : ℕ) (c m : Tree) (vs : Slots)
+      → Row (Some 0) (node ty n (enc.function fn_of.Mask) (slot (node mty k enc.masked (slot c vs)) (slot m no_slots)))
+      (node ty n (enc.function fn_of.Mask) (slot c (slot (both_of n m (told n vs)) no_slots))) []
+  -- a function of constants is a constant, if it has a value: a cast, a negation, bounds, and a filling of nulls
+  K1 : (ty s : DataType) (n k : ℕ) (target : DType) (v : Typed) (w : Value) → apply (fn_of.Cast target) ty (value v.value ∷ []) ≡ value w
+      → Row (Some 0) (node ty n (enc.function (fn_of.Cast target)) (slot (node s k (enc.constant v) no_slots) no_slots)) (constants ty w n) []
+  K2 : (ty s : DataType) (n k : ℕ) (v : Typed) (w : Value) → apply fn_of.Not ty (value v.value ∷ []) ≡ value w
+      → Row (Some 0) (node ty n (enc.function fn_of.Not) (slot (node s k (enc.constant v) no_slots) no_slots)) (constants ty w n) []
+  K3 : (ty s t u : DataType) (n i j k : ℕ) (options : BetweenOptions) (x y z : Typed) (w : Value)
+      → apply (fn_of.Between options) ty (value x.value ∷ value y.value ∷ value z.value ∷ []) ≡ value w
+      → Row (Some 0) (node ty n (enc.function (fn_of.Between options))
+      (slot (node s i (enc.constant x) no_slots) (slot (node t j (enc.constant y) no_slots) (slot (node u k (enc.constant z) no_slots) no_slots)))) (constants ty w n) []
+  K4 : (ty s t : DataType) (n j k : ℕ) (x y : Typed) (w : Value) → apply fn_of.FillNull ty (value x.value ∷ value y.value ∷ []) ≡ value w
+      → Row (Some 0) (node ty n (enc.function fn_of.FillNull) (slot (node s j (enc.constant x) no_slots) (slot (node t k (enc.constant y) no_slots) no_slots)))
+      (constants ty w n) []
+
+-- some row of the table, with the answer's slots that are to be optimized
+abbrev pub Rewrites : Tree → Tree → List ℕ → Type 0
+Rewrites t u os = (w : Option ℕ) × Row w t u os
+
+-- no row for the node itself, or for the child in that slot
+abbrev pub IsQuiet : Option ℕ → Tree → Type 0
+IsQuiet w t = (u : Tree) (os : List ℕ) → Row w t u os → ⊥
+
+-- no row at all
+abbrev pub IsSettled : Tree → Type 0
+IsSettled t = (w : Option ℕ) → IsQuiet w t
+
+-- the slots that are to be optimized hold trees
+abbrev pub ArePresent : List ℕ → Tree → Type 0
+ArePresent [] t = Unit {0}
+ArePresent (i ∷ os) t = IsPresent i t × ArePresent os t

@@ -1,0 +1,18 @@
+//! Laws of the table. Each is a function with an empty body, whose contract is the law.
+
+ghost use Rattle.std.specs.Prelude.{◌<◌, ℕ, List, Option, Some};
+ghost use Rattle.vx_tree.specs.Tree.{Tree};
+ghost use Rattle.vx_tree.specs.Well.{IsWell};
+ghost use Rattle.vx_tree.specs.Slots.{IsPresent};
+ghost use Rattle.vx_tree.specs.Keeps.{Keeps};
+ghost use Rattle.vx_tree.specs.Weight.{weight};
+ghost use Rattle.vx_rule.specs.Rules.{Row, ArePresent};
+
+/// States what every row does: its answer may stand for the tree, weighs less, and is another tree. (own)
+pub fn rule_laws()
+    ensures keeps { (w : Option ℕ) (t u : Tree) (os : List ℕ) → IsWell t → Row w t u os → Keeps t u }
+    ensures lighter { (w : Option ℕ) (t u : Tree) (os : List ℕ) → Row w t u os → weight u < weight t }
+    ensures present { (w : Option ℕ) (t u : Tree) (os : List ℕ) → Row w t u os → ArePresent os u }
+    ensures asked { (i : ℕ) (t u : Tree) (os : List ℕ) → Row (Some i) t u os → IsPresent i t }
+    ensures moves { (w : Option ℕ) (t : Tree) (os : List ℕ) → ¬ Row w t t os }
+{}

@@ -1,0 +1,171 @@
+//! Slices that are pushed down.
+
+ghost use Rattle.std.specs.Prelude.{◌≡◌, ◌≤◌, ◌*◌, ◌+◌, IfOk, IfErr, true, false};
+ghost use Rattle.vx_value.specs.declared.error.VortexError.TheVariants.{OutOfMemory};
+ghost use Rattle.vx_tree.specs.Tree.{dtype, len, datum, node, function, constant_of, masked_of, slots_of, slice_of, is_canonical};
+ghost use Rattle.vx_tree.specs.Well.{IsNode, IsNodeOf, shapes};
+ghost use Rattle.vx_tree.specs.Keeps.{KeepsExactly};
+ghost use Rattle.vx_tree.specs.Cost.{cost, reach};
+ghost use Rattle.vx_rule.specs.Pushes.{IsPushed};
+
+use crate::slots::{function_node, masked_node};
+use std::alloc::Global;
+use std::ops::Range;
+use vx_fn::ScalarFnRef;
+use vx_tree::{
+    ArrayKind, ArrayRef, Canonical, ConstantArray, IntoArray, SliceArray, slice_canonical,
+    slice_validity,
+};
+use vx_value::{Scalar, VortexResult};
+
+/// Returns the rows of `array` in `range`, which must be in order and in bounds, with the slice pushed down as far as the rows S1 to S5
+/// reach: all rows are the tree itself, none is the empty column, and a filter or a test for null is sliced lazily. No buffer of values
+/// is copied. The only lazy slices that it adds stand above filters and tests for null, and in the slots of validities, whose rows are
+/// sliced lazily unless they are constant. The only error is `OutOfMemory`. (own)
+pub fn push_slice(alloc: Global, array: &ArrayRef, range: Range<usize>) -> VortexResult<ArrayRef>
+    requires { (range.start ≤ range.end) × (range.end ≤ len array.now) }
+    ensures ok { IfOk result (λ t. KeepsExactly (slice_of range.start range.end array.now) t) }
+    ensures cost { IfOk result (λ t. cost t ≤ cost array.now + 3 * reach array.now) }
+    ensures canonical { IfOk result (λ t. is_canonical (datum array.now) ≡ true → is_canonical (datum t) ≡ true) }
+    ensures err { IfErr result (λ e. e ≡ OutOfMemory) }
+{
+    push(alloc, array, range)
+}
+
+/// Returns the rows of `array` in `range`, by its encoding. The only error is `OutOfMemory`.
+#[cycle(push)]
+fn push(alloc: Global, array: &ArrayRef, range: Range<usize>) -> VortexResult<ArrayRef>
+    requires { (range.start ≤ range.end) × (range.end ≤ len array.now) }
+    ensures ok { IfOk result (λ t. IsPushed range.start range.end array.now t) }
+    ensures err { IfErr result (λ e. e ≡ OutOfMemory) }
+{
+    array.well();
+    if range.start == 0 && range.end == array.len() {
+        return Ok(array.clone()?);
+    }
+    if range.start == range.end {
+        return empty(alloc, array, range);
+    }
+    let (start, end) = (range.start, range.end);
+    match array.kind() {
+        ArrayKind::Constant(scalar) => shorter(alloc, array, scalar, range),
+        ArrayKind::Slice(child, from, _) => push(alloc, child, from + start..from + end),
+        ArrayKind::ScalarFn(scalar_fn, slots) => {
+            push_function(alloc, array, scalar_fn, slots, range)
+        }
+        ArrayKind::Masked(child, validity) => match push(alloc, child, start..end) {
+            Ok(part) => masked_part(alloc, array, child, validity, part, range),
+            Err(e) => Err(e),
+        },
+        ArrayKind::Filter(_, _) | ArrayKind::ScalarFnValidity(_) => lazily(alloc, array, range),
+        _ => column_part(alloc, array, range),
+    }
+}
+
+/// Returns the rows of `array`, which applies `scalar_fn` to `slots`, in `range`: the function of each slot's rows. The only error is
+/// `OutOfMemory`.
+#[cycle(push)]
+fn push_function(
+    alloc: Global,
+    array: &ArrayRef,
+    scalar_fn: &ScalarFnRef,
+    slots: &[Option<ArrayRef>],
+    range: Range<usize>,
+) -> VortexResult<ArrayRef>
+    requires shape { array.now ≡ node (dtype array.now) (len array.now) (function scalar_fn.now) (slots_of slots.now) }
+    requires well { IsNode (dtype array.now) (len array.now) (function scalar_fn.now) (shapes (slots_of slots.now)) }
+    requires within { (range.start ≤ range.end) × (range.end ≤ len array.now) }
+    ensures ok { IfOk result (λ t. IsPushed range.start range.end array.now t) }
+    ensures err { IfErr result (λ e. e ≡ OutOfMemory) }
+{
+    array.well();
+    let (start, end) = (range.start, range.end);
+    let mut parts = Vec::with_capacity(alloc, slots.len())?;
+    for slot in slots {
+        let Some(child) = slot else { unreachable!() };
+        match push(alloc, child, start..end) {
+            Ok(part) => parts.push(Some(part))?,
+            Err(e) => return Err(e),
+        }
+    }
+    function_node(alloc, array, scalar_fn, end - start, parts)
+}
+
+/// Returns no rows of `array`, as a column. The only error is `OutOfMemory`.
+#[tactic(auto, using(crate::proofs::PushLemmas::empty_pushed))]
+fn empty(alloc: Global, array: &ArrayRef, range: Range<usize>) -> VortexResult<ArrayRef>
+    requires none { range.start ≡ range.end }
+    requires bounds { range.end ≤ len array.now }
+    ensures ok { IfOk result (λ t. IsPushed range.start range.end array.now t) }
+    ensures err { IfErr result (λ e. e ≡ OutOfMemory) }
+{
+    array.well();
+    Ok(Canonical::empty(alloc, array.dtype())?.into_array())
+}
+
+/// Returns the rows of `array`, a constant, in `range`. The only error is `OutOfMemory`.
+#[tactic(auto, using(crate::proofs::PushLemmas::constant_pushed))]
+fn shorter(
+    alloc: Global,
+    array: &ArrayRef,
+    scalar: &Scalar,
+    range: Range<usize>,
+) -> VortexResult<ArrayRef>
+    requires shape { array.now ≡ constant_of scalar.now (len array.now) }
+    requires within { (range.start ≤ range.end) × (range.end ≤ len array.now) }
+    ensures ok { IfOk result (λ t. IsPushed range.start range.end array.now t) }
+    ensures err { IfErr result (λ e. e ≡ OutOfMemory) }
+{
+    array.well();
+    let constant = ConstantArray::new(alloc, scalar.clone()?, range.end - range.start)?;
+    Ok(constant.into_array())
+}
+
+/// Returns a lazy slice of `array`, which isn't canonical. The only error is `OutOfMemory`.
+#[tactic(auto, using(crate::proofs::PushLemmas::slice_pushed))]
+fn lazily(alloc: Global, array: &ArrayRef, range: Range<usize>) -> VortexResult<ArrayRef>
+    requires unready { is_canonical (datum array.now) ≡ false }
+    requires within { (range.start ≤ range.end) × (range.end ≤ len array.now) }
+    ensures ok { IfOk result (λ t. IsPushed range.start range.end array.now t) }
+    ensures err { IfErr result (λ e. e ≡ OutOfMemory) }
+{
+    Ok(SliceArray::new(alloc, array.clone()?, range)?.into_array())
+}
+
+/// Returns the rows of `array`, a canonical column, in `range`, as a column that shares its buffers. The only error is `OutOfMemory`.
+#[tactic(auto, using(crate::proofs::PushLemmas::column_pushed))]
+fn column_part(alloc: Global, array: &ArrayRef, range: Range<usize>) -> VortexResult<ArrayRef>
+    requires canonical { is_canonical (datum array.now) ≡ true }
+    requires within { (range.start ≤ range.end) × (range.end ≤ len array.now) }
+    ensures ok { IfOk result (λ t. IsPushed range.start range.end array.now t) }
+    ensures err { IfErr result (λ e. e ≡ OutOfMemory) }
+{
+    let Ok(column) = Canonical::try_from_array_ref(array.clone()?) else {
+        unreachable!()
+    };
+    let part = slice_canonical(alloc, &column, range)?;
+    let _canonical = part.as_array();
+    Ok(part.into_array())
+}
+
+/// Returns the rows of `array`, which masks `child` by `validity`, in `range`; `part` has those of `child`. The only error is
+/// `OutOfMemory`.
+#[tactic(auto, using(crate::proofs::PushLemmas::masked_pushed, crate::proofs::PushLemmas::masked_range, crate::proofs::PushLemmas::masked_well))]
+fn masked_part(
+    alloc: Global,
+    array: &ArrayRef,
+    child: &ArrayRef,
+    validity: &Option<ArrayRef>,
+    part: ArrayRef,
+    range: Range<usize>,
+) -> VortexResult<ArrayRef>
+    requires shape { array.now ≡ masked_of child.now validity.now }
+    requires within { (range.start ≤ range.end) × (range.end ≤ len array.now) }
+    requires part { IsPushed range.start range.end child.now part }
+    ensures ok { IfOk result (λ t. IsPushed range.start range.end array.now t) }
+    ensures err { IfErr result (λ e. e ≡ OutOfMemory) }
+{
+    array.well();
+    let validity = slice_validity(alloc, validity, range)?;
+    masked_node(alloc, array, part, validity)
+}

@@ -1,0 +1,55 @@
+//! Answers of rules.
+
+ghost use Rattle.std.specs.Prelude.{◌≡◌, ℕ, ◌++◌, ◌+◌, List, [], IfOk, IfErr, OnOk};
+ghost use Rattle.vx_value.specs.declared.error.VortexError.TheVariants.{OutOfMemory};
+ghost use Rattle.vx_tree.specs.Tree.{slots, slots_of};
+ghost use Rattle.vx_tree.specs.Slots.{present_from};
+
+use std::alloc::Global;
+use vx_tree::ArrayRef;
+use vx_value::VortexResult;
+
+/// The answer of a rule: a tree that replaces a node, and which of its slots are to be optimized next. (own)
+#[derive(Drop)]
+pub struct RawNode {
+    pub tree: ArrayRef,
+    /// Slots of `tree`, counted from 0, that hold trees.
+    pub optimize: Vec<usize>,
+}
+
+impl RawNode {
+    /// Returns `tree` as an answer none of whose slots is to be optimized.
+    pub(crate) fn done(alloc: Global, tree: ArrayRef) -> RawNode
+        ensures tree { result.tree ≡ tree }
+        ensures optimize { result.optimize.items ≡ [] }
+    {
+        RawNode {
+            tree,
+            optimize: Vec::new(alloc),
+        }
+    }
+
+    /// Returns `tree` as an answer all of whose slots are to be optimized. The only error is `OutOfMemory`.
+    pub(crate) fn raw(alloc: Global, tree: ArrayRef) -> VortexResult<RawNode>
+        ensures tree { IfOk result (λ r. r.tree ≡ tree) }
+        ensures optimize { IfOk result (λ r. r.optimize.items ≡ present_from 0 (slots tree)) }
+        ensures err { IfErr result (λ e. e ≡ OutOfMemory) }
+    {
+        let optimize = present_slots(alloc, tree.slots())?;
+        Ok(RawNode { tree, optimize })
+    }
+}
+
+/// Returns the indices of the slots that hold trees. The only error is `OutOfMemory`.
+fn present_slots(alloc: Global, slots: &[Option<ArrayRef>]) -> VortexResult<Vec<usize>>
+    ensures ok { IfOk result (λ v. v.items ≡ present_from 0 (slots_of slots.now)) }
+    ensures err { IfErr result (λ e. e ≡ OutOfMemory) }
+{
+    let mut present = Vec::with_capacity(alloc, slots.len())?;
+    for index in 0..slots.len() {
+        if slots[index].is_some() {
+            present.push(index)?;
+        }
+    }
+    Ok(present)
+}

@@ -1,0 +1,173 @@
+//! The children of answers.
+
+ghost use Rattle.std.specs.Prelude.{◌≡◌, ℕ, ◌≤◌, ◌-◌, ◌++◌, List, [], ◌∷◌, length, map, Option, Some, None, option_map, IfOk, IfErr, IfSome, true};
+ghost use Rattle.vx_value.specs.Types.{DataType};
+ghost use Rattle.vx_value.specs.View.{type_of};
+ghost use Rattle.vx_value.specs.declared.error.VortexError.TheVariants.{OutOfMemory};
+ghost use Rattle.vx_mask.specs.Masks.{bits_in};
+ghost use Rattle.vx_tree.specs.Tree.{Tree, dtype, len, node, function, masked, slots_of, slice_of};
+ghost use Rattle.vx_tree.specs.Well.{IsNode, shapes};
+ghost use Rattle.vx_tree.specs.Slots.{map_slots};
+ghost use Rattle.vx_tree.specs.Parts.{choice_of};
+ghost use Rattle.vx_tree.specs.Refusals.{all_long};
+ghost use Rattle.vx_tree.specs.Validities.{truths};
+
+use std::alloc::Global;
+use std::ops::Range;
+use vx_fn::ScalarFnRef;
+use vx_mask::Mask;
+use vx_tree::{
+    Array, ArrayKind, ArrayParts, ArrayRef, ConstantArray, FilterArray, IntoArray, Masked,
+    MaskedData, ScalarFn, ScalarFnData, SliceArray,
+};
+use vx_value::{Nullability, Scalar, VortexResult};
+
+/// Returns a lazy slice of the tree in `slot`, if it has one, which must have the rows in `range`. The only error is `OutOfMemory`.
+fn slice_slot(
+    alloc: Global,
+    slot: &Option<ArrayRef>,
+    range: Range<usize>,
+) -> VortexResult<Option<ArrayRef>>
+    requires order { range.start ≤ range.end }
+    requires bounds { IfSome slot.now (λ c. range.end ≤ len c) }
+    ensures ok { IfOk result (λ s. s ≡ option_map (slice_of range.start range.end) slot.now) }
+    ensures err { IfErr result (λ e. e ≡ OutOfMemory) }
+{
+    match slot {
+        Some(child) => Ok(Some(SliceArray::new(alloc, child.clone()?, range)?.into_array())),
+        None => Ok(None),
+    }
+}
+
+/// Returns lazy slices of the trees in `slots`, which must have `len` rows each, those in `range` among them. The only error is
+/// `OutOfMemory`.
+pub(crate) fn slice_slots(
+    alloc: Global,
+    slots: &[Option<ArrayRef>],
+    len: usize,
+    range: Range<usize>,
+) -> VortexResult<Vec<Option<ArrayRef>>>
+    requires long { all_long len (shapes (slots_of slots.now)) ≡ true }
+    requires order { range.start ≤ range.end }
+    requires bounds { range.end ≤ len }
+    ensures ok { IfOk result (λ v. slots_of v.items ≡ map_slots (slice_of range.start range.end) (slots_of slots.now)) }
+    ensures err { IfErr result (λ e. e ≡ OutOfMemory) }
+{
+    let (start, end) = (range.start, range.end);
+    let mut slices = Vec::with_capacity(alloc, slots.len())?;
+    for index in 0..slots.len() {
+        slices.push(slice_slot(alloc, &slots[index], start..end)?)?;
+    }
+    Ok(slices)
+}
+
+/// Returns a lazy filter of the tree in `slot`, if it has one, by `mask`, which must have as many rows; a shorter constant if that is a
+/// constant. The only error is `OutOfMemory`.
+fn choose_slot(
+    alloc: Global,
+    slot: &Option<ArrayRef>,
+    mask: &Mask,
+) -> VortexResult<Option<ArrayRef>>
+    requires { IfSome slot.now (λ c. length (bits_in mask.now) ≡ len c) }
+    ensures ok { IfOk result (λ s. s ≡ option_map (choice_of (bits_in mask.now)) slot.now) }
+    ensures err { IfErr result (λ e. e ≡ OutOfMemory) }
+{
+    let Some(child) = slot else {
+        return Ok(None);
+    };
+    if let ArrayKind::Constant(scalar) = child.kind() {
+        let constant = ConstantArray::new(alloc, scalar.clone()?, mask.true_count())?;
+        return Ok(Some(constant.into_array()));
+    }
+    Ok(Some(FilterArray::new(alloc, child.clone()?, mask.clone()?)?.into_array()))
+}
+
+/// Returns lazy filters of the trees in `slots`, which must have as many rows as `mask` each; of constants, shorter ones. The only
+/// error is `OutOfMemory`.
+pub(crate) fn choose_slots(
+    alloc: Global,
+    slots: &[Option<ArrayRef>],
+    mask: &Mask,
+) -> VortexResult<Vec<Option<ArrayRef>>>
+    requires { all_long (length (bits_in mask.now)) (shapes (slots_of slots.now)) ≡ true }
+    ensures ok { IfOk result (λ v. slots_of v.items ≡ map_slots (choice_of (bits_in mask.now)) (slots_of slots.now)) }
+    ensures err { IfErr result (λ e. e ≡ OutOfMemory) }
+{
+    let mut choices = Vec::with_capacity(alloc, slots.len())?;
+    for index in 0..slots.len() {
+        choices.push(choose_slot(alloc, &slots[index], mask)?)?;
+    }
+    Ok(choices)
+}
+
+/// Makes the node of `scalar_fn` over `slots`, `len` rows of `like`'s type, which must be well formed. The only error is `OutOfMemory`.
+pub(crate) fn function_node(
+    alloc: Global,
+    like: &ArrayRef,
+    scalar_fn: &ScalarFnRef,
+    len: usize,
+    slots: Vec<Option<ArrayRef>>,
+) -> VortexResult<ArrayRef>
+    requires { IsNode (dtype like.now) len (function scalar_fn.now) (shapes (slots_of slots.items)) }
+    ensures ok { IfOk result (λ t. t ≡ node (dtype like.now) len (function scalar_fn.now) (slots_of slots.items)) }
+    ensures err { IfErr result (λ e. e ≡ OutOfMemory) }
+{
+    let vtable = ScalarFn { id: scalar_fn.id() };
+    let payload = ScalarFnData::new(scalar_fn.clone()?);
+    let parts = ArrayParts::new(vtable, like.dtype().clone()?, len, payload, slots);
+    Ok(Array::from_parts_unchecked(alloc, parts)?.into_array())
+}
+
+/// Makes the masked array of `child`, of `like`'s type, with this tree in the slot of its validity; it must be well formed. The only error
+/// is `OutOfMemory`.
+pub(crate) fn masked_node(
+    alloc: Global,
+    like: &ArrayRef,
+    child: ArrayRef,
+    validity: Option<ArrayRef>,
+) -> VortexResult<ArrayRef>
+    requires { IsNode (dtype like.now) (len child) masked (shapes (slots_of (Some child ∷ validity ∷ []))) }
+    ensures ok { IfOk result (λ t. t ≡ node (dtype like.now) (len child) masked (slots_of (Some child ∷ validity ∷ []))) }
+    ensures err { IfErr result (λ e. e ≡ OutOfMemory) }
+{
+    let len = child.len();
+    let mut slots = Vec::with_capacity(alloc, 2)?;
+    slots.push(Some(child))?;
+    slots.push(validity)?;
+    let parts = ArrayParts::new(Masked, like.dtype().clone()?, len, MaskedData, slots);
+    Ok(Array::from_parts_unchecked(alloc, parts)?.into_array())
+}
+
+/// Returns the tree in the only slot.
+pub(crate) fn only_argument(slots: &[Option<ArrayRef>]) -> &ArrayRef
+    requires { (c : Tree) × (slots.now ≡ Some c ∷ []) }
+    ensures { slots.now ≡ Some result.now ∷ [] }
+{
+    let Some(child) = &slots[0] else {
+        unreachable!()
+    };
+    child
+}
+
+/// Returns the trees in the only two slots.
+pub(crate) fn two_arguments(slots: &[Option<ArrayRef>]) -> (&ArrayRef, &ArrayRef)
+    requires { (c : Tree) × (d : Tree) × (slots.now ≡ Some c ∷ Some d ∷ []) }
+    ensures { slots.now ≡ Some result.0.now ∷ Some result.1.now ∷ [] }
+{
+    let Some(first) = &slots[0] else {
+        unreachable!()
+    };
+    let Some(second) = &slots[1] else {
+        unreachable!()
+    };
+    (first, second)
+}
+
+/// Makes the constant of `len` rows, each `value`. The only error is `OutOfMemory`.
+pub(crate) fn truths(alloc: Global, value: bool, len: usize) -> VortexResult<ArrayRef>
+    ensures ok { IfOk result (λ t. t ≡ truths value len) }
+    ensures err { IfErr result (λ e. e ≡ OutOfMemory) }
+{
+    let scalar = Scalar::bool(value, Nullability::NonNullable);
+    Ok(ConstantArray::new(alloc, scalar, len)?.into_array())
+}
