@@ -1,0 +1,53 @@
+-- Calls of functions over trees.
+use Rattle.std.proofs.Common.{◌≡◌, ℕ, List, [], ◌∷◌, true, ◌&&◌, Some, None, Result, Ok, Err, if◌then◌else◌, IfOk, IfErr, refl, sym, ap, subst, inr}
+use Rattle.std.specs.Prelude.{option_map}
+use Rattle.std.proofs.lemmas.Bool.{eq-eqb}
+use Rattle.vx_value.specs.View.{type_of}
+use Rattle.vx_value.specs.Casts.{has_cast}
+use Rattle.vx_value.specs.declared.dtype.DType.{DType}
+use Rattle.vx_value.specs.declared.error.VortexError.{VortexError}
+use Rattle.vx_value.specs.declared.error.VortexError.TheVariants.{InvalidArgument}
+use Rattle.vx_value.specs.declared.error.ArgKind.TheVariants.{ChildLen}
+use Rattle.vx_value.proofs.CastsLemmas.{cast_to_self}
+use Rattle.vx_fn.specs.ReturnTypes.{return_type}
+use Rattle.vx_fn.specs.declared.function.ScalarFnRef.{ScalarFnRef}
+use Rattle.vx_fn.specs.declared.function.ScalarFnRef.TheVariants as fn_of
+use Rattle.vx_tree.specs.Tree.{Tree, dtype, len, call_of}
+use Rattle.vx_tree.specs.Calls.{call_refusal, called, all_of_len, row_refusal}
+use Rattle.vx_tree.specs.Conditions.{unless}
+use Rattle.vx_tree.specs.Refusals.{arity_refusal}
+use Rattle.vx_tree.specs.Keeps.{Keeps}
+use Rattle.vx_tree.specs.Well.{IsWell}
+use Rattle.vx_tree.proofs.ConditionsLemmas.{none_refused}
+use Rattle.vx_rule.proofs.CastsLemmas.{C1_keeps}
+use Rattle.vx_opt.specs.Limits.{IsLimited}
+use Rattle.vx_opt.specs.Builtins.{IsCall, IsCalled, Calls}
+
+-- the node, optimized
+pub calls_by : (f : ScalarFnRef) (ts : List Tree) (n : ℕ) (t : Tree) (r : Result Tree VortexError) → IsCall f ts n t → IfOk r (Keeps t) → IfErr r (IsLimited t 0) → Calls f ts n r
+calls_by f ts n t (Ok u) h k l = (t, h, k)
+calls_by f ts n t (Err e) h k l = inr (t, h, l)
+
+-- ---- a cast to the tree's own type
+
+module _ (target : DType) (t : Tree) (e : type_of target ≡ dtype t) where
+  cast_given : return_type (fn_of.Cast target) (dtype t ∷ []) ≡ Some (type_of target)
+  cast_given =
+      let has : has_cast (dtype t) (type_of target) ≡ true = subst (λ s. has_cast s (type_of target) ≡ true) e (cast_to_self (type_of target)) in
+      ap (λ b. if b then Some (type_of target) else None) has
+
+  cast_taken : call_refusal (fn_of.Cast target) (t ∷ []) (len t) ≡ None
+  cast_taken =
+      none_refused (arity_refusal (fn_of.Cast target) 1) _ refl
+      (none_refused (unless (all_of_len (len t) (t ∷ [])) (InvalidArgument ChildLen)) _ (ap (λ b. unless (b && true) (InvalidArgument ChildLen)) (eq-eqb (len t) (len t) refl)) (ap row_refusal cast_given))
+
+  cast_made : called (fn_of.Cast target) (t ∷ []) (len t) ≡ Some (call_of (fn_of.Cast target) (type_of target) (len t) (t ∷ []))
+  cast_made = ap (option_map (λ ty. call_of (fn_of.Cast target) ty (len t) (t ∷ []))) cast_given
+
+  pub same_cast : (u : Tree) → IsWell t → u ≡ t → IsCalled (fn_of.Cast target) (t ∷ []) (len t) u
+  same_cast u w h = (
+    call_of (fn_of.Cast target) (type_of target) (len t) (t ∷ []),
+    (cast_taken, cast_made),
+    subst (Keeps (call_of (fn_of.Cast target) (type_of target) (len t) (t ∷ []))) (sym h)
+        (C1_keeps (type_of target) (len t) target t ((dtype t ∷ [], refl, cast_given), (w, tt)) (sym e)),
+  )

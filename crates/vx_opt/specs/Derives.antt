@@ -1,0 +1,58 @@
+-- Many rewrites, and where they were made.
+use Rattle.std.specs.Prelude.{◌≡◌, ℕ, zero, suc, ◌+◌, ◌≤◌, List, [], ◌∷◌, length, Bool, true, false, cond, ◌==◌, ◌&&◌}
+use Rattle.vx_tree.specs.Tree.{Tree}
+use Rattle.vx_tree.specs.Slots.{HasSlot, put}
+use Rattle.vx_tree.specs.Keeps.{Keeps}
+use Rattle.vx_tree.specs.Weight.{weight}
+use Rattle.vx_rule.specs.Rules.{Rewrites}
+
+-- A rewrite: its place, that is the slot numbers from the root, and what it spent.
+-- A row of the table spends nothing; the answer of an entry that was handed in spends 1 and its weight.
+pub record Step : Type 0 where
+  pub place : List ℕ
+  pub spent : ℕ
+
+-- u is t with the subtree at a place rewritten
+abbrev pub Replaces : List ℕ → ℕ → Tree → Tree → Type 0
+Replaces [] zero t u = (os : List ℕ) × Rewrites t u os
+Replaces [] (suc n) t u = Keeps t u × (n ≡ weight u)
+Replaces (i ∷ place) n t u = (c : Tree) × (d : Tree) × HasSlot i c t × Replaces place n c d × (u ≡ put i d t)
+
+-- u comes from t by these rewrites, in order
+abbrev pub Derives : Tree → Tree → List Step → Type 0
+Derives t u [] = t ≡ u
+Derives t u (step ∷ steps) = (v : Tree) × Replaces step.place step.spent t v × Derives v u steps
+
+-- a row of the table, at the root
+abbrev pub at_here : Step
+at_here = record { place = []; spent = 0 }
+
+-- the same step, below slot i
+abbrev pub below : ℕ → Step → Step
+below i s = record { place = i ∷ s.place; spent = s.spent }
+
+abbrev pub below_all : ℕ → List Step → List Step
+below_all i [] = []
+below_all i (s ∷ ss) = below i s ∷ below_all i ss
+
+-- what the steps spent in all
+abbrev pub spent_by : List Step → ℕ
+spent_by [] = 0
+spent_by (s ∷ ss) = s.spent + spent_by ss
+
+abbrev pub same_place : List ℕ → List ℕ → Bool
+same_place [] [] = true
+same_place [] (j ∷ q) = false
+same_place (i ∷ p) [] = false
+same_place (i ∷ p) (j ∷ q) = (i == j) && same_place p q
+
+-- how many of the rewrites were made at one place
+abbrev pub count_at : List ℕ → List Step → ℕ
+count_at place [] = 0
+count_at place (s ∷ ss) = cond (same_place place s.place) 1 0 + count_at place ss
+
+-- u comes from t and may stand for it; where nothing was spent, it weighs less by at least the number of rewrites
+pub record Reaches (t u : Tree) (steps : List Step) : Type 0 where
+  pub derives : Derives t u steps
+  pub keeps : Keeps t u
+  pub lighter : spent_by steps ≡ 0 → length steps + weight u ≤ weight t

@@ -1,0 +1,169 @@
+//! Functions of arrays, by name.
+
+ghost use Rattle.std.specs.Prelude.{◌≡◌, List, [], ◌∷◌, IfOk, true, false};
+ghost use Rattle.vx_value.specs.Types.{nullability_of, is_nullable};
+ghost use Rattle.vx_value.specs.View.{type_of};
+ghost use Rattle.vx_tree.specs.Tree.{Tree, dtype, len, constant_of};
+ghost use Rattle.vx_fn.specs.declared.function.ScalarFnRef.TheVariants as fn_of;
+ghost use Rattle.vx_opt.specs.Builtins.{Calls, Casts, MakesCall};
+
+use crate::optimizer::ArrayOptimizer;
+use std::alloc::Global;
+use vx_fn::{BetweenOptions, Operator, ScalarFnRef};
+use vx_tree::{ArrayRef, ConstantArray, IntoArray, ScalarFnArray};
+use vx_value::{DType, Scalar, VortexResult};
+
+/// The functions as methods. Each makes the node of its function over the array, and optimizes it, but for `zip`.
+///
+/// # Errors
+///
+/// Those of `ScalarFnArray::try_new_with_len` for as many rows as the array has, then those of `ArrayOptimizer::optimize`.
+pub trait ArrayBuiltins: Sized {
+    // the tree that is the function's argument
+    ghost tree: { Self → Tree };
+
+    /// Returns the array as values of type `target`: the array itself if it has that type.
+    fn cast(&self, alloc: Global, target: DType) -> VortexResult<ArrayRef>
+        ensures call { Calls (fn_of.Cast target) (tree self.now ∷ []) (len (tree self.now)) result }
+        ensures same { type_of target ≡ dtype (tree self.now) → IfOk result (λ t. t ≡ tree self.now) };
+
+    /// Returns the array with `fill_value` in place of each null. An array that isn't nullable is cast to `fill_value`'s type.
+    fn fill_null(&self, alloc: Global, fill_value: Scalar) -> VortexResult<ArrayRef>
+        ensures filled { is_nullable (nullability_of (dtype (tree self.now))) ≡ true
+            → Calls fn_of.FillNull (tree self.now ∷ constant_of fill_value (len (tree self.now)) ∷ []) (len (tree self.now)) result }
+        ensures cast { is_nullable (nullability_of (dtype (tree self.now))) ≡ false → Casts fill_value.of_type (tree self.now) result };
+
+    /// Returns whether each row is null.
+    fn is_null(&self, alloc: Global) -> VortexResult<ArrayRef>
+        ensures { Calls fn_of.IsNull (tree self.now ∷ []) (len (tree self.now)) result };
+
+    /// Returns whether each row isn't null.
+    fn is_not_null(&self, alloc: Global) -> VortexResult<ArrayRef>
+        ensures { Calls fn_of.IsNotNull (tree self.now ∷ []) (len (tree self.now)) result };
+
+    /// Returns the array with null in each row for which `mask` isn't true.
+    fn mask(&self, alloc: Global, mask: ArrayRef) -> VortexResult<ArrayRef>
+        ensures { Calls fn_of.Mask (tree self.now ∷ mask ∷ []) (len (tree self.now)) result };
+
+    /// Returns the negation of each row.
+    fn not(&self, alloc: Global) -> VortexResult<ArrayRef>
+        ensures { Calls fn_of.Not (tree self.now ∷ []) (len (tree self.now)) result };
+
+    /// Returns the rows of `if_true` for which the array is true, and those of `if_false` elsewhere. The node isn't optimized.
+    fn zip(&self, alloc: Global, if_true: ArrayRef, if_false: ArrayRef) -> VortexResult<ArrayRef>
+        ensures { MakesCall fn_of.Zip (if_true ∷ if_false ∷ tree self.now ∷ []) (len (tree self.now)) result };
+
+    /// Returns `operator` of the array and `rhs`.
+    fn binary(&self, alloc: Global, rhs: ArrayRef, operator: Operator) -> VortexResult<ArrayRef>
+        ensures { Calls (fn_of.Binary operator) (tree self.now ∷ rhs ∷ []) (len (tree self.now)) result };
+
+    /// Returns whether each row lies between those of `lower` and `upper`.
+    fn between(
+        &self,
+        alloc: Global,
+        lower: ArrayRef,
+        upper: ArrayRef,
+        options: BetweenOptions,
+    ) -> VortexResult<ArrayRef>
+        ensures { Calls (fn_of.Between options) (tree self.now ∷ lower ∷ upper ∷ []) (len (tree self.now)) result };
+}
+
+impl ArrayBuiltins for ArrayRef {
+    ghost tree = { λ a. a };
+
+    fn cast(&self, alloc: Global, target: DType) -> VortexResult<ArrayRef> {
+        cast_to(alloc, self, target)
+    }
+
+    fn fill_null(&self, alloc: Global, fill_value: Scalar) -> VortexResult<ArrayRef> {
+        if !self.dtype().is_nullable() {
+            let target = fill_value.dtype().clone()?;
+            return cast_to(alloc, self, target);
+        }
+        let fill = ConstantArray::new(alloc, fill_value, self.len())?;
+        let children = vec![in alloc; self.clone()?, fill.into_array()]?;
+        call(alloc, ScalarFnRef::FillNull, children, self.len())
+    }
+
+    fn is_null(&self, alloc: Global) -> VortexResult<ArrayRef> {
+        let children = vec![in alloc; self.clone()?]?;
+        call(alloc, ScalarFnRef::IsNull, children, self.len())
+    }
+
+    fn is_not_null(&self, alloc: Global) -> VortexResult<ArrayRef> {
+        let children = vec![in alloc; self.clone()?]?;
+        call(alloc, ScalarFnRef::IsNotNull, children, self.len())
+    }
+
+    fn mask(&self, alloc: Global, mask: ArrayRef) -> VortexResult<ArrayRef> {
+        let children = vec![in alloc; self.clone()?, mask]?;
+        call(alloc, ScalarFnRef::Mask, children, self.len())
+    }
+
+    fn not(&self, alloc: Global) -> VortexResult<ArrayRef> {
+        let children = vec![in alloc; self.clone()?]?;
+        call(alloc, ScalarFnRef::Not, children, self.len())
+    }
+
+    fn zip(&self, alloc: Global, if_true: ArrayRef, if_false: ArrayRef) -> VortexResult<ArrayRef> {
+        let children = vec![in alloc; if_true, if_false, self.clone()?]?;
+        call_node(alloc, ScalarFnRef::Zip, children, self.len())
+    }
+
+    fn binary(&self, alloc: Global, rhs: ArrayRef, operator: Operator) -> VortexResult<ArrayRef> {
+        let children = vec![in alloc; self.clone()?, rhs]?;
+        call(alloc, ScalarFnRef::Binary(operator), children, self.len())
+    }
+
+    fn between(
+        &self,
+        alloc: Global,
+        lower: ArrayRef,
+        upper: ArrayRef,
+        options: BetweenOptions,
+    ) -> VortexResult<ArrayRef> {
+        let children = vec![in alloc; self.clone()?, lower, upper]?;
+        call(alloc, ScalarFnRef::Between(options), children, self.len())
+    }
+}
+
+/// Makes the node of `function` over `children`, with `len` rows.
+fn call_node(
+    alloc: Global,
+    function: ScalarFnRef,
+    children: Vec<ArrayRef>,
+    len: usize,
+) -> VortexResult<ArrayRef>
+    ensures { MakesCall function children.items len result }
+{
+    let node = ScalarFnArray::try_new_with_len(alloc, function, children, len)?;
+    Ok(node.into_array())
+}
+
+/// Makes the node of `function` over `children`, with `len` rows, and optimizes it.
+#[tactic(auto, using(crate::proofs::BuiltinsLemmas::calls_by))]
+fn call(
+    alloc: Global,
+    function: ScalarFnRef,
+    children: Vec<ArrayRef>,
+    len: usize,
+) -> VortexResult<ArrayRef>
+    ensures { Calls function children.items len result }
+{
+    let node = call_node(alloc, function, children, len)?;
+    node.optimize(alloc)
+}
+
+/// Returns `array` as values of type `target`: the array itself if it has that type.
+#[tactic(auto, using(crate::proofs::BuiltinsLemmas::same_cast))]
+fn cast_to(alloc: Global, array: &ArrayRef, target: DType) -> VortexResult<ArrayRef>
+    ensures call { Calls (fn_of.Cast target) (array.now ∷ []) (len array.now) result }
+    ensures same { type_of target ≡ dtype array.now → IfOk result (λ t. t ≡ array.now) }
+{
+    if *array.dtype() == target {
+        array.well();
+        return Ok(array.clone()?);
+    }
+    let children = vec![in alloc; array.clone()?]?;
+    call(alloc, ScalarFnRef::Cast(target), children, array.len())
+}

@@ -1,0 +1,76 @@
+//! Optimizing a tree at each place.
+
+ghost use Rattle.std.specs.Prelude.{◌≡◌, ◌<◌, ℕ, IfOk, IfErr};
+ghost use Rattle.vx_opt.specs.Limits.{call_limit, IsMade, IsWithin, IsLimited};
+ghost use Rattle.vx_opt.specs.Descends.{Descends, HaveDescended, IsSunk};
+
+use crate::root::optimize_root;
+use crate::slots::{has_child, number_of_slots};
+use std::alloc::Global;
+use vx_tree::{ArrayRef, take_slot};
+use vx_value::{VortexError, VortexResult};
+
+/// Optimizes the root of `array`, `depth` nodes below the root of the call, and then each slot so. A depth that no stack holds counts as
+/// want of memory.
+#[cycle(descend)]
+pub(crate) fn descend(
+    alloc: Global,
+    array: ArrayRef,
+    depth: u64,
+    total: &mut u32,
+) -> VortexResult<ArrayRef>
+    requires { total.old < call_limit }
+    ensures made { IfOk result (λ u. IsWithin array u total.old total.new) }
+    ensures descends { IfOk result (Descends array) }
+    ensures limited { IfErr result (IsLimited array total.old) }
+{
+    if depth == u64::MAX {
+        return Err(VortexError::OutOfMemory);
+    }
+    let root = optimize_root(alloc, array, total)?;
+    descend_slots(alloc, root, depth + 1, total)
+}
+
+/// Optimizes the children of `array` so.
+#[cycle(descend)]
+fn descend_slots(
+    alloc: Global,
+    array: ArrayRef,
+    depth: u64,
+    total: &mut u32,
+) -> VortexResult<ArrayRef>
+    requires { total.old < call_limit }
+    ensures made { IfOk result (λ u. IsMade array u total.old total.new 0) }
+    ensures descended { IfOk result (HaveDescended array) }
+    ensures room { IfOk result (λ u. total.new < call_limit) }
+    ensures limited { IfErr result (IsLimited array total.old) }
+{
+    let mut current = array;
+    for slot in 0..number_of_slots(&current) {
+        current = descend_slot(alloc, current, slot, depth, total)?;
+    }
+    Ok(current)
+}
+
+/// Optimizes the child in `slot`, counted from 0, so, if there is one.
+#[cycle(descend)]
+fn descend_slot(
+    alloc: Global,
+    array: ArrayRef,
+    slot: usize,
+    depth: u64,
+    total: &mut u32,
+) -> VortexResult<ArrayRef>
+    requires { total.old < call_limit }
+    ensures made { IfOk result (λ u. IsMade array u total.old total.new 0) }
+    ensures sunk { IfOk result (IsSunk slot array) }
+    ensures room { IfOk result (λ u. total.new < call_limit) }
+    ensures limited { IfErr result (IsLimited array total.old) }
+{
+    if !has_child(&array, slot) {
+        return Ok(array);
+    }
+    let (parent, child) = take_slot(alloc, array, slot)?;
+    let child = descend(alloc, child, depth, total)?;
+    Ok(parent.put(alloc, slot, child)?)
+}

@@ -1,0 +1,18 @@
+//! The optimizer: applies the table of rewrite rules until no row of it fits.
+#![tactic(auto)]
+
+mod builtins;
+mod descend;
+mod laws;
+mod optimizer;
+mod pass;
+mod registry;
+mod root;
+mod select;
+mod slots;
+
+pub use builtins::ArrayBuiltins;
+pub use laws::{deriving_laws, selecting_laws};
+pub use optimizer::ArrayOptimizer;
+pub use registry::RuleRegistry;
+pub use select::ArraySelect;

@@ -1,0 +1,100 @@
+//! The public calls.
+
+ghost use Rattle.std.specs.Prelude.{◌≡◌, ◌<◌, ◌≤◌, IfOk, IfErr};
+ghost use Rattle.vx_value.specs.declared.error.VortexError.TheVariants.{OutOfMemory};
+ghost use Rattle.vx_tree.specs.Tree.{Tree};
+ghost use Rattle.vx_tree.specs.Keeps.{Keeps};
+ghost use Rattle.vx_tree.specs.Weight.{weight};
+ghost use Rattle.vx_rule.specs.Rules.{IsSettled};
+ghost use Rattle.vx_opt.specs.Pass.{Optimizes};
+ghost use Rattle.vx_opt.specs.Limits.{IsOptimized, IsLimited};
+ghost use Rattle.vx_opt.specs.Descends.{Descends};
+
+use crate::descend::descend;
+use crate::registry::RuleRegistry;
+use crate::root::optimize_root;
+use std::alloc::Global;
+use vx_tree::ArrayRef;
+use vx_value::VortexResult;
+
+/// Rewrites trees by the table of rewrite rules. Each answer may stand for the tree, and weighs less by at least one for each rewrite.
+///
+/// # Errors
+///
+/// `RewriteLimit` at the 101st rewrite at one root or the 4,194,304th of the call, even if no row fits after it, and never for a tree of
+/// weight 100 or less; `OutOfMemory`.
+pub trait ArrayOptimizer: Sized {
+    // the tree that is optimized
+    ghost tree: { Self → Tree };
+
+    /// Rewrites the root until no row fits. The slots that an answer names are optimized likewise before the next pass.
+    fn optimize(self, alloc: Global) -> VortexResult<ArrayRef>
+        ensures keeps { IfOk result (Keeps (tree self)) }
+        ensures settled { IfOk result IsSettled }
+        ensures passes { IfOk result (Optimizes (tree self)) }
+        ensures derives { IfOk result (IsOptimized (tree self)) }
+        ensures limited { IfErr result (IsLimited (tree self) 0) }
+        ensures never_if_light { weight (tree self) ≤ 100 → IfErr result (λ e. e ≡ OutOfMemory) };
+
+    /// Rewrites the root likewise, also by the entries of `rules`.
+    fn optimize_ctx(self, alloc: Global, rules: &mut RuleRegistry) -> VortexResult<ArrayRef>
+        ensures keeps { IfOk result (Keeps (tree self)) }
+        ensures settled { IfOk result IsSettled }
+        ensures passes { IfOk result (Optimizes (tree self)) }
+        ensures derives { IfOk result (IsOptimized (tree self)) }
+        ensures limited { IfErr result (IsLimited (tree self) 0) }
+        ensures never_if_light { weight (tree self) ≤ 100 → IfErr result (λ e. e ≡ OutOfMemory) };
+
+    /// Rewrites the root likewise, and then each slot so, in order. The root isn't visited again.
+    fn optimize_recursive(self, alloc: Global, rules: &mut RuleRegistry) -> VortexResult<ArrayRef>
+        ensures keeps { IfOk result (Keeps (tree self)) }
+        ensures descends { IfOk result (Descends (tree self)) }
+        ensures derives { IfOk result (IsOptimized (tree self)) }
+        ensures limited { IfErr result (IsLimited (tree self) 0) }
+        ensures never_if_light { weight (tree self) ≤ 100 → IfErr result (λ e. e ≡ OutOfMemory) };
+}
+
+impl ArrayOptimizer for ArrayRef {
+    ghost tree = { λ a. a };
+
+    fn optimize(self, alloc: Global) -> VortexResult<ArrayRef> {
+        optimize_settled(alloc, self)
+    }
+
+    fn optimize_ctx(self, alloc: Global, _rules: &mut RuleRegistry) -> VortexResult<ArrayRef> {
+        optimize_settled(alloc, self)
+    }
+
+    fn optimize_recursive(
+        self,
+        alloc: Global,
+        _rules: &mut RuleRegistry,
+    ) -> VortexResult<ArrayRef> {
+        optimize_places(alloc, self)
+    }
+}
+
+/// Optimizes the root of `array`, counting the rewrites from 0.
+fn optimize_settled(alloc: Global, array: ArrayRef) -> VortexResult<ArrayRef>
+    ensures keeps { IfOk result (Keeps array) }
+    ensures settled { IfOk result IsSettled }
+    ensures passes { IfOk result (Optimizes array) }
+    ensures derives { IfOk result (IsOptimized array) }
+    ensures limited { IfErr result (IsLimited array 0) }
+    ensures never_if_light { weight array ≤ 100 → IfErr result (λ e. e ≡ OutOfMemory) }
+{
+    let mut total = 0;
+    optimize_root(alloc, array, &mut total)
+}
+
+/// Optimizes `array` at each place, counting the rewrites from 0.
+fn optimize_places(alloc: Global, array: ArrayRef) -> VortexResult<ArrayRef>
+    ensures keeps { IfOk result (Keeps array) }
+    ensures descends { IfOk result (Descends array) }
+    ensures derives { IfOk result (IsOptimized array) }
+    ensures limited { IfErr result (IsLimited array 0) }
+    ensures never_if_light { weight array ≤ 100 → IfErr result (λ e. e ≡ OutOfMemory) }
+{
+    let mut total = 0;
+    descend(alloc, array, 0, &mut total)
+}

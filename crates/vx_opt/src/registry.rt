@@ -1,0 +1,24 @@
+//! Rules that a caller registers.
+
+ghost use Rattle.std.specs.Prelude.{◌≡◌};
+
+use vx_value::Id;
+
+/// A registry of rules beside those of the table. It has no entries yet. (own)
+#[derive(Debug, Drop)]
+pub struct RuleRegistry {}
+
+impl RuleRegistry {
+    /// Returns a registry without entries.
+    pub fn empty() -> RuleRegistry {
+        RuleRegistry {}
+    }
+
+    /// Returns the number of entries for a child with the id `child` in a parent with the id `parent`. A pass asks them after the
+    /// parent's own rows and before the child's, in order of registration.
+    pub fn find(&self, _parent: Id, _child: Id) -> usize
+        ensures { result ≡ 0 }
+    {
+        0
+    }
+}

@@ -1,0 +1,82 @@
+//! Choosing rows of an array.
+
+ghost use Rattle.std.specs.Prelude.{◌≡◌, ◌≤◌, ◌<◌, IfOk, IfErr, OnOk};
+ghost use Rattle.vx_mask.specs.Masks.{bits_in};
+ghost use Rattle.vx_tree.specs.Tree.{Tree, dtype, len, slice_of, filter_of};
+ghost use Rattle.vx_tree.specs.Columns.{empty_of};
+ghost use Rattle.vx_tree.specs.Keeps.{Keeps};
+ghost use Rattle.vx_opt.specs.Select.{IsRange, IsMaskOf, IsNoSlice, IsNoFilter};
+
+use crate::optimizer::ArrayOptimizer;
+use std::alloc::Global;
+use std::ops::Range;
+use vx_mask::Mask;
+use vx_tree::{ArrayRef, Canonical, FilterArray, IntoArray, SliceArray};
+use vx_value::VortexResult;
+
+/// Lazy choices of rows, optimized. (own)
+///
+/// # Errors
+///
+/// Those of the node that is made, then those of `ArrayOptimizer::optimize`; `OutOfMemory`.
+pub trait ArraySelect: Sized {
+    // the tree whose rows are chosen
+    ghost tree: { Self → Tree };
+
+    /// Returns the rows in `range`: the array itself if these are all rows, and the empty column if there are none. `OutOfBounds` exactly
+    /// unless start <= end <= the array's length.
+    fn slice(&self, alloc: Global, range: Range<usize>) -> VortexResult<ArrayRef>
+        ensures keeps { IfOk result (Keeps (slice_of range.start range.end (tree self.now))) }
+        ensures whole { range.start ≡ 0 → range.end ≡ len (tree self.now) → IfOk result (λ t. t ≡ tree self.now) }
+        ensures empty { range.start ≡ range.end → 0 < len (tree self.now) → IfOk result (λ t. t ≡ empty_of (dtype (tree self.now))) }
+        ensures valid { OnOk result (IsRange range.start range.end (tree self.now)) }
+        ensures refused { IfErr result (IsNoSlice range.start range.end (tree self.now)) };
+
+    /// Returns the rows that `mask` chooses. `InvalidArgument` with `MaskLen` exactly if the lengths differ.
+    fn filter(&self, alloc: Global, mask: Mask) -> VortexResult<ArrayRef>
+        ensures keeps { IfOk result (Keeps (filter_of (bits_in mask) (tree self.now))) }
+        ensures valid { OnOk result (IsMaskOf (bits_in mask) (tree self.now)) }
+        ensures refused { IfErr result (IsNoFilter (bits_in mask) (tree self.now)) };
+}
+
+impl ArraySelect for ArrayRef {
+    ghost tree = { λ a. a };
+
+    fn slice(&self, alloc: Global, range: Range<usize>) -> VortexResult<ArrayRef> {
+        slice_rows(alloc, self, range)
+    }
+
+    fn filter(&self, alloc: Global, mask: Mask) -> VortexResult<ArrayRef> {
+        filter_rows(alloc, self, mask)
+    }
+}
+
+/// Returns the rows of `array` in `range`.
+#[tactic(auto, using(crate::proofs::SelectLemmas::whole_keeps, crate::proofs::SelectLemmas::empty_keeps))]
+fn slice_rows(alloc: Global, array: &ArrayRef, range: Range<usize>) -> VortexResult<ArrayRef>
+    ensures keeps { IfOk result (Keeps (slice_of range.start range.end array.now)) }
+    ensures whole { range.start ≡ 0 → range.end ≡ len array.now → IfOk result (λ t. t ≡ array.now) }
+    ensures empty { range.start ≡ range.end → 0 < len array.now → IfOk result (λ t. t ≡ empty_of (dtype array.now)) }
+    ensures valid { OnOk result (IsRange range.start range.end array.now) }
+    ensures refused { IfErr result (IsNoSlice range.start range.end array.now) }
+{
+    array.well();
+    if range.start == 0 && range.end == array.len() {
+        return Ok(array.clone()?);
+    }
+    if range.start == range.end && range.end <= array.len() {
+        return Ok(Canonical::empty(alloc, array.dtype())?.into_array());
+    }
+    let node = SliceArray::try_new(alloc, array.clone()?, range)?;
+    node.into_array().optimize(alloc)
+}
+
+/// Returns the rows of `array` that `mask` chooses.
+fn filter_rows(alloc: Global, array: &ArrayRef, mask: Mask) -> VortexResult<ArrayRef>
+    ensures keeps { IfOk result (Keeps (filter_of (bits_in mask) array.now)) }
+    ensures valid { OnOk result (IsMaskOf (bits_in mask) array.now) }
+    ensures refused { IfErr result (IsNoFilter (bits_in mask) array.now) }
+{
+    let node = FilterArray::try_new(alloc, array.clone()?, mask)?;
+    node.into_array().optimize(alloc)
+}
