@@ -1,5 +1,5 @@
 -- The steps of a filter: by its mask alone, and of its child as a column.
-use Rattle.std.proofs.Common.{◌≡◌, ◌⊎◌, inl, inr, ℕ, ◌<◌, ◌≤◌, ◌-◌, List, [], length, drop, Bool, true, false, refl, sym, ◌∙◌, ap, subst, arith}
+use Rattle.std.proofs.Common.{◌≡◌, ◌⊎◌, inl, inr, ℕ, ◌+◌, ◌*◌, ◌<◌, ◌≤◌, ◌-◌, List, [], length, drop, Bool, true, false, refl, sym, ◌∙◌, ap, subst, arith}
 use Rattle.std.proofs.lemmas.Bool.{cases_Bool}
 use Rattle.std.proofs.lemmas.List.{length-take-le, length-drop, take_all}
 use Rattle.std.specs.Cmp.{unsigned_Decides}
@@ -13,7 +13,7 @@ use Rattle.vx_tree.specs.Tree as enc
 use Rattle.vx_tree.specs.Tree.{Tree, Data, Slots, node, no_slots, absent, slot, filter_of, slice_of, column, dtype, len, datum, slots, is_canonical}
 use Rattle.vx_tree.specs.Cells.{rows, HasNoFault, IsClean}
 use Rattle.vx_tree.specs.Columns.{IsColumn, empty_of}
-use Rattle.vx_tree.specs.Cost.{cost}
+use Rattle.vx_tree.specs.Cost.{cost, extra, reach, slot_cost}
 use Rattle.vx_tree.specs.Keeps.{KeepsExactly}
 use Rattle.vx_tree.proofs.CostLemmas.{column_cost}
 use Rattle.vx_tree.proofs.KeepsLemmas.{rows_equal, exactly_trans}
@@ -111,14 +111,15 @@ module _ (bits : List Bool) (c t : Tree) (shown : t ≡ filter_of bits c) (count
     where
       by_target : (is_canonical (datum c) ≡ true) ⊎ (is_canonical (datum c) ≡ false) → top c < top (filter_of bits c)
       by_target (inl h) = omega (arith, top_paid c, canonical_cost c h)
-      by_target (inr h) = omega (arith, top_paid c, ap (λ b. slot_top b (cost c)) h)
+      by_target (inr h) = omega (arith, top_paid c, ap (λ b. slot_top b (slot_cost (enc.filter bits) (cost c) (extra c))) h)
 
-  pub run_done : (a b : ℕ) (u : Tree) → is_all_true bits ≡ false → is_canonical (datum c) ≡ false → IsRun bits a b → u ≡ slice_of a b c → IsDone t u
-  run_done a b u not_all unready run e =
+  pub run_done : (a b : ℕ) (u : Tree) → is_all_true bits ≡ false → is_canonical (datum c) ≡ false → IsRun bits a b
+      → KeepsExactly (slice_of a b c) u → cost u ≤ cost c + 3 * reach c → IsDone t u
+  run_done a b u not_all unready run same bound =
       subst (λ x. IsDone x u) (sym shown) (record {
-        by = inl (bits, c, refl, inr (inr (not_all, unready, a, b, run, e)));
-        exactly = subst (KeepsExactly (filter_of bits c)) (sym e) (run_exactly a b run);
-        falls = subst (λ x. top x < top (filter_of bits c)) (sym e) (omega arith);
+        by = inl (bits, c, refl, inr (inr (not_all, unready, a, b, run, same, bound)));
+        exactly = exactly_trans (filter_of bits c) (slice_of a b c) u (run_exactly a b run) same;
+        falls = omega (arith, top_paid u, bound, ap (λ x. slot_top x (slot_cost (enc.filter bits) (cost c) (extra c))) unready);
       })
 
   -- the child is a column, and so is u

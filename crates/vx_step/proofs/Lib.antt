@@ -3,4 +3,3 @@ pub mod StepsLemmas
 pub mod FilterLemmas
 pub mod MaskedLemmas
 pub mod WaitingLemmas
-pub mod SlotsLemmas

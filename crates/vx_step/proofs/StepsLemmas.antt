@@ -56,6 +56,13 @@ slice_done a b s t u shown whole known c same =
     subst (λ x. IsDone x u) (sym shown)
     (canonical_done (slice_of a b s) u known (unless_filter (slice_of a b s) refl) ((λ h. whole), tt) (subst (λ x. KeepsExactly x u) shown same) c refl (omega arith))
 
+-- the range of a column, as what is pushed down
+pub part_done : (a b : ℕ) (s t u : Tree) → t ≡ slice_of a b s → is_canonical (datum s) ≡ true → IsWell u → (is_canonical (datum s) ≡ true → is_canonical (datum u) ≡ true)
+    → KeepsExactly (slice_of a b s) u → IsDone t u
+part_done a b s t u shown whole well kept same =
+    let canonical : is_canonical (datum u) ≡ true = kept whole in
+    slice_done a b s t u shown whole (column_known u well (canonical_columnar (datum u) canonical)) canonical (subst (λ x. KeepsExactly x u) (sym shown) same)
+
 pub masked_done : (c t u : Tree) (v : Option Tree) → t ≡ masked_of c v → is_canonical (datum c) ≡ true → IsColumn u → is_canonical (datum u) ≡ true → KeepsExactly t u
     → IsDone t u
 masked_done c t u None shown whole known canonical same =

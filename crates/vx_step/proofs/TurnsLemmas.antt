@@ -15,7 +15,7 @@ slot_paid d c e = omega arith
 
 -- whatever the encodings
 
-slot_bound : (done : Bool) (c : ℕ) → slot_top done c ≤ c + 1
+slot_bound : (done : Bool) (c : ℕ) → slot_top done c ≤ c
 slot_bound true c = omega arith
 slot_bound false c = omega arith
 
@@ -27,9 +27,9 @@ slots_paid : (d : Data) (e : Executed) (ss : Slots) → slots_top d e ss ≤ slo
 slots_paid d e no_slots = omega arith
 slots_paid d e (absent ss) = slots_paid d (after e) ss
 slots_paid d e (slot t ss) =
-    let done = slot_top (meets (slot_target d) t) (cost t) in
-    let paid : done ≤ slot_cost d (cost t) (extra t) = omega (arith, slot_bound (meets (slot_target d) t) (cost t), slot_paid d (cost t) (extra t)) in
-    omega (arith, slots_paid d (after e) ss, counted_less (is_next e) done (slot_cost d (cost t) (extra t)) paid)
+    let c = slot_cost d (cost t) (extra t) in
+    let done = meets (slot_target d) t in
+    omega (arith, slots_paid d (after e) ss, counted_less (is_next e) (slot_top done c) c (slot_bound done c))
 
 pub top_paid : (t : Tree) → top t ≤ cost t
 top_paid (node ty n d ss) = omega (arith, slots_paid d (executed d) ss)
@@ -44,7 +44,7 @@ top_own (node ty n d ss) = omega arith
 -- ---- a slot taken out, and put back
 
 put_top : (d : Data) (e : Executed) (i : ℕ) (c : Tree) (ss : Slots) → IsAbsentAt i ss
-    → slots_top d e (set_slot i c ss) ≡ counted (is_executed e i) (slot_top (meets (slot_target d) c) (cost c)) + slots_top d e ss
+    → slots_top d e (set_slot i c ss) ≡ counted (is_executed e i) (slot_top (meets (slot_target d) c) (slot_cost d (cost c) (extra c))) + slots_top d e ss
 put_top d e i c no_slots h = absurd h
 put_top d e zero c (absent ss) h = refl
 put_top d e zero c (slot s ss) h = absurd h
@@ -61,9 +61,9 @@ awaited_put g (suc i) c (slot s ss) h w = awaited_put g i c ss h w.1
 pub take_falls : (i : ℕ) (c p : Tree) → IsHole i p → Awaits i (put i c p) → top p + top c < top (put i c p)
 take_falls i c (node ty n d ss) h w =
     let awaited = awaited_put (slot_target d) i c ss h w.1 in
-    let weighs : counted (is_executed (executed d) i) (slot_top (meets (slot_target d) c) (cost c)) ≡ cost c + 1 = λ j.
-    counted (w.0 j) (slot_top (awaited j) (cost c)) in
-    omega (arith, put_top d (executed d) i c ss h, top_paid c, weighs)
+    let weighs : counted (is_executed (executed d) i) (slot_top (meets (slot_target d) c) (slot_cost d (cost c) (extra c))) ≡ slot_cost d (cost c) (extra c) = λ j.
+    counted (w.0 j) (slot_top (awaited j) (slot_cost d (cost c) (extra c))) in
+    omega (arith, put_top d (executed d) i c ss h, top_paid c, weighs, slot_paid d (cost c) (extra c))
 
 counted_nothing : (b : Bool) → counted b 0 ≡ 0
 counted_nothing true = refl
@@ -72,6 +72,6 @@ counted_nothing false = refl
 pub put_falls : (i : ℕ) (c p : Tree) → IsHole i p → meets (target_of p) c ≡ true → top (put i c p) < top p + top c
 put_falls i c (node ty n d ss) h m =
     let e = executed d in
-    let done : counted (is_executed e i) (slot_top (meets (slot_target d) c) (cost c)) ≡ 0 =
-    ap (λ b. counted (is_executed e i) (slot_top b (cost c))) m ∙ counted_nothing (is_executed e i) in
+    let done : counted (is_executed e i) (slot_top (meets (slot_target d) c) (slot_cost d (cost c) (extra c))) ≡ 0 =
+    ap (λ b. counted (is_executed e i) (slot_top b (slot_cost d (cost c) (extra c)))) m ∙ counted_nothing (is_executed e i) in
     omega (arith, put_top d e i c ss h, done, top_positive c)

@@ -1,9 +1,9 @@
 -- The result of a step.
-use Rattle.std.specs.Prelude.{◌≡◌, ◌⊎◌, ℕ, zero, suc, ◌<◌, List, Bool, true, false, ◌&&◌, nat_lt}
+use Rattle.std.specs.Prelude.{◌≡◌, ◌⊎◌, ℕ, zero, suc, ◌+◌, ◌*◌, ◌<◌, ◌≤◌, List, Bool, true, false, ◌&&◌, nat_lt}
 use Rattle.vx_mask.specs.Masks.{is_all_true}
 use Rattle.vx_mask.specs.Places.{true_count, IsRun}
 use Rattle.vx_tree.specs.Tree.{Tree, Slots, node, no_slots, absent, slot, filter_of, slice_of, dtype, datum, is_constant, is_function, is_canonical, is_columnar}
-use Rattle.vx_tree.specs.Cost.{Executed, executed, is_next, after, is_executed}
+use Rattle.vx_tree.specs.Cost.{Executed, executed, is_next, after, is_executed, cost, reach}
 use Rattle.vx_tree.specs.Columns.{empty_of}
 use Rattle.vx_value.specs.declared.error.VortexError.{VortexError}
 use Rattle.vx_value.specs.declared.error.VortexError.TheVariants.{OutOfMemory, Fault}
@@ -50,12 +50,14 @@ abbrev pub IsStopped : Tree → VortexError → Type 0
 IsStopped t e = (e ≡ OutOfMemory) ⊎ ((e ≡ Fault) × (¬ (IsClean t)))
 
 -- what the filter of c at the true bits steps to by its mask alone, c as it stands: the column without rows if it chooses none, c if it
--- chooses all, and a slice of c, which isn't a column, if the rows that it chooses are consecutive
+-- chooses all, and, if the rows that it chooses are consecutive, the slice of c, which isn't a column, pushed down: just its rows, in no more
+-- turns than the slice
 abbrev pub IsShort : List Bool → Tree → Tree → Type 0
 IsShort bits c u =
     ((true_count bits ≡ 0) × (u ≡ empty_of (dtype c)))
     ⊎ ((0 < true_count bits) × (is_all_true bits ≡ true) × (u ≡ c))
-    ⊎ ((is_all_true bits ≡ false) × (is_canonical (datum c) ≡ false) × (a : ℕ) × (b : ℕ) × IsRun bits a b × (u ≡ slice_of a b c))
+    ⊎ ((is_all_true bits ≡ false) × (is_canonical (datum c) ≡ false) × (a : ℕ) × (b : ℕ) × IsRun bits a b × KeepsExactly (slice_of a b c) u
+    × (cost u ≤ cost c + 3 * reach c))
 
 -- only a filter does so
 abbrev pub IsShortcut : Tree → Tree → Type 0

@@ -1,7 +1,7 @@
 -- The targets of slots, and the turns left at a node.
 use Rattle.std.specs.Prelude.{ℕ, ◌+◌, Bool, true, false}
 use Rattle.vx_tree.specs.Tree.{Tree, Data, Slots, node, function, is_valid, no_slots, absent, slot, datum, is_canonical, is_columnar}
-use Rattle.vx_tree.specs.Cost.{Executed, executed, is_next, after, counted, cost, base_cost}
+use Rattle.vx_tree.specs.Cost.{Executed, executed, is_next, after, counted, extra, cost, base_cost, slot_cost}
 use Rattle.vx_step.specs.declared.steps.SlotTarget.{SlotTarget}
 use Rattle.vx_step.specs.declared.steps.SlotTarget.TheVariants.{Canonical, Columnar}
 
@@ -26,15 +26,15 @@ target_of t = slot_target (datum t)
 abbrev pub base_top : Data → ℕ
 base_top d = base_cost d
 
--- the turns left for a slot: its cost and one more, or none once it has reached its target
+-- the turns left for a slot: those that the bound has for it, or none once it has reached its target
 abbrev pub slot_top : Bool → ℕ → ℕ
 slot_top true c = 0
-slot_top false c = c + 1
+slot_top false c = c
 
 abbrev pub slots_top : Data → Executed → Slots → ℕ
 slots_top d e no_slots = 0
 slots_top d e (absent ss) = slots_top d (after e) ss
-slots_top d e (slot t ss) = counted (is_next e) (slot_top (meets (slot_target d) t) (cost t)) + slots_top d (after e) ss
+slots_top d e (slot t ss) = counted (is_next e) (slot_top (meets (slot_target d) t) (slot_cost d (cost t) (extra t))) + slots_top d (after e) ss
 
 -- the turns left at a node, current or suspended
 abbrev pub top : Tree → ℕ

@@ -12,11 +12,12 @@ use crate::steps::{ExecutionStep, SlotTarget, done};
 use std::alloc::Global;
 use vx_column::filter_canonical;
 use vx_mask::Mask;
-use vx_tree::{ArrayRef, Canonical, IntoArray, SliceArray, slice_canonical};
+use vx_rule::push_slice;
+use vx_tree::{ArrayRef, Canonical, slice_canonical};
 use vx_value::{VortexError, VortexResult};
 
 /// Replaces the filter of `child` by `mask`: by the column without rows if the mask chooses none, by `child` if it chooses all,
-/// and by a slice if the chosen rows are consecutive. Otherwise requests `child` as a canonical column, and filters it once it
+/// and by its slice, pushed down, if the chosen rows are consecutive. Otherwise requests `child` as a canonical column, and filters it once it
 /// is one.
 #[tactic(auto, using(crate::proofs::FilterLemmas::nothing_done, crate::proofs::FilterLemmas::whole_done))]
 pub(crate) fn filter_or_wait(
@@ -76,7 +77,7 @@ fn filter_column(alloc: Global, column: &Canonical, mask: &Mask) -> VortexResult
     }
 }
 
-/// Replaces the filter of `child`, which isn't a column yet, by a slice if the chosen rows are consecutive. Otherwise requests
+/// Replaces the filter of `child`, which isn't a column yet, by its slice, pushed down, if the chosen rows are consecutive. Otherwise requests
 /// `child` as a canonical column.
 #[tactic(auto, using(crate::proofs::FilterLemmas::run_range, crate::proofs::FilterLemmas::run_done, crate::proofs::FilterLemmas::filter_waits))]
 fn slice_or_wait(
@@ -96,8 +97,8 @@ fn slice_or_wait(
     child.well();
     match mask.contiguous_range() {
         Some(range) => {
-            let slice = SliceArray::new(alloc, child, range)?;
-            Ok(ExecutionStep::Done(slice.into_array()))
+            let part = push_slice(alloc, &child, range)?;
+            Ok(ExecutionStep::Done(part))
         }
         None => Ok(ExecutionStep::ExecuteSlot(0, SlotTarget::Canonical)),
     }

@@ -1,4 +1,4 @@
-//! One execution step of a node, and nodes with a slot taken out.
+//! One execution step of a node.
 #![tactic(auto)]
 
 mod filter;
@@ -6,8 +6,7 @@ mod function;
 mod masked;
 mod slice;
 mod steps;
-mod suspended;
 mod validity;
 
 pub use steps::{ExecutionStep, SlotTarget, step};
-pub use suspended::{Suspended, take_slot};
+pub use vx_tree::{Suspended, take_slot};

@@ -4,14 +4,15 @@ ghost use Rattle.std.specs.Prelude.{◌≡◌, ◌≤◌, IfOk, IfErr};
 ghost use Rattle.vx_tree.specs.Tree.{len, slice_of};
 ghost use Rattle.vx_step.specs.Steps.{IsStep, IsStopped};
 
-use crate::steps::{ExecutionStep, SlotTarget, done};
+use crate::steps::{ExecutionStep, SlotTarget};
 use std::alloc::Global;
 use std::ops::Range;
-use vx_tree::{ArrayRef, Canonical, slice_canonical};
+use vx_rule::push_slice;
+use vx_tree::{AnyCanonical, ArrayRef};
 use vx_value::VortexResult;
 
-/// Requests `child` as a canonical column; takes its range once it is one.
-#[tactic(auto, using(crate::proofs::StepsLemmas::slice_done, crate::proofs::StepsLemmas::slice_waits))]
+/// Requests `child` as a canonical column; takes its range, which shares its buffers, once it is one.
+#[tactic(auto, using(crate::proofs::StepsLemmas::slice_waits))]
 pub(crate) fn slice_or_wait(
     alloc: Global,
     array: &ArrayRef,
@@ -23,8 +24,10 @@ pub(crate) fn slice_or_wait(
     ensures ok { IfOk result (λ s. IsStep array.now s) }
     ensures err { IfErr result (IsStopped array.now) }
 {
-    match Canonical::try_from_array_ref(child.clone()?) {
-        Ok(column) => Ok(done(slice_canonical(alloc, &column, range)?)),
-        Err(_) => Ok(ExecutionStep::ExecuteSlot(0, SlotTarget::Canonical)),
+    if !child.is::<AnyCanonical>() {
+        return Ok(ExecutionStep::ExecuteSlot(0, SlotTarget::Canonical));
     }
+    let part = push_slice(alloc, child, range)?;
+    part.well();
+    Ok(ExecutionStep::Done(part))
 }

@@ -47,7 +47,7 @@ pub enum ExecutionStep {
 }
 
 /// Takes one step of `array`, whose root isn't canonical: requests the first slot that isn't ready, or returns the tree that
-/// replaces it. This is a column, or, of a filter that chooses all rows or consecutive ones, its child or a slice of it.
+/// replaces it. This is a column, or, of a filter that chooses all rows or consecutive ones, its child or the slice of it, pushed down.
 ///
 /// # Errors
 ///
