@@ -1,9 +1,9 @@
 -- The command in the words.
-use Rattle.std.specs.Prelude.{ℕ, ◌+◌, ◌-◌, ◌*◌, ◌^◌, ◌==◌, ◌&&◌, nat_le, nat_lt, List, [], ◌∷◌, Bool, true, false, if◌then◌else◌, codes, bytes_eq, map, String, string_bytes, Option, Some, None, option_map}
+use Rattle.std.specs.Prelude.{ℕ, ◌+◌, ◌-◌, ◌*◌, ◌^◌, ◌==◌, ◌&&◌, nat_le, nat_lt, List, [], ◌∷◌, Bool, true, false, if◌then◌else◌, codes, bytes_eq, map, String, string_bytes, Option, Some, None}
 use Rattle.std.specs.declared.alloc.Global.{Global}
 use Rattle.vx_exec.specs.Limits.{default_turns}
 use Rattle.vx_main.specs.declared.top.words.Command.{Command}
-use Rattle.vx_main.specs.declared.top.words.Command.TheVariants.{Run, Help, Version}
+use Rattle.vx_main.specs.declared.top.words.Command.TheVariants.{Run, Optimize, Help, Version}
 
 abbrev pub texts : List (String Global) → List (List ℕ)
 texts words = map string_bytes words
@@ -23,11 +23,20 @@ number_of (c ∷ d ∷ cs) = if c == 48 then None else read_on 0 (c ∷ d ∷ cs
 abbrev pub word_command : List ℕ → Option Command
 word_command w =
     if bytes_eq w (codes "run") then Some (Run default_turns) else
-    (if bytes_eq w (codes "--help") then Some Help else (if bytes_eq w (codes "--version") then Some Version else None))
+    (if bytes_eq w (codes "optimize") then Some (Optimize default_turns) else
+    (if bytes_eq w (codes "--help") then Some Help else (if bytes_eq w (codes "--version") then Some Version else None)))
 
 -- a command of a word and a number
+abbrev pub limited_command : List ℕ → ℕ → Option Command
+limited_command w limit =
+    if bytes_eq w (codes "run") then Some (Run limit) else (if bytes_eq w (codes "optimize") then Some (Optimize limit) else None)
+
+abbrev pub with_number : List ℕ → Option ℕ → Option Command
+with_number w None = None
+with_number w (Some limit) = limited_command w limit
+
 abbrev pub numbered_command : List ℕ → List ℕ → Option Command
-numbered_command w n = if bytes_eq w (codes "run") then option_map (λ limit. Run limit) (number_of n) else None
+numbered_command w n = with_number w (number_of n)
 
 abbrev pub command_of : List (List ℕ) → Option Command
 command_of [] = None
@@ -39,5 +48,12 @@ command_of (w ∷ n ∷ v ∷ ws) = None
 abbrev pub reads_tree : Option Command → Bool
 reads_tree None = false
 reads_tree (Some (Run limit)) = true
+reads_tree (Some (Optimize limit)) = true
 reads_tree (Some Help) = false
 reads_tree (Some Version) = false
+
+-- the turns that the command allows
+abbrev pub limit_of : Command → ℕ
+limit_of (Run limit) = limit
+limit_of (Optimize limit) = limit
+limit_of _ = 0

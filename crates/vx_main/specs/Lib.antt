@@ -10,6 +10,8 @@ pub use Rattle.vx_stream.specs.Limits
 pub use Rattle.vx_stream.specs.Causes
 pub use Rattle.vx_stream.specs.Streams
 pub use Rattle.vx_exec.specs.Moves
+pub use Rattle.vx_tree.specs.Weight
+pub use Rattle.vx_opt.specs.Descends
 pub mod Commands
 pub mod Statuses
 pub mod Output

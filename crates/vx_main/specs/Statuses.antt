@@ -1,7 +1,7 @@
 -- The code and the text of each status, and which may come before the input or the tree is there.
 use Rattle.std.specs.Prelude.{ℕ, List, codes, Bool, true, false}
 use Rattle.vx_value.specs.declared.error.VortexError.{VortexError}
-use Rattle.vx_value.specs.declared.error.VortexError.TheVariants.{OutOfMemory, Fault, IterationLimit, TooLong, OutOfBounds, InvalidArgument}
+use Rattle.vx_value.specs.declared.error.VortexError.TheVariants.{OutOfMemory, Fault, IterationLimit, RewriteLimit, TooLong, OutOfBounds, InvalidArgument}
 use Rattle.vx_main.specs.declared.top.status.Status.{Status}
 use Rattle.vx_main.specs.declared.top.status.Status.TheVariants.{Done, Usage, BadInput, TurnLimit, Memory, ReadFault, WriteFault, TooLarge}
 use Rattle.vx_main.specs.declared.top.status.Status.TheVariants as status
@@ -12,6 +12,7 @@ code_of Usage = 2
 code_of BadInput = 3
 code_of status.Fault = 4
 code_of (TurnLimit limit turns) = 5
+code_of (status.RewriteLimit at_root total) = 6
 code_of Memory = 9
 code_of ReadFault = 10
 code_of WriteFault = 11
@@ -23,6 +24,7 @@ text_of Usage = codes "usage"
 text_of BadInput = codes "bad input"
 text_of status.Fault = codes "fault"
 text_of (TurnLimit limit turns) = codes "turn limit"
+text_of (status.RewriteLimit at_root total) = codes "rewrite limit"
 text_of Memory = codes "out of memory"
 text_of ReadFault = codes "read fault"
 text_of WriteFault = codes "write fault"
@@ -35,6 +37,7 @@ has_no_input Usage = false
 has_no_input BadInput = false
 has_no_input status.Fault = false
 has_no_input (TurnLimit limit turns) = false
+has_no_input (status.RewriteLimit at_root total) = false
 has_no_input Memory = true
 has_no_input ReadFault = true
 has_no_input WriteFault = false
@@ -47,6 +50,7 @@ has_no_tree Usage = false
 has_no_tree BadInput = true
 has_no_tree status.Fault = false
 has_no_tree (TurnLimit limit turns) = false
+has_no_tree (status.RewriteLimit at_root total) = false
 has_no_tree Memory = true
 has_no_tree ReadFault = true
 has_no_tree WriteFault = false
@@ -57,6 +61,7 @@ abbrev pub status_of : VortexError → Status
 status_of OutOfMemory = Memory
 status_of Fault = status.Fault
 status_of (IterationLimit limit) = TurnLimit limit limit
+status_of (RewriteLimit at_root total) = status.RewriteLimit at_root total
 status_of (TooLong len factor) = BadInput
 status_of (OutOfBounds start stop len) = BadInput
 status_of (InvalidArgument kind) = BadInput

@@ -1,21 +1,41 @@
 //! The output for an input.
 
-ghost use Rattle.std.specs.Prelude.{◌≡◌, IfOk, IfErr, string_bytes};
-ghost use Rattle.vx_main.specs.Runs.{Answers, HasNoAnswer};
+ghost use Rattle.std.specs.Prelude.{◌≡◌, IfOk, IfErr, Some, true, string_bytes};
+ghost use Rattle.vx_main.specs.Commands.{reads_tree};
+ghost use Rattle.vx_main.specs.Runs.{Answers, HasNoAnswer, IsSource, IsUnprepared};
 
 use crate::top::column_text::column_text;
 use crate::top::status::Status;
+use crate::top::words::Command;
 use std::alloc::Global;
 use vx_exec::{ExecutionCtx, execute};
 use vx_json::tree_of_bytes;
+use vx_opt::{ArrayOptimizer, RuleRegistry};
+use vx_tree::ArrayRef;
+use vx_value::VortexResult;
 
-/// Executes the tree in `bytes` to a column, in at most `limit` turns, and returns the column's text.
-pub(crate) fn answer(alloc: Global, bytes: &[u8], limit: u64) -> Result<String, Status>
-    ensures ok { IfOk result (λ text. Answers bytes.now limit (string_bytes text)) }
-    ensures causes { IfErr result (HasNoAnswer bytes.now limit) }
+/// Executes the tree in `bytes` to a column, as `command`, one that reads a tree, says, and returns the column's text.
+pub(crate) fn answer(alloc: Global, bytes: &[u8], command: Command) -> Result<String, Status>
+    requires { reads_tree (Some command) ≡ true }
+    ensures ok { IfOk result (λ text. Answers command bytes.now (string_bytes text)) }
+    ensures causes { IfErr result (HasNoAnswer command bytes.now) }
 {
     let array = tree_of_bytes(alloc, bytes)?;
-    let mut ctx = ExecutionCtx::new(alloc).with_limit(limit);
-    let column = execute(array, &mut ctx)?;
+    array.well();
+    let source = prepare(alloc, array, command)?;
+    let mut ctx = ExecutionCtx::new(alloc).with_limit(command.limit());
+    let column = execute(source, &mut ctx)?;
     Ok(column_text(alloc, &column)?)
+}
+
+/// Returns the tree that `command`, one that reads a tree, executes in the place of `array`.
+fn prepare(alloc: Global, array: ArrayRef, command: Command) -> VortexResult<ArrayRef>
+    requires { reads_tree (Some command) ≡ true }
+    ensures ok { IfOk result (IsSource command array) }
+    ensures err { IfErr result (IsUnprepared command array) }
+{
+    match command {
+        Command::Optimize { .. } => array.optimize_recursive(alloc, &mut RuleRegistry::empty()),
+        _ => Ok(array),
+    }
 }

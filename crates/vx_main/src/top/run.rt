@@ -6,9 +6,9 @@ ghost use Rattle.vx_json.specs.Spelled.{SpellsNone};
 ghost use Rattle.vx_stream.specs.Limits.{input_limit};
 ghost use Rattle.vx_stream.specs.Causes.{Rose};
 ghost use Rattle.vx_stream.specs.Streams.{TakesSome, AppendsPrefix};
-ghost use Rattle.vx_main.specs.Commands.{texts, command_of, reads_tree};
+ghost use Rattle.vx_main.specs.Commands.{texts, command_of, reads_tree, limit_of};
 ghost use Rattle.vx_main.specs.Statuses.{has_no_input, has_no_tree};
-ghost use Rattle.vx_main.specs.Runs.{Writes, WritesPrefix, IsFaulty, IsCostly, Suffices};
+ghost use Rattle.vx_main.specs.Runs.{Writes, WritesPrefix, IsFaulty, IsCostly, IsRestless, Suffices};
 ghost use Rattle.vx_main.specs.declared.top.words.Command.{Command as CommandOf};
 
 use crate::top::answer::answer;
@@ -18,8 +18,8 @@ use crate::top::words::{Command, HELP, VERSION, read_command};
 use std::alloc::Global;
 use vx_stream::{ReadError, Sink, Source, read_all, write_all};
 
-/// Runs the command in `words`: reads the tree in `source`, executes it to a column and writes the column's text into
-/// `sink`.
+/// Runs the command in `words`: reads the tree in `source`, rewrites it if the command is `optimize`, executes it to a column and writes
+/// the column's text into `sink`.
 ///
 /// The text is complete before the first write. `source` and `sink` count their own faults. (own)
 pub fn run<S: Source, K: Sink>(
@@ -46,8 +46,10 @@ pub fn run<S: Source, K: Sink>(
         → (reads_tree (command_of (texts words.now.items)) ≡ true) × IfSome (S.left source.old) (λ bytes. (length bytes ≤ input_limit) × SpellsNone bytes) }
     ensures fault { result ≡ Status.Fault
         → (reads_tree (command_of (texts words.now.items)) ≡ true) × IfSome (S.left source.old) IsFaulty }
-    ensures turn_limit { (limit turns : ℕ) → result ≡ Status.TurnLimit limit turns
-        → (command_of (texts words.now.items) ≡ Some (Command.Run limit)) × (turns ≡ limit) × IfSome (S.left source.old) (λ bytes. IsCostly bytes limit) }
+    ensures turn_limit { (c : CommandOf) (limit turns : ℕ) → command_of (texts words.now.items) ≡ Some c → result ≡ Status.TurnLimit limit turns
+        → (reads_tree (Some c) ≡ true) × (limit ≡ limit_of c) × (turns ≡ limit) × IfSome (S.left source.old) (IsCostly c) }
+    ensures rewrite_limit { (c : CommandOf) (at_root total : ℕ) → command_of (texts words.now.items) ≡ Some c → result ≡ Status.RewriteLimit at_root total
+        → (reads_tree (Some c) ≡ true) × IfSome (S.left source.old) (λ bytes. IsRestless c bytes at_root total) }
     ensures write_fault { (c : CommandOf) → command_of (texts words.now.items) ≡ Some c → result ≡ Status.WriteFault
         → Rose (K.faults sink.old) (K.faults sink.new) × WritesPrefix c (S.left source.old) (K.held sink.old) (K.held sink.new) }
     ensures memory { result ≡ Status.Memory → reads_tree (command_of (texts words.now.items)) ≡ true }
@@ -70,11 +72,11 @@ pub fn run<S: Source, K: Sink>(
     ensures sink_later { K.faults sink.old ≤ K.faults sink.new }
     ensures session_kept { session.new ≡ session.old }
 {
-    let limit = match read_command(words) {
+    let command = match read_command(words) {
         None => return Status::Usage,
         Some(Command::Help) => return finish(sink, HELP.as_bytes()),
         Some(Command::Version) => return finish(sink, VERSION.as_bytes()),
-        Some(Command::Run { limit }) => limit,
+        Some(command) => command,
     };
     let bytes = match read_all(alloc, source) {
         Ok(bytes) => bytes,
@@ -84,7 +86,7 @@ pub fn run<S: Source, K: Sink>(
         },
         Err(ReadError::OutOfMemory) => return Status::Memory,
     };
-    match answer(alloc, bytes.as_slice(), limit) {
+    match answer(alloc, bytes.as_slice(), command) {
         Ok(text) => finish(sink, text.as_bytes()),
         Err(status) => status,
     }

@@ -18,6 +18,8 @@ pub enum Status {
     Fault,
     /// The tree wasn't executed within `limit` turns; `turns` were taken.
     TurnLimit { limit: u64, turns: u64 },
+    /// The tree wasn't optimized within the limits: `at_root` rewrites were made at one root, and `total` in all.
+    RewriteLimit { at_root: u32, total: u32 },
     /// Memory ran out.
     Memory,
     /// A read failed.
@@ -41,6 +43,7 @@ impl From<VortexError> for Status {
                 limit,
                 turns: limit,
             },
+            VortexError::RewriteLimit { at_root, total } => Status::RewriteLimit { at_root, total },
             VortexError::TooLong { .. } => Status::BadInput,
             VortexError::OutOfBounds { .. } => Status::BadInput,
             VortexError::InvalidArgument(_) => Status::BadInput,
@@ -59,6 +62,7 @@ impl Status {
             Status::BadInput => 3,
             Status::Fault => 4,
             Status::TurnLimit { .. } => 5,
+            Status::RewriteLimit { .. } => 6,
             Status::Memory => 9,
             Status::ReadFault => 10,
             Status::WriteFault => 11,
@@ -77,6 +81,7 @@ pub fn status_text(status: Status) -> &'static str
         Status::BadInput => "bad input",
         Status::Fault => "fault",
         Status::TurnLimit { .. } => "turn limit",
+        Status::RewriteLimit { .. } => "rewrite limit",
         Status::Memory => "out of memory",
         Status::ReadFault => "read fault",
         Status::WriteFault => "write fault",

@@ -1,21 +1,23 @@
 //! The commands of the program.
 
 ghost use Rattle.std.specs.Prelude.{◌≡◌};
-ghost use Rattle.vx_main.specs.Commands.{texts, command_of, word_command, numbered_command, number_of};
+ghost use Rattle.vx_main.specs.Commands.{texts, command_of, word_command, numbered_command, number_of, limit_of};
 
 use vx_exec::DEFAULT_TURNS;
 
 /// The text that `--help` prints. (own)
 pub const HELP: &str = "usage: vx run [TURNS] < TREE.json
+       vx optimize [TURNS] < TREE.json
        vx --help
        vx --version
 
 Reads a tree as JSON on standard input, executes it to a column in at most TURNS
 turns (4194304 by default), and prints the type, the encoding and one line for
-each row.
+each row. With optimize, the tree is rewritten first, so that less is executed.
 
 status 0: done, 2: usage, 3: bad input, 4: fault in a row, 5: turn limit,
-9: out of memory, 10: read fault, 11: write fault, 12: input too large
+6: rewrite limit, 9: out of memory, 10: read fault, 11: write fault,
+12: input too large
 ";
 
 /// The text that `--version` prints. (own)
@@ -26,10 +28,25 @@ pub const VERSION: &str = "vx 0.1.0\n";
 pub enum Command {
     /// Executes the tree, in at most `limit` turns, and prints the column.
     Run { limit: u64 },
+    /// Rewrites the tree first, and then does the same.
+    Optimize { limit: u64 },
     /// Prints `HELP`.
     Help,
     /// Prints `VERSION`.
     Version,
+}
+
+impl Command {
+    /// Returns the number of turns that the command allows, 0 if it executes nothing.
+    pub(crate) fn limit(self) -> u64
+        ensures { result ≡ limit_of self }
+    {
+        match self {
+            Command::Run { limit } => limit,
+            Command::Optimize { limit } => limit,
+            _ => 0,
+        }
+    }
 }
 
 /// Reads a decimal number below 2^64; `None` for any other text, and for a leading zero.
@@ -59,6 +76,10 @@ fn read_word(word: &str) -> Option<Command>
         Some(Command::Run {
             limit: DEFAULT_TURNS,
         })
+    } else if word == "optimize" {
+        Some(Command::Optimize {
+            limit: DEFAULT_TURNS,
+        })
     } else if word == "--help" {
         Some(Command::Help)
     } else if word == "--version" {
@@ -72,12 +93,13 @@ fn read_word(word: &str) -> Option<Command>
 fn read_numbered(word: &str, number: &str) -> Option<Command>
     ensures { result ≡ numbered_command word.now number.now }
 {
-    if word != "run" {
-        return None;
-    }
-    match read_number(number.as_bytes()) {
-        Some(limit) => Some(Command::Run { limit }),
-        None => None,
+    let limit = read_number(number.as_bytes())?;
+    if word == "run" {
+        Some(Command::Run { limit })
+    } else if word == "optimize" {
+        Some(Command::Optimize { limit })
+    } else {
+        None
     }
 }
 

@@ -1,8 +1,6 @@
-use Rattle.std.proofs.Common.{◌≡◌, ◌≤◌, ap, subst, string_bytes}
-use Rattle.vx_tree.specs.Tree.{Tree, dtype, datum, id_of}
-use Rattle.vx_tree.specs.Cells.{rows}
-use Rattle.vx_tree.specs.Columns.{IsLawful, columnar_tree}
-use Rattle.vx_main.specs.Output.{Shows}
+use Rattle.std.proofs.Common.{◌≡◌, ◌≤◌, ap, subst, string_bytes, ◌∙◌}
+use Rattle.vx_tree.specs.Columns.{columnar_tree}
+use Rattle.vx_main.specs.Commands.{limit_of}
 use Rattle.vx_main.proofs.RunsLemmas.{answers_of}
 use Rattle.vx_main.proofs.top.answer.answer.Goals as goal
 
@@ -10,7 +8,8 @@ pub returns-clause-ok : goal.returns-clause-ok
 returns-clause-ok c =
     let text = string_bytes c.in_ok-column_text.field-0 in
     let within = c.in_ok-column.ensures.within in
-    answers_of c.args.bytes.now text c.args.limit c.execute.new.ctx.turns c.in_ok-array.array (columnar_tree c.in_ok-column.column)
-    c.in_ok-array.ensures.ok c.in_ok-column.ensures.ok c.in_ok-column.ensures.executed
-    (within.0, subst (λ l. c.execute.new.ctx.turns ≤ l) (ap (λ x. x.limit) c.with_limit-ctx.ensures) within.1) c.in_ok-column.ensures.as_it_is
+    let limit = ap (λ x. x.limit) c.with_limit-ctx.ensures ∙ c.limit.ensures in
+    answers_of c.args.command c.args.bytes.now text c.execute.new.ctx.turns c.in_ok-array.array c.in_ok-source.source (columnar_tree c.in_ok-column.column)
+    c.in_ok-array.ensures.ok c.in_ok-source.ensures.ok c.in_ok-column.ensures.ok c.in_ok-column.ensures.executed
+    (within.0, subst (λ l. c.execute.new.ctx.turns ≤ l) limit within.1) c.in_ok-column.ensures.as_it_is
     c.in_ok-column_text.ensures.ok c.in_ok-column_text.ensures.lawful

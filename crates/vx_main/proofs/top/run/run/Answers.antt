@@ -1,5 +1,19 @@
+use Rattle.std.proofs.Common.{rules, ◌≡◌, ℕ, List, Some, true, string_bytes, sym, subst}
 use Rattle.vx_stream.proofs.StreamsLemmas.{taken_to_the_end}
+use Rattle.vx_main.specs.Commands.{reads_tree}
+use Rattle.vx_main.specs.Runs.{Answers}
+use Rattle.vx_main.proofs.RunsLemmas.{owed}
 use Rattle.vx_main.proofs.top.run.run.Goals as goal
 
 pub returns-in-Ok-answer-clause-read_whole : goal.returns-in-Ok-answer-clause-read_whole
 returns-in-Ok-answer-clause-read_whole g c = λ reads done. taken_to_the_end _ _ c.in-Ok.bytes.items c.in-Ok.ensures.all
+
+pub returns-in-Ok-answer-clause-write_fault : goal.returns-in-Ok-answer-clause-write_fault
+returns-in-Ok-answer-clause-write_fault g c = λ d named fault.
+    let command = c.in-Some.command in
+    let same : command ≡ d = cc (c.read_command.ensures, c.in-Some.is, named) in
+    let reads : reads_tree (Some command) ≡ true = search rules in
+    let text = string_bytes c.in-Ok-answer.text in
+    let answers : Answers command c.in-Ok.bytes.items text = subst (λ (bs : List ℕ). Answers command bs text) c.as_slice.ensures.value c.in-Ok-answer.ensures.ok in
+    let told = c.finish-in-Ok-answer.ensures.fault fault in
+    (told.0, (_, owed command d _ _ c.in-Ok.bytes.items _ same reads c.in-Ok.ensures.all (subst (Answers command c.in-Ok.bytes.items) (sym c.as_bytes-in-Ok-answer.ensures.value) answers), told.1))
