@@ -159,10 +159,9 @@ impl BinaryViews {
         requires { length (bits_in mask.now) ≡ length self.now }
         ensures { IfOk result (λ column. column ≡ chosen (bits_in mask.now) self.now) }
     {
-        Ok(BinaryViews {
-            views: self.views.filter(alloc, mask)?,
-            buffers: self.buffers.clone()?,
-        })
+        let views = self.views.filter(alloc, mask)?;
+        let buffers = self.buffers.clone()?;
+        Ok(BinaryViews { views, buffers })
     }
 }
 
