@@ -81,28 +81,23 @@ impl ArrayBuiltins for ArrayRef {
             return cast_to(alloc, self, target);
         }
         let fill = ConstantArray::new(alloc, fill_value, self.len())?;
-        let children = vec![in alloc; self.clone()?, fill.into_array()]?;
-        call(alloc, ScalarFnRef::FillNull, children, self.len())
+        call_of_two(alloc, ScalarFnRef::FillNull, self, fill.into_array())
     }
 
     fn is_null(&self, alloc: Global) -> VortexResult<ArrayRef> {
-        let children = vec![in alloc; self.clone()?]?;
-        call(alloc, ScalarFnRef::IsNull, children, self.len())
+        call_of_one(alloc, ScalarFnRef::IsNull, self)
     }
 
     fn is_not_null(&self, alloc: Global) -> VortexResult<ArrayRef> {
-        let children = vec![in alloc; self.clone()?]?;
-        call(alloc, ScalarFnRef::IsNotNull, children, self.len())
+        call_of_one(alloc, ScalarFnRef::IsNotNull, self)
     }
 
     fn mask(&self, alloc: Global, mask: ArrayRef) -> VortexResult<ArrayRef> {
-        let children = vec![in alloc; self.clone()?, mask]?;
-        call(alloc, ScalarFnRef::Mask, children, self.len())
+        call_of_two(alloc, ScalarFnRef::Mask, self, mask)
     }
 
     fn not(&self, alloc: Global) -> VortexResult<ArrayRef> {
-        let children = vec![in alloc; self.clone()?]?;
-        call(alloc, ScalarFnRef::Not, children, self.len())
+        call_of_one(alloc, ScalarFnRef::Not, self)
     }
 
     fn zip(&self, alloc: Global, if_true: ArrayRef, if_false: ArrayRef) -> VortexResult<ArrayRef> {
@@ -111,8 +106,7 @@ impl ArrayBuiltins for ArrayRef {
     }
 
     fn binary(&self, alloc: Global, rhs: ArrayRef, operator: Operator) -> VortexResult<ArrayRef> {
-        let children = vec![in alloc; self.clone()?, rhs]?;
-        call(alloc, ScalarFnRef::Binary(operator), children, self.len())
+        call_of_two(alloc, ScalarFnRef::Binary(operator), self, rhs)
     }
 
     fn between(
@@ -154,6 +148,27 @@ fn call(
     node.optimize(alloc)
 }
 
+/// Makes the node of `function` over `array` alone, and optimizes it.
+fn call_of_one(alloc: Global, function: ScalarFnRef, array: &ArrayRef) -> VortexResult<ArrayRef>
+    ensures { Calls function (array.now ∷ []) (len array.now) result }
+{
+    let children = vec![in alloc; array.clone()?]?;
+    call(alloc, function, children, array.len())
+}
+
+/// Makes the node of `function` over `lhs` and `rhs`, with as many rows as `lhs`, and optimizes it.
+fn call_of_two(
+    alloc: Global,
+    function: ScalarFnRef,
+    lhs: &ArrayRef,
+    rhs: ArrayRef,
+) -> VortexResult<ArrayRef>
+    ensures { Calls function (lhs.now ∷ rhs ∷ []) (len lhs.now) result }
+{
+    let children = vec![in alloc; lhs.clone()?, rhs]?;
+    call(alloc, function, children, lhs.len())
+}
+
 /// Returns `array` as values of type `target`: the array itself if it has that type.
 #[tactic(auto, using(crate::proofs::BuiltinsLemmas::same_cast))]
 fn cast_to(alloc: Global, array: &ArrayRef, target: DType) -> VortexResult<ArrayRef>
@@ -164,6 +179,5 @@ fn cast_to(alloc: Global, array: &ArrayRef, target: DType) -> VortexResult<Array
         array.well();
         return Ok(array.clone()?);
     }
-    let children = vec![in alloc; array.clone()?]?;
-    call(alloc, ScalarFnRef::Cast(target), children, array.len())
+    call_of_one(alloc, ScalarFnRef::Cast(target), array)
 }
