@@ -1,0 +1,55 @@
+//! Rewriting by its public calls: the limit at one root, and nodes that are optimized as they are made.
+
+use std::alloc::Global;
+use std::test::Fail;
+use vx_opt::{ArrayBuiltins, ArrayOptimizer, ArraySelect, RuleRegistry};
+use vx_tree::{ArrayKind, ArrayRef, ConstantArray, IntoArray, SliceArray};
+use vx_value::{DType, Nullability, PType, Scalar, VortexError, VortexResult};
+
+/// Returns a constant of `len` rows.
+fn sevens(alloc: Global, len: usize) -> VortexResult<ArrayRef> {
+    let seven = Scalar::primitive(7, PType::I32, Nullability::NonNullable);
+    Ok(ConstantArray::new(alloc, seven, len)?.into_array())
+}
+
+/// Returns `nested` slices 0..1 over a constant of five rows.
+fn slices(alloc: Global, nested: usize) -> VortexResult<ArrayRef> {
+    let mut array = sevens(alloc, 5)?;
+    for _i in 0..nested {
+        array = SliceArray::try_new(alloc, array, 0..1)?.into_array();
+    }
+    Ok(array)
+}
+
+/// Checks that `array` is a constant of `len` rows, each `value`.
+fn repeats(array: &ArrayRef, value: i128, len: usize) -> bool {
+    match array.kind() {
+        ArrayKind::Constant(scalar) => scalar.as_integer() == Some(value) && array.len() == len,
+        _ => false,
+    }
+}
+
+#[test]
+fn a_hundred_rewrites_at_one_root(rt: HostRuntime) -> Result<(), Fail> {
+    let alloc = rt.alloc();
+    assert!(rt; repeats(&slices(alloc, 100)?.optimize(alloc)?, 7, 1));
+    let limit = VortexError::RewriteLimit {
+        at_root: 101,
+        total: 101,
+    };
+    let mut rules = RuleRegistry::empty();
+    let refused = slices(alloc, 101)?.optimize_recursive(alloc, &mut rules);
+    assert!(rt; matches!(refused, Err(e) if e == limit));
+    Ok(())
+}
+
+#[test]
+fn nodes_are_optimized_as_they_are_made(rt: HostRuntime) -> Result<(), Fail> {
+    let alloc = rt.alloc();
+    assert!(rt; repeats(&sevens(alloc, 3)?.slice(alloc, 1..3)?, 7, 2));
+    let null = Scalar::null(DType::Primitive(PType::I32, Nullability::Nullable));
+    let nulls = ConstantArray::new(alloc, null, 3)?.into_array();
+    let one = Scalar::primitive(1, PType::I32, Nullability::NonNullable);
+    assert!(rt; repeats(&nulls.fill_null(alloc, one)?, 1, 3));
+    Ok(())
+}
