@@ -29,24 +29,28 @@ fn has_two(validity: &Validity, len: usize) -> bool {
     }
 }
 
-#[test]
-fn rows_and_nulls_are_appended(rt: HostRuntime) -> Result<(), Fail> {
-    let alloc = rt.alloc();
+fn builder_of_rows(alloc: Global) -> VortexResult<Builder> {
     let mut builder = Builder::with_capacity(alloc, NULLABLE, 2)?;
     builder.append_scalar(&nine(Nullability::Nullable))?;
     builder.append_nulls(70)?;
     builder.append_scalar(&nine(Nullability::Nullable))?;
-    assert!(rt;
-        is_refused(
-            builder.append_scalar(&nine(Nullability::NonNullable)),
-            BAD_TYPE
-        )
-    );
+    Ok(builder)
+}
+
+fn is_finished(alloc: Global, builder: Builder) -> VortexResult<bool> {
+    let column = builder.finish(alloc)?;
+    let validity = column.as_array().validity(alloc)?;
+    Ok(column.as_primitive().is_some() && has_two(&validity, 73))
+}
+
+#[test]
+fn rows_and_nulls_are_appended(rt: HostRuntime) -> Result<(), Fail> {
+    let mut builder = builder_of_rows(rt.alloc())?;
+    let refused = builder.append_scalar(&nine(Nullability::NonNullable));
+    assert!(rt; is_refused(refused, BAD_TYPE));
     builder.append_nulls(1)?;
     assert!(rt; builder.len() == 73 && builder.dtype() == &NULLABLE);
-    let column = builder.finish(alloc)?;
-    assert!(rt; column.as_primitive().is_some());
-    assert!(rt; has_two(&column.as_array().validity(alloc)?, 73));
+    assert!(rt; is_finished(rt.alloc(), builder)?);
     Ok(())
 }
 

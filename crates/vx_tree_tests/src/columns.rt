@@ -4,10 +4,13 @@ use crate::parts::{BOOL, I32, UTF8, booleans, integers, is_refused};
 use std::alloc::Global;
 use std::test::Fail;
 use vx_tree::{
-    BoolArray, Canonical, DecimalArray, DecimalValues, IntoArray, NullArray, PrimitiveArray,
-    Validity, VarBinViewArray,
+    BoolArray, Canonical, Columnar, DecimalArray, DecimalValues, IntoArray, NullArray,
+    PrimitiveArray, Validity, VarBinViewArray,
 };
-use vx_value::{ArgKind, ByteBuffer, DType, DecimalDType, DecimalType, Nullability, VortexResult};
+use vx_value::{
+    ArgKind, ByteBuffer, DType, DecimalDType, DecimalType, Id, Nullability, PType, Scalar,
+    VortexResult,
+};
 use vx_views::BinaryViews;
 
 /// Returns the type of decimals of `precision` digits, one of them behind the point.
@@ -44,7 +47,11 @@ fn kinds(column: &Canonical) -> [bool; 5] {
 }
 
 fn is_of_nulls(column: NullArray) -> bool {
-    kinds(&Canonical::Null(column)) == [true, false, false, false, false]
+    let column = Canonical::Null(column);
+    let told = (column.len(), column.is_empty());
+    kinds(&column) == [true, false, false, false, false]
+        && told == (3, false)
+        && column.dtype() == &DType::Null
 }
 
 fn is_of_booleans(column: BoolArray) -> bool {
@@ -77,6 +84,20 @@ fn kinds_of_columns(rt: HostRuntime) -> Result<(), Fail> {
     assert!(rt; is_of_integers(integers(alloc, &[7, -7])?));
     assert!(rt; is_of_decimals(decimals(alloc, hundreds, &none)?));
     assert!(rt; is_of_text(texts(alloc, UTF8, b"a", &none)?));
+    Ok(())
+}
+
+fn is_constant(column: Columnar) -> bool {
+    let told = (column.len(), column.is_empty());
+    told == (3, false)
+        && column.dtype() == &I32
+        && column.into_array().encoding_id() == Id::Constant
+}
+
+#[test]
+fn constants_are_columns(rt: HostRuntime) -> Result<(), Fail> {
+    let seven = Scalar::primitive(7, PType::I32, Nullability::NonNullable);
+    assert!(rt; is_constant(Columnar::constant(rt.alloc(), seven, 3)?));
     Ok(())
 }
 
