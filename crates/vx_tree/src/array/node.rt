@@ -109,36 +109,16 @@ impl Clone for Encoding {
     }
 }
 
-fn copy_slot(slot: &Option<ArrayRef>) -> Result<Option<ArrayRef>, AllocError>
-    ensures { IfOk result (λ copy. copy ≡ slot.now) }
-{
-    match slot {
-        Some(child) => Ok(Some(child.clone()?)),
-        None => Ok(None),
-    }
-}
-
-fn copy_slots(
-    alloc: Global,
-    slots: &Vec<Option<ArrayRef>>,
-) -> Result<Vec<Option<ArrayRef>>, AllocError>
-    ensures { IfOk result (λ copy. copy.items ≡ slots.now.items) }
-{
-    let mut copy = Vec::with_capacity(alloc, slots.len())?;
-    for slot in slots {
-        copy.push(copy_slot(slot)?)?;
-    }
-    Ok(copy)
-}
-
 fn copy_node(alloc: Global, node: &Node) -> Result<Node, AllocError>
     ensures { IfOk result (λ copy. tree_of copy ≡ tree_of node.now) }
 {
+    let dtype = node.dtype.clone()?;
+    let slots = node.slots.to_vec(alloc)?;
     Ok(Node {
-        dtype: node.dtype.clone()?,
+        dtype,
         len: node.len,
         encoding: node.encoding.clone()?,
-        slots: copy_slots(alloc, &node.slots)?,
+        slots,
     })
 }
 

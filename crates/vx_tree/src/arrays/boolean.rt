@@ -12,7 +12,7 @@ ghost use Rattle.vx_tree.specs.Columns.{canonical_tree, bool_column, empty_of};
 
 use crate::array::{Array, ArrayId, ArrayParts, Encoded, Encoding, EncodingVariant, VTable};
 use crate::arrays::column::{FlatEncoding, check_column, flat_column};
-use crate::arrays::payload;
+use crate::arrays::{into_variant, variant};
 use crate::canonical::Canonical;
 use crate::validity::Validity;
 use std::alloc::{AllocError, Global};
@@ -101,22 +101,14 @@ impl Canonical {
     pub fn as_bool(&self) -> Option<&BoolArray>
         ensures { option_map (λ c. c.now) result ≡ bool_column self.now }
     {
-        if let Canonical::Bool(column) = self {
-            Some(column)
-        } else {
-            None
-        }
+        variant!(self, Canonical::Bool)
     }
 
     /// Returns the column by value if it is a boolean column, else `None`.
     pub fn into_bool(self) -> Option<BoolArray>
         ensures { result ≡ bool_column self }
     {
-        if let Canonical::Bool(column) = self {
-            Some(column)
-        } else {
-            None
-        }
+        into_variant!(self, Canonical::Bool)
     }
 }
 
@@ -144,11 +136,11 @@ impl EncodingVariant for Bool {
     ghost is_kind = { is_bool };
 
     fn project(encoding: &Encoding) -> Option<&BoolData> {
-        payload!(encoding, Bool)
+        variant!(encoding, Encoding::Bool)
     }
 
     fn into_data(encoding: Encoding) -> Option<BoolData> {
-        payload!(encoding, Bool)
+        into_variant!(encoding, Encoding::Bool)
     }
 
     ghost kind_of = { λ d. refl };

@@ -5,8 +5,8 @@ ghost use Rattle.vx_value.specs.declared.id.Id.TheVariants as id;
 ghost use Rattle.vx_tree.specs.Tree.{constant, constant_of, is_constant};
 
 use crate::array::{Array, ArrayId, ArrayParts, Encoded, Encoding, EncodingVariant, VTable};
-use crate::arrays::payload;
 use crate::arrays::types::is_same_type;
+use crate::arrays::{into_variant, variant};
 use std::alloc::Global;
 use vx_value::{ArgKind, Id, Scalar, VortexError, VortexResult};
 
@@ -94,11 +94,11 @@ impl EncodingVariant for Constant {
     ghost is_kind = { is_constant };
 
     fn project(encoding: &Encoding) -> Option<&ConstantData> {
-        payload!(encoding, Constant)
+        variant!(encoding, Encoding::Constant)
     }
 
     fn into_data(encoding: Encoding) -> Option<ConstantData> {
-        payload!(encoding, Constant)
+        into_variant!(encoding, Encoding::Constant)
     }
 
     ghost kind_of = { λ d. refl };

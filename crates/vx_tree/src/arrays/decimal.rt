@@ -16,7 +16,7 @@ ghost use Rattle.vx_tree.specs.Columns.{canonical_tree, decimal_column, empty_of
 
 use crate::array::{Array, ArrayId, ArrayParts, Encoded, Encoding, EncodingVariant, VTable};
 use crate::arrays::column::{FlatEncoding, check_column, check_flat_column, flat_column};
-use crate::arrays::payload;
+use crate::arrays::{into_variant, variant};
 use crate::canonical::Canonical;
 use crate::validity::Validity;
 use std::alloc::{AllocError, Global};
@@ -175,22 +175,14 @@ impl Canonical {
     pub fn as_decimal(&self) -> Option<&DecimalArray>
         ensures { option_map (λ c. c.now) result ≡ decimal_column self.now }
     {
-        if let Canonical::Decimal(column) = self {
-            Some(column)
-        } else {
-            None
-        }
+        variant!(self, Canonical::Decimal)
     }
 
     /// Returns the column by value if it is one of decimals, else `None`.
     pub fn into_decimal(self) -> Option<DecimalArray>
         ensures { result ≡ decimal_column self }
     {
-        if let Canonical::Decimal(column) = self {
-            Some(column)
-        } else {
-            None
-        }
+        into_variant!(self, Canonical::Decimal)
     }
 }
 
@@ -218,11 +210,11 @@ impl EncodingVariant for Decimal {
     ghost is_kind = { is_decimals };
 
     fn project(encoding: &Encoding) -> Option<&DecimalData> {
-        payload!(encoding, Decimal)
+        variant!(encoding, Encoding::Decimal)
     }
 
     fn into_data(encoding: Encoding) -> Option<DecimalData> {
-        payload!(encoding, Decimal)
+        into_variant!(encoding, Encoding::Decimal)
     }
 
     ghost kind_of = { λ d. refl };

@@ -15,14 +15,28 @@ pub mod slice;
 pub(crate) mod types;
 pub mod varbinview;
 
-/// Evaluates to the data of an `Encoding` of this variant, `Some(data)`; returns `None` from the function if it is of another.
-macro_rules! payload {
-    ($encoding:expr, $variant:ident) => {{
-        let $crate::array::Encoding::$variant(data) = $encoding else {
-            return None;
-        };
-        Some(data)
-    }};
+/// Evaluates to the value in a borrowed enum of this variant, `Some(value)`; to `None` if it is of another.
+macro_rules! variant {
+    ($enum:expr, $name:ident::$variant:ident) => {
+        match $enum {
+            $name::$variant(value) => Some(value),
+            _ => None,
+        }
+    };
 }
 
-pub(crate) use payload;
+/// Evaluates to the value in an owned enum of this variant, `Some(value)`; to `None` if it is of another, which is dropped whole.
+macro_rules! into_variant {
+    ($enum:expr, $name:ident::$variant:ident) => {
+        match $enum {
+            $name::$variant(value) => Some(value),
+            other => {
+                drop(other);
+                None
+            }
+        }
+    };
+}
+
+pub(crate) use into_variant;
+pub(crate) use variant;

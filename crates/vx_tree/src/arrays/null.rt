@@ -8,9 +8,9 @@ ghost use Rattle.vx_tree.specs.Keeps.{KeepsExactly};
 ghost use Rattle.vx_tree.specs.Columns.{null_column};
 
 use crate::array::{Array, ArrayId, ArrayParts, Encoded, Encoding, EncodingVariant, VTable};
-use crate::arrays::payload;
 use crate::arrays::scalar_fn_validity::EmptyArrayData;
 use crate::arrays::types::is_same_type;
+use crate::arrays::{into_variant, variant};
 use crate::canonical::Canonical;
 use std::alloc::Global;
 use std::ops::Range;
@@ -75,22 +75,14 @@ impl Canonical {
     pub fn as_null(&self) -> Option<&NullArray>
         ensures { option_map (λ c. c.now) result ≡ null_column self.now }
     {
-        if let Canonical::Null(column) = self {
-            Some(column)
-        } else {
-            None
-        }
+        variant!(self, Canonical::Null)
     }
 
     /// Returns the column by value if it is one of nulls, else `None`.
     pub fn into_null(self) -> Option<NullArray>
         ensures { result ≡ null_column self }
     {
-        if let Canonical::Null(column) = self {
-            Some(column)
-        } else {
-            None
-        }
+        into_variant!(self, Canonical::Null)
     }
 }
 
@@ -108,11 +100,11 @@ impl EncodingVariant for Null {
     ghost is_kind = { is_nulls };
 
     fn project(encoding: &Encoding) -> Option<&EmptyArrayData> {
-        payload!(encoding, Null)
+        variant!(encoding, Encoding::Null)
     }
 
     fn into_data(encoding: Encoding) -> Option<EmptyArrayData> {
-        payload!(encoding, Null)
+        into_variant!(encoding, Encoding::Null)
     }
 
     ghost kind_of = { λ d. refl };

@@ -12,7 +12,7 @@ ghost use Rattle.vx_tree.specs.Columns.{canonical_tree, primitive_column, empty_
 
 use crate::array::{Array, ArrayId, ArrayParts, Encoded, Encoding, EncodingVariant, VTable};
 use crate::arrays::column::{FlatEncoding, check_column, flat_column};
-use crate::arrays::payload;
+use crate::arrays::{into_variant, variant};
 use crate::canonical::Canonical;
 use crate::validity::Validity;
 use std::alloc::{AllocError, Global};
@@ -105,22 +105,14 @@ impl Canonical {
     pub fn as_primitive(&self) -> Option<&PrimitiveArray>
         ensures { option_map (λ c. c.now) result ≡ primitive_column self.now }
     {
-        if let Canonical::Primitive(column) = self {
-            Some(column)
-        } else {
-            None
-        }
+        variant!(self, Canonical::Primitive)
     }
 
     /// Returns the column by value if it is an integer column, else `None`.
     pub fn into_primitive(self) -> Option<PrimitiveArray>
         ensures { result ≡ primitive_column self }
     {
-        if let Canonical::Primitive(column) = self {
-            Some(column)
-        } else {
-            None
-        }
+        into_variant!(self, Canonical::Primitive)
     }
 }
 
@@ -151,11 +143,11 @@ impl EncodingVariant for Primitive {
     ghost is_kind = { is_primitive };
 
     fn project(encoding: &Encoding) -> Option<&PrimitiveData> {
-        payload!(encoding, Primitive)
+        variant!(encoding, Encoding::Primitive)
     }
 
     fn into_data(encoding: Encoding) -> Option<PrimitiveData> {
-        payload!(encoding, Primitive)
+        into_variant!(encoding, Encoding::Primitive)
     }
 
     ghost kind_of = { λ d. refl };

@@ -8,8 +8,8 @@ use crate::array::{
     Array, ArrayId, ArrayParts, ArrayRef, Encoded, Encoding, EncodingVariant, VTable,
 };
 use crate::arrays::child::only_child;
-use crate::arrays::payload;
 use crate::arrays::types::{BOOLEANS, is_same_type};
+use crate::arrays::{into_variant, variant};
 use std::alloc::Global;
 use std::fmt;
 use vx_value::{ArgKind, DType, Id, Nullability, VortexError, VortexResult};
@@ -85,11 +85,11 @@ impl EncodingVariant for ScalarFnValidity {
     ghost is_kind = { is_validity };
 
     fn project(encoding: &Encoding) -> Option<&EmptyArrayData> {
-        payload!(encoding, ScalarFnValidity)
+        variant!(encoding, Encoding::ScalarFnValidity)
     }
 
     fn into_data(encoding: Encoding) -> Option<EmptyArrayData> {
-        payload!(encoding, ScalarFnValidity)
+        into_variant!(encoding, Encoding::ScalarFnValidity)
     }
 
     ghost kind_of = { λ d. refl };

@@ -12,7 +12,7 @@ ghost use Rattle.vx_tree.specs.Columns.{canonical_tree, varbinview_column, empty
 
 use crate::array::{Array, ArrayId, ArrayParts, Encoded, Encoding, EncodingVariant, VTable};
 use crate::arrays::column::{FlatEncoding, check_column, check_flat_column, flat_column};
-use crate::arrays::payload;
+use crate::arrays::{into_variant, variant};
 use crate::canonical::Canonical;
 use crate::validity::Validity;
 use std::alloc::{AllocError, Global};
@@ -153,22 +153,14 @@ impl Canonical {
     pub fn as_varbinview(&self) -> Option<&VarBinViewArray>
         ensures { option_map (λ c. c.now) result ≡ varbinview_column self.now }
     {
-        if let Canonical::VarBinView(column) = self {
-            Some(column)
-        } else {
-            None
-        }
+        variant!(self, Canonical::VarBinView)
     }
 
     /// Returns the column by value if it is one of text or bytes, else `None`.
     pub fn into_varbinview(self) -> Option<VarBinViewArray>
         ensures { result ≡ varbinview_column self }
     {
-        if let Canonical::VarBinView(column) = self {
-            Some(column)
-        } else {
-            None
-        }
+        into_variant!(self, Canonical::VarBinView)
     }
 }
 
@@ -199,11 +191,11 @@ impl EncodingVariant for VarBinView {
     ghost is_kind = { is_views };
 
     fn project(encoding: &Encoding) -> Option<&VarBinViewData> {
-        payload!(encoding, VarBinView)
+        variant!(encoding, Encoding::VarBinView)
     }
 
     fn into_data(encoding: Encoding) -> Option<VarBinViewData> {
-        payload!(encoding, VarBinView)
+        into_variant!(encoding, Encoding::VarBinView)
     }
 
     ghost kind_of = { λ d. refl };
