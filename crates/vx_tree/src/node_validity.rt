@@ -136,9 +136,7 @@ pub fn and_lazily(
     ensures ok { IfOk result (λ a. a ≡ both_of len first second) }
     ensures err { IfErr result (λ e. e ≡ VortexError.OutOfMemory) }
 {
-    let mut children = Vec::with_capacity(alloc, 2)?;
-    children.push(first)?;
-    children.push(second)?;
+    let children = vec![in alloc; first, second]?;
     let function = ScalarFnRef::Binary(Operator::And);
     let both = ScalarFnArray::try_new_with_len(alloc, function, children, len)?;
     Ok(both.into_array())

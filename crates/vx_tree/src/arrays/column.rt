@@ -137,7 +137,7 @@ pub(crate) fn flat_column<V: VTable>(
 {
     check_flat_column(&dtype, of_type, len, validity)?;
     let child = validity_to_child(alloc, validity, len)?;
-    let slots = only_slot(alloc, child)?;
+    let slots = vec![in alloc; child]?;
     let parts = ArrayParts::new(vtable, dtype, len, payload, slots);
     Ok(Array::from_parts_unchecked(alloc, parts)?)
 }
@@ -177,7 +177,7 @@ pub(crate) fn flat_slice<V: FlatEncoding>(
     let (start, end) = (range.start, range.end);
     let payload = V::slice_values(column.data(), range)?;
     let dtype = array.dtype().clone()?;
-    let slots = only_slot(alloc, slice_validity(alloc, validity, start..end)?)?;
+    let slots = vec![in alloc; slice_validity(alloc, validity, start..end)?]?;
     let parts = ArrayParts::new(V::tag(&payload), dtype, end - start, payload, slots);
     Ok(Array::from_parts_unchecked(alloc, parts)?)
 }
@@ -189,13 +189,4 @@ fn flat_validity<V: FlatEncoding>(column: &Array<V>) -> &Option<ArrayRef>
     V::know_flat(column.data());
     column.as_array().well();
     &column.slots()[0]
-}
-
-/// Returns `child` as the only slot of a node.
-fn only_slot(alloc: Global, child: Option<ArrayRef>) -> Result<Vec<Option<ArrayRef>>, AllocError>
-    ensures { IfOk result (λ slots. slots.items ≡ child ∷ []) }
-{
-    let mut slots = Vec::with_capacity(alloc, 1)?;
-    slots.push(child)?;
-    Ok(slots)
 }

@@ -123,8 +123,7 @@ impl FilterArray {
     {
         let dtype = child.dtype().clone()?;
         let len = mask.true_count();
-        let mut slots = Vec::with_capacity(alloc, 1)?;
-        slots.push(Some(child))?;
+        let slots = vec![in alloc; Some(child)]?;
         let parts = ArrayParts {
             vtable: Filter,
             dtype,

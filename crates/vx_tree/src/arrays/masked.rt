@@ -88,9 +88,7 @@ impl MaskedArray {
         let dtype = child.dtype().as_nullable()?;
         let len = child.len();
         let validity = validity_to_child(alloc, validity, len)?;
-        let mut slots = Vec::with_capacity(alloc, 2)?;
-        slots.push(Some(child))?;
-        slots.push(validity)?;
+        let slots = vec![in alloc; Some(child), validity]?;
         let parts = ArrayParts::new(Masked, dtype, len, MaskedData, slots);
         Ok(Array::from_parts_unchecked(alloc, parts)?)
     }

@@ -63,8 +63,7 @@ impl ScalarFnValidityArray {
         ensures err { IfErr result (λ e. e ≡ VortexError.OutOfMemory) }
     {
         let len = child.len();
-        let mut slots = Vec::with_capacity(alloc, 1)?;
-        slots.push(Some(child))?;
+        let slots = vec![in alloc; Some(child)]?;
         let dtype = DType::Bool(Nullability::NonNullable);
         let parts = ArrayParts::new(ScalarFnValidity, dtype, len, EmptyArrayData, slots);
         Ok(Array::from_parts_unchecked(alloc, parts)?)

@@ -118,8 +118,7 @@ impl SliceArray {
     {
         let dtype = child.dtype().clone()?;
         let len = range.end - range.start;
-        let mut slots = Vec::with_capacity(alloc, 1)?;
-        slots.push(Some(child))?;
+        let slots = vec![in alloc; Some(child)]?;
         let parts = ArrayParts {
             vtable: Slice,
             dtype,

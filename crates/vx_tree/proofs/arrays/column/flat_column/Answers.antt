@@ -9,5 +9,5 @@ from_parts_unchecked-requires g c =
     let ty = type_of c.args.dtype in
     let n = c.args.len in
     let made = flat_made (type_of c.args.of_type.now) ty n c.args.validity.now c.in_ok-child.child c.in_ok-slots.slots.items c.in_ok-check_flat_column.ensures.valid
-    c.in_ok-child.ensures.ok c.in_ok-slots.ensures in
+    c.in_ok-child.ensures.ok c.in_ok-slots.ensures.items in
     rw c.new-parts.ensures (c.requires ty n (shapes (slots_of c.in_ok-slots.slots.items)) made)

@@ -20,7 +20,7 @@ from_parts_unchecked-requires g c =
     (slot_part a b c.flat_validity-validity.result.now c.in_ok-slice_validity.field-0 t well c.flat_validity-validity.ensures c.requires.0 c.requires.1 flat c.in_ok-slice_validity.ensures.ok) in
     let typed : type_of c.in_ok-dtype.dtype ≡ dtype t = search rules in
     let payload = c.in_ok-payload.ensures ∙ ap (data_range a b) c.data-2.ensures in
-    let slots = c.in_ok-slots.ensures in
+    let slots = c.in_ok-slots.ensures.items in
     rw c.new-parts.ensures (subst (λ x. x) (λ i. IsNode (sym typed i) (b - a) (sym payload i) (shapes (slots_of (sym slots i)))) kept.0)
 
 pub returns-clause-ok : goal.returns-clause-ok
@@ -34,7 +34,7 @@ returns-clause-ok g c =
     (slot_part a b c.flat_validity-validity.result.now c.in_ok-slice_validity.field-0 t well c.flat_validity-validity.ensures c.requires.0 c.requires.1 flat c.in_ok-slice_validity.ensures.ok) in
     let typed : type_of c.in_ok-dtype.dtype ≡ dtype t = search rules in
     let payload = c.in_ok-payload.ensures ∙ ap (data_range a b) c.data-2.ensures in
-    let slots = c.in_ok-slots.ensures in
+    let slots = c.in_ok-slots.ensures.items in
     let made = rw c.new-parts.ensures at c.in_ok-from_parts_unchecked.ensures in
     subst (KeepsExactly (slice_of a b t)) (sym (made ∙ (λ i. node (typed i) (b - a) (payload i) (slots_of (slots i))))) kept.1
 
@@ -45,7 +45,7 @@ returns-clause-range g c =
     let b = c.args.range.end in
     let typed : type_of c.in_ok-dtype.dtype ≡ dtype t = search rules in
     let payload = c.in_ok-payload.ensures ∙ ap (data_range a b) c.data-2.ensures in
-    let slots = c.in_ok-slots.ensures in
+    let slots = c.in_ok-slots.ensures.items in
     let made = rw c.new-parts.ensures at c.in_ok-from_parts_unchecked.ensures in
     subst (λ u. u ≡ column_range a b t) (sym (made ∙ (λ i. node (typed i) (b - a) (payload i) (slots_of (slots i)))))
     (flat_range_is a b c.flat_validity-validity.result.now c.in_ok-slice_validity.field-0 t c.flat_validity-validity.ensures c.in_ok-slice_validity.ensures.ok)

@@ -1,5 +1,4 @@
-use Rattle.std.proofs.Common.{◌≡◌, ◌∷◌, [], Some, arith}
-use Rattle.std.proofs.lemmas.Grind.{common_steps}
+use Rattle.std.proofs.Common.{◌≡◌, ◌∷◌, [], Some, ap, ◌∙◌, rules}
 use Rattle.vx_value.specs.View.{type_of}
 use Rattle.vx_value.specs.Nullabilities.{with_nullability}
 use Rattle.vx_value.specs.declared.dtype.Nullability.TheVariants.{Nullable}
@@ -12,6 +11,7 @@ pub from_parts_unchecked-requires : goal.from_parts_unchecked-requires
 from_parts_unchecked-requires c =
     let t = c.args.child in
     let v = c.args.validity.now in
-    let slots_are : c.push-2.new.self.items ≡ Some t ∷ child_of v (len t) ∷ [] = grind (arith, common_steps) in
-    let typed : type_of c.in_ok-dtype.dtype ≡ with_nullability Nullable (dtype t) = grind (arith, common_steps) in
+    let slots_are : c.in_ok-slots.slots.items ≡ Some t ∷ child_of v (len t) ∷ [] =
+    c.in_ok-slots.ensures.items ∙ ap (λ w. Some t ∷ w ∷ []) (c.in_ok-validity.ensures.ok ∙ ap (child_of v) c.len-len.ensures) in
+    let typed : type_of c.in_ok-dtype.dtype ≡ with_nullability Nullable (dtype t) = search rules in
     rw (c.new-parts.ensures, slots_are, typed, c.len-len.ensures) (masked_is_node t v c.requires.rows)
