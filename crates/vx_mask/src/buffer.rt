@@ -77,7 +77,6 @@ impl<T: Drop> Buffer<T> {
 
     /// Returns the items at `range` without copying them: the result shares the storage. Fails only if the storage
     /// can't be shared once more.
-    #[tactic(auto, using(crate::proofs::Lists::part_of_part))]
     pub fn slice(&self, range: Range<usize>) -> Result<Buffer<T>, AllocError>
         requires order { range.start ≤ range.end }
         requires bounds { range.end ≤ length self.now }
