@@ -9,21 +9,13 @@ use Rattle.vx_tree.specs.ColumnTypes.{decimal_type, scale_of, bytes_type}
 use Rattle.vx_tree.specs.Tree as enc
 use Rattle.vx_tree.specs.Tree.{Tree, Data, Slots, node, dtype, len, datum, slots, slots_of, column, slice_of, is_flat}
 use Rattle.vx_tree.specs.Well.{Shape, IsFlat, IsNode, IsNodeOf, IsWell, shapes}
-use Rattle.vx_tree.specs.Columns.{count_in, data_range}
+use Rattle.vx_tree.specs.Columns.{data_range}
 use Rattle.vx_tree.specs.Keeps.{KeepsExactly}
 use Rattle.vx_tree.specs.Validities.{HasRange, IsValidityPart}
 use Rattle.vx_tree.proofs.SlotsLemmas.{only_slot}
 use Rattle.vx_tree.proofs.BytesLemmas.{bytes_node, bytes_part}
 use Rattle.vx_tree.proofs.DecimalsLemmas.{decimals_node, decimals_part}
 use Rattle.vx_tree.proofs.ValiditiesLemmas.{flat_range, flat_part}
-
--- it has as many rows as values: a line for each such encoding
-pub flat_count : (t : Tree) → IsNodeOf t → is_flat (datum t) ≡ true → len t ≡ count_in (datum t)
-flat_count (node ty n (enc.bool bs) ss) w h = w.2
-flat_count (node ty n (enc.primitive p zs) ss) w h = w.2
-flat_count (node ty n (enc.decimals d zs) ss) w h = w.0.2
-flat_count (node ty n (enc.views rs) ss) w h = w.0.2
-flat_count _ w h = absurd (cc)
 
 -- the range of its values is a column of the range's rows: a line for each
 pub flat_range_kept : (t : Tree) (v w : Option Tree) (a b : ℕ) → IsWell t → is_flat (datum t) ≡ true → slots t ≡ slots_of (v ∷ []) → b ≤ len t

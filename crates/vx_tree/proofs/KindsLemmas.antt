@@ -7,7 +7,6 @@ use Rattle.vx_value.specs.Typed.{Typed}
 use Rattle.vx_value.specs.View.{type_of}
 use Rattle.vx_value.specs.IsOf.{is_of}
 use Rattle.vx_value.specs.declared.dtype.PType.{PType}
-use Rattle.vx_fn.specs.declared.function.ScalarFnRef.{ScalarFnRef}
 use Rattle.vx_value.specs.declared.decimal.DecimalType.{DecimalType}
 use Rattle.vx_tree.specs.Tree as enc
 use Rattle.vx_tree.specs.Tree.{Tree, Data, node, slots_of, dtype, len, column, nulls_of, constant_of, slice_of, filter_of, masked_of, validity_in}
@@ -105,10 +104,3 @@ module _ (n : Node) (well : IsNodeOf (tree_of n)) where
   pub kind_views : (rs : List (List ℕ)) (s v : Option Tree) → data_of n.encoding ≡ enc.views rs → v ≡ get_or n.slots.items 0 s →
       (tree_of n ≡ column (type_of n.dtype) n.len (enc.views rs) v) × IsNodeOf (tree_of n)
   kind_views rs s v e g = let h = of_data (enc.views rs) e in (column_is (enc.views rs) s v h.0.0 e h.0.3 g, well)
-
-  -- the slots, as a reference shows them
-  pub kind_function : (f : ScalarFnRef) (shown : List (Option Tree)) → data_of n.encoding ≡ enc.function f → shown ≡ n.slots.items →
-      (tree_of n ≡ node (type_of n.dtype) n.len (enc.function f) (slots_of shown)) × IsNode (type_of n.dtype) n.len (enc.function f) (shapes (slots_of shown))
-  kind_function f shown e same =
-      let known = subst (λ xs. IsNode (type_of n.dtype) n.len (enc.function f) (shapes (slots_of xs))) (sym same) (of_data (enc.function f) e) in
-      ((λ j. node (type_of n.dtype) n.len (e j) (slots_of (sym same j))), known)

@@ -1,7 +1,5 @@
--- Slots replaced: compared one by one, found by their numbers, and nodes over slots of the same shapes.
-use Rattle.std.proofs.Common.{◌≡◌, ◌≢◌, ℕ, zero, suc, ◌+◌, ◌<◌, ◌≤◌, List, [], ◌∷◌, length, get_or, set, drop, true, Option, Some, None, refl, sym, ap, arith, subst, ◌∙◌, add-one}
-use Rattle.std.proofs.Math.Seq.{drop-cons}
-use Rattle.std.proofs.lemmas.List.{drop_all}
+-- Slots replaced: found by their numbers, and nodes over slots of the same shapes.
+use Rattle.std.proofs.Common.{◌≡◌, ◌≢◌, ℕ, zero, suc, ◌+◌, ◌<◌, ◌≤◌, List, [], ◌∷◌, length, get_or, set, true, Option, Some, None, refl, sym, ap, arith, subst, ◌∙◌}
 use Rattle.std.proofs.lemmas.Option.{slice_get_read, slice_get_past}
 use Rattle.std.specs.Cmp.{unsigned_Decides}
 use Rattle.std.specs.Prelude.{◌==◌, option_map, slice_get}
@@ -13,32 +11,10 @@ use Rattle.vx_tree.specs.Well.{Shape, shape, shape_of, shapes, IsNode, IsNodeOf,
 use Rattle.vx_tree.specs.Conditions.{first_of_both, unless}
 use Rattle.vx_tree.specs.Slots.{set_slot, put}
 use Rattle.vx_tree.specs.Replacements.{with_slots, kept_refusal, slot_refusal, found_refusal, first_refusal, each_refusal, with_slot_refusal, with_slots_refusal}
-use Rattle.vx_tree.specs.declared.replace.Kept.{Kept}
 use Rattle.vx_tree.specs.declared.replace.Kept.TheVariants.{Presence, Dtype, Len}
 use Rattle.vx_tree.proofs.ConditionsLemmas.{first_none, second_none, unless_none, some_unless}
-use Rattle.vx_tree.proofs.SlotsLemmas.{first_shape, slot_filled}
+use Rattle.vx_tree.proofs.SlotsLemmas.{slot_filled}
 use Rattle.vx_tree.proofs.RefusalsLemmas.{count_slots}
-
--- ---- two lists of slots, from slot i on
-
-shapes_from : (xs : List (Option Tree)) (i : ℕ) (x : Option Tree) → x ≡ get_or xs i x → i < length xs →
-    shapes (slots_of (drop i xs)) ≡ option_map shape_of x ∷ shapes (slots_of (drop (i + 1) xs))
-shapes_from xs i x e h =
-    let cut : drop i xs ≡ x ∷ drop (i + 1) xs = rw (add-one) (drop-cons xs i x h ∙ ap (λ z. z ∷ drop (suc i) xs) (sym e)) in
-    ap (λ z. shapes (slots_of z)) cut ∙ first_shape x (drop (i + 1) xs)
-
--- slot i, and those after it
-pub refused_from : (k : Kept) (xs ys : List (Option Tree)) (i : ℕ) (x y : Option Tree) →
-    x ≡ get_or xs i x → y ≡ get_or ys i y → i < length xs → i < length ys →
-    first_refusal k i (shapes (slots_of (drop i xs))) (shapes (slots_of (drop i ys)))
-    ≡ first_of_both (kept_refusal k i (option_map shape_of x) (option_map shape_of y))
-    (first_refusal k (i + 1) (shapes (slots_of (drop (i + 1) xs))) (shapes (slots_of (drop (i + 1) ys))))
-refused_from k xs ys i x y e f h g = rw (shapes_from xs i x e h, shapes_from ys i y f g) refl
-
--- after the last
-pub refused_past : (k : Kept) (xs ys : List (Option Tree)) (i : ℕ) → length xs ≤ i →
-    first_refusal k i (shapes (slots_of (drop i xs))) (shapes (slots_of (drop i ys))) ≡ None
-refused_past k xs ys i h = ap (λ z. first_refusal k i (shapes (slots_of z)) (shapes (slots_of (drop i ys)))) (drop_all i xs h)
 
 -- ---- what isn't refused has the same shapes
 

@@ -189,28 +189,6 @@ set_present (suc i) (suc j) c d (slot t ss) h = set_present i j c d ss h
 pub put_present : (i j : ℕ) (c d t : Tree) → IsPresent j (put i c t) → IsPresent j (put i d t)
 put_present i j c d (node ty n e ss) h = set_present i j c d ss h
 
-holds_one : (i : ℕ) (c d : Tree) (ss : Slots) → HoldsAt i c ss → HoldsAt i d ss → c ≡ d
-holds_one i c d no_slots h g = absurd h
-holds_one zero c d (absent ss) h g = absurd h
-holds_one zero c d (slot t ss) h g = sym h ∙ g
-holds_one (suc i) c d (absent ss) h g = holds_one i c d ss h g
-holds_one (suc i) c d (slot t ss) h g = holds_one i c d ss h g
-
--- a slot holds one tree
-pub has_unique : (i : ℕ) (c d t : Tree) → HasSlot i c t → HasSlot i d t → c ≡ d
-has_unique i c d (node ty n e ss) h g = holds_one i c d ss h g
-
-holds_well : (i : ℕ) (c : Tree) (ss : Slots) → AreWell ss → HoldsAt i c ss → IsWell c
-holds_well i c no_slots w h = absurd h
-holds_well zero c (absent ss) w h = absurd h
-holds_well zero c (slot t ss) w h = subst IsWell h w.0
-holds_well (suc i) c (absent ss) w h = holds_well i c ss w h
-holds_well (suc i) c (slot t ss) w h = holds_well i c ss w.1 h
-
--- and a well-formed one
-pub slot_well : (i : ℕ) (c t : Tree) → IsWell t → HasSlot i c t → IsWell c
-slot_well i c (node ty n d ss) w h = holds_well i c ss w.1 h
-
 set_shapes : (i : ℕ) (c d : Tree) (ss : Slots) → HoldsAt i c ss → shape_of c ≡ shape_of d → shapes ss ≡ shapes (set_slot i d ss)
 set_shapes i c d no_slots h e = absurd h
 set_shapes zero c d (absent ss) h e = absurd h
@@ -221,16 +199,6 @@ set_shapes (suc i) c d (slot t ss) h e = ap (λ l. Some (shape_of t) ∷ l) (set
 -- a tree of the same shape fits
 pub put_node : (i : ℕ) (c d t : Tree) → HasSlot i c t → dtype c ≡ dtype d → len c ≡ len d → IsNodeOf t → IsNodeOf (put i d t)
 put_node i c d (node ty n e ss) h s l w = subst (IsNode ty n e) (set_shapes i c d ss h (λ j. shape (s j) (l j))) w
-
-set_well : (i : ℕ) (d : Tree) (ss : Slots) → AreWell ss → IsWell d → AreWell (set_slot i d ss)
-set_well i d no_slots w g = tt
-set_well zero d (absent ss) w g = (g, w)
-set_well zero d (slot t ss) w g = (g, w.1)
-set_well (suc i) d (absent ss) w g = set_well i d ss w g
-set_well (suc i) d (slot t ss) w g = (w.0, set_well i d ss w.1 g)
-
-pub put_well : (i : ℕ) (c d t : Tree) → HasSlot i c t → dtype c ≡ dtype d → len c ≡ len d → IsWell t → IsWell d → IsWell (put i d t)
-put_well i c d (node ty n e ss) h s l w g = (put_node i c d (node ty n e ss) h s l w.0, set_well i d ss w.1 g)
 
 -- ---- a slot of a node of the program, taken out and filled
 

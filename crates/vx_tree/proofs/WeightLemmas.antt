@@ -174,6 +174,3 @@ mutual
 
 pub cost_weight : (t : Tree) → cost t < weight t
 cost_weight t = (bounded t).0
-
-pub reach_weight : (t : Tree) → 3 * reach t ≤ weight t
-reach_weight t = (bounded t).1
