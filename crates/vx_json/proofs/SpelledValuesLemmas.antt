@@ -9,6 +9,7 @@ use Rattle.serde_json.specs.declared.value.Value.{Value}
 use Rattle.serde_json.specs.Data.{Data, Items, no_items, item}
 use Rattle.serde_json.specs.View.{view, items_view}
 use Rattle.vx_value.specs.declared.dtype.Nullability.TheVariants.{Nullable}
+use Rattle.vx_tree.specs.Rows.{item_or}
 use Rattle.vx_json.specs.SpelledValues.{is_null, or_null, all_read}
 
 -- a list of which each item is read, and then mapped
@@ -101,3 +102,16 @@ there f read d b h = by_tests (is_null d) (read d) h
     by_tests true o h = refl
     by_tests false (Some a) h = refl
     by_tests false None h = absurd (cc)
+
+-- null is read as the value that stands for it, and any other value as itself
+module _ {A : Type 0} (zero : A) (read : Data → Option A) (d : Data) where
+  pub null_read : is_null d ≡ true → Some zero ≡ option_map (item_or zero) (or_null Nullable read d)
+  null_read null = sym (ap (λ b. option_map (item_or zero) (if b then Some None else option_map Some (read d))) null)
+
+  pub value_read : is_null d ≡ false → (o : Option A) → o ≡ read d → o ≡ option_map (item_or zero) (or_null Nullable read d)
+  value_read other o is = by_option o ∙ ap (λ x. option_map (item_or zero) (option_map Some x)) is
+      ∙ sym (ap (λ b. option_map (item_or zero) (if b then Some None else option_map Some (read d))) other)
+    where
+      by_option : (o : Option A) → o ≡ option_map (item_or zero) (option_map Some o)
+      by_option None = refl
+      by_option (Some a) = refl

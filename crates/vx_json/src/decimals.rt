@@ -10,10 +10,11 @@ ghost use Rattle.vx_json.specs.Refused.{IsRefused};
 ghost use Rattle.vx_json.specs.SpelledValues.{decimal_in, decimal_spelled, or_null, all_read};
 
 use crate::BAD_VALUE;
+use crate::numbers::{NumberReader, nullable_numbers, numbers};
 use itoa::Buffer as TextBuffer;
 use serde_json::Value;
 use std::alloc::Global;
-use vx_mask::{BitBuffer, BitBuilder, Buffer};
+use vx_mask::{BitBuffer, Buffer};
 use vx_native::{DecimalValues, NativeDecimalType, by_decimal_type, narrowed};
 use vx_value::{DecimalDType, DecimalType, DecimalValue, Digits, Nullability, VortexResult};
 
@@ -53,12 +54,15 @@ pub(crate) fn decimal_value(dtype: &DecimalDType, value: &Value) -> VortexResult
     Ok(DecimalValue { unscaled, scale })
 }
 
-/// Reads a number without its point, which must be one of `digits`, in the narrowest integers that hold all of these.
-fn native_decimal<T: NativeDecimalType>(digits: Digits, value: &Value) -> Option<T>
-    requires { T.kind ≡ smallest_width digits.precision }
-    ensures { option_map T.value result ≡ decimal_spelled digits.precision (view value.now) }
-{
-    Some(narrowed(decimal(digits, value)?))
+/// Reads numbers without their points, which must be among the digits, in the narrowest integers that hold all of these.
+impl<T: NativeDecimalType> NumberReader<T> for Digits {
+    ghost fits = { λ digits. T.kind ≡ smallest_width digits.precision };
+
+    ghost spelled = { λ digits. decimal_spelled digits.precision };
+
+    fn number(&self, value: &Value) -> Option<T> {
+        Some(narrowed(decimal(*self, value)?))
+    }
 }
 
 /// Reads a list of numbers without their points, which must be among `digits`, in the narrowest integers that hold all of these.
@@ -73,13 +77,7 @@ fn native_decimals<T: NativeDecimalType>(
     ensures ok { IfOk result (λ v. all_read (decimal_spelled digits.precision) (items_view list.now.items) ≡ Some (numbers_of v)) }
     ensures err { IfErr result (IsRefused (all_read (decimal_spelled digits.precision) (items_view list.now.items) ≡ None)) }
 {
-    let mut values: Vec<T> = Vec::with_capacity(alloc, list.len())?;
-    for value in list {
-        match native_decimal(digits, value) {
-            Some(native) => values.push(native)?,
-            None => return Err(BAD_VALUE),
-        }
-    }
+    let values: Vec<T> = numbers(alloc, &digits, list)?;
     Ok(T::wrap_decimals(Buffer::from_vec(alloc, values)?))
 }
 
@@ -96,19 +94,6 @@ pub(crate) fn decimals(
     let width = DecimalType::smallest_decimal_value_type(decimal);
     let digits = decimal.digits();
     by_decimal_type!(width, native_decimals(alloc, digits, list))
-}
-
-/// Reads a number as `native_decimal` does. Null is read as `zero`.
-fn native_decimal_or<T: NativeDecimalType>(zero: T, digits: Digits, value: &Value) -> Option<T>
-    requires { T.kind ≡ smallest_width digits.precision }
-    ensures { option_map T.value result
-        ≡ option_map (item_or (T.value zero)) (or_null Nullability.Nullable (decimal_spelled digits.precision) (view value.now)) }
-{
-    if value.is_null() {
-        Some(zero)
-    } else {
-        native_decimal(digits, value)
-    }
 }
 
 /// Reads a list of numbers as `native_decimals` does, null among them. Returns their values, 0 for null, and whether each isn't
@@ -128,17 +113,9 @@ fn nullable_native_decimals<T: NativeDecimalType>(
         (all_read (or_null Nullability.Nullable (decimal_spelled digits.precision)) (items_view list.now.items) ≡ None)) }
 {
     let zero: T = narrowed(0);
-    let mut values: Vec<T> = Vec::with_capacity(alloc, list.len())?;
-    let mut valid = BitBuilder::with_capacity(alloc, list.len())?;
-    for value in list {
-        match native_decimal_or(zero, digits, value) {
-            Some(native) => values.push(native)?,
-            None => return Err(BAD_VALUE),
-        }
-        valid.push(!value.is_null())?;
-    }
+    let (values, valid) = nullable_numbers(alloc, zero, &digits, list)?;
     let values = T::wrap_decimals(Buffer::from_vec(alloc, values)?);
-    Ok((values, valid.finish(alloc)?))
+    Ok((values, valid))
 }
 
 /// Reads a list of numbers of type `decimal`, without their points, null among them. Returns their values, 0 for null, and whether

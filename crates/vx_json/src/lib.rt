@@ -9,6 +9,7 @@ mod functions;
 mod key;
 mod nodes;
 mod nulls;
+mod numbers;
 mod rows;
 mod tree;
 mod types;

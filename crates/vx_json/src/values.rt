@@ -13,6 +13,7 @@ ghost use Rattle.vx_json.specs.SpelledValues.{integer_spelled, is_null, value_sp
 use crate::BAD_VALUE;
 use crate::bytes::bytes;
 use crate::decimals::decimal_value;
+use crate::numbers::{NumberReader, nullable_numbers, numbers};
 use serde_json::Value;
 use std::alloc::Global;
 use vx_mask::{BitBuffer, BitBuilder, Buffer};
@@ -33,11 +34,17 @@ fn integer(value: &Value) -> Option<i128>
     value.as_number()?.as_i128()
 }
 
-/// Reads an integer in the range of `T`.
-fn native<T: NativeInteger>(value: &Value) -> Option<T>
-    ensures { option_map T.value result ≡ integer_spelled T.kind (view value.now) }
-{
-    T::from_wide(integer(value)?)
+/// Reads integers in the range of their type.
+struct InRange;
+
+impl<T: NativeInteger> NumberReader<T> for InRange {
+    ghost fits = { λ r. Unit {0} };
+
+    ghost spelled = { λ r. integer_spelled T.kind };
+
+    fn number(&self, value: &Value) -> Option<T> {
+        T::from_wide(integer(value)?)
+    }
 }
 
 /// Reads a list of integers in the range of `T`. `InvalidArgument(BadValue)` if an item isn't one.
@@ -46,13 +53,7 @@ fn natives<T: NativeInteger>(alloc: Global, list: &Vec<Value>) -> VortexResult<P
     ensures ok { IfOk result (λ v. all_read (integer_spelled T.kind) (items_view list.now.items) ≡ Some (values_of v)) }
     ensures err { IfErr result (IsRefused (all_read (integer_spelled T.kind) (items_view list.now.items) ≡ None)) }
 {
-    let mut values: Vec<T> = Vec::with_capacity(alloc, list.len())?;
-    for value in list {
-        match native(value) {
-            Some(native) => values.push(native)?,
-            None => return Err(BAD_VALUE),
-        }
-    }
+    let values: Vec<T> = numbers(alloc, &InRange, list)?;
     Ok(T::wrap(Buffer::from_vec(alloc, values)?))
 }
 
@@ -84,17 +85,6 @@ pub(crate) fn booleans(alloc: Global, list: &Vec<Value>) -> VortexResult<BitBuff
     Ok(bits.finish(alloc)?)
 }
 
-/// Reads an integer in the range of `T`. Null is read as `zero`.
-fn native_or<T: NativeInteger>(zero: T, value: &Value) -> Option<T>
-    ensures { option_map T.value result ≡ option_map (item_or (T.value zero)) (or_null Nullability.Nullable (integer_spelled T.kind) (view value.now)) }
-{
-    if value.is_null() {
-        Some(zero)
-    } else {
-        native(value)
-    }
-}
-
 /// Reads a list of integers in the range of `T`, null among them. Returns their values, 0 for null, and whether each isn't null.
 /// `InvalidArgument(BadValue)` if an item is neither.
 #[tactic(auto, using(vx_value::proofs::DefaultsLemmas::zero_in_range))]
@@ -111,17 +101,9 @@ fn nullable_natives<T: NativeInteger>(
         (all_read (or_null Nullability.Nullable (integer_spelled T.kind)) (items_view list.now.items) ≡ None)) }
 {
     let zero: T = native_of(0);
-    let mut values: Vec<T> = Vec::with_capacity(alloc, list.len())?;
-    let mut valid = BitBuilder::with_capacity(alloc, list.len())?;
-    for value in list {
-        match native_or(zero, value) {
-            Some(native) => values.push(native)?,
-            None => return Err(BAD_VALUE),
-        }
-        valid.push(!value.is_null())?;
-    }
+    let (values, valid) = nullable_numbers(alloc, zero, &InRange, list)?;
     let values = T::wrap(Buffer::from_vec(alloc, values)?);
-    Ok((values, valid.finish(alloc)?))
+    Ok((values, valid))
 }
 
 /// Reads a list of integers in the range of `ptype`, null among them. Returns their values, 0 for null, and whether each isn't

@@ -1,0 +1,22 @@
+use Rattle.std.proofs.Common.{◌∙◌, ap, sym, refl, inr, map}
+use Rattle.std.proofs.lemmas.List.{map-append}
+use Rattle.vx_json.proofs.SpelledValuesLemmas.{read_one, read_none, read_all}
+use Rattle.vx_json.proofs.numbers.numbers.Goals as goal
+
+pub returns-in-None-clause-err : goal.returns-in-None-clause-err
+returns-in-None-clause-err g c =
+    let within = rw c.deref-value-items.ensures.value at c.loop-value-test.true in
+    let item = rw c.deref-value-items.ensures.value at c.value-item.is in
+    inr (refl, read_none _ c.args.list.now.items c.loop-value.value-index _ c.loop-value.invariant c.value-item.result within item (sym c.in-None.ensures))
+
+pub loop-value-preserved : goal.loop-value-preserved
+loop-value-preserved g c =
+    let within = rw c.deref-value-items.ensures.value at c.loop-value-test.true in
+    let item = rw c.deref-value-items.ensures.value at c.value-item.is in
+    let pushed = ap (map g.T.Number.value) c.in_ok-push-in-Some.ensures.items ∙ map-append g.T.Number.value c.loop-value.numbers.items _ in
+    read_one _ c.args.list.now.items c.loop-value.value-index _ c.loop-value.invariant c.value-item.result _ _ within item (sym c.in-Some.ensures) pushed
+
+pub returns-clause-ok : goal.returns-clause-ok
+returns-clause-ok g c =
+    let past = rw c.deref-value-items.ensures.value at c.loop-value-test.false in
+    read_all _ c.args.list.now.items c.loop-value.value-index _ c.loop-value.invariant past
