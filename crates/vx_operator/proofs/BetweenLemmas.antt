@@ -29,7 +29,8 @@ use Rattle.vx_fn.proofs.MeaningsLemmas.{union_with_plain}
 use Rattle.vx_tree.specs.Tree.{Tree, dtype}
 use Rattle.vx_rows.specs.Arguments.{IsSized, types_of, value_at, integer_in, unscaled_in, plain_type, type_of_argument}
 use Rattle.vx_operator.specs.Bits.{bit_by}
-use Rattle.vx_operator.specs.Bounds.{bound_by, is_between, is_bounded, bounded_rows}
+use Rattle.vx_operator.specs.Bounds.{bound_by, is_between, is_bounded}
+use Rattle.vx_operator.specs.Checks.{checked_rows}
 use Rattle.vx_kernel.specs.Computed.{IsTaken, IsMade, IsComputed}
 use Rattle.vx_rows.specs.ValidRows.{is_valid, nullability_in, null_unless}
 use Rattle.vx_rows.specs.declared.argument.Argument.{Argument}
@@ -57,7 +58,7 @@ pub words_between : (options : BetweenOptions) (x l u : BitOperand) (v : ℕ →
     → above ≡ map (λ i. bit_by (bound_by options.lower_strict) (bit_in l i) (bit_in x i)) (range_with_len 0 n)
     → below ≡ map (λ i. bit_by (bound_by options.upper_strict) (bit_in x i) (bit_in u i)) (range_with_len 0 n)
     → bits ≡ map (λ i. bit_row above i && bit_row below i) (range_with_len 0 n)
-    → map (λ i. v i && bit_row bits i) (range_with_len 0 n) ≡ bounded_rows v (is_between options (value_at (Bits x)) (value_at (Bits l)) (value_at (Bits u))) n
+    → map (λ i. v i && bit_row bits i) (range_with_len 0 n) ≡ checked_rows v (is_between options (value_at (Bits x)) (value_at (Bits l)) (value_at (Bits u))) n
 words_between options x l u v n above below bits first second both =
     same_below n _ _
     (λ i lt. ap (λ b. v i && b)
@@ -68,8 +69,8 @@ words_between options x l u v n above below bits first second both =
 
 pub bounds_between : {E : Type 0} (options : BetweenOptions) (s t : StrictComparison) (x l u : ℕ → Value) (v : ℕ → Bool) (n : ℕ)
     (found : Result (List Bool) E) → options.lower_strict ≡ s → options.upper_strict ≡ t
-    → IfOk found (λ b. b ≡ bounded_rows v (is_bounded (bound_by s) (bound_by t) x l u) n)
-    → IfOk found (λ b. b ≡ bounded_rows v (is_between options x l u) n)
+    → IfOk found (λ b. b ≡ checked_rows v (is_bounded (bound_by s) (bound_by t) x l u) n)
+    → IfOk found (λ b. b ≡ checked_rows v (is_between options x l u) n)
 bounds_between options s t x l u v n found low high =
     IfOk-weaker found _ _
     (λ b are. are
@@ -79,16 +80,16 @@ bounds_between options s t x l u v n found low high =
 
 pub integers_between : {E : Type 0} (options : BetweenOptions) (x l u : IntegerOperand) (p q r : ℕ → ℤ) (v : ℕ → Bool) (n : ℕ)
     (found : Result (List Bool) E) → p ≡ integer_in x → q ≡ integer_in l → r ≡ integer_in u
-    → IfOk found (λ b. b ≡ bounded_rows v (is_between options (integers p) (integers q) (integers r)) n)
-    → IfOk found (λ b. b ≡ bounded_rows v (is_between options (value_at (Integers x)) (value_at (Integers l)) (value_at (Integers u))) n)
+    → IfOk found (λ b. b ≡ checked_rows v (is_between options (integers p) (integers q) (integers r)) n)
+    → IfOk found (λ b. b ≡ checked_rows v (is_between options (value_at (Integers x)) (value_at (Integers l)) (value_at (Integers u))) n)
 integers_between options x l u p q r v n found here below above =
-    IfOk-weaker found _ _ (λ b are. are ∙ (λ j. bounded_rows v (is_between options (integers (here j)) (integers (below j)) (integers (above j))) n))
+    IfOk-weaker found _ _ (λ b are. are ∙ (λ j. checked_rows v (is_between options (integers (here j)) (integers (below j)) (integers (above j))) n))
 
 pub decimals_between : {E : Type 0} (options : BetweenOptions) (x l u : DecimalOperand) (p q r : ℕ → ℤ) (v : ℕ → Bool) (n : ℕ)
     (found : Result (List Bool) E) → p ≡ unscaled_in x → q ≡ unscaled_in l → r ≡ unscaled_in u
     → plain_type (Decimals x) ≡ plain_type (Decimals l) → plain_type (Decimals x) ≡ plain_type (Decimals u)
-    → IfOk found (λ b. b ≡ bounded_rows v (is_between options (integers p) (integers q) (integers r)) n)
-    → IfOk found (λ b. b ≡ bounded_rows v (is_between options (value_at (Decimals x)) (value_at (Decimals l)) (value_at (Decimals u))) n)
+    → IfOk found (λ b. b ≡ checked_rows v (is_between options (integers p) (integers q) (integers r)) n)
+    → IfOk found (λ b. b ≡ checked_rows v (is_between options (value_at (Decimals x)) (value_at (Decimals l)) (value_at (Decimals u))) n)
 decimals_between options x l u p q r v n found here below above same_lower same_upper =
     IfOk-weaker found _ _
     (λ b are. are
@@ -100,11 +101,11 @@ decimals_between options x l u p q r v n found here below above same_lower same_
 -- of arguments that are known
 pub rows_between : {E : Type 0} (options : BetweenOptions) (x l u p q r : ArgumentRows) (v : ℕ → Bool) (n : ℕ) (found : Result (List Bool) E)
     → x ≡ p → l ≡ q → u ≡ r
-    → IfOk found (λ b. b ≡ bounded_rows v (is_between options (value_at p) (value_at q) (value_at r)) n)
-    → IfOk found (λ b. b ≡ bounded_rows v (is_between options (value_at x) (value_at l) (value_at u)) n)
+    → IfOk found (λ b. b ≡ checked_rows v (is_between options (value_at p) (value_at q) (value_at r)) n)
+    → IfOk found (λ b. b ≡ checked_rows v (is_between options (value_at x) (value_at l) (value_at u)) n)
 rows_between options x l u p q r v n found here below above =
     IfOk-weaker found _ _
-    (λ b are. are ∙ (λ j. bounded_rows v (is_between options (value_at (sym here j)) (value_at (sym below j)) (value_at (sym above j))) n))
+    (λ b are. are ∙ (λ j. checked_rows v (is_between options (value_at (sym here j)) (value_at (sym below j)) (value_at (sym above j))) n))
 
 -- ---- the function
 
@@ -187,7 +188,7 @@ module _ (options : BetweenOptions) (n : ℕ) (a l u : Argument) (first : IsSize
   pub between_computed : (valid : ValidRows) (bits : List Bool) (t : Tree)
       → ((i : ℕ) → i < n → is_valid valid i ≡ is_valid a.valid i && (is_valid l.valid i && is_valid u.valid i))
       → nullability_in valid ≡ union (nullability_in a.valid) (union (nullability_in l.valid) (nullability_in u.valid))
-      → bits ≡ bounded_rows (is_valid valid) (is_between options (value_at a.rows) (value_at l.rows) (value_at u.rows)) n
+      → bits ≡ checked_rows (is_valid valid) (is_between options (value_at a.rows) (value_at l.rows) (value_at u.rows)) n
       → (dtype t ≡ bool (nullability_in valid)) × IsMade valid (λ i. value (boolean (bit_row bits i))) n t → IsComputed (Between options) (a ∷ l ∷ u ∷ []) n t
   between_computed valid bits t rows nullability are h =
       let lies = is_between options (value_at a.rows) (value_at l.rows) (value_at u.rows) in

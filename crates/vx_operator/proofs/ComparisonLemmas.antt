@@ -35,7 +35,8 @@ use Rattle.vx_kernel.specs.Computed.{IsMade}
 use Rattle.vx_operator.specs.Filled.{IsFilled}
 use Rattle.vx_operator.proofs.FilledLemmas.{filled}
 use Rattle.std.proofs.lemmas.Option.{get_or_from_slice_get}
-use Rattle.vx_operator.specs.Compared.{compared_rows}
+use Rattle.vx_operator.specs.Checks.{checked_rows}
+use Rattle.vx_operator.specs.Compared.{is_compared}
 use Rattle.std.specs.List.{range_with_len}
 use Rattle.vx_kernel.proofs.ComputedLemmas.{items_more}
 use Rattle.vx_kernel.proofs.MadeLemmas.{made_by}
@@ -120,18 +121,13 @@ pub bits_more : (f : ℕ → Bool) (out : List Bool) (i : ℕ) (r : Bool) → ou
 bits_more = items_more
 
 pub kept_more : (f : ℕ → Bool) (bits out : List Bool) (i : ℕ) (x b : Bool) → slice_get bits i ≡ Some b → x ≡ b && f i →
-    out ≡ map (λ j. bit_row bits j && f j) (range_with_len 0 i) → out ++ x ∷ [] ≡ map (λ j. bit_row bits j && f j) (range_with_len 0 (i + 1))
+    out ≡ checked_rows (bit_row bits) f i → out ++ x ∷ [] ≡ checked_rows (bit_row bits) f (i + 1)
 kept_more f bits out i x b here e h =
     bits_more (λ j. bit_row bits j && f j) out i x h (e ∙ ap (λ c. c && f i) (sym (get_or_from_slice_get bits i b false here)))
 
-pub compared_more : (op : Operator) (bits : List Bool) (l r : ℕ → Value) (out : List Bool) (i : ℕ) (x b : Bool) →
-    slice_get bits i ≡ Some b → x ≡ b && holds op (value_cmp (l i) (r i)) → out ≡ compared_rows op (bit_row bits) l r i →
-    out ++ x ∷ [] ≡ compared_rows op (bit_row bits) l r (i + 1)
-compared_more op bits l r = kept_more (λ j. holds op (value_cmp (l j) (r j))) bits
-
 -- a column that stores these bits
 pub compared_made : (op : Operator) (valid : ValidRows) (l r : ℕ → Value) (n : ℕ) (bits : List Bool) (t : Tree) →
-    bits ≡ compared_rows op (is_valid valid) l r n → IsMade valid (λ i. value (boolean (bit_row bits i))) n t →
+    bits ≡ checked_rows (is_valid valid) (is_compared op l r) n → IsMade valid (λ i. value (boolean (bit_row bits i))) n t →
     IsMade valid (λ i. value (boolean (holds op (value_cmp (l i) (r i))))) n t
 compared_made op valid l r n bits t are =
     made_by valid (λ i. value (boolean (bit_row bits i))) _ n t

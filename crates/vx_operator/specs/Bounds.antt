@@ -1,6 +1,5 @@
 -- Whether the rows of an argument lie between those of two others.
-use Rattle.std.specs.Prelude.{ℕ, Bool, ◌&&◌, List, map}
-use Rattle.std.specs.List.{range_with_len}
+use Rattle.std.specs.Prelude.{ℕ, Bool, ◌&&◌}
 use Rattle.vx_value.specs.Values.{Value}
 use Rattle.vx_value.specs.Order.{value_cmp}
 use Rattle.vx_fn.specs.Between.{is_below}
@@ -24,7 +23,3 @@ is_between options array lower upper i =
 -- the first operator holds of row i of `lower` and of `array`, and the second of row i of `array` and of `upper`
 abbrev pub is_bounded : (first second : Operator) → (array lower upper : ℕ → Value) → ℕ → Bool
 is_bounded first second array lower upper i = holds first (value_cmp (lower i) (array i)) && holds second (value_cmp (array i) (upper i))
-
--- the bits that a check of n rows stores: false if the row is null
-abbrev pub bounded_rows : (valid check : ℕ → Bool) → ℕ → List Bool
-bounded_rows valid check n = map (λ i. valid i && check i) (range_with_len 0 n)

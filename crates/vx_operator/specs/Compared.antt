@@ -1,6 +1,5 @@
 -- Rows of values that are compared.
-use Rattle.std.specs.Prelude.{ℕ, ◌<◌, Bool, ◌&&◌, List, map}
-use Rattle.std.specs.List.{range_with_len}
+use Rattle.std.specs.Prelude.{ℕ, ◌<◌, Bool}
 use Rattle.vx_value.specs.Values.{Value}
 use Rattle.vx_value.specs.Order.{value_cmp}
 use Rattle.vx_fn.specs.Comparisons.{holds}
@@ -12,6 +11,6 @@ use Rattle.vx_rows.specs.declared.argument.BytesOperand.{BytesOperand}
 abbrev pub HasBytesRow : BytesOperand → ℕ → Type 0
 HasBytesRow bs i = (n : ℕ) × (i < n) × AreBytes bs n
 
--- the bits that a comparison stores: false if the row is null
-abbrev pub compared_rows : Operator → (ℕ → Bool) → (ℕ → Value) → (ℕ → Value) → ℕ → List Bool
-compared_rows op valid l r n = map (λ i. valid i && holds op (value_cmp (l i) (r i))) (range_with_len 0 n)
+-- the operator holds of row i of `left` and of `right`
+abbrev pub is_compared : Operator → (left right : ℕ → Value) → ℕ → Bool
+is_compared op left right i = holds op (value_cmp (left i) (right i))

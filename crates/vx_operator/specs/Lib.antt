@@ -5,6 +5,7 @@ pub use Rattle.vx_rows.specs.Arguments
 pub use Rattle.vx_kernel.specs.Computed
 pub mod Bits
 pub mod Bounds
+pub mod Checks
 pub mod Compared
 pub mod Digits
 pub mod Filled

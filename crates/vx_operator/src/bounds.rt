@@ -1,24 +1,26 @@
 //! Whether rows lie between two bounds.
 
-ghost use Rattle.std.specs.Prelude.{◌≡◌, ◌<◌, ◌∷◌, [], ◌&&◌, ℕ, true, length, IfOk, IfErr};
+ghost use Rattle.std.specs.Prelude.{◌≡◌, ◌<◌, ◌∷◌, [], ℕ, true, IfOk, IfErr};
 ghost use Rattle.vx_value.specs.Decimals.{smallest_width};
-ghost use Rattle.vx_mask.specs.Logic.{bit_row};
 ghost use Rattle.vx_mask.specs.Operands.{HasBits};
 ghost use Rattle.vx_fn.specs.Comparisons.{is_ordered};
 ghost use Rattle.vx_fn.specs.declared.function.ScalarFnRef.TheVariants.{Between};
 ghost use Rattle.vx_tree.specs.Columns.{canonical_tree};
 ghost use Rattle.vx_rows.specs.Arguments.{ptype_in, types_of, plain_type, value_at, IsSized, HasStored, AreIntegers, AreDecimals};
-ghost use Rattle.vx_operator.specs.Bounds.{bound_by, is_between, is_bounded, bounded_rows};
+ghost use Rattle.vx_operator.specs.Bounds.{bound_by, is_between, is_bounded};
+ghost use Rattle.vx_operator.specs.Checks.{checked_rows};
 ghost use Rattle.vx_kernel.specs.Computed.{IsTaken, IsComputed};
 ghost use Rattle.vx_rows.specs.ValidRows.{is_valid, HasValidity};
 ghost use Rattle.vx_rows.specs.declared.argument.ArgumentRows.TheVariants.{Bits, Integers, Decimals};
 
 use crate::boolean::operate_bits;
+use crate::checks::{RowCheck, check_rows};
 use crate::comparison::{Below, Comparison, NotAbove, OrderedRows};
 use std::alloc::{AllocError, Global};
+use std::marker::PhantomData;
 use vx_fn::{BetweenOptions, Operator, StrictComparison};
 use vx_kernel::{Operand, decimal_operand_of, keep_valid, operand_of, valid_bools};
-use vx_mask::{BitAnd, BitBuffer, BitBuilder, BitOperand};
+use vx_mask::{BitAnd, BitBuffer, BitOperand};
 use vx_native::{NativeDecimalType, NativeInteger, by_decimal_type, by_type};
 use vx_rows::{Argument, ArgumentRows, BytesOperand, DecimalOperand, IntegerOperand, ValidRows};
 use vx_tree::Canonical;
@@ -68,7 +70,7 @@ fn between_rows(
     requires ordered { is_ordered (plain_type array) ≡ true }
     requires valid { HasValidity valid.now len }
     ensures { IfOk result (λ b.
-        b ≡ bounded_rows (is_valid valid.now) (is_between options (value_at array.entry) (value_at lower.entry) (value_at upper.entry)) len) }
+        b ≡ checked_rows (is_valid valid.now) (is_between options (value_at array.entry) (value_at lower.entry) (value_at upper.entry)) len) }
 {
     match (array, lower, upper) {
         (ArgumentRows::Bits(array), ArgumentRows::Bits(lower), ArgumentRows::Bits(upper)) => {
@@ -116,7 +118,7 @@ fn between_bits(
     requires lower { HasBits lower len }
     requires upper { HasBits upper len }
     requires valid { HasValidity valid.now len }
-    ensures { IfOk result (λ b. b ≡ bounded_rows (is_valid valid.now)
+    ensures { IfOk result (λ b. b ≡ checked_rows (is_valid valid.now)
         (is_between options (value_at (Bits array.entry)) (value_at (Bits lower.entry)) (value_at (Bits upper.entry))) len) }
 {
     let above = operate_bits(
@@ -152,7 +154,7 @@ fn between_integers(
     requires lower { AreIntegers (ptype_in array) lower len }
     requires upper { AreIntegers (ptype_in array) upper len }
     requires valid { HasValidity valid.now len }
-    ensures { IfOk result (λ b. b ≡ bounded_rows (is_valid valid.now)
+    ensures { IfOk result (λ b. b ≡ checked_rows (is_valid valid.now)
         (is_between options (value_at (Integers array.entry)) (value_at (Integers lower.entry)) (value_at (Integers upper.entry))) len) }
 {
     by_type!(
@@ -175,7 +177,7 @@ fn between_natives<T: NativeInteger>(
     requires lower { AreIntegers T.kind lower len }
     requires upper { AreIntegers T.kind upper len }
     requires valid { HasValidity valid.now len }
-    ensures { IfOk result (λ b. b ≡ bounded_rows (is_valid valid.now)
+    ensures { IfOk result (λ b. b ≡ checked_rows (is_valid valid.now)
         (is_between options (value_at (Integers array.entry)) (value_at (Integers lower.entry)) (value_at (Integers upper.entry))) len) }
 {
     let array: Operand<'_, T> = operand_of(array);
@@ -200,7 +202,7 @@ fn between_decimals(
     requires same_lower { plain_type (Decimals array) ≡ plain_type (Decimals lower) }
     requires same_upper { plain_type (Decimals array) ≡ plain_type (Decimals upper) }
     requires valid { HasValidity valid.now len }
-    ensures { IfOk result (λ b. b ≡ bounded_rows (is_valid valid.now)
+    ensures { IfOk result (λ b. b ≡ checked_rows (is_valid valid.now)
         (is_between options (value_at (Decimals array.entry)) (value_at (Decimals lower.entry)) (value_at (Decimals upper.entry))) len) }
 {
     by_decimal_type!(
@@ -227,7 +229,7 @@ fn between_unscaled<T: NativeDecimalType>(
     requires same_lower { plain_type (Decimals array) ≡ plain_type (Decimals lower) }
     requires same_upper { plain_type (Decimals array) ≡ plain_type (Decimals upper) }
     requires valid { HasValidity valid.now len }
-    ensures { IfOk result (λ b. b ≡ bounded_rows (is_valid valid.now)
+    ensures { IfOk result (λ b. b ≡ checked_rows (is_valid valid.now)
         (is_between options (value_at (Decimals array.entry)) (value_at (Decimals lower.entry)) (value_at (Decimals upper.entry))) len) }
 {
     let array: Operand<'_, T> = decimal_operand_of(array);
@@ -251,7 +253,7 @@ fn between_ordered<R: OrderedRows>(
     requires upper { (i : ℕ) → i < len → R.has_row upper i }
     requires valid { HasValidity valid.now len }
     ensures { IfOk result (λ b.
-        b ≡ bounded_rows (is_valid valid.now) (is_between options (R.row_value array) (R.row_value lower) (R.row_value upper)) len) }
+        b ≡ checked_rows (is_valid valid.now) (is_between options (R.row_value array) (R.row_value lower) (R.row_value upper)) len) }
 {
     match (options.lower_strict, options.upper_strict) {
         (StrictComparison::Strict, StrictComparison::Strict) => {
@@ -284,78 +286,35 @@ fn between_by<R: OrderedRows, L: Comparison, U: Comparison>(
     requires upper { (i : ℕ) → i < len → R.has_row upper i }
     requires valid { HasValidity valid.now len }
     ensures { IfOk result (λ b.
-        b ≡ bounded_rows (is_valid valid.now) (is_bounded L.operator U.operator (R.row_value array) (R.row_value lower) (R.row_value upper)) len) }
+        b ≡ checked_rows (is_valid valid.now) (is_bounded L.operator U.operator (R.row_value array) (R.row_value lower) (R.row_value upper)) len) }
 {
-    match valid {
-        ValidRows::All(_) => between_all::<R, L, U>(alloc, array, lower, upper, len),
-        ValidRows::Bits(valid) => between_valid::<R, L, U>(alloc, array, lower, upper, valid, len),
-    }
+    let check: Bounded<R, L, U> = Bounded {
+        array,
+        lower,
+        upper,
+        operators: PhantomData,
+    };
+    check_rows(alloc, &check, valid, len)
 }
 
-/// Compares `lower` with `array` by `L`, and `array` with `upper` by `U`, in each of `len` rows.
-#[tactic(auto, using(crate::proofs::ComparisonLemmas::bits_more))]
-fn between_all<R: OrderedRows, L: Comparison, U: Comparison>(
-    alloc: Global,
+/// A comparison of the rows of `lower` and `array` by `L`, and of those of `array` and `upper` by `U`.
+#[derive(Drop)]
+struct Bounded<R, L, U> {
     array: R,
     lower: R,
     upper: R,
-    len: usize,
-) -> Result<BitBuffer, AllocError>
-    requires array { (i : ℕ) → i < len → R.has_row array i }
-    requires lower { (i : ℕ) → i < len → R.has_row lower i }
-    requires upper { (i : ℕ) → i < len → R.has_row upper i }
-    ensures { IfOk result (λ b.
-        b ≡ bounded_rows (λ i. true) (is_bounded L.operator U.operator (R.row_value array) (R.row_value lower) (R.row_value upper)) len) }
-{
-    let mut bits = BitBuilder::with_capacity(alloc, len)?;
-    for index in 0..len {
-        let above = lower.compare_at::<L>(&array, index);
-        let below = array.compare_at::<U>(&upper, index);
-        bits.push(above & below)?;
-    }
-    bits.finish(alloc)
+    operators: PhantomData<(L, U)>,
 }
 
-/// Compares `lower` with `array` by `L`, and `array` with `upper` by `U`, in the rows at the true bits of `valid`, `len` rows each;
-/// `false` stands for the others.
-fn between_valid<R: OrderedRows, L: Comparison, U: Comparison>(
-    alloc: Global,
-    array: R,
-    lower: R,
-    upper: R,
-    valid: &BitBuffer,
-    len: usize,
-) -> Result<BitBuffer, AllocError>
-    requires array { (i : ℕ) → i < len → R.has_row array i }
-    requires lower { (i : ℕ) → i < len → R.has_row lower i }
-    requires upper { (i : ℕ) → i < len → R.has_row upper i }
-    requires valid { length valid.now ≡ len }
-    ensures { IfOk result (λ b.
-        b ≡ bounded_rows (bit_row valid.now) (is_bounded L.operator U.operator (R.row_value array) (R.row_value lower) (R.row_value upper)) len) }
-{
-    let mut bits = BitBuilder::with_capacity(alloc, len)?;
-    for index in 0..len {
-        let is_valid = valid.value(index);
-        let is_bounded = between_unless_null::<R, L, U>(&array, &lower, &upper, index, is_valid);
-        bits.push(is_bounded)?;
-    }
-    bits.finish(alloc)
-}
+impl<R: OrderedRows, L: Comparison, U: Comparison> RowCheck for Bounded<R, L, U> {
+    ghost has_row = { λ s i. R.has_row s.array i × R.has_row s.lower i × R.has_row s.upper i };
 
-/// Checks row `index`, which must exist: `false` if it isn't valid, without calling `L` or `U`.
-#[inline]
-fn between_unless_null<R: OrderedRows, L: Comparison, U: Comparison>(
-    array: &R,
-    lower: &R,
-    upper: &R,
-    index: usize,
-    is_valid: bool,
-) -> bool
-    requires array { R.has_row array.now index }
-    requires lower { R.has_row lower.now index }
-    requires upper { R.has_row upper.now index }
-    ensures { result ≡
-        is_valid && is_bounded L.operator U.operator (R.row_value array.now) (R.row_value lower.now) (R.row_value upper.now) index }
-{
-    is_valid && (lower.compare_at::<L>(array, index) & array.compare_at::<U>(upper, index))
+    ghost answer = { λ s. is_bounded L.operator U.operator (R.row_value s.array) (R.row_value s.lower) (R.row_value s.upper) };
+
+    #[inline]
+    fn check_row(&self, index: usize) -> bool {
+        let above = self.lower.compare_at::<L>(&self.array, index);
+        let below = self.array.compare_at::<U>(&self.upper, index);
+        above & below
+    }
 }

@@ -1,7 +1,7 @@
 //! Comparisons of text and bytes.
 
-ghost use Rattle.std.specs.Prelude.{◌≡◌, true, IfOk, IfErr, IsSome};
-ghost use Rattle.vx_fn.specs.Binary.{is_comparison, operator_type};
+ghost use Rattle.std.specs.Prelude.{◌≡◌, IfOk, IfErr, IsSome};
+ghost use Rattle.vx_fn.specs.Binary.{operator_type};
 ghost use Rattle.vx_fn.specs.declared.function.ScalarFnRef.TheVariants.{Binary};
 ghost use Rattle.vx_tree.specs.Columns.{canonical_tree};
 ghost use Rattle.vx_rows.specs.Arguments.{AreBytes, plain_type, pair_at};
@@ -9,9 +9,7 @@ ghost use Rattle.vx_operator.specs.Filled.{IsFilled};
 ghost use Rattle.vx_rows.specs.ValidRows.{HasValidity};
 ghost use Rattle.vx_rows.specs.declared.argument.ArgumentRows.TheVariants.{Bytes};
 
-use crate::comparison::{
-    Above, Below, Comparison, Different, Equal, NotAbove, NotBelow, compare_ordered,
-};
+use crate::comparison::compare_ordered;
 use std::alloc::Global;
 use vx_fn::Operator;
 use vx_rows::{BytesOperand, ValidRows};
@@ -37,33 +35,5 @@ pub(crate) fn operate_bytes(
         (pair_at (Bytes lhs.entry) (Bytes rhs.entry)) valid.now len (canonical_tree c)) }
     ensures err { IfErr result (λ e. e ≡ VortexError.OutOfMemory) }
 {
-    match operator {
-        Operator::Eq => compare_bytes::<Equal>(alloc, lhs, rhs, valid, len),
-        Operator::NotEq => compare_bytes::<Different>(alloc, lhs, rhs, valid, len),
-        Operator::Gt => compare_bytes::<Above>(alloc, lhs, rhs, valid, len),
-        Operator::Gte => compare_bytes::<NotBelow>(alloc, lhs, rhs, valid, len),
-        Operator::Lt => compare_bytes::<Below>(alloc, lhs, rhs, valid, len),
-        Operator::Lte => compare_bytes::<NotAbove>(alloc, lhs, rhs, valid, len),
-        _ => unreachable!(),
-    }
-}
-
-/// Applies `C` to the `valid` rows of `lhs` and `rhs`, `len` rows each; the other rows are null. The only error is
-/// `OutOfMemory`.
-fn compare_bytes<C: Comparison>(
-    alloc: Global,
-    lhs: BytesOperand<'_>,
-    rhs: BytesOperand<'_>,
-    valid: &ValidRows,
-    len: usize,
-) -> VortexResult<Canonical>
-    requires operator { is_comparison C.operator ≡ true }
-    requires lhs { AreBytes lhs len }
-    requires rhs { AreBytes rhs len }
-    requires valid { HasValidity valid.now len }
-    ensures ok { IfOk result (λ c. IsFilled (Binary C.operator) (operator_type C.operator (plain_type (Bytes lhs.entry)))
-        (pair_at (Bytes lhs.entry) (Bytes rhs.entry)) valid.now len (canonical_tree c)) }
-    ensures err { IfErr result (λ e. e ≡ VortexError.OutOfMemory) }
-{
-    compare_ordered::<BytesOperand<'_>, C>(alloc, lhs, rhs, valid, len)
+    compare_ordered::<BytesOperand<'_>>(alloc, operator, lhs, rhs, valid, len)
 }

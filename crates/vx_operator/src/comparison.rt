@@ -1,13 +1,12 @@
 //! Comparisons.
 
-ghost use Rattle.std.specs.Prelude.{◌≡◌, ◌<◌, ◌&&◌, ℕ, true, length, IfOk, IfErr};
+ghost use Rattle.std.specs.Prelude.{◌≡◌, ◌<◌, ℕ, true, IfOk, IfErr};
 ghost use Rattle.std.specs.Ordering.{int_cmp};
 ghost use Rattle.vx_value.specs.Bytes.{bytes_cmp};
 ghost use Rattle.vx_value.specs.Cell.{value};
 ghost use Rattle.vx_value.specs.Order.{value_cmp};
 ghost use Rattle.vx_value.specs.Types.{bool};
 ghost use Rattle.vx_value.specs.Values.{Value, boolean, integer, bytes};
-ghost use Rattle.vx_mask.specs.Logic.{bit_row};
 ghost use Rattle.vx_fn.specs.Binary.{is_comparison, operator_type};
 ghost use Rattle.vx_fn.specs.Comparisons.{holds};
 ghost use Rattle.vx_fn.specs.declared.function.Operator.{Operator as OperatorOf};
@@ -16,16 +15,20 @@ ghost use Rattle.vx_fn.specs.declared.function.ScalarFnRef.TheVariants.{Binary};
 ghost use Rattle.vx_tree.specs.Columns.{canonical_tree};
 ghost use Rattle.vx_tree.specs.Tree.{dtype};
 ghost use Rattle.vx_rows.specs.Arguments.{bytes_in, AreIntegers, plain_type, pair_at};
-ghost use Rattle.vx_operator.specs.Compared.{HasBytesRow, compared_rows};
+ghost use Rattle.vx_operator.specs.Checks.{checked_rows};
+ghost use Rattle.vx_operator.specs.Compared.{HasBytesRow, is_compared};
 ghost use Rattle.vx_operator.specs.Filled.{IsFilled};
 ghost use Rattle.vx_kernel.specs.Computed.{IsMade};
 ghost use Rattle.vx_kernel.specs.Operands.{number_in, HasRow};
 ghost use Rattle.vx_rows.specs.ValidRows.{is_valid, HasValidity, nullability_in};
 ghost use Rattle.vx_rows.specs.declared.argument.ArgumentRows.TheVariants.{Integers};
 
+use crate::checks::{RowCheck, check_rows};
 use std::alloc::{AllocError, Global};
+use std::marker::PhantomData;
+use vx_fn::Operator;
 use vx_kernel::{Operand, operand_of, valid_bools};
-use vx_mask::{BitBuffer, BitBuilder};
+use vx_mask::BitBuffer;
 use vx_native::{NativeInteger, NativeNumber};
 use vx_rows::{BytesOperand, IntegerOperand, ValidRows};
 use vx_tree::Canonical;
@@ -186,51 +189,100 @@ impl<'a> OrderedRows for BytesOperand<'a> {
     }
 }
 
-/// Applies `C` to the `valid` rows of `lhs` and `rhs`, `len` rows each, which must be of the type `T`; the other rows are null.
-/// The only error is `OutOfMemory`.
-pub(crate) fn compare<T: NativeInteger, C: Comparison>(
+/// A comparison of the rows of two operands by `C`.
+#[derive(Drop)]
+struct Compared<R, C> {
+    left: R,
+    right: R,
+    operator: PhantomData<C>,
+}
+
+impl<R: OrderedRows, C: Comparison> RowCheck for Compared<R, C> {
+    ghost has_row = { λ s i. R.has_row s.left i × R.has_row s.right i };
+
+    ghost answer = { λ s. is_compared C.operator (R.row_value s.left) (R.row_value s.right) };
+
+    #[inline]
+    fn check_row(&self, index: usize) -> bool {
+        self.left.compare_at::<C>(&self.right, index)
+    }
+}
+
+/// Compares the `valid` rows of `lhs` and `rhs`, `len` rows each, which must be of the type `T`, by `operator`, which must be a
+/// comparison. The other rows are null. The only error is `OutOfMemory`.
+pub(crate) fn compare_natives<T: NativeInteger>(
     alloc: Global,
+    operator: Operator,
     lhs: IntegerOperand<'_>,
     rhs: IntegerOperand<'_>,
     valid: &ValidRows,
     len: usize,
 ) -> VortexResult<Canonical>
-    requires operator { is_comparison C.operator ≡ true }
+    requires operator { is_comparison operator ≡ true }
     requires lhs { AreIntegers T.kind lhs len }
     requires rhs { AreIntegers T.kind rhs len }
     requires valid { HasValidity valid.now len }
-    ensures ok { IfOk result (λ c. IsFilled (Binary C.operator) (operator_type C.operator (plain_type (Integers lhs.entry)))
+    ensures ok { IfOk result (λ c. IsFilled (Binary operator) (operator_type operator (plain_type (Integers lhs.entry)))
         (pair_at (Integers lhs.entry) (Integers rhs.entry)) valid.now len (canonical_tree c)) }
     ensures err { IfErr result (λ e. e ≡ VortexError.OutOfMemory) }
 {
     let left: Operand<'_, T> = operand_of(lhs);
     let right: Operand<'_, T> = operand_of(rhs);
-    compare_ordered::<Operand<'_, T>, C>(alloc, left, right, valid, len)
+    compare_ordered::<Operand<'_, T>>(alloc, operator, left, right, valid, len)
 }
 
-/// Compares the `valid` rows of `left` and `right`, `len` rows each, by `C`; the other rows are null. The only error is
-/// `OutOfMemory`.
+/// Compares the `valid` rows of `left` and `right`, `len` rows each, by `operator`, which must be a comparison. The other rows
+/// are null. The only error is `OutOfMemory`.
 #[tactic(auto, using(vx_rows::proofs::ValidRowsLemmas::counted))]
-pub(crate) fn compare_ordered<R: OrderedRows, C: Comparison>(
+pub(crate) fn compare_ordered<R: OrderedRows>(
     alloc: Global,
+    operator: Operator,
     left: R,
     right: R,
     valid: &ValidRows,
     len: usize,
 ) -> VortexResult<Canonical>
+    requires operator { is_comparison operator ≡ true }
     requires left { (i : ℕ) → i < len → R.has_row left i }
     requires right { (i : ℕ) → i < len → R.has_row right i }
     requires valid { HasValidity valid.now len }
     ensures ok { IfOk result (λ c. (dtype (canonical_tree c) ≡ bool (nullability_in valid.now))
-        × IsMade valid.now (λ i. value (boolean (holds C.operator (value_cmp (R.row_value left i) (R.row_value right i))))) len (canonical_tree c)) }
+        × IsMade valid.now (λ i. value (boolean (is_compared operator (R.row_value left) (R.row_value right) i))) len (canonical_tree c)) }
     ensures err { IfErr result (λ e. e ≡ VortexError.OutOfMemory) }
 {
-    let bits = compare_rows::<R, C>(alloc, left, right, valid, len)?;
+    let bits = compare_rows(alloc, operator, left, right, valid, len)?;
     valid_bools(alloc, bits, valid, len)
 }
 
-/// Compares the `valid` rows of `left` and `right`, `len` rows each; `false` stands for the others.
-fn compare_rows<R: OrderedRows, C: Comparison>(
+/// Compares the `valid` rows of `left` and `right`, `len` rows each, by `operator`, which must be a comparison; `false` stands
+/// for the others.
+fn compare_rows<R: OrderedRows>(
+    alloc: Global,
+    operator: Operator,
+    left: R,
+    right: R,
+    valid: &ValidRows,
+    len: usize,
+) -> Result<BitBuffer, AllocError>
+    requires operator { is_comparison operator ≡ true }
+    requires left { (i : ℕ) → i < len → R.has_row left i }
+    requires right { (i : ℕ) → i < len → R.has_row right i }
+    requires valid { HasValidity valid.now len }
+    ensures { IfOk result (λ b. b ≡ checked_rows (is_valid valid.now) (is_compared operator (R.row_value left) (R.row_value right)) len) }
+{
+    match operator {
+        Operator::Eq => compare_by::<R, Equal>(alloc, left, right, valid, len),
+        Operator::NotEq => compare_by::<R, Different>(alloc, left, right, valid, len),
+        Operator::Gt => compare_by::<R, Above>(alloc, left, right, valid, len),
+        Operator::Gte => compare_by::<R, NotBelow>(alloc, left, right, valid, len),
+        Operator::Lt => compare_by::<R, Below>(alloc, left, right, valid, len),
+        Operator::Lte => compare_by::<R, NotAbove>(alloc, left, right, valid, len),
+        _ => unreachable!(),
+    }
+}
+
+/// Compares the `valid` rows of `left` and `right`, `len` rows each, by `C`; `false` stands for the others.
+fn compare_by<R: OrderedRows, C: Comparison>(
     alloc: Global,
     left: R,
     right: R,
@@ -240,66 +292,12 @@ fn compare_rows<R: OrderedRows, C: Comparison>(
     requires left { (i : ℕ) → i < len → R.has_row left i }
     requires right { (i : ℕ) → i < len → R.has_row right i }
     requires valid { HasValidity valid.now len }
-    ensures { IfOk result (λ b. b ≡ compared_rows C.operator (is_valid valid.now) (R.row_value left) (R.row_value right) len) }
+    ensures { IfOk result (λ b. b ≡ checked_rows (is_valid valid.now) (is_compared C.operator (R.row_value left) (R.row_value right)) len) }
 {
-    match valid {
-        ValidRows::All(_) => compare_all::<R, C>(alloc, left, right, len),
-        ValidRows::Bits(valid) => compare_valid::<R, C>(alloc, left, right, valid, len),
-    }
-}
-
-/// Compares each of `len` rows of `left` and `right`.
-#[tactic(auto, using(crate::proofs::ComparisonLemmas::bits_more))]
-fn compare_all<R: OrderedRows, C: Comparison>(
-    alloc: Global,
-    left: R,
-    right: R,
-    len: usize,
-) -> Result<BitBuffer, AllocError>
-    requires left { (i : ℕ) → i < len → R.has_row left i }
-    requires right { (i : ℕ) → i < len → R.has_row right i }
-    ensures { IfOk result (λ b. b ≡ compared_rows C.operator (λ i. true) (R.row_value left) (R.row_value right) len) }
-{
-    let mut bits = BitBuilder::with_capacity(alloc, len)?;
-    for index in 0..len {
-        bits.push(left.compare_at::<C>(&right, index))?;
-    }
-    bits.finish(alloc)
-}
-
-/// Compares the rows of `left` and `right` at the true bits of `valid`, `len` rows each; `false` stands for the others.
-#[tactic(auto, using(crate::proofs::ComparisonLemmas::compared_more))]
-fn compare_valid<R: OrderedRows, C: Comparison>(
-    alloc: Global,
-    left: R,
-    right: R,
-    valid: &BitBuffer,
-    len: usize,
-) -> Result<BitBuffer, AllocError>
-    requires left { (i : ℕ) → i < len → R.has_row left i }
-    requires right { (i : ℕ) → i < len → R.has_row right i }
-    requires valid { length valid.now ≡ len }
-    ensures { IfOk result (λ b. b ≡ compared_rows C.operator (bit_row valid.now) (R.row_value left) (R.row_value right) len) }
-{
-    let mut bits = BitBuilder::with_capacity(alloc, len)?;
-    for index in 0..len {
-        let is_valid = valid.value(index);
-        bits.push(compare_unless_null::<R, C>(&left, &right, index, is_valid))?;
-    }
-    bits.finish(alloc)
-}
-
-/// Compares row `index`, which must exist: `false` if it isn't valid, without calling `C`.
-#[inline]
-fn compare_unless_null<R: OrderedRows, C: Comparison>(
-    left: &R,
-    right: &R,
-    index: usize,
-    is_valid: bool,
-) -> bool
-    requires left { R.has_row left.now index }
-    requires right { R.has_row right.now index }
-    ensures { result ≡ is_valid && holds C.operator (value_cmp (R.row_value left.now index) (R.row_value right.now index)) }
-{
-    is_valid && left.compare_at::<C>(right, index)
+    let check: Compared<R, C> = Compared {
+        left,
+        right,
+        operator: PhantomData,
+    };
+    check_rows(alloc, &check, valid, len)
 }

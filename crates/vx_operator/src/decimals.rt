@@ -17,9 +17,7 @@ ghost use Rattle.vx_operator.specs.Digits.{is_within, AreLimits, HasLimits, IsWi
 ghost use Rattle.vx_kernel.specs.Operands.{number_in, HasRow};
 
 use crate::arithmetic::{Arithmetic, Difference, Sum};
-use crate::comparison::{
-    Above, Below, Comparison, Different, Equal, NotAbove, NotBelow, compare_ordered,
-};
+use crate::comparison::compare_ordered;
 use num_traits::{CheckedAdd, CheckedSub};
 use std::alloc::Global;
 use std::marker::PhantomData;
@@ -53,41 +51,40 @@ pub(crate) fn operate_decimals<T: NativeDecimalType>(
     ensures err { IfErr result (IsNotFilled (Binary operator) (operator_type operator (plain_type (Decimals lhs.entry)))
         (pair_at (Decimals lhs.entry) (Decimals rhs.entry)) valid.now len) }
 {
+    if operator.is_comparison() {
+        return compare_decimals::<T>(alloc, operator, lhs, rhs, valid, len);
+    }
     match operator {
-        Operator::Eq => compare_decimals::<T, Equal>(alloc, lhs, rhs, valid, len),
-        Operator::NotEq => compare_decimals::<T, Different>(alloc, lhs, rhs, valid, len),
-        Operator::Gt => compare_decimals::<T, Above>(alloc, lhs, rhs, valid, len),
-        Operator::Gte => compare_decimals::<T, NotBelow>(alloc, lhs, rhs, valid, len),
-        Operator::Lt => compare_decimals::<T, Below>(alloc, lhs, rhs, valid, len),
-        Operator::Lte => compare_decimals::<T, NotAbove>(alloc, lhs, rhs, valid, len),
         Operator::Add => calculate_decimals::<T, Sum>(alloc, lhs, rhs, valid, len),
         Operator::Sub => calculate_decimals::<T, Difference>(alloc, lhs, rhs, valid, len),
         _ => unreachable!(),
     }
 }
 
-/// Applies `C` to the `valid` rows of `lhs` and `rhs`, `len` rows each, which must be of one type and stored in the width of `T`:
-/// numbers of one scale are ordered as without their points. The other rows are null. The only error is `OutOfMemory`.
-fn compare_decimals<T: NativeDecimalType, C: Comparison>(
+/// Compares the `valid` rows of `lhs` and `rhs`, `len` rows each, which must be of one type and stored in the width of `T`, by
+/// `operator`, which must be a comparison: numbers of one scale are ordered as without their points. The other rows are null. The
+/// only error is `OutOfMemory`.
+fn compare_decimals<T: NativeDecimalType>(
     alloc: Global,
+    operator: Operator,
     lhs: DecimalOperand<'_>,
     rhs: DecimalOperand<'_>,
     valid: &ValidRows,
     len: usize,
 ) -> VortexResult<Canonical>
-    requires operator { is_comparison C.operator ≡ true }
+    requires operator { is_comparison operator ≡ true }
     requires kind { T.kind ≡ smallest_width lhs.decimal.precision }
     requires lhs { AreDecimals lhs len }
     requires rhs { AreDecimals rhs len }
     requires same { plain_type (Decimals lhs) ≡ plain_type (Decimals rhs) }
     requires valid { HasValidity valid.now len }
-    ensures ok { IfOk result (λ c. IsFilled (Binary C.operator) (operator_type C.operator (plain_type (Decimals lhs.entry)))
+    ensures ok { IfOk result (λ c. IsFilled (Binary operator) (operator_type operator (plain_type (Decimals lhs.entry)))
         (pair_at (Decimals lhs.entry) (Decimals rhs.entry)) valid.now len (canonical_tree c)) }
     ensures err { IfErr result (λ e. e ≡ VortexError.OutOfMemory) }
 {
     let left: Operand<'_, T> = decimal_operand_of(lhs);
     let right: Operand<'_, T> = decimal_operand_of(rhs);
-    compare_ordered::<Operand<'_, T>, C>(alloc, left, right, valid, len)
+    compare_ordered::<Operand<'_, T>>(alloc, operator, left, right, valid, len)
 }
 
 /// An arithmetic operator on decimals of one type.

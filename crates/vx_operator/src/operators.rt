@@ -13,7 +13,7 @@ ghost use Rattle.vx_rows.specs.declared.argument.ArgumentRows.TheVariants.{Integ
 use crate::arithmetic::{Difference, Product, Quotient, Sum, calculate};
 use crate::boolean::operate_bools;
 use crate::bytes::operate_bytes;
-use crate::comparison::{Above, Below, Different, Equal, NotAbove, NotBelow, compare};
+use crate::comparison::compare_natives;
 use crate::decimals::operate_decimals;
 use crate::logic::join;
 use std::alloc::Global;
@@ -117,17 +117,14 @@ fn operate_natives<T: NativeInteger>(
     ensures err { IfErr result (IsNotFilled (Binary operator) (operator_type operator (plain_type (Integers lhs.entry)))
         (pair_at (Integers lhs.entry) (Integers rhs.entry)) valid.now len) }
 {
+    if operator.is_comparison() {
+        return compare_natives::<T>(alloc, operator, lhs, rhs, valid, len);
+    }
     match operator {
-        Operator::Eq => compare::<T, Equal>(alloc, lhs, rhs, valid, len),
-        Operator::NotEq => compare::<T, Different>(alloc, lhs, rhs, valid, len),
-        Operator::Gt => compare::<T, Above>(alloc, lhs, rhs, valid, len),
-        Operator::Gte => compare::<T, NotBelow>(alloc, lhs, rhs, valid, len),
-        Operator::Lt => compare::<T, Below>(alloc, lhs, rhs, valid, len),
-        Operator::Lte => compare::<T, NotAbove>(alloc, lhs, rhs, valid, len),
         Operator::Add => calculate::<T, Sum>(alloc, lhs, rhs, valid, len),
         Operator::Sub => calculate::<T, Difference>(alloc, lhs, rhs, valid, len),
         Operator::Mul => calculate::<T, Product>(alloc, lhs, rhs, valid, len),
         Operator::Div => calculate::<T, Quotient>(alloc, lhs, rhs, valid, len),
-        Operator::And | Operator::Or => unreachable!(),
+        _ => unreachable!(),
     }
 }

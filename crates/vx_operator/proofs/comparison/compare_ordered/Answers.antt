@@ -9,7 +9,7 @@ returns-clause-ok g c =
     IfOk-weaker c.valid_bools.result _ _
     (λ t made. (
       made.0,
-      compared_made g.C.Comparison.operator c.args.valid.now (value c.args.left) (value c.args.right) c.args.len c.in_ok-bits.bits (canonical_tree t)
+      compared_made c.args.operator c.args.valid.now (value c.args.left) (value c.args.right) c.args.len c.in_ok-bits.bits (canonical_tree t)
           c.in_ok-bits.ensures made.1,
     ))
     c.valid_bools.ensures.ok

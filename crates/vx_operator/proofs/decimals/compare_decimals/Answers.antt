@@ -14,7 +14,7 @@ returns-clause-ok g c =
     let l = number_in read c.decimal_operand_of-left.result in
     let r = number_in read c.decimal_operand_of-right.result in
     IfOk-weaker c.compare_ordered.result _ _
-    (λ t made. ordered_filled g.C.Comparison.operator (Decimals c.args.lhs) (Decimals c.args.rhs) (λ i. value_cmp (integer (l i)) (integer (r i)))
+    (λ t made. ordered_filled c.args.operator (Decimals c.args.lhs) (Decimals c.args.rhs) (λ i. value_cmp (integer (l i)) (integer (r i)))
     c.args.valid.now c.args.len (canonical_tree t) refl refl c.requires.operator
     (decimals_ordered c.args.lhs c.args.rhs l r c.decimal_operand_of-left.ensures.numbers c.decimal_operand_of-right.ensures.numbers c.requires.same) made)
     c.compare_ordered.ensures.ok

@@ -1,9 +1,0 @@
-use Rattle.std.proofs.Common.{◌≡◌, true}
-use Rattle.vx_operator.specs.Bounds.{is_bounded, bounded_rows}
-use Rattle.vx_operator.proofs.bounds.between_all.Given as goal
-
-abbrev pub invariant-loop-index : goal.invariant-loop-index
-invariant-loop-index g l =
-    let value = g.R.OrderedRows.row_value in
-    l.bits
-    ≡ bounded_rows (λ i. true) (is_bounded g.L.Comparison.operator g.U.Comparison.operator (value l.array) (value l.lower) (value l.upper)) l.index

@@ -1,7 +1,0 @@
-use Rattle.std.proofs.Common.{◌≡◌, true}
-use Rattle.vx_operator.specs.Compared.{compared_rows}
-use Rattle.vx_operator.proofs.comparison.compare_all.Given as goal
-
-abbrev pub invariant-loop-index : goal.invariant-loop-index
-invariant-loop-index g l =
-    l.bits ≡ compared_rows g.C.Comparison.operator (λ i. true) (g.R.OrderedRows.row_value l.left) (g.R.OrderedRows.row_value l.right) l.index
