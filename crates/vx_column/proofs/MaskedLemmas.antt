@@ -1,6 +1,7 @@
 -- Columns with some of their rows made null: the two validities joined.
 use Rattle.std.proofs.Common.{◌≡◌, ℕ, suc, ◌+◌, List, [], ◌∷◌, length, map, Bool, true, false, ◌&&◌, Option, Some}
-use Rattle.std.proofs.Common.{refl, sym, ap, subst, ◌∙◌, arith}
+use Rattle.std.proofs.Common.{refl, sym, ap, subst, ◌∙◌, arith, Result, IfOk}
+use Rattle.std.proofs.lemmas.Result.{IfOk-weaker}
 use Rattle.std.specs.List.{range_with_len}
 use Rattle.std.proofs.lemmas.List.{length-map}
 use Rattle.vx_value.specs.Types.{DataType, bool, nullability_of}
@@ -17,6 +18,8 @@ use Rattle.vx_tree.specs.ColumnTypes.{bytes_type}
 use Rattle.vx_tree.specs.Tree.{Tree, Data, slots_of, dtype, len, column, call_of, masked_of}
 use Rattle.vx_tree.specs.Well.{shapes, IsFlat}
 use Rattle.vx_tree.specs.Cells.{rows, node_cells, cells_at, valid_cell, valid_cells, HasNoFault}
+use Rattle.vx_tree.specs.Columns.{canonical_tree}
+use Rattle.vx_tree.specs.declared.canonical.Canonical.{Canonical}
 use Rattle.vx_tree.specs.Keeps.{KeepsExactly}
 use Rattle.vx_tree.specs.Validities.{nullability_by, child_of, HasRows}
 use Rattle.vx_tree.specs.declared.validity.Validity.{Validity}
@@ -154,6 +157,21 @@ module _ {X : Type 0} (read : X → Value) (of_items : List X → Data) (of_type
       subst (KeepsExactly (masked_of t c)) shown
       (subst (λ x. KeepsExactly (masked_of x c) (column (with_nullability Nullable of_type) (length xs) (of_items xs) (child_of w (length xs)))) (sym whole_is)
       (masked_exactly xs v c (child_of w (length xs)) m (subst (λ n. IsBoth n v c (child_of w n)) flat.2 both)))
+
+  -- of a column `t` as an array of n rows, and of the child x of the validity that is joined to its own
+  pub canonical_masked : {E : Type 0} (found : Result Canonical E) (xs : List X) (own x : Option Tree) (given w : Validity) (n : ℕ) (t a s : Tree)
+      → t ≡ a → n ≡ len t → x ≡ child_of given n → t ≡ column (dtype t) (len t) (of_items xs) own
+      → IsFlat of_type (length xs) (dtype t) (len t) (shapes (slots_of (own ∷ []))) → nullability_by w ≡ Nullable → IsBoth n own x (child_of w n)
+      → s ≡ column (with_nullability (nullability_by w) of_type) (length xs) (of_items xs) (child_of w (length xs))
+      → IfOk found (λ c. canonical_tree c ≡ s) → IfOk found (λ c. KeepsExactly (masked_of a (child_of given (len a))) (canonical_tree c))
+  canonical_masked found xs own x given w n t a s of sized slot is flat nullable both stored =
+      let child = child_of given (len a) in
+      let same : x ≡ child = slot ∙ ap (child_of given) (sized ∙ ap len of) in
+      let both_told : IsBoth (len t) own child (child_of w (len t)) =
+      subst (λ k. IsBoth k own child (child_of w k)) sized (subst (λ y. IsBoth n own y (child_of w n)) same both) in
+      IfOk-weaker found _ _
+      (λ c made. subst (λ b. KeepsExactly (masked_of b child) (canonical_tree c)) of
+      (column_masked xs own child w t (canonical_tree c) is flat nullable both_told (made ∙ stored)))
 
 -- text and bytes keep their type, whatever the nullability
 pub bytes_set : (st : Storage) (m : Nullability) → with_nullability Nullable (with_nullability m (bytes_type st)) ≡ with_nullability Nullable (bytes_type st)

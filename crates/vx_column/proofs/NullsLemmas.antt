@@ -1,16 +1,14 @@
 -- Columns of nulls: filtered, masked, and expanded from a constant.
-use Rattle.std.proofs.Common.{◌≡◌, ℕ, zero, suc, List, [], ◌∷◌, length, map, replicate, Bool, true, false, Option, Some, None, refl, sym, ap, subst, ◌∙◌, arith}
-use Rattle.std.proofs.lemmas.List.{length-replicate}
+use Rattle.std.proofs.Common.{◌≡◌, ℕ, zero, suc, List, [], ◌∷◌, length, map, replicate, Bool, true, false, Some, None, refl, sym, ap, subst, ◌∙◌, arith}
 use Rattle.vx_value.specs.Types as type
 use Rattle.vx_value.specs.Types.{DataType, nullability_of}
 use Rattle.vx_value.specs.Storage.{storage_of}
 use Rattle.vx_value.specs.declared.dtype.Nullability.{Nullability}
-use Rattle.vx_value.specs.declared.dtype.Storage.{Storage}
 use Rattle.vx_value.specs.declared.dtype.Storage.TheVariants.{Nulls}
 use Rattle.vx_value.specs.IsOf.{is_of, is_stored}
 use Rattle.vx_value.specs.Typed.{Typed}
 use Rattle.vx_value.specs.Values.{Value, null, boolean}
-use Rattle.vx_value.specs.Cell.{Cell, value}
+use Rattle.vx_value.specs.Cell.{value}
 use Rattle.vx_mask.specs.Places.{true_count}
 use Rattle.vx_mask.proofs.ChosenLemmas.{chosen-replicate}
 use Rattle.vx_tree.specs.Tree as enc

@@ -1,4 +1,4 @@
-use Rattle.std.proofs.Common.{◌≡◌, None, sym, subst, ◌∙◌, ap, rules}
+use Rattle.std.proofs.Common.{◌≡◌, sym, subst, ◌∙◌, ap, rules}
 use Rattle.vx_mask.specs.Masks.{bits_in}
 use Rattle.vx_tree.specs.Tree as enc
 use Rattle.vx_tree.specs.Tree.{dtype, len, column, booleans, filter_of}
@@ -12,10 +12,9 @@ returns-in-Bool-default-None-clause-ok c =
     let t = c.args.array in
     let bits = bits_in c.args.mask.now in
     let bs = c.in-Bool-default-None.bits.now in
-    let none : c.in-Bool-default-None.field-1.now ≡ None = search rules in
-    let made : c.into_array.result ≡ booleans c.in_ok-kept.kept = search rules in
+    let made : c.into_array.result ≡ booleans c.in_ok-kept.kept = c.into_array.ensures ∙ c.in_ok-bool_column.ensures.ok in
     subst (KeepsExactly (filter_of bits t)) (sym made)
-    (booleans_filtered bits bs c.in_ok-kept.kept t (c.in-Bool-default-None.ensures.0 ∙ ap (column (dtype t) (len t) (enc.bool bs)) none) c.requires.typed
+    (booleans_filtered bits bs c.in_ok-kept.kept t (c.in-Bool-default-None.ensures.0 ∙ ap (column (dtype t) (len t) (enc.bool bs)) c.in-Bool-default-None.field-1-is) c.requires.typed
     c.in-Bool-default-None.ensures.1 c.requires.sized c.in_ok-kept.ensures)
 
 pub returns-clause-ok : goal.returns-clause-ok

@@ -1,5 +1,5 @@
-use Rattle.std.proofs.Common.{◌≡◌, Some, None, IfOk, sym, subst, ◌∙◌}
-use Rattle.vx_tree.specs.Tree.{Tree, nulls_of, masked_of}
+use Rattle.std.proofs.Common.{IfOk, sym, subst, ◌∙◌}
+use Rattle.vx_tree.specs.Tree.{nulls_of, masked_of}
 use Rattle.vx_tree.specs.Keeps.{KeepsExactly}
 use Rattle.vx_tree.specs.Columns.{canonical_tree}
 use Rattle.vx_tree.specs.declared.canonical.Canonical.{Canonical}
