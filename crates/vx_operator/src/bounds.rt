@@ -173,9 +173,10 @@ fn between_natives<T: NativeInteger>(
     valid: &ValidRows,
     len: usize,
 ) -> Result<BitBuffer, AllocError>
-    requires array { AreIntegers T.kind array len }
-    requires lower { AreIntegers T.kind lower len }
-    requires upper { AreIntegers T.kind upper len }
+    requires kind { T.kind ≡ ptype_in array }
+    requires array { AreIntegers (ptype_in array) array len }
+    requires lower { AreIntegers (ptype_in array) lower len }
+    requires upper { AreIntegers (ptype_in array) upper len }
     requires valid { HasValidity valid.now len }
     ensures { IfOk result (λ b. b ≡ checked_rows (is_valid valid.now)
         (is_between options (value_at (Integers array.entry)) (value_at (Integers lower.entry)) (value_at (Integers upper.entry))) len) }
