@@ -1,5 +1,7 @@
+pub mod CallsLemmas
 pub mod FitsLemmas
 pub mod QuietLemmas
+pub mod ChildrenLemmas
 pub mod ConstantsLemmas
 pub mod LighterLemmas
 pub mod SlotsLemmas

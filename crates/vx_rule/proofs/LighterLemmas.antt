@@ -1,7 +1,6 @@
 -- What each row does to the weight of its tree, and where it stands.
-use Rattle.std.proofs.Common.{◌≡◌, ℕ, zero, suc, ◌+◌, ◌-◌, ◌*◌, ◌<◌, ◌≤◌, List, [], ◌∷◌, Option, Some, None, Bool, true, refl, sym, subst, ap, arith, zero-add}
+use Rattle.std.proofs.Common.{◌≡◌, ℕ, zero, suc, ◌+◌, ◌-◌, ◌*◌, ◌<◌, ◌≤◌, List, [], ◌∷◌, Option, Some, Bool, true, refl, subst, arith, zero-add}
 use Rattle.vx_value.specs.Types.{DataType}
-use Rattle.vx_value.specs.Types as type
 use Rattle.vx_value.specs.Storage.{storage_of}
 use Rattle.vx_value.specs.declared.dtype.Storage.{Storage}
 use Rattle.vx_value.specs.declared.dtype.Storage.TheVariants.{Nulls}
@@ -9,10 +8,10 @@ use Rattle.vx_tree.specs.Tree as enc
 use Rattle.vx_tree.specs.Tree.{Tree, Data, Slots, node, no_slots, absent, slot, datum, constant_of, slice_of, filter_of, is_canonical}
 use Rattle.vx_tree.specs.Slots.{map_slots, present_from, present_in, IsPresent, IsPresentAt}
 use Rattle.vx_tree.specs.Parts.{part_of, part_by, choice_of, choice_by, column_range}
-use Rattle.vx_tree.specs.Columns.{empty_of, empty_stored, data_range}
-use Rattle.vx_tree.specs.Weight.{weight, slots_weights, node_weight, column_weight, total, excess}
+use Rattle.vx_tree.specs.Columns.{empty_of, empty_stored}
+use Rattle.vx_tree.specs.Weight.{weight, slots_weights, column_weight, total, excess}
 use Rattle.vx_tree.proofs.WeightLemmas.{weight_low}
-use Rattle.vx_rule.specs.Rules.{Row, ArePresent, IsPart, told, F1, F2, F3, C1, N1_null, N1_valid, S_whole, S_empty, S1, S2, S3, S4, S5, F5, F6, F7, F8, M1, K1, K2, K3, K4}
+use Rattle.vx_rule.specs.Rules.{Row, ArePresent, told, F1, F2, F3, C1, N1_null, N1_valid, S_whole, S_empty, S1, S2, S3, S4, S5, F5, F6, F7, F8, M1, K1, K2, K3, K4}
 
 -- ---- weights of what rows make
 

@@ -15,10 +15,10 @@ use Rattle.vx_tree.specs.Slots.{map_slots}
 use Rattle.vx_tree.specs.Parts.{part_of}
 use Rattle.vx_tree.specs.Cells.{node_cells, slots_rows, AreClean}
 use Rattle.vx_tree.specs.Columns.{empty_of}
-use Rattle.vx_tree.specs.Cost.{all, cost, reach, slots_cost, slots_extra, all_reached}
+use Rattle.vx_tree.specs.Cost.{all, cost, slots_cost, slots_extra, all_reached}
 use Rattle.vx_tree.specs.Keeps.{KeepsExactly}
 use Rattle.vx_tree.specs.Validities.{HasRange}
-use Rattle.vx_tree.specs.Well.{Shape, shape, shape_of, shapes, IsValidity, IsNode, IsNodeOf, IsWell, AreWell}
+use Rattle.vx_tree.specs.Well.{shape, shape_of, shapes, IsValidity, IsNode, IsWell, AreWell}
 use Rattle.vx_tree.proofs.CostLemmas.{cost_positive, column_cost, masked_cost, masked_reach}
 use Rattle.vx_tree.proofs.KeepsLemmas.{exactly_refl, exactly_trans, exactly_of_rows, put_exactly}
 use Rattle.vx_tree.proofs.PartsLemmas.{part_exact}

@@ -1,5 +1,5 @@
 -- Where no row fits.
-use Rattle.std.proofs.Common.{◌≡◌, ℕ, ◌<◌, List, Option, Some, None, Bool, true, false, refl, sym, subst, ap, arith}
+use Rattle.std.proofs.Common.{◌≡◌, ℕ, List, Some, None, Bool, true, false, refl, sym, subst}
 use Rattle.std.specs.Prelude.{◌||◌}
 use Rattle.vx_value.specs.Types.{DataType, nullability_of}
 use Rattle.vx_value.specs.View.{type_of}
@@ -11,7 +11,7 @@ use Rattle.vx_fn.specs.declared.function.ScalarFnRef.{ScalarFnRef}
 use Rattle.vx_fn.specs.declared.function.ScalarFnRef.TheVariants as fn_of
 use Rattle.vx_tree.specs.Tree as enc
 use Rattle.vx_tree.specs.Tree.{Tree, Data, Slots, node, no_slots, slot, dtype, datum, slice_of, filter_of, is_filter, is_constant, is_function, is_masked, is_slice}
-use Rattle.vx_rule.specs.Rules.{Row, IsQuiet, lets_slice, F1, F2, F3, C1, N1_null, N1_valid, S_whole, S_empty, S1, S2, S3, S4, S5, F5, F6, F7, F8, M1, K1, K2, K3, K4}
+use Rattle.vx_rule.specs.Rules.{IsQuiet, F1, F2, F3, C1, N1_null, N1_valid, S_whole, S_empty, S1, S2, S3, S4, S5, F5, F6, F7, F8, M1, K1, K2, K3, K4}
 
 -- ---- the node itself
 
@@ -64,75 +64,9 @@ own_quiet t f g u os (N1_valid ty n c e) = absurd (cc (g))
 
 -- ---- the child in a slot
 
-pub slice_quiet : (a b : ℕ) (c : Tree) → lets_slice (datum c) ≡ false → IsQuiet (Some 0) (slice_of a b c)
-slice_quiet a b c h u os (S_whole ty n a' b' c' l z y) = absurd (cc (h, l))
-slice_quiet a b c h u os (S_empty ty n a' b' c' l z y) = absurd (cc (h, l))
-slice_quiet a b c h u os (S1 ty sty n a' b' k s r c' p) = absurd (cc (h))
-slice_quiet a b c h u os (S2 ty cty n a' b' k v p) = absurd (cc (h))
-slice_quiet a b c h u os (S3 ty cty n a' b' k enc.nulls ss e p) = absurd (cc (h))
-slice_quiet a b c h u os (S3 ty cty n a' b' k (enc.bool bs) ss e p) = absurd (cc (h))
-slice_quiet a b c h u os (S3 ty cty n a' b' k (enc.primitive q zs) ss e p) = absurd (cc (h))
-slice_quiet a b c h u os (S3 ty cty n a' b' k (enc.decimals w zs) ss e p) = absurd (cc (h))
-slice_quiet a b c h u os (S3 ty cty n a' b' k (enc.views rs) ss e p) = absurd (cc (h))
-slice_quiet a b c h u os (S3 ty cty n a' b' k _ ss e p) = absurd (cc (e))
-slice_quiet a b c h u os (S4 ty fty n a' b' k f ss p) = absurd (cc (h))
-slice_quiet a b c h u os (S5 ty mty n a' b' k c' vs p) = absurd (cc (h))
-
 -- the encodings that a filter passes through
 abbrev pub lets_filter : Data → Bool
 lets_filter d = is_filter d || is_constant d || is_function d || is_masked d
-
-pub choice_quiet : (bits : List Bool) (c : Tree) → lets_filter (datum c) ≡ false → IsQuiet (Some 0) (filter_of bits c)
-choice_quiet bits c h u os (F5 ty fty n k outer inner c') = absurd (cc (h))
-choice_quiet bits c h u os (F6 ty cty n k m v) = absurd (cc (h))
-choice_quiet bits c h u os (F7 ty fty n k m f ss) = absurd (cc (h))
-choice_quiet bits c h u os (F8 ty mty n k m c' vs) = absurd (cc (h))
-
--- a mask of anything but a masked array
-mask_by : (ty : DataType) (n : ℕ) (x m : Tree) → is_masked (datum x) ≡ false → IsQuiet (Some 0) (node ty n (enc.function fn_of.Mask) (slot x (slot m no_slots)))
-mask_by ty n x m h u os (M1 ty' mty n' k c m' vs) = absurd (cc (h))
-
-pub mask_quiet : (ty : DataType) (n : ℕ) (t x m : Tree) → t ≡ node ty n (enc.function fn_of.Mask) (slot x (slot m no_slots)) → is_masked (datum x) ≡ false
-    → IsQuiet (Some 0) t
-mask_quiet ty n t x m is h = subst (IsQuiet (Some 0)) (sym is) (mask_by ty n x m h)
-
--- the functions of which a child has a row
-abbrev pub has_child_row : ScalarFnRef → Bool
-has_child_row fn_of.Mask = true
-has_child_row (fn_of.Cast target) = true
-has_child_row fn_of.Not = true
-has_child_row (fn_of.Between options) = true
-has_child_row fn_of.FillNull = true
-has_child_row _ = false
-
-call_by : (ty : DataType) (n : ℕ) (f : ScalarFnRef) (ss : Slots) → has_child_row f ≡ false → IsQuiet (Some 0) (node ty n (enc.function f) ss)
-call_by ty n f ss h u os (M1 ty' mty n' k c m' vs) = absurd (cc (h))
-call_by ty n f ss h u os (K1 ty' s n' k target v x e) = absurd (cc (h))
-call_by ty n f ss h u os (K2 ty' s n' k v x e) = absurd (cc (h))
-call_by ty n f ss h u os (K3 ty' s r q n' i j k options x y z v e) = absurd (cc (h))
-call_by ty n f ss h u os (K4 ty' s r n' j k x y v e) = absurd (cc (h))
-
-pub call_quiet : (ty : DataType) (n : ℕ) (f : ScalarFnRef) (ss : Slots) (t : Tree) → t ≡ node ty n (enc.function f) ss → has_child_row f ≡ false → IsQuiet (Some 0) t
-call_quiet ty n f ss t is h = subst (IsQuiet (Some 0)) (sym is) (call_by ty n f ss h)
-
--- a parent that is neither a slice nor a filter nor a function
-pub parent_quiet : (t : Tree) → is_slice (datum t) ≡ false → is_filter (datum t) ≡ false → is_function (datum t) ≡ false → IsQuiet (Some 0) t
-parent_quiet t s f g u os (S_whole ty n a b c l z y) = absurd (cc (s))
-parent_quiet t s f g u os (S_empty ty n a b c l z y) = absurd (cc (s))
-parent_quiet t s f g u os (S1 ty sty n a b k s' r c p) = absurd (cc (s))
-parent_quiet t s f g u os (S2 ty cty n a b k v p) = absurd (cc (s))
-parent_quiet t s f g u os (S3 ty cty n a b k d ss h p) = absurd (cc (s))
-parent_quiet t s f g u os (S4 ty fty n a b k f' ss p) = absurd (cc (s))
-parent_quiet t s f g u os (S5 ty mty n a b k c vs p) = absurd (cc (s))
-parent_quiet t s f g u os (F5 ty fty n k outer inner c) = absurd (cc (f))
-parent_quiet t s f g u os (F6 ty cty n k bits v) = absurd (cc (f))
-parent_quiet t s f g u os (F7 ty fty n k bits f' ss) = absurd (cc (f))
-parent_quiet t s f g u os (F8 ty mty n k bits c vs) = absurd (cc (f))
-parent_quiet t s f g u os (M1 ty mty n k c m vs) = absurd (cc (g))
-parent_quiet t s f g u os (K1 ty s' n k target v x e) = absurd (cc (g))
-parent_quiet t s f g u os (K2 ty s' n k v x e) = absurd (cc (g))
-parent_quiet t s f g u os (K3 ty s' r q n i j k options x y z v e) = absurd (cc (g))
-parent_quiet t s f g u os (K4 ty s' r n j k x y v e) = absurd (cc (g))
 
 -- no row is one of a later slot
 pub later_quiet : (i : ℕ) (t : Tree) → (i ≡ 0 → ⊥) → IsQuiet (Some i) t

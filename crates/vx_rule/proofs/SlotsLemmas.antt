@@ -15,7 +15,7 @@ use Rattle.vx_tree.specs.Tree.{Tree, Data, Slots, node, no_slots, absent, slot, 
 use Rattle.vx_tree.specs.Slots.{map_slots, present_from}
 use Rattle.vx_tree.specs.Parts.{part_of, part_by, choice_of, choice_by, HasLen}
 use Rattle.vx_tree.specs.Validities.{HasRange}
-use Rattle.vx_tree.specs.Well.{Shape, shape, shape_of, shapes, IsNode, IsNodeOf, IsWell, AreWell, IsMasked, IsValidity}
+use Rattle.vx_tree.specs.Well.{shape, shape_of, shapes, IsNode, IsNodeOf, IsWell, AreWell, IsValidity}
 use Rattle.vx_tree.specs.Refusals.{all_long}
 
 -- ---- one slot more
@@ -128,13 +128,32 @@ shaped_two n (Some t ∷ xs) (ty ∷ tys) e k =
     let r = shaped_one n xs tys rest (omega (arith, k)) in
     (t, r.0, ap (λ ys. Some t ∷ ys) r.1)
 
--- of one that takes one, and two
+one_more : (t : Tree) (xs ys : List (Option Tree)) → xs ≡ ys → Some t ∷ xs ≡ Some t ∷ ys
+one_more t xs ys e = ap (λ zs. Some t ∷ zs) e
+
+shaped_three : (n : ℕ) (xs : List (Option Tree)) (tys : List DataType) → shapes (slots_of xs) ≡ map (λ s. Some (shape s n)) tys → length tys ≡ 3
+    → (c : Tree) × (d : Tree) × (e : Tree) × (xs ≡ Some c ∷ Some d ∷ Some e ∷ [])
+shaped_three n [] [] e k = absurd (omega (arith, k))
+shaped_three n [] (ty ∷ tys) e k = absurd (cc (e))
+shaped_three n (None ∷ xs) [] e k = absurd (omega (arith, k))
+shaped_three n (None ∷ xs) (ty ∷ tys) e k = absurd (cc (e))
+shaped_three n (Some t ∷ xs) [] e k = absurd (omega (arith, k))
+shaped_three n (Some t ∷ xs) (ty ∷ tys) e k =
+    let rest : shapes (slots_of xs) ≡ map (λ s. Some (shape s n)) tys = cc (e) in
+    let r = shaped_two n xs tys rest (omega (arith, k)) in
+    (t, r.0, r.1, one_more t xs (Some r.0 ∷ Some r.1 ∷ []) r.2)
+
+-- of one that takes one, two and three
 pub one_argument : (ty : DataType) (n : ℕ) (f : ScalarFnRef) (xs : List (Option Tree)) → IsNode ty n (enc.function f) (shapes (slots_of xs)) → arity f ≡ 1 → (c : Tree) × (xs ≡ Some c ∷ [])
 one_argument ty n f xs w k = shaped_one n xs w.0 w.1 ((meaning f).taken w.0 ty w.2 ∙ k)
 
 pub two_arguments : (ty : DataType) (n : ℕ) (f : ScalarFnRef) (xs : List (Option Tree)) → IsNode ty n (enc.function f) (shapes (slots_of xs)) → arity f ≡ 2
     → (c : Tree) × (d : Tree) × (xs ≡ Some c ∷ Some d ∷ [])
 two_arguments ty n f xs w k = shaped_two n xs w.0 w.1 ((meaning f).taken w.0 ty w.2 ∙ k)
+
+pub three_arguments : (ty : DataType) (n : ℕ) (f : ScalarFnRef) (xs : List (Option Tree)) → IsNode ty n (enc.function f) (shapes (slots_of xs)) → arity f ≡ 3
+    → (c : Tree) × (d : Tree) × (e : Tree) × (xs ≡ Some c ∷ Some d ∷ Some e ∷ [])
+three_arguments ty n f xs w k = shaped_three n xs w.0 w.1 ((meaning f).taken w.0 ty w.2 ∙ k)
 
 -- ---- the nodes over mapped slots
 

@@ -6,5 +6,7 @@ pub use Rattle.vx_tree.specs.Cost
 pub use Rattle.vx_tree.specs.Weight
 pub mod Rules
 pub mod Answers
+pub mod Calls
+pub mod SliceLaws
 pub mod Constants
 pub mod Pushes

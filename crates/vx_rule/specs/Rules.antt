@@ -1,8 +1,8 @@
 -- The table of rewrite rules, a constructor for each row. A row's name is the one that its users see.
 use Rattle.std.specs.Prelude.{◌≡◌, ℕ, ◌+◌, ◌-◌, ◌<◌, List, [], ◌∷◌, Option, Some, None, Bool, true, false, not, ◌||◌}
-use Rattle.vx_value.specs.Types.{DataType, bool, nullability_of}
+use Rattle.vx_value.specs.Types.{DataType, nullability_of}
 use Rattle.vx_value.specs.Typed.{Typed}
-use Rattle.vx_value.specs.Cell.{Cell, value}
+use Rattle.vx_value.specs.Cell.{value}
 use Rattle.vx_value.specs.Values.{Value}
 use Rattle.vx_value.specs.View.{type_of}
 use Rattle.vx_value.specs.declared.dtype.DType.{DType}

@@ -1,19 +1,29 @@
 //! The table of rewrite rules: what may stand for a node, by the node itself or by a child of it.
 #![tactic(auto)]
 
-mod choice;
-mod constant;
-mod filter;
-mod function;
+mod adaptors;
+mod encodings;
 mod laws;
-mod mask;
 mod push;
 mod raw_node;
-mod slice;
+mod rule;
+mod rule_set;
+pub mod scalar_fns;
 mod slots;
 mod table;
 
+pub use adaptors::{
+    BetweenReduce, BetweenReduceAdaptor, CastReduce, CastReduceAdaptor, FillNullReduce,
+    FillNullReduceAdaptor, FilterReduce, FilterReduceAdaptor, MaskReduce, MaskReduceAdaptor,
+    NotReduce, NotReduceAdaptor, SliceReduce, SliceReduceAdaptor,
+};
+pub use encodings::CanonicalEncoding;
 pub use laws::rule_laws;
 pub use push::push_slice;
 pub use raw_node::RawNode;
+pub use rule::{
+    ArrayParentReduceRule, ArrayReduceRule, DynArrayParentReduceRule, ParentReduceRuleAdapter,
+};
+pub use rule_set::{ParentRuleSet, ReduceRuleSet, ReduceVTable};
+pub use scalar_fns::{ExactScalarFn, ScalarFnTag};
 pub use table::{reduce, reduce_parent};

@@ -163,6 +163,23 @@ pub(crate) fn two_arguments(slots: &[Option<ArrayRef>]) -> (&ArrayRef, &ArrayRef
     (first, second)
 }
 
+/// Returns the trees in the only three slots.
+pub(crate) fn three_arguments(slots: &[Option<ArrayRef>]) -> (&ArrayRef, &ArrayRef, &ArrayRef)
+    requires { (c : Tree) × (d : Tree) × (e : Tree) × (slots.now ≡ Some c ∷ Some d ∷ Some e ∷ []) }
+    ensures { slots.now ≡ Some result.0.now ∷ Some result.1.now ∷ Some result.2.now ∷ [] }
+{
+    let Some(first) = &slots[0] else {
+        unreachable!()
+    };
+    let Some(second) = &slots[1] else {
+        unreachable!()
+    };
+    let Some(third) = &slots[2] else {
+        unreachable!()
+    };
+    (first, second, third)
+}
+
 /// Makes the constant of `len` rows, each `value`. The only error is `OutOfMemory`.
 pub(crate) fn truths(alloc: Global, value: bool, len: usize) -> VortexResult<ArrayRef>
     ensures ok { IfOk result (λ t. t ≡ truths value len) }

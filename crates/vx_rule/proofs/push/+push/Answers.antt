@@ -1,4 +1,4 @@
-use Rattle.std.proofs.Common.{◌≡◌, ℕ, ◌-◌, arith, Some, sym, subst, ◌∙◌}
+use Rattle.std.proofs.Common.{◌≡◌, arith, Some, sym, subst, ◌∙◌}
 use Rattle.std.proofs.lemmas.Grind.{common_steps}
 use Rattle.std.proofs.lemmas.Result.{IfOk-weaker}
 use Rattle.vx_tree.specs.Tree.{slots_of, slots_height, dtype, len}

@@ -1,4 +1,4 @@
-use Rattle.std.proofs.Common.{◌∙◌, ◌≡◌, ◌-◌, sym, ap, rules}
+use Rattle.std.proofs.Common.{◌∙◌, ◌≡◌, ◌-◌, ap, rules}
 use Rattle.vx_tree.specs.Tree.{constant_of, len}
 use Rattle.vx_rule.proofs.PushLemmas.{constant_pushed}
 use Rattle.vx_rule.proofs.push.shorter.Goals as goal

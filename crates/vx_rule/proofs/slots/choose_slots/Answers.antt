@@ -1,4 +1,4 @@
-use Rattle.std.proofs.Common.{length, take, sym}
+use Rattle.std.proofs.Common.{length, take}
 use Rattle.std.proofs.lemmas.List.{take_more}
 use Rattle.vx_mask.specs.Masks.{bits_in}
 use Rattle.vx_tree.specs.Parts.{choice_of}

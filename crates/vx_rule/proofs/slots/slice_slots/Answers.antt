@@ -1,7 +1,6 @@
-use Rattle.std.proofs.Common.{◌≡◌, ◌≤◌, Option, Some, None, arith, take, sym, subst}
-use Rattle.std.specs.Prelude.{IfSome}
+use Rattle.std.proofs.Common.{take}
 use Rattle.std.proofs.lemmas.List.{take_more}
-use Rattle.vx_tree.specs.Tree.{Tree, len, slice_of}
+use Rattle.vx_tree.specs.Tree.{slice_of}
 use Rattle.vx_rule.proofs.SlotsLemmas.{mapped_more, long_here, within}
 use Rattle.vx_rule.proofs.slots.slice_slots.Goals as goal
 

@@ -1,0 +1,13 @@
+use Rattle.std.proofs.Common.{rules, ◌≡◌, ap, sym, ◌∙◌}
+use Rattle.vx_mask.specs.Masks.{bits_in}
+use Rattle.vx_tree.specs.Tree.{len}
+use Rattle.vx_rule.proofs.CombinedLemmas.{combined_long}
+use Rattle.vx_rule.proofs.encodings.filter.f5.Goals as goal
+
+pub combine-requires : goal.combine-requires
+combine-requires c = c.requires.long ∙ ap len c.requires.shape
+
+pub new-requires : goal.new-requires
+new-requires c =
+    let same : c.in_ok-clone.field-0 ≡ c.args.inner.now = search rules in
+    combined_long (bits_in c.args.outer.now) (bits_in c.args.mask.now) c.in_ok-both.both (len c.in_ok-clone.field-0) c.in_ok-both.ensures.ok (c.requires.within ∙ ap len (sym same))

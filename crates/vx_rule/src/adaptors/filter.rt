@@ -1,0 +1,57 @@
+//! Filters of a child: the rows F5 to F8.
+
+ghost use Rattle.std.specs.Prelude.{◌≡◌, Some, IfOk, IfErr, length, true};
+ghost use Rattle.vx_value.specs.declared.error.VortexError.TheVariants.{OutOfMemory};
+ghost use Rattle.vx_mask.specs.Masks.{bits_in};
+ghost use Rattle.vx_tree.specs.Tree.{len, datum, filter_of, is_filter};
+ghost use Rattle.vx_tree.specs.Slots.{HasSlot};
+ghost use Rattle.vx_rule.specs.Answers.{IsAnswer};
+
+use crate::raw_node::RawNode;
+use crate::rule::ArrayParentReduceRule;
+use std::alloc::Global;
+use vx_mask::Mask;
+use vx_tree::{ArrayKind, ArrayRef, ArrayView, Filter, VTable};
+use vx_value::VortexResult;
+
+/// Encodings that have a row for a filter.
+pub trait FilterReduce: VTable {
+    /// Returns what stands for the filter of `array` by `mask`, which must have as many rows: `None` exactly if no row fits. The only
+    /// error is `OutOfMemory`.
+    fn filter(
+        alloc: Global,
+        array: ArrayView<'_, Self>,
+        mask: &Mask,
+    ) -> VortexResult<Option<RawNode>>
+        requires payload { Self.stands_for array.payload.now ≡ datum array.array.now }
+        requires long { length (bits_in mask.now) ≡ len array.array.now }
+        ensures answer { IfOk result (λ o. IsAnswer (Some 0) (filter_of (bits_in mask.now) array.entry.array.now) o) }
+        ensures err { IfErr result (λ e. e ≡ OutOfMemory) };
+}
+
+/// The rule of `V` for a filter of it.
+#[derive(Debug, Default, Drop)]
+pub struct FilterReduceAdaptor<V>(pub V);
+
+impl<V: FilterReduce> ArrayParentReduceRule<V> for FilterReduceAdaptor<V> {
+    type Parent = Filter;
+
+    fn reduce_parent(
+        &self,
+        alloc: Global,
+        child: ArrayView<'_, V>,
+        parent: &ArrayRef,
+        _slot: usize,
+    ) -> VortexResult<Option<RawNode>>
+        requires payload { V.stands_for child.payload.now ≡ datum child.array.now }
+        requires fits { is_filter (datum parent.now) ≡ true }
+        requires slot { HasSlot _slot child.array.now parent.now }
+        ensures answer { IfOk result (λ o. IsAnswer (Some _slot) parent.now o) }
+        ensures err { IfErr result (λ e. e ≡ OutOfMemory) }
+    {
+        let ArrayKind::Filter(_, mask) = parent.kind() else {
+            unreachable!()
+        };
+        V::filter(alloc, child, mask)
+    }
+}

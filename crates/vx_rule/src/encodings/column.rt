@@ -1,0 +1,107 @@
+//! The rules of canonical columns, which are the same for all of them.
+
+ghost use Rattle.std.specs.Prelude.{◌≡◌, ◌≤◌, Some, None, IfOk, IfErr, true};
+ghost use Rattle.vx_value.specs.declared.error.VortexError.TheVariants.{OutOfMemory};
+ghost use Rattle.vx_tree.specs.Tree.{Data, len, datum, slice_of, is_canonical};
+ghost use Rattle.vx_tree.specs.Slots.{HasSlot};
+ghost use Rattle.vx_rule.specs.Rules.{Row, IsPart};
+ghost use Rattle.vx_rule.specs.Answers.{IsAnswer};
+ghost use Rattle.vx_rule.specs.SliceLaws.{column_lets, nulls_canonical, bool_canonical, primitive_canonical, decimals_canonical, views_canonical};
+
+use crate::adaptors::{SliceReduce, SliceReduceAdaptor};
+use crate::encodings::parent_rules;
+use crate::raw_node::RawNode;
+use crate::rule::DynArrayParentReduceRule;
+use crate::rule_set::ReduceVTable;
+use std::alloc::Global;
+use std::ops::Range;
+use vx_tree::{
+    ArrayRef, ArrayView, Bool, Canonical, Decimal, IntoArray, Null, Primitive, VTable, VarBinView,
+    slice_canonical,
+};
+use vx_value::VortexResult;
+
+/// Canonical encodings. (own)
+pub trait CanonicalEncoding: VTable {
+    // its node data are those of a canonical column
+    ghost canonical: { (d : Data) → Self.is_kind d ≡ true → is_canonical d ≡ true };
+}
+
+impl CanonicalEncoding for Null {
+    ghost canonical = { nulls_canonical };
+}
+
+impl CanonicalEncoding for Bool {
+    ghost canonical = { bool_canonical };
+}
+
+impl CanonicalEncoding for Primitive {
+    ghost canonical = { primitive_canonical };
+}
+
+impl CanonicalEncoding for Decimal {
+    ghost canonical = { decimals_canonical };
+}
+
+impl CanonicalEncoding for VarBinView {
+    ghost canonical = { views_canonical };
+}
+
+impl<V: CanonicalEncoding> ReduceVTable for V {
+    #[tactic(auto, using(crate::proofs::QuietLemmas::own_quiet))]
+    fn reduce(_alloc: Global, _array: ArrayView<'_, V>) -> VortexResult<Option<RawNode>>
+        requires payload { V.stands_for _array.payload.now ≡ datum _array.array.now }
+        ensures answer { IfOk result (λ o. IsAnswer None _array.entry.array.now o) }
+        ensures err { IfErr result (λ e. e ≡ OutOfMemory) }
+    {
+        Ok(None)
+    }
+
+    fn reduce_parent(
+        alloc: Global,
+        child: ArrayView<'_, V>,
+        parent: &ArrayRef,
+        slot: usize,
+    ) -> VortexResult<Option<RawNode>>
+        requires payload { V.stands_for child.payload.now ≡ datum child.array.now }
+        requires slot { HasSlot slot child.array.now parent.now }
+        ensures answer { IfOk result (λ o. IsAnswer (Some slot) parent.now o) }
+        ensures err { IfErr result (λ e. e ≡ OutOfMemory) }
+    {
+        parent_rules!(V, alloc, child, parent, slot; SliceReduceAdaptor)
+    }
+}
+
+impl<V: CanonicalEncoding> SliceReduce for V {
+    fn slice(
+        alloc: Global,
+        array: ArrayView<'_, V>,
+        range: Range<usize>,
+    ) -> VortexResult<Option<RawNode>>
+        requires payload { V.stands_for array.payload.now ≡ datum array.array.now }
+        requires part { IsPart range.start range.end (len array.array.now) }
+        requires bounds { range.end ≤ len array.array.now }
+        ensures answer { IfOk result (λ o. IsAnswer (Some 0) (slice_of range.start range.end array.entry.array.now) o) }
+        ensures err { IfErr result (λ e. e ≡ OutOfMemory) }
+    {
+        Ok(Some(s3(alloc, array.array(), range)?))
+    }
+
+    ghost lets = { λ d k. column_lets d (V.canonical d k) };
+}
+
+/// Row S3: a slice of a canonical column is one of its range, which shares its buffers.
+fn s3(alloc: Global, array: &ArrayRef, range: Range<usize>) -> VortexResult<RawNode>
+    requires canonical { is_canonical (datum array.now) ≡ true }
+    requires part { IsPart range.start range.end (len array.now) }
+    requires bounds { range.end ≤ len array.now }
+    ensures row { IfOk result (λ r. Row (Some 0) (slice_of range.start range.end array.now) r.tree r.optimize.items) }
+    ensures err { IfErr result (λ e. e ≡ OutOfMemory) }
+{
+    let Ok(column) = Canonical::try_from_array_ref(array.clone()?) else {
+        unreachable!()
+    };
+    column.as_array().well();
+    let part = slice_canonical(alloc, &column, range)?;
+    RawNode::raw(alloc, part.into_array())
+}

@@ -1,0 +1,296 @@
+//! The rules of constants.
+
+ghost use Rattle.std.specs.Prelude.{◌≡◌, ◌≤◌, Some, None, IfOk, IfErr, IfSome, IfNone, ◌∷◌, [], length, true};
+ghost use Rattle.vx_value.specs.declared.error.VortexError.TheVariants.{OutOfMemory};
+ghost use Rattle.vx_mask.specs.Masks.{bits_in};
+ghost use Rattle.vx_mask.specs.Places.{true_count};
+ghost use Rattle.vx_fn.specs.declared.function.ScalarFnRef.TheVariants as fn_of;
+ghost use Rattle.vx_tree.specs.Tree.{dtype, len, datum, node, constant, function, slots_of, constant_of, slice_of, filter_of};
+ghost use Rattle.vx_tree.specs.Well.{IsNode, shapes};
+ghost use Rattle.vx_tree.specs.Slots.{HasSlot};
+ghost use Rattle.vx_rule.specs.Rules.{Row, IsPart};
+ghost use Rattle.vx_rule.specs.Calls.{IsCallOf, applies, is_cast, is_not, is_between, is_fill_null};
+ghost use Rattle.vx_rule.specs.Constants.{folds, slot_value, constant_values, IsFolded};
+ghost use Rattle.vx_rule.specs.Answers.{IsAnswer};
+ghost use Rattle.vx_rule.specs.SliceLaws.{constant_lets};
+
+use crate::adaptors::{
+    BetweenReduce, BetweenReduceAdaptor, CastReduce, CastReduceAdaptor, FillNullReduce,
+    FillNullReduceAdaptor, FilterReduce, FilterReduceAdaptor, NotReduce, NotReduceAdaptor,
+    SliceReduce, SliceReduceAdaptor,
+};
+use crate::encodings::parent_rules;
+use crate::raw_node::RawNode;
+use crate::rule::DynArrayParentReduceRule;
+use crate::rule_set::ReduceVTable;
+use std::alloc::Global;
+use std::ops::Range;
+use vx_fn::{BetweenOptions, ScalarFnRef, apply_row};
+use vx_mask::Mask;
+use vx_tree::{ArrayKind, ArrayRef, ArrayView, Constant, ConstantArray, IntoArray, VTable};
+use vx_value::{DType, Scalar, VortexError, VortexResult};
+
+impl ReduceVTable for Constant {
+    #[tactic(auto, using(crate::proofs::QuietLemmas::own_quiet))]
+    fn reduce(_alloc: Global, _array: ArrayView<'_, Constant>) -> VortexResult<Option<RawNode>>
+        requires payload { constant _array.payload.now.scalar ≡ datum _array.array.now }
+        ensures answer { IfOk result (λ o. IsAnswer None _array.entry.array.now o) }
+        ensures err { IfErr result (λ e. e ≡ OutOfMemory) }
+    {
+        Ok(None)
+    }
+
+    #[tactic(auto, using(crate::proofs::ChildrenLemmas::constant_quiet))]
+    fn reduce_parent(
+        alloc: Global,
+        child: ArrayView<'_, Constant>,
+        parent: &ArrayRef,
+        slot: usize,
+    ) -> VortexResult<Option<RawNode>>
+        requires payload { constant child.payload.now.scalar ≡ datum child.array.now }
+        requires slot { HasSlot slot child.array.now parent.now }
+        ensures answer { IfOk result (λ o. IsAnswer (Some slot) parent.now o) }
+        ensures err { IfErr result (λ e. e ≡ OutOfMemory) }
+    {
+        parent_rules!(Constant, alloc, child, parent, slot; BetweenReduceAdaptor, CastReduceAdaptor, FillNullReduceAdaptor, FilterReduceAdaptor, NotReduceAdaptor, SliceReduceAdaptor)
+    }
+}
+
+impl SliceReduce for Constant {
+    fn slice(
+        alloc: Global,
+        array: ArrayView<'_, Constant>,
+        range: Range<usize>,
+    ) -> VortexResult<Option<RawNode>>
+        requires payload { constant array.payload.now.scalar ≡ datum array.array.now }
+        requires part { IsPart range.start range.end (len array.array.now) }
+        requires bounds { range.end ≤ len array.array.now }
+        ensures answer { IfOk result (λ o. IsAnswer (Some 0) (slice_of range.start range.end array.entry.array.now) o) }
+        ensures err { IfErr result (λ e. e ≡ OutOfMemory) }
+    {
+        let ArrayKind::Constant(scalar) = array.array().kind() else {
+            unreachable!()
+        };
+        Ok(Some(s2(alloc, array.array(), scalar, range)?))
+    }
+
+    ghost lets = { constant_lets };
+}
+
+impl FilterReduce for Constant {
+    fn filter(
+        alloc: Global,
+        array: ArrayView<'_, Constant>,
+        mask: &Mask,
+    ) -> VortexResult<Option<RawNode>>
+        requires payload { constant array.payload.now.scalar ≡ datum array.array.now }
+        requires long { length (bits_in mask.now) ≡ len array.array.now }
+        ensures answer { IfOk result (λ o. IsAnswer (Some 0) (filter_of (bits_in mask.now) array.entry.array.now) o) }
+        ensures err { IfErr result (λ e. e ≡ OutOfMemory) }
+    {
+        let ArrayKind::Constant(scalar) = array.array().kind() else {
+            unreachable!()
+        };
+        Ok(Some(f6(alloc, array.array(), scalar, mask)?))
+    }
+}
+
+impl CastReduce for Constant {
+    fn cast(
+        alloc: Global,
+        _array: ArrayView<'_, Constant>,
+        parent: &ArrayRef,
+        _dtype: &DType,
+    ) -> VortexResult<Option<RawNode>>
+        requires call { IsCallOf (fn_of.Cast _dtype.now) (_array.array.now ∷ []) parent.now }
+        ensures answer { IfOk result (λ o. IsAnswer (Some 0) parent.now o) }
+        ensures err { IfErr result (λ e. e ≡ OutOfMemory) }
+    {
+        k1(alloc, parent)
+    }
+}
+
+impl NotReduce for Constant {
+    fn invert(
+        alloc: Global,
+        _array: ArrayView<'_, Constant>,
+        parent: &ArrayRef,
+    ) -> VortexResult<Option<RawNode>>
+        requires call { IsCallOf fn_of.Not (_array.array.now ∷ []) parent.now }
+        ensures answer { IfOk result (λ o. IsAnswer (Some 0) parent.now o) }
+        ensures err { IfErr result (λ e. e ≡ OutOfMemory) }
+    {
+        k2(alloc, parent)
+    }
+}
+
+impl BetweenReduce for Constant {
+    fn between(
+        alloc: Global,
+        _array: ArrayView<'_, Constant>,
+        parent: &ArrayRef,
+        _lower: &ArrayRef,
+        _upper: &ArrayRef,
+        _options: &BetweenOptions,
+    ) -> VortexResult<Option<RawNode>>
+        requires call { IsCallOf (fn_of.Between _options.now) (_array.array.now ∷ _lower.now ∷ _upper.now ∷ []) parent.now }
+        ensures answer { IfOk result (λ o. IsAnswer (Some 0) parent.now o) }
+        ensures err { IfErr result (λ e. e ≡ OutOfMemory) }
+    {
+        k3(alloc, parent)
+    }
+}
+
+impl FillNullReduce for Constant {
+    fn fill_null(
+        alloc: Global,
+        _array: ArrayView<'_, Constant>,
+        parent: &ArrayRef,
+        _fill_value: &ArrayRef,
+    ) -> VortexResult<Option<RawNode>>
+        requires call { IsCallOf fn_of.FillNull (_array.array.now ∷ _fill_value.now ∷ []) parent.now }
+        ensures answer { IfOk result (λ o. IsAnswer (Some 0) parent.now o) }
+        ensures err { IfErr result (λ e. e ≡ OutOfMemory) }
+    {
+        k4(alloc, parent)
+    }
+}
+
+/// Row S2: a slice of a constant is a shorter one.
+#[tactic(auto, using(crate::proofs::FitsLemmas::fit_S2))]
+fn s2(
+    alloc: Global,
+    child: &ArrayRef,
+    scalar: &Scalar,
+    range: Range<usize>,
+) -> VortexResult<RawNode>
+    requires shape { child.now ≡ constant_of scalar.now (len child.now) }
+    requires part { IsPart range.start range.end (len child.now) }
+    ensures row { IfOk result (λ r. Row (Some 0) (slice_of range.start range.end child.now) r.tree r.optimize.items) }
+    ensures err { IfErr result (λ e. e ≡ OutOfMemory) }
+{
+    let constant = ConstantArray::new(alloc, scalar.clone()?, range.end - range.start)?;
+    Ok(RawNode::done(alloc, constant.into_array()))
+}
+
+/// Row F6: a filter of a constant is a shorter one.
+#[tactic(auto, using(crate::proofs::FitsLemmas::fit_F6))]
+fn f6(alloc: Global, child: &ArrayRef, scalar: &Scalar, mask: &Mask) -> VortexResult<RawNode>
+    requires shape { child.now ≡ constant_of scalar.now (len child.now) }
+    ensures row { IfOk result (λ r. Row (Some 0) (filter_of (bits_in mask.now) child.now) r.tree r.optimize.items) }
+    ensures err { IfErr result (λ e. e ≡ OutOfMemory) }
+{
+    let constant = ConstantArray::new(alloc, scalar.clone()?, mask.true_count())?;
+    Ok(RawNode::done(alloc, constant.into_array()))
+}
+
+/// Row K1: a cast of a constant is a constant, if the cast has a value.
+fn k1(alloc: Global, parent: &ArrayRef) -> VortexResult<Option<RawNode>>
+    requires { applies is_cast (datum parent.now) ≡ true }
+    ensures answer { IfOk result (λ o. IsAnswer (Some 0) parent.now o) }
+    ensures err { IfErr result (λ e. e ≡ OutOfMemory) }
+{
+    fold_row(alloc, parent)
+}
+
+/// Row K2: a negation of a constant is a constant.
+fn k2(alloc: Global, parent: &ArrayRef) -> VortexResult<Option<RawNode>>
+    requires { applies is_not (datum parent.now) ≡ true }
+    ensures answer { IfOk result (λ o. IsAnswer (Some 0) parent.now o) }
+    ensures err { IfErr result (λ e. e ≡ OutOfMemory) }
+{
+    fold_row(alloc, parent)
+}
+
+/// Row K3: bounds of a constant by two constants are a constant.
+fn k3(alloc: Global, parent: &ArrayRef) -> VortexResult<Option<RawNode>>
+    requires { applies is_between (datum parent.now) ≡ true }
+    ensures answer { IfOk result (λ o. IsAnswer (Some 0) parent.now o) }
+    ensures err { IfErr result (λ e. e ≡ OutOfMemory) }
+{
+    fold_row(alloc, parent)
+}
+
+/// Row K4: a constant whose nulls a constant fills is a constant.
+fn k4(alloc: Global, parent: &ArrayRef) -> VortexResult<Option<RawNode>>
+    requires { applies is_fill_null (datum parent.now) ≡ true }
+    ensures answer { IfOk result (λ o. IsAnswer (Some 0) parent.now o) }
+    ensures err { IfErr result (λ e. e ≡ OutOfMemory) }
+{
+    fold_row(alloc, parent)
+}
+
+/// Returns what stands for `parent`, which applies one of the functions that are folded: `None` exactly if a slot holds no constant, or if
+/// the row has no value. The only error is `OutOfMemory`.
+#[tactic(auto, using(crate::proofs::ConstantsLemmas::folded_quiet))]
+fn fold_row(alloc: Global, parent: &ArrayRef) -> VortexResult<Option<RawNode>>
+    requires { applies folds (datum parent.now) ≡ true }
+    ensures answer { IfOk result (λ o. IsAnswer (Some 0) parent.now o) }
+    ensures err { IfErr result (λ e. e ≡ OutOfMemory) }
+{
+    parent.well();
+    let ArrayKind::ScalarFn(scalar_fn, slots) = parent.kind() else {
+        unreachable!()
+    };
+    match fold(alloc, parent, scalar_fn, slots)? {
+        Some(constant) => Ok(Some(RawNode::done(alloc, constant))),
+        None => Ok(None),
+    }
+}
+
+/// Returns the constant of `scalar_fn`'s value on the constants in `slots`: `None` exactly if one holds no constant, or if there is no
+/// value.
+fn fold(
+    alloc: Global,
+    parent: &ArrayRef,
+    scalar_fn: &ScalarFnRef,
+    slots: &[Option<ArrayRef>],
+) -> VortexResult<Option<ArrayRef>>
+    requires shape { parent.now ≡ node (dtype parent.now) (len parent.now) (function scalar_fn.now) (slots_of slots.now) }
+    requires well { IsNode (dtype parent.now) (len parent.now) (function scalar_fn.now) (shapes (slots_of slots.now)) }
+    ensures ok { IfOk result (λ o. IsFolded scalar_fn.now (dtype parent.now) (len parent.now) (slots_of slots.now) o) }
+    ensures err { IfErr result (λ e. e ≡ OutOfMemory) }
+{
+    parent.well();
+    let Some(scalars) = constants(alloc, slots)? else {
+        return Ok(None);
+    };
+    match apply_row(scalar_fn, scalars.as_slice()) {
+        Ok(scalar) => {
+            let constant = ConstantArray::new(alloc, scalar, parent.len())?;
+            Ok(Some(constant.into_array()))
+        }
+        Err(VortexError::Fault) => Ok(None),
+        Err(e) => Err(e),
+    }
+}
+
+/// Returns the scalars of the constants in `slots`: `None` exactly if one holds no constant.
+fn constants(alloc: Global, slots: &[Option<ArrayRef>]) -> VortexResult<Option<Vec<Scalar>>>
+    ensures none { IfOk result (λ o. IfNone o (constant_values (slots_of slots.now) ≡ None)) }
+    ensures values { IfOk result (λ o. IfSome o (λ v. constant_values (slots_of slots.now) ≡ Some v.items)) }
+    ensures err { IfErr result (λ e. e ≡ OutOfMemory) }
+{
+    let mut scalars = Vec::with_capacity(alloc, slots.len())?;
+    for index in 0..slots.len() {
+        match constant_in(&slots[index])? {
+            Some(scalar) => scalars.push(scalar)?,
+            None => return Ok(None),
+        }
+    }
+    Ok(Some(scalars))
+}
+
+/// Returns the scalar of the constant in `slot`: `None` exactly if it holds none.
+fn constant_in(slot: &Option<ArrayRef>) -> VortexResult<Option<Scalar>>
+    ensures ok { IfOk result (λ o. o ≡ slot_value slot.now) }
+    ensures err { IfErr result (λ e. e ≡ OutOfMemory) }
+{
+    let Some(child) = slot else {
+        return Ok(None);
+    };
+    match child.kind() {
+        ArrayKind::Constant(scalar) => Ok(Some(scalar.clone()?)),
+        _ => Ok(None),
+    }
+}

@@ -1,0 +1,164 @@
+//! The rules of filters.
+
+ghost use Rattle.std.specs.Prelude.{◌≡◌, Some, None, IfOk, IfErr, length, true, false};
+ghost use Rattle.vx_value.specs.declared.error.VortexError.TheVariants.{OutOfMemory};
+ghost use Rattle.vx_mask.specs.Masks.{bits_in, is_all_true};
+ghost use Rattle.vx_mask.specs.Places.{true_count, combined, IsRun};
+ghost use Rattle.vx_tree.specs.Tree.{len, datum, filter, filter_of, is_filter};
+ghost use Rattle.vx_tree.specs.Slots.{HasSlot};
+ghost use Rattle.vx_rule.specs.Rules.{Row};
+ghost use Rattle.vx_rule.specs.Answers.{IsAnswer};
+
+use crate::adaptors::{FilterReduce, FilterReduceAdaptor};
+use crate::encodings::{own_rules, parent_rules};
+use crate::raw_node::RawNode;
+use crate::rule::{ArrayReduceRule, DynArrayParentReduceRule};
+use crate::rule_set::ReduceVTable;
+use std::alloc::Global;
+use std::ops::Range;
+use vx_mask::Mask;
+use vx_tree::{
+    ArrayKind, ArrayRef, ArrayView, Canonical, Filter, FilterArray, IntoArray, SliceArray, VTable,
+};
+use vx_value::VortexResult;
+
+impl ReduceVTable for Filter {
+    fn reduce(alloc: Global, array: ArrayView<'_, Filter>) -> VortexResult<Option<RawNode>>
+        requires payload { filter (bits_in array.payload.now.mask) ≡ datum array.array.now }
+        ensures answer { IfOk result (λ o. IsAnswer None array.entry.array.now o) }
+        ensures err { IfErr result (λ e. e ≡ OutOfMemory) }
+    {
+        own_rules!(alloc, array; TrivialFilterRule)
+    }
+
+    #[tactic(auto, using(crate::proofs::ChildrenLemmas::filter_quiet))]
+    fn reduce_parent(
+        alloc: Global,
+        child: ArrayView<'_, Filter>,
+        parent: &ArrayRef,
+        slot: usize,
+    ) -> VortexResult<Option<RawNode>>
+        requires payload { filter (bits_in child.payload.now.mask) ≡ datum child.array.now }
+        requires slot { HasSlot slot child.array.now parent.now }
+        ensures answer { IfOk result (λ o. IsAnswer (Some slot) parent.now o) }
+        ensures err { IfErr result (λ e. e ≡ OutOfMemory) }
+    {
+        parent_rules!(Filter, alloc, child, parent, slot; FilterReduceAdaptor)
+    }
+}
+
+impl FilterReduce for Filter {
+    fn filter(
+        alloc: Global,
+        array: ArrayView<'_, Filter>,
+        mask: &Mask,
+    ) -> VortexResult<Option<RawNode>>
+        requires payload { filter (bits_in array.payload.now.mask) ≡ datum array.array.now }
+        requires long { length (bits_in mask.now) ≡ len array.array.now }
+        ensures answer { IfOk result (λ o. IsAnswer (Some 0) (filter_of (bits_in mask.now) array.entry.array.now) o) }
+        ensures err { IfErr result (λ e. e ≡ OutOfMemory) }
+    {
+        let ArrayKind::Filter(inner, outer) = array.array().kind() else {
+            unreachable!()
+        };
+        Ok(Some(f5(alloc, array.array(), inner, outer, mask)?))
+    }
+}
+
+/// The rule of a filter whose mask chooses all rows, none, or consecutive ones.
+#[derive(Clone, Copy, Debug)]
+struct TrivialFilterRule;
+
+impl ArrayReduceRule<Filter> for TrivialFilterRule {
+    ghost covers = { λ t. is_filter (datum t) };
+
+    #[tactic(auto, using(crate::proofs::QuietLemmas::filter_quiet))]
+    fn reduce(&self, alloc: Global, array: ArrayView<'_, Filter>) -> VortexResult<Option<RawNode>>
+        requires payload { filter (bits_in array.payload.now.mask) ≡ datum array.array.now }
+        ensures answer { is_filter (datum array.entry.array.now) ≡ true → IfOk result (λ o. IsAnswer None array.entry.array.now o) }
+        ensures other { is_filter (datum array.entry.array.now) ≡ false → IfOk result (λ o. o ≡ None) }
+        ensures err { IfErr result (λ e. e ≡ OutOfMemory) }
+    {
+        let ArrayKind::Filter(child, mask) = array.array().kind() else {
+            unreachable!()
+        };
+        if mask.all_true() {
+            return Ok(Some(f1(alloc, child, mask)?));
+        }
+        if mask.true_count() == 0 {
+            return Ok(Some(f2(alloc, child, mask)?));
+        }
+        match mask.contiguous_range() {
+            Some(range) => Ok(Some(f3(alloc, child, mask, range)?)),
+            None => Ok(None),
+        }
+    }
+}
+
+/// Row F5: a filter of a filter is the filter by the combined mask.
+#[tactic(auto, using(crate::proofs::FitsLemmas::fit_F5))]
+fn f5(
+    alloc: Global,
+    child: &ArrayRef,
+    inner: &ArrayRef,
+    outer: &Mask,
+    mask: &Mask,
+) -> VortexResult<RawNode>
+    requires shape { child.now ≡ filter_of (bits_in outer.now) inner.now }
+    requires within { length (bits_in outer.now) ≡ len inner.now }
+    requires long { length (bits_in mask.now) ≡ len child.now }
+    ensures row { IfOk result (λ r. Row (Some 0) (filter_of (bits_in mask.now) child.now) r.tree r.optimize.items) }
+    ensures err { IfErr result (λ e. e ≡ OutOfMemory) }
+{
+    let both = combine(alloc, outer, mask)?;
+    let filter = FilterArray::new(alloc, inner.clone()?, both)?;
+    Ok(RawNode::done(alloc, filter.into_array()))
+}
+
+/// Returns the mask of the rows that `inner`, which must have as many rows as `outer` chooses, chooses among those. The only error is
+/// `OutOfMemory`.
+fn combine(alloc: Global, outer: &Mask, inner: &Mask) -> VortexResult<Mask>
+    requires { length (bits_in inner.now) ≡ true_count (bits_in outer.now) }
+    ensures ok { IfOk result (λ m. bits_in m ≡ combined (bits_in outer.now) (bits_in inner.now)) }
+    ensures err { IfErr result (λ e. e ≡ OutOfMemory) }
+{
+    match outer.intersect_by_rank(alloc, inner)? {
+        Some(both) => Ok(both),
+        None => unreachable!(),
+    }
+}
+
+/// Row F1: a filter that chooses all rows is its child.
+#[tactic(auto, using(crate::proofs::FitsLemmas::fit_F1))]
+fn f1(alloc: Global, child: &ArrayRef, mask: &Mask) -> VortexResult<RawNode>
+    requires { is_all_true (bits_in mask.now) ≡ true }
+    ensures row { IfOk result (λ r. Row None (filter_of (bits_in mask.now) child.now) r.tree r.optimize.items) }
+    ensures err { IfErr result (λ e. e ≡ OutOfMemory) }
+{
+    Ok(RawNode::done(alloc, child.clone()?))
+}
+
+/// Row F2: a filter that chooses no row is the empty column.
+#[tactic(auto, using(crate::proofs::FitsLemmas::fit_F2))]
+fn f2(alloc: Global, child: &ArrayRef, mask: &Mask) -> VortexResult<RawNode>
+    requires some { is_all_true (bits_in mask.now) ≡ false }
+    requires none { true_count (bits_in mask.now) ≡ 0 }
+    ensures row { IfOk result (λ r. Row None (filter_of (bits_in mask.now) child.now) r.tree r.optimize.items) }
+    ensures err { IfErr result (λ e. e ≡ OutOfMemory) }
+{
+    let empty = Canonical::empty(alloc, child.dtype())?;
+    Ok(RawNode::done(alloc, empty.into_array()))
+}
+
+/// Row F3: a filter of consecutive rows is a slice.
+#[tactic(auto, using(crate::proofs::FitsLemmas::fit_F3, crate::proofs::FitsLemmas::run_range))]
+fn f3(alloc: Global, child: &ArrayRef, mask: &Mask, range: Range<usize>) -> VortexResult<RawNode>
+    requires long { length (bits_in mask.now) ≡ len child.now }
+    requires some { is_all_true (bits_in mask.now) ≡ false }
+    requires run { IsRun (bits_in mask.now) range.start range.end }
+    ensures row { IfOk result (λ r. Row None (filter_of (bits_in mask.now) child.now) r.tree r.optimize.items) }
+    ensures err { IfErr result (λ e. e ≡ OutOfMemory) }
+{
+    let slice = SliceArray::new(alloc, child.clone()?, range)?;
+    Ok(RawNode::done(alloc, slice.into_array()))
+}

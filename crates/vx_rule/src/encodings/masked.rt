@@ -1,0 +1,197 @@
+//! The rules of masked arrays.
+
+ghost use Rattle.std.specs.Prelude.{◌≡◌, ◌≤◌, Some, None, IfOk, IfErr, ◌∷◌, [], length};
+ghost use Rattle.vx_value.specs.declared.error.VortexError.TheVariants.{OutOfMemory};
+ghost use Rattle.vx_mask.specs.Masks.{bits_in};
+ghost use Rattle.vx_fn.specs.declared.function.ScalarFnRef.TheVariants as fn_of;
+ghost use Rattle.vx_tree.specs.Tree.{dtype, len, datum, node, function, masked, slots_of, slice_of, filter_of, masked_of};
+ghost use Rattle.vx_tree.specs.Well.{IsNode, IsNodeOf, shapes};
+ghost use Rattle.vx_tree.specs.Slots.{HasSlot};
+ghost use Rattle.vx_rule.specs.Rules.{Row, IsPart, told};
+ghost use Rattle.vx_rule.specs.Calls.{IsCallOf};
+ghost use Rattle.vx_rule.specs.Answers.{IsAnswer};
+ghost use Rattle.vx_rule.specs.SliceLaws.{masked_lets};
+
+use crate::adaptors::{
+    FilterReduce, FilterReduceAdaptor, MaskReduce, MaskReduceAdaptor, SliceReduce,
+    SliceReduceAdaptor,
+};
+use crate::encodings::parent_rules;
+use crate::raw_node::RawNode;
+use crate::rule::DynArrayParentReduceRule;
+use crate::rule_set::ReduceVTable;
+use crate::slots::{function_node, masked_node, truths};
+use std::alloc::Global;
+use std::ops::Range;
+use vx_fn::ScalarFnRef;
+use vx_mask::Mask;
+use vx_tree::{
+    ArrayKind, ArrayRef, ArrayView, FilterArray, IntoArray, Masked, SliceArray, VTable, and_lazily,
+    choose_validity, slice_validity,
+};
+use vx_value::VortexResult;
+
+impl ReduceVTable for Masked {
+    #[tactic(auto, using(crate::proofs::QuietLemmas::own_quiet))]
+    fn reduce(_alloc: Global, _array: ArrayView<'_, Masked>) -> VortexResult<Option<RawNode>>
+        requires payload { masked ≡ datum _array.array.now }
+        ensures answer { IfOk result (λ o. IsAnswer None _array.entry.array.now o) }
+        ensures err { IfErr result (λ e. e ≡ OutOfMemory) }
+    {
+        Ok(None)
+    }
+
+    #[tactic(auto, using(crate::proofs::ChildrenLemmas::masked_quiet))]
+    fn reduce_parent(
+        alloc: Global,
+        child: ArrayView<'_, Masked>,
+        parent: &ArrayRef,
+        slot: usize,
+    ) -> VortexResult<Option<RawNode>>
+        requires payload { masked ≡ datum child.array.now }
+        requires slot { HasSlot slot child.array.now parent.now }
+        ensures answer { IfOk result (λ o. IsAnswer (Some slot) parent.now o) }
+        ensures err { IfErr result (λ e. e ≡ OutOfMemory) }
+    {
+        parent_rules!(Masked, alloc, child, parent, slot; FilterReduceAdaptor, MaskReduceAdaptor, SliceReduceAdaptor)
+    }
+}
+
+impl SliceReduce for Masked {
+    fn slice(
+        alloc: Global,
+        array: ArrayView<'_, Masked>,
+        range: Range<usize>,
+    ) -> VortexResult<Option<RawNode>>
+        requires payload { masked ≡ datum array.array.now }
+        requires part { IsPart range.start range.end (len array.array.now) }
+        requires bounds { range.end ≤ len array.array.now }
+        ensures answer { IfOk result (λ o. IsAnswer (Some 0) (slice_of range.start range.end array.entry.array.now) o) }
+        ensures err { IfErr result (λ e. e ≡ OutOfMemory) }
+    {
+        let ArrayKind::Masked(inner, validity) = array.array().kind() else {
+            unreachable!()
+        };
+        Ok(Some(s5(alloc, array.array(), inner, validity, range)?))
+    }
+
+    ghost lets = { masked_lets };
+}
+
+impl FilterReduce for Masked {
+    fn filter(
+        alloc: Global,
+        array: ArrayView<'_, Masked>,
+        mask: &Mask,
+    ) -> VortexResult<Option<RawNode>>
+        requires payload { masked ≡ datum array.array.now }
+        requires long { length (bits_in mask.now) ≡ len array.array.now }
+        ensures answer { IfOk result (λ o. IsAnswer (Some 0) (filter_of (bits_in mask.now) array.entry.array.now) o) }
+        ensures err { IfErr result (λ e. e ≡ OutOfMemory) }
+    {
+        let ArrayKind::Masked(inner, validity) = array.array().kind() else {
+            unreachable!()
+        };
+        Ok(Some(f8(alloc, array.array(), inner, validity, mask)?))
+    }
+}
+
+impl MaskReduce for Masked {
+    fn mask(
+        alloc: Global,
+        array: ArrayView<'_, Masked>,
+        parent: &ArrayRef,
+        mask: &ArrayRef,
+    ) -> VortexResult<Option<RawNode>>
+        requires payload { masked ≡ datum array.array.now }
+        requires call { IsCallOf fn_of.Mask (array.array.now ∷ mask.now ∷ []) parent.now }
+        ensures answer { IfOk result (λ o. IsAnswer (Some 0) parent.now o) }
+        ensures err { IfErr result (λ e. e ≡ OutOfMemory) }
+    {
+        let ArrayKind::Masked(child, validity) = array.array().kind() else {
+            unreachable!()
+        };
+        Ok(Some(m1(alloc, parent, array.array(), child, validity, mask)?))
+    }
+}
+
+/// Row S5: a slice of a masked array is a masked slice.
+fn s5(
+    alloc: Global,
+    child: &ArrayRef,
+    inner: &ArrayRef,
+    validity: &Option<ArrayRef>,
+    range: Range<usize>,
+) -> VortexResult<RawNode>
+    requires shape { child.now ≡ masked_of inner.now validity.now }
+    requires well { IsNodeOf child.now }
+    requires part { IsPart range.start range.end (len child.now) }
+    requires bounds { range.end ≤ len child.now }
+    ensures row { IfOk result (λ r. Row (Some 0) (slice_of range.start range.end child.now) r.tree r.optimize.items) }
+    ensures err { IfErr result (λ e. e ≡ OutOfMemory) }
+{
+    child.well();
+    let (start, end) = (range.start, range.end);
+    let slice = SliceArray::new(alloc, inner.clone()?, start..end)?;
+    let validity = slice_validity(alloc, validity, start..end)?;
+    let masked = masked_node(alloc, child, slice.into_array(), validity)?;
+    RawNode::raw(alloc, masked)
+}
+
+/// Row F8: a filter of a masked array is a masked filter.
+fn f8(
+    alloc: Global,
+    child: &ArrayRef,
+    inner: &ArrayRef,
+    validity: &Option<ArrayRef>,
+    mask: &Mask,
+) -> VortexResult<RawNode>
+    requires shape { child.now ≡ masked_of inner.now validity.now }
+    requires well { IsNodeOf child.now }
+    requires long { length (bits_in mask.now) ≡ len child.now }
+    ensures row { IfOk result (λ r. Row (Some 0) (filter_of (bits_in mask.now) child.now) r.tree r.optimize.items) }
+    ensures err { IfErr result (λ e. e ≡ OutOfMemory) }
+{
+    child.well();
+    let filter = FilterArray::new(alloc, inner.clone()?, mask.clone()?)?;
+    let validity = choose_validity(alloc, validity, mask)?;
+    let masked = masked_node(alloc, child, filter.into_array(), validity)?;
+    RawNode::raw(alloc, masked)
+}
+
+/// Row M1: a mask of a masked array masks its child by both.
+fn m1(
+    alloc: Global,
+    parent: &ArrayRef,
+    input: &ArrayRef,
+    child: &ArrayRef,
+    validity: &Option<ArrayRef>,
+    mask: &ArrayRef,
+) -> VortexResult<RawNode>
+    requires shape { parent.now ≡ node (dtype parent.now) (len parent.now) (function fn_of.Mask) (slots_of (Some input.now ∷ Some mask.now ∷ [])) }
+    requires well { IsNode (dtype parent.now) (len parent.now) (function fn_of.Mask) (shapes (slots_of (Some input.now ∷ Some mask.now ∷ []))) }
+    requires masked { input.now ≡ masked_of child.now validity.now }
+    requires child { IsNodeOf input.now }
+    ensures row { IfOk result (λ r. Row (Some 0) parent.now r.tree r.optimize.items) }
+    ensures err { IfErr result (λ e. e ≡ OutOfMemory) }
+{
+    parent.well();
+    let validity = told(alloc, validity, parent.len())?;
+    let both = and_lazily(alloc, mask.clone()?, validity, parent.len())?;
+    let mut slots = Vec::with_capacity(alloc, 2)?;
+    slots.push(Some(child.clone()?))?;
+    slots.push(Some(both))?;
+    let call = function_node(alloc, parent, &ScalarFnRef::Mask, parent.len(), slots)?;
+    Ok(RawNode::done(alloc, call))
+}
+
+/// Returns the validity in a masked array's slot as an array of `len` booleans. The only error is `OutOfMemory`.
+fn told(alloc: Global, validity: &Option<ArrayRef>, len: usize) -> VortexResult<ArrayRef>
+    ensures ok { IfOk result (λ t. t ≡ told len (slots_of (validity.now ∷ []))) }
+    ensures err { IfErr result (λ e. e ≡ OutOfMemory) }
+{
+    match validity {
+        Some(tree) => Ok(tree.clone()?),
+        None => truths(alloc, true, len),
+    }
+}

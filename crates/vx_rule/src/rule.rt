@@ -1,0 +1,117 @@
+//! Rewrite rules, as traits: of a node itself, and of a child for its parent.
+
+ghost use Rattle.std.specs.Prelude.{◌≡◌, Bool, IfOk, IfErr, Some, None, true, false};
+ghost use Rattle.vx_value.specs.declared.error.VortexError.TheVariants.{OutOfMemory};
+ghost use Rattle.vx_tree.specs.Tree.{Tree, datum};
+ghost use Rattle.vx_tree.specs.Slots.{HasSlot};
+ghost use Rattle.vx_rule.specs.Answers.{IsAnswer};
+
+use crate::raw_node::RawNode;
+use std::alloc::Global;
+use std::marker::PhantomData;
+use vx_tree::{ArrayRef, ArrayView, Matcher, VTable};
+use vx_value::VortexResult;
+
+/// Rules of a node itself.
+pub trait ArrayReduceRule<V: VTable> {
+    // which nodes the rule's rows are about
+    ghost covers: { Tree → Bool };
+
+    /// Returns the answer of `array`: if the rule covers it, `None` exactly if no row fits, else `None`. The only error is `OutOfMemory`.
+    fn reduce(&self, alloc: Global, array: ArrayView<'_, V>) -> VortexResult<Option<RawNode>>
+        requires payload { V.stands_for array.payload.now ≡ datum array.array.now }
+        ensures answer { covers array.entry.array.now ≡ true → IfOk result (λ o. IsAnswer None array.entry.array.now o) }
+        ensures other { covers array.entry.array.now ≡ false → IfOk result (λ o. o ≡ None) }
+        ensures err { IfErr result (λ e. e ≡ OutOfMemory) };
+}
+
+/// Rules of a child for the parents that `Parent` matches.
+pub trait ArrayParentReduceRule<V: VTable> {
+    type Parent: Matcher;
+
+    /// Returns the answer of `child`, which stands in `slot` of `parent`: `None` exactly if no row fits there. `Parent` must match
+    /// `parent`. The only error is `OutOfMemory`.
+    fn reduce_parent(
+        &self,
+        alloc: Global,
+        child: ArrayView<'_, V>,
+        parent: &ArrayRef,
+        slot: usize,
+    ) -> VortexResult<Option<RawNode>>
+        requires payload { V.stands_for child.payload.now ≡ datum child.array.now }
+        requires fits { Self.Parent.fits parent.now ≡ true }
+        requires slot { HasSlot slot child.array.now parent.now }
+        ensures answer { IfOk result (λ o. IsAnswer (Some slot) parent.now o) }
+        ensures err { IfErr result (λ e. e ≡ OutOfMemory) };
+}
+
+/// Rules of a child for any parent, with the test whether they cover it.
+pub trait DynArrayParentReduceRule<V: VTable> {
+    ghost covers: { Tree → Bool };
+
+    /// Returns whether the rule covers `parent`. Takes no memory.
+    fn matches(&self, parent: &ArrayRef) -> bool
+        ensures { result ≡ covers parent.now };
+
+    /// Returns the answer of `child`, which stands in `slot` of `parent`: if the rule covers `parent`, `None` exactly if no row fits
+    /// there, else `None`. The only error is `OutOfMemory`.
+    fn reduce_parent(
+        &self,
+        alloc: Global,
+        child: ArrayView<'_, V>,
+        parent: &ArrayRef,
+        slot: usize,
+    ) -> VortexResult<Option<RawNode>>
+        requires payload { V.stands_for child.payload.now ≡ datum child.array.now }
+        requires slot { HasSlot slot child.array.now parent.now }
+        ensures answer { covers parent.now ≡ true → IfOk result (λ o. IsAnswer (Some slot) parent.now o) }
+        ensures other { covers parent.now ≡ false → IfOk result (λ o. o ≡ None) }
+        ensures err { IfErr result (λ e. e ≡ OutOfMemory) };
+}
+
+/// A rule of `V` as one for any parent: it covers those that the rule's `Parent` matches.
+#[derive(Debug, Drop)]
+pub struct ParentReduceRuleAdapter<V, R> {
+    rule: R,
+    encoding: PhantomData<V>,
+}
+
+impl<V: VTable, R: ArrayParentReduceRule<V>> ParentReduceRuleAdapter<V, R> {
+    /// Returns `rule` as one for any parent.
+    pub fn new(rule: R) -> ParentReduceRuleAdapter<V, R>
+        ensures { result.rule ≡ rule }
+    {
+        ParentReduceRuleAdapter {
+            rule,
+            encoding: PhantomData,
+        }
+    }
+}
+
+impl<V: VTable, R: ArrayParentReduceRule<V>> DynArrayParentReduceRule<V>
+    for ParentReduceRuleAdapter<V, R> {
+    ghost covers = { λ t. R.Parent.fits t };
+
+    fn matches(&self, parent: &ArrayRef) -> bool {
+        R::Parent::matches(parent)
+    }
+
+    fn reduce_parent(
+        &self,
+        alloc: Global,
+        child: ArrayView<'_, V>,
+        parent: &ArrayRef,
+        slot: usize,
+    ) -> VortexResult<Option<RawNode>>
+        requires payload { V.stands_for child.payload.now ≡ datum child.array.now }
+        requires slot { HasSlot slot child.array.now parent.now }
+        ensures answer { R.Parent.fits parent.now ≡ true → IfOk result (λ o. IsAnswer (Some slot) parent.now o) }
+        ensures other { R.Parent.fits parent.now ≡ false → IfOk result (λ o. o ≡ None) }
+        ensures err { IfErr result (λ e. e ≡ OutOfMemory) }
+    {
+        if !R::Parent::matches(parent) {
+            return Ok(None);
+        }
+        self.rule.reduce_parent(alloc, child, parent, slot)
+    }
+}
