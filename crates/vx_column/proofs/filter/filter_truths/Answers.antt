@@ -12,10 +12,11 @@ returns-in-Bool-default-None-clause-ok c =
     let t = c.args.array in
     let bits = bits_in c.args.mask.now in
     let bs = c.in-Bool-default-None.bits.now in
+    let plain = c.in-Bool-default-None in
     let made : c.into_array.result ≡ booleans c.in_ok-kept.kept = c.into_array.ensures ∙ c.in_ok-bool_column.ensures.ok in
     subst (KeepsExactly (filter_of bits t)) (sym made)
-    (booleans_filtered bits bs c.in_ok-kept.kept t (c.in-Bool-default-None.ensures.0 ∙ ap (column (dtype t) (len t) (enc.bool bs)) c.in-Bool-default-None.field-1-is) c.requires.typed
-    c.in-Bool-default-None.ensures.1 c.requires.sized c.in_ok-kept.ensures)
+    (booleans_filtered bits bs c.in_ok-kept.kept t (plain.ensures.0 ∙ ap (column (dtype t) (len t) (enc.bool bs)) plain.field-1-is) c.requires.typed
+    plain.ensures.1 c.requires.sized c.in_ok-kept.ensures)
 
 pub returns-clause-ok : goal.returns-clause-ok
 returns-clause-ok c =

@@ -25,8 +25,9 @@ returns-in_ok-clone-in-Bool-clause-ok c =
     let flat = subst IsNodeOf c.in-Bool.ensures.0 c.in-Bool.ensures.1 in
     let shared : c.in_ok-clone-in-Bool.field-0 ≡ bits = search rules in
     canonical_masked boolean enc.bool (bool NonNullable) (λ m n xs css. refl) (λ m. refl) c.bool_column.result bits c.in-Bool.own.now c.in_ok-child.child
-    c.args.validity.now both.both c.len-len.result c.as_array-array.result.now (canonical_tree c.args.column.now) _ c.as_array-array.ensures.of c.len-len.ensures
-    c.in_ok-child.ensures.ok c.in-Bool.ensures.0 flat both.ensures.nullable both.ensures.both (ap (λ bs. boolean_column bs both.both) shared)
+    c.args.validity.now both.both c.len-len.result c.as_array-array.result.now (canonical_tree c.args.column.now) _
+    c.as_array-array.ensures.of c.len-len.ensures c.in_ok-child.ensures.ok c.in-Bool.ensures.0 flat
+    both.ensures.nullable both.ensures.both (ap (λ bs. boolean_column bs both.both) shared)
     c.bool_column.ensures.ok
 
 pub returns-in_ok-clone-in-Primitive-clause-ok : goal.returns-in_ok-clone-in-Primitive-clause-ok
@@ -66,8 +67,8 @@ returns-in_ok-clone-in-Decimal-clause-ok c =
     let flat = subst IsNodeOf c.in-Decimal.ensures.0 c.in-Decimal.ensures.1 in
     let stored = ap storage_of (sym c.dtype.ensures ∙ ap type_of c.in-Decimal-dtype.is) in
     let shared = c.in_ok-clone-in-Decimal.ensures.cases in
-    canonical_masked (λ z. decimal z d.scale) (enc.decimals (decimal_type_of values)) (type.decimal d.precision d.scale NonNullable) (λ m n xs css. refl) (λ m. refl)
-    c.decimal_column.result (numbers_of values) own c.in_ok-child.child c.args.validity.now both.both c.len-len.result t
+    canonical_masked (λ z. decimal z d.scale) (enc.decimals (decimal_type_of values)) (type.decimal d.precision d.scale NonNullable)
+    (λ m n xs css. refl) (λ m. refl) c.decimal_column.result (numbers_of values) own c.in_ok-child.child c.args.validity.now both.both c.len-len.result t
     (canonical_tree c.args.column.now) _ c.as_array-array.ensures.of c.len-len.ensures c.in_ok-child.ensures.ok c.in-Decimal.ensures.0
     (subst (λ st. IsFlat (decimal_type st) (length (numbers_of values)) (dtype t) (len t) (shapes (slots_of (own ∷ [])))) stored flat.0)
     both.ensures.nullable both.ensures.both (λ i. decimal_column d (shared.0 i) (shared.1 i) both.both) c.decimal_column.ensures.ok
@@ -88,7 +89,7 @@ returns-in_ok-clone-in-VarBinView-clause-ok c =
     let flat = subst IsNodeOf c.in-VarBinView.ensures.0 c.in-VarBinView.ensures.1 in
     let kind = c.storage.ensures ∙ ap storage_of c.dtype-in-VarBinView.ensures in
     let shared : c.in_ok-clone-in-VarBinView.field-0 ≡ rows = search rules in
-    canonical_masked bytes enc.views (bytes_type st) (λ m n xs css. refl) (bytes_set st) c.varbinview_column.result rows c.in-VarBinView.own.now c.in_ok-child.child
-    c.args.validity.now both.both c.len-len.result t (canonical_tree c.args.column.now) _ c.as_array-array.ensures.of c.len-len.ensures
+    canonical_masked bytes enc.views (bytes_type st) (λ m n xs css. refl) (bytes_set st) c.varbinview_column.result rows c.in-VarBinView.own.now
+    c.in_ok-child.child c.args.validity.now both.both c.len-len.result t (canonical_tree c.args.column.now) _ c.as_array-array.ensures.of c.len-len.ensures
     c.in_ok-child.ensures.ok c.in-VarBinView.ensures.0 flat.0 both.ensures.nullable both.ensures.both (λ i. bytes_column (kind i) (shared i) both.both)
     c.varbinview_column.ensures.ok
