@@ -9,7 +9,7 @@ ghost use Rattle.vx_fn.specs.declared.function.Operator.{Operator as OperatorOf}
 ghost use Rattle.vx_fn.specs.declared.function.Operator.TheVariants.{Add, Sub, Mul, Div};
 ghost use Rattle.vx_fn.specs.declared.function.ScalarFnRef.TheVariants.{Binary};
 ghost use Rattle.vx_tree.specs.Columns.{canonical_tree};
-ghost use Rattle.vx_rows.specs.Arguments.{AreIntegers, plain_type, pair_at};
+ghost use Rattle.vx_rows.specs.Arguments.{ptype_in, AreIntegers, plain_type, pair_at};
 ghost use Rattle.vx_operator.specs.Filled.{IsFilled, IsNotFilled};
 ghost use Rattle.vx_kernel.specs.Operands.{number_in, HasRow};
 ghost use Rattle.vx_rows.specs.ValidRows.{HasValidity};
@@ -122,8 +122,9 @@ pub(crate) fn calculate<T: NativeInteger, A: Arithmetic>(
     len: usize,
 ) -> VortexResult<Canonical>
     requires operator { is_comparison A.operator ≡ false }
-    requires lhs { AreIntegers T.kind lhs len }
-    requires rhs { AreIntegers T.kind rhs len }
+    requires kind { T.kind ≡ ptype_in lhs }
+    requires lhs { AreIntegers (ptype_in lhs) lhs len }
+    requires rhs { AreIntegers (ptype_in lhs) rhs len }
     requires valid { HasValidity valid.now len }
     requires taken { IsSome (operator_type A.operator (plain_type (Integers lhs))) }
     ensures ok { IfOk result (λ c. IsFilled (Binary A.operator) (operator_type A.operator (plain_type (Integers lhs.entry)))

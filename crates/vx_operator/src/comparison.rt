@@ -14,7 +14,7 @@ ghost use Rattle.vx_fn.specs.declared.function.Operator.TheVariants.{Eq, NotEq, 
 ghost use Rattle.vx_fn.specs.declared.function.ScalarFnRef.TheVariants.{Binary};
 ghost use Rattle.vx_tree.specs.Columns.{canonical_tree};
 ghost use Rattle.vx_tree.specs.Tree.{dtype};
-ghost use Rattle.vx_rows.specs.Arguments.{bytes_in, AreIntegers, plain_type, pair_at};
+ghost use Rattle.vx_rows.specs.Arguments.{bytes_in, ptype_in, AreIntegers, plain_type, pair_at};
 ghost use Rattle.vx_operator.specs.Checks.{checked_rows};
 ghost use Rattle.vx_operator.specs.Compared.{HasBytesRow, is_compared};
 ghost use Rattle.vx_operator.specs.Filled.{IsFilled};
@@ -219,8 +219,9 @@ pub(crate) fn compare_natives<T: NativeInteger>(
     len: usize,
 ) -> VortexResult<Canonical>
     requires operator { is_comparison operator ≡ true }
-    requires lhs { AreIntegers T.kind lhs len }
-    requires rhs { AreIntegers T.kind rhs len }
+    requires kind { T.kind ≡ ptype_in lhs }
+    requires lhs { AreIntegers (ptype_in lhs) lhs len }
+    requires rhs { AreIntegers (ptype_in lhs) rhs len }
     requires valid { HasValidity valid.now len }
     ensures ok { IfOk result (λ c. IsFilled (Binary operator) (operator_type operator (plain_type (Integers lhs.entry)))
         (pair_at (Integers lhs.entry) (Integers rhs.entry)) valid.now len (canonical_tree c)) }

@@ -4,7 +4,7 @@ ghost use Rattle.std.specs.Prelude.{◌≡◌, ◌∷◌, [], IfOk, IfErr, IsSom
 ghost use Rattle.vx_fn.specs.Binary.{operator_type};
 ghost use Rattle.vx_fn.specs.declared.function.ScalarFnRef.TheVariants.{Binary};
 ghost use Rattle.vx_tree.specs.Columns.{canonical_tree};
-ghost use Rattle.vx_rows.specs.Arguments.{types_of, plain_type, pair_at, IsSized, HasStored, AreShown, AreIntegers};
+ghost use Rattle.vx_rows.specs.Arguments.{ptype_in, types_of, plain_type, pair_at, IsSized, HasStored, AreShown, AreIntegers};
 ghost use Rattle.vx_kernel.specs.Computed.{IsTaken, IsComputed, IsNotComputed};
 ghost use Rattle.vx_operator.specs.Filled.{IsFilled, IsNotFilled};
 ghost use Rattle.vx_rows.specs.ValidRows.{HasValidity};
@@ -108,8 +108,9 @@ fn operate_natives<T: NativeInteger>(
     valid: &ValidRows,
     len: usize,
 ) -> VortexResult<Canonical>
-    requires lhs { AreIntegers T.kind lhs len }
-    requires rhs { AreIntegers T.kind rhs len }
+    requires kind { T.kind ≡ ptype_in lhs }
+    requires lhs { AreIntegers (ptype_in lhs) lhs len }
+    requires rhs { AreIntegers (ptype_in lhs) rhs len }
     requires valid { HasValidity valid.now len }
     requires taken { IsSome (operator_type operator (plain_type (Integers lhs))) }
     ensures ok { IfOk result (λ c. IsFilled (Binary operator) (operator_type operator (plain_type (Integers lhs.entry)))
