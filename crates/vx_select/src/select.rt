@@ -254,8 +254,9 @@ fn select_natives<T: NativeInteger>(
     len: usize,
 ) -> Result<PrimitiveValues, AllocError>
     requires choice { length choice.now ≡ len }
-    requires if_true { AreIntegers T.kind if_true len }
-    requires if_false { AreIntegers T.kind if_false len }
+    requires kind { T.kind ≡ ptype_in if_true }
+    requires if_true { AreIntegers (ptype_in if_true) if_true len }
+    requires if_false { AreIntegers (ptype_in if_true) if_false len }
     ensures kind { IfOk result (λ v. ptype_of v ≡ T.kind) }
     ensures values { IfOk result (λ v. values_of v
         ≡ map (λ i. if bit_row choice.now i then integer_in if_true.entry i else integer_in if_false.entry i) (range_with_len 0 len)) }
