@@ -21,8 +21,5 @@ module _ (outer inner : List Bool) (long : length inner ≡ true_count outer) wh
   pub both_is : (o : Option Mask) (m : Mask) → o ≡ both_by (length inner == true_count outer) (combined outer inner) → o ≡ Some m → bits_in m ≡ combined outer inner
   both_is o m e h = let same : m ≡ mask_of (combined outer inner) = cc (there o e, h) in ap bits_in same ∙ bits_in_mask_of (combined outer inner)
 
-  pub both_there : (o : Option Mask) → o ≡ both_by (length inner == true_count outer) (combined outer inner) → o ≡ None → ⊥
-  both_there o e h = cc (there o e, h)
-
 pub combined_long : (outer inner : List Bool) (m : Mask) (n : ℕ) → bits_in m ≡ combined outer inner → length outer ≡ n → length (bits_in m) ≡ n
 combined_long outer inner m n e h = ap length e ∙ length-combined outer inner ∙ h

@@ -1,8 +1,6 @@
 -- What each row of the table keeps.
-use Rattle.std.proofs.Common.{ℕ, Bool, List, Option, Some, None}
-use Rattle.vx_value.specs.Types.{DataType}
-use Rattle.vx_tree.specs.Tree as enc
-use Rattle.vx_tree.specs.Tree.{Tree, Slots, node}
+use Rattle.std.proofs.Common.{ℕ, List, Option, Some, None}
+use Rattle.vx_tree.specs.Tree.{Tree}
 use Rattle.vx_tree.specs.Keeps.{Keeps, KeepsExactly}
 use Rattle.vx_tree.specs.Well.{IsWell}
 use Rattle.vx_rule.specs.Rules.{Row, F1, F2, F3, C1, N1_null, N1_valid, S_whole, S_empty, S1, S2, S3, S4, S5, F5, F6, F7, F8, M1, K1, K2, K3, K4}
@@ -32,20 +30,7 @@ child_exactly i t u os g (K2 ty s n k v x e) = K2_keeps ty s n k v x g e
 child_exactly i t u os g (K3 ty s r q n i' j k options x y z v e) = K3_keeps ty s r q n i' j k options x y z v g e
 child_exactly i t u os g (K4 ty s r n j k x y v e) = K4_keeps ty s r n j k x y v g e
 
--- of a slice's child
-pub slice_exactly : (ty : DataType) (n a b : ℕ) (ss : Slots) (u : Tree) (os : List ℕ) → IsWell (node ty n (enc.slice a b) ss)
-    → Row (Some 0) (node ty n (enc.slice a b) ss) u os → KeepsExactly (node ty n (enc.slice a b) ss) u
-slice_exactly ty n a b ss u os g h = child_exactly 0 (node ty n (enc.slice a b) ss) u os g h
-
--- ---- so does a row of a filter itself; those of functions, C1 and N1, may give a value where a fault was
-
-pub filter_exactly : (ty : DataType) (n : ℕ) (bits : List Bool) (ss : Slots) (u : Tree) (os : List ℕ) → IsWell (node ty n (enc.filter bits) ss)
-    → Row None (node ty n (enc.filter bits) ss) u os → KeepsExactly (node ty n (enc.filter bits) ss) u
-filter_exactly ty n bits ss u os g (F1 _ _ _ c e) = F1_keeps ty n bits c g e
-filter_exactly ty n bits ss u os g (F2 _ _ _ c e z) = F2_keeps ty n bits c g z
-filter_exactly ty n bits ss u os g (F3 _ _ _ c a b e r) = F3_keeps ty n bits c a b g r
-
--- ---- what each row keeps: of the node itself a line for each, or else as above
+-- ---- what each row keeps: of the node itself a line for each (C1 and N1 may give a value where a fault was), or else as above
 
 own_keeps : (t u : Tree) (os : List ℕ) → IsWell t → Row None t u os → Keeps t u
 own_keeps t u os g (F1 ty n bits c e) = (F1_keeps ty n bits c g e).keeps

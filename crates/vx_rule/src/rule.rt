@@ -17,7 +17,8 @@ pub trait ArrayReduceRule<V: VTable> {
     // which nodes the rule's rows are about
     ghost covers: { Tree → Bool };
 
-    /// Returns the answer of `array`: if the rule covers it, `None` exactly if no row fits, else `None`. The only error is `OutOfMemory`.
+    /// Returns the answer of `array`, if the rule covers it: `None` exactly if no row fits. `None` if the rule doesn't cover it. The only
+    /// error is `OutOfMemory`.
     fn reduce(&self, alloc: Global, array: ArrayView<'_, V>) -> VortexResult<Option<RawNode>>
         requires payload { V.stands_for array.payload.now ≡ datum array.array.now }
         ensures answer { covers array.entry.array.now ≡ true → IfOk result (λ o. IsAnswer None array.entry.array.now o) }
@@ -53,8 +54,8 @@ pub trait DynArrayParentReduceRule<V: VTable> {
     fn matches(&self, parent: &ArrayRef) -> bool
         ensures { result ≡ covers parent.now };
 
-    /// Returns the answer of `child`, which stands in `slot` of `parent`: if the rule covers `parent`, `None` exactly if no row fits
-    /// there, else `None`. The only error is `OutOfMemory`.
+    /// Returns the answer of `child`, which stands in `slot` of `parent`, if the rule covers `parent`: `None` exactly if no row fits there.
+    /// `None` if the rule doesn't cover `parent`. The only error is `OutOfMemory`.
     fn reduce_parent(
         &self,
         alloc: Global,
