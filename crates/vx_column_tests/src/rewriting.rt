@@ -43,6 +43,33 @@ fn a_hundred_rewrites_at_one_root(rt: HostRuntime) -> Result<(), Fail> {
     Ok(())
 }
 
+/// Slices three rows, and checks how many rows are left.
+fn has_rows(alloc: Global, start: usize, stop: usize, len: usize) -> VortexResult<bool> {
+    Ok(sevens(alloc, 3)?.slice(alloc, start..stop)?.len() == len)
+}
+
+/// Checks that a range of three rows is refused as out of bounds.
+fn is_out_of_bounds(alloc: Global, start: usize, stop: usize) -> bool {
+    let refusal = VortexError::OutOfBounds {
+        start,
+        stop,
+        len: 3,
+    };
+    matches!(has_rows(alloc, start, stop, 0), Err(e) if e == refusal)
+}
+
+#[test]
+fn ranges_of_three_rows(rt: HostRuntime) -> Result<(), Fail> {
+    let alloc = rt.alloc();
+    for (start, stop, len) in [(0, 3, 3), (2, 2, 0), (3, 3, 0)] {
+        assert!(rt; has_rows(alloc, start, stop, len)?);
+    }
+    for (start, stop) in [(4, 4), (1, 4), (2, 1)] {
+        assert!(rt; is_out_of_bounds(alloc, start, stop));
+    }
+    Ok(())
+}
+
 #[test]
 fn nodes_are_optimized_as_they_are_made(rt: HostRuntime) -> Result<(), Fail> {
     let alloc = rt.alloc();

@@ -15,3 +15,6 @@ mod parts;
 mod trees;
 #[cfg(test)]
 mod values;
+mod weights;
+
+pub use weights::worked_weights;
