@@ -6,6 +6,7 @@ ghost use Rattle.vx_value.specs.declared.decimal.DecimalType.TheVariants as widt
 ghost use Rattle.vx_native.specs.Ranges.{signed_range};
 ghost use Rattle.vx_native.specs.DecimalNumbers.{numbers_of, decimal_type_of};
 
+use crate::macros::variant;
 use crate::{DecimalValues, NativeDecimalType};
 use vx_mask::Buffer;
 use vx_value::DecimalType;
@@ -25,11 +26,7 @@ impl NativeDecimalType for i8 {
     }
 
     fn project_decimals(values: &DecimalValues) -> Option<&Buffer<i8>> {
-        if let DecimalValues::I8(buffer) = values {
-            Some(buffer)
-        } else {
-            None
-        }
+        variant!(values, DecimalValues::I8)
     }
 
     fn fits_own(self) {}
@@ -52,11 +49,7 @@ impl NativeDecimalType for i16 {
     }
 
     fn project_decimals(values: &DecimalValues) -> Option<&Buffer<i16>> {
-        if let DecimalValues::I16(buffer) = values {
-            Some(buffer)
-        } else {
-            None
-        }
+        variant!(values, DecimalValues::I16)
     }
 
     fn fits_own(self) {}
@@ -79,11 +72,7 @@ impl NativeDecimalType for i32 {
     }
 
     fn project_decimals(values: &DecimalValues) -> Option<&Buffer<i32>> {
-        if let DecimalValues::I32(buffer) = values {
-            Some(buffer)
-        } else {
-            None
-        }
+        variant!(values, DecimalValues::I32)
     }
 
     fn fits_own(self) {}
@@ -106,11 +95,7 @@ impl NativeDecimalType for i64 {
     }
 
     fn project_decimals(values: &DecimalValues) -> Option<&Buffer<i64>> {
-        if let DecimalValues::I64(buffer) = values {
-            Some(buffer)
-        } else {
-            None
-        }
+        variant!(values, DecimalValues::I64)
     }
 
     fn fits_own(self) {}
@@ -133,11 +118,7 @@ impl NativeDecimalType for i128 {
     }
 
     fn project_decimals(values: &DecimalValues) -> Option<&Buffer<i128>> {
-        if let DecimalValues::I128(buffer) = values {
-            Some(buffer)
-        } else {
-            None
-        }
+        variant!(values, DecimalValues::I128)
     }
 
     fn fits_own(self) {}

@@ -4,6 +4,7 @@ ghost use Rattle.std.specs.Prelude.{◌≡◌, pos, map};
 ghost use Rattle.vx_value.specs.declared.dtype.PType.TheVariants as ptype;
 ghost use Rattle.vx_native.specs.Natives.{values_of, ptype_of};
 
+use crate::macros::variant;
 use crate::{NativeInteger, PrimitiveValues};
 use vx_mask::Buffer;
 use vx_value::PType;
@@ -25,11 +26,7 @@ impl NativeInteger for u8 {
     }
 
     fn project(values: &PrimitiveValues) -> Option<&Buffer<u8>> {
-        if let PrimitiveValues::U8(buffer) = values {
-            Some(buffer)
-        } else {
-            None
-        }
+        variant!(values, PrimitiveValues::U8)
     }
 
     fn ranged(self) {}
@@ -54,11 +51,7 @@ impl NativeInteger for u16 {
     }
 
     fn project(values: &PrimitiveValues) -> Option<&Buffer<u16>> {
-        if let PrimitiveValues::U16(buffer) = values {
-            Some(buffer)
-        } else {
-            None
-        }
+        variant!(values, PrimitiveValues::U16)
     }
 
     fn ranged(self) {}
@@ -83,11 +76,7 @@ impl NativeInteger for u32 {
     }
 
     fn project(values: &PrimitiveValues) -> Option<&Buffer<u32>> {
-        if let PrimitiveValues::U32(buffer) = values {
-            Some(buffer)
-        } else {
-            None
-        }
+        variant!(values, PrimitiveValues::U32)
     }
 
     fn ranged(self) {}
@@ -112,11 +101,7 @@ impl NativeInteger for u64 {
     }
 
     fn project(values: &PrimitiveValues) -> Option<&Buffer<u64>> {
-        if let PrimitiveValues::U64(buffer) = values {
-            Some(buffer)
-        } else {
-            None
-        }
+        variant!(values, PrimitiveValues::U64)
     }
 
     fn ranged(self) {}
@@ -142,11 +127,7 @@ impl NativeInteger for i8 {
     }
 
     fn project(values: &PrimitiveValues) -> Option<&Buffer<i8>> {
-        if let PrimitiveValues::I8(buffer) = values {
-            Some(buffer)
-        } else {
-            None
-        }
+        variant!(values, PrimitiveValues::I8)
     }
 
     fn ranged(self) {}
@@ -172,11 +153,7 @@ impl NativeInteger for i16 {
     }
 
     fn project(values: &PrimitiveValues) -> Option<&Buffer<i16>> {
-        if let PrimitiveValues::I16(buffer) = values {
-            Some(buffer)
-        } else {
-            None
-        }
+        variant!(values, PrimitiveValues::I16)
     }
 
     fn ranged(self) {}
@@ -202,11 +179,7 @@ impl NativeInteger for i32 {
     }
 
     fn project(values: &PrimitiveValues) -> Option<&Buffer<i32>> {
-        if let PrimitiveValues::I32(buffer) = values {
-            Some(buffer)
-        } else {
-            None
-        }
+        variant!(values, PrimitiveValues::I32)
     }
 
     fn ranged(self) {}
@@ -232,11 +205,7 @@ impl NativeInteger for i64 {
     }
 
     fn project(values: &PrimitiveValues) -> Option<&Buffer<i64>> {
-        if let PrimitiveValues::I64(buffer) = values {
-            Some(buffer)
-        } else {
-            None
-        }
+        variant!(values, PrimitiveValues::I64)
     }
 
     fn ranged(self) {}

@@ -62,3 +62,15 @@ macro_rules! by_decimal_type {
         }
     };
 }
+
+/// Evaluates to the value in a borrowed enum of this variant, `Some(value)`; to `None` if it is of another.
+macro_rules! variant {
+    ($enum:expr, $name:ident::$variant:ident) => {
+        match $enum {
+            $name::$variant(value) => Some(value),
+            _ => None,
+        }
+    };
+}
+
+pub(crate) use variant;
