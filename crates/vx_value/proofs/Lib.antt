@@ -1,6 +1,5 @@
 pub mod OrderLemmas
 pub mod DefaultsLemmas
-pub mod StorageLemmas
 pub mod DecimalsLemmas
 pub mod NullabilitiesLemmas
 pub mod CastsLemmas
