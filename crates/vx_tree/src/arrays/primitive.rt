@@ -12,7 +12,7 @@ ghost use Rattle.vx_tree.specs.Columns.{canonical_tree, primitive_column, empty_
 
 use crate::array::{Array, ArrayId, ArrayParts, Encoded, Encoding, EncodingVariant, VTable};
 use crate::arrays::column::{FlatEncoding, check_column, flat_column};
-use crate::arrays::{into_variant, variant};
+use crate::arrays::{into_payload, into_variant, payload, variant};
 use crate::canonical::Canonical;
 use crate::validity::Validity;
 use std::alloc::{AllocError, Global};
@@ -143,11 +143,11 @@ impl EncodingVariant for Primitive {
     ghost is_kind = { is_primitive };
 
     fn project(encoding: &Encoding) -> Option<&PrimitiveData> {
-        variant!(encoding, Encoding::Primitive)
+        payload!(encoding, Primitive)
     }
 
     fn into_data(encoding: Encoding) -> Option<PrimitiveData> {
-        into_variant!(encoding, Encoding::Primitive)
+        into_payload!(encoding, Primitive)
     }
 
     ghost kind_of = { λ d. refl };

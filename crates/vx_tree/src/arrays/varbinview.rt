@@ -12,7 +12,7 @@ ghost use Rattle.vx_tree.specs.Columns.{canonical_tree, varbinview_column, empty
 
 use crate::array::{Array, ArrayId, ArrayParts, Encoded, Encoding, EncodingVariant, VTable};
 use crate::arrays::column::{FlatEncoding, check_column, check_flat_column, flat_column};
-use crate::arrays::{into_variant, variant};
+use crate::arrays::{into_payload, into_variant, payload, variant};
 use crate::canonical::Canonical;
 use crate::validity::Validity;
 use std::alloc::{AllocError, Global};
@@ -191,11 +191,11 @@ impl EncodingVariant for VarBinView {
     ghost is_kind = { is_views };
 
     fn project(encoding: &Encoding) -> Option<&VarBinViewData> {
-        variant!(encoding, Encoding::VarBinView)
+        payload!(encoding, VarBinView)
     }
 
     fn into_data(encoding: Encoding) -> Option<VarBinViewData> {
-        into_variant!(encoding, Encoding::VarBinView)
+        into_payload!(encoding, VarBinView)
     }
 
     ghost kind_of = { λ d. refl };
