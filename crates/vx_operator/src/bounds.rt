@@ -295,7 +295,7 @@ fn between_by<R: OrderedRows, L: Comparison, U: Comparison>(
         upper,
         operators: PhantomData,
     };
-    check_rows(alloc, &check, valid, len)
+    check_rows(alloc, check, valid, len)
 }
 
 /// A comparison of the rows of `lower` and `array` by `L`, and of those of `array` and `upper` by `U`.

@@ -10,7 +10,7 @@ use vx_mask::{BitBuffer, BitBuilder};
 use vx_rows::ValidRows;
 
 /// A check of rows, such as a comparison of two operands.
-pub(crate) trait RowCheck {
+pub(crate) trait RowCheck: Drop {
     // row i exists
     ghost has_row: { Self → ℕ → Type 0 };
 
@@ -26,13 +26,13 @@ pub(crate) trait RowCheck {
 /// Makes the bits of `check`, `len` rows; `false` stands for those that aren't `valid`, which aren't checked.
 pub(crate) fn check_rows<C: RowCheck>(
     alloc: Global,
-    check: &C,
+    check: C,
     valid: &ValidRows,
     len: usize,
 ) -> Result<BitBuffer, AllocError>
-    requires rows { (i : ℕ) → i < len → C.has_row check.now i }
+    requires rows { (i : ℕ) → i < len → C.has_row check i }
     requires valid { HasValidity valid.now len }
-    ensures { IfOk result (λ b. b ≡ checked_rows (is_valid valid.now) (C.answer check.now) len) }
+    ensures { IfOk result (λ b. b ≡ checked_rows (is_valid valid.now) (C.answer check) len) }
 {
     match valid {
         ValidRows::All(_) => check_all(alloc, check, len),
@@ -42,9 +42,9 @@ pub(crate) fn check_rows<C: RowCheck>(
 
 /// Checks each of `len` rows.
 #[tactic(auto, using(crate::proofs::ComparisonLemmas::bits_more))]
-fn check_all<C: RowCheck>(alloc: Global, check: &C, len: usize) -> Result<BitBuffer, AllocError>
-    requires { (i : ℕ) → i < len → C.has_row check.now i }
-    ensures { IfOk result (λ b. b ≡ checked_rows (λ i. true) (C.answer check.now) len) }
+fn check_all<C: RowCheck>(alloc: Global, check: C, len: usize) -> Result<BitBuffer, AllocError>
+    requires { (i : ℕ) → i < len → C.has_row check i }
+    ensures { IfOk result (λ b. b ≡ checked_rows (λ i. true) (C.answer check) len) }
 {
     let mut bits = BitBuilder::with_capacity(alloc, len)?;
     for index in 0..len {
@@ -56,18 +56,18 @@ fn check_all<C: RowCheck>(alloc: Global, check: &C, len: usize) -> Result<BitBuf
 /// Checks the rows at the true bits of `valid`, `len` rows; `false` stands for the others.
 fn check_valid<C: RowCheck>(
     alloc: Global,
-    check: &C,
+    check: C,
     valid: &BitBuffer,
     len: usize,
 ) -> Result<BitBuffer, AllocError>
-    requires rows { (i : ℕ) → i < len → C.has_row check.now i }
+    requires rows { (i : ℕ) → i < len → C.has_row check i }
     requires valid { length valid.now ≡ len }
-    ensures { IfOk result (λ b. b ≡ checked_rows (bit_row valid.now) (C.answer check.now) len) }
+    ensures { IfOk result (λ b. b ≡ checked_rows (bit_row valid.now) (C.answer check) len) }
 {
     let mut bits = BitBuilder::with_capacity(alloc, len)?;
     for index in 0..len {
         let is_valid = valid.value(index);
-        bits.push(check_unless_null(check, index, is_valid))?;
+        bits.push(check_unless_null(&check, index, is_valid))?;
     }
     bits.finish(alloc)
 }

@@ -300,5 +300,5 @@ fn compare_by<R: OrderedRows, C: Comparison>(
         right,
         operator: PhantomData,
     };
-    check_rows(alloc, &check, valid, len)
+    check_rows(alloc, check, valid, len)
 }
