@@ -38,11 +38,7 @@ pub fn push_row(text: &mut String, scalar: &Scalar) -> Result<(), AllocError>
 pub fn push_integer(text: &mut String, number: i128) -> Result<(), AllocError>
     ensures { OnOk result (string_bytes text.new ≡ string_bytes text.old ++ signed_decimal number) }
 {
-    // Numbers of 64 bits are written faster.
-    match i64::try_from(number) {
-        Ok(narrow) => text.push_str(Buffer::new().format(narrow)),
-        Err(_) => text.push_str(Buffer::new().format(number)),
-    }
+    text.push_str(Buffer::new().format(number))
 }
 
 // These three aren't inlined and don't see the scalar: the rows of booleans and integers then take fewer instructions.
