@@ -1,7 +1,9 @@
 //! Nodes, given the trees under their keys.
 
-ghost use Rattle.std.specs.Prelude.{◌≡◌, Some, None, IfOk, IfErr};
+ghost use Rattle.std.specs.Prelude.{◌≡◌, ◌≤◌, length, Some, None, IfOk, IfErr};
 ghost use Rattle.serde_json.specs.View.{view};
+ghost use Rattle.vx_mask.specs.Masks.{bits_in};
+ghost use Rattle.vx_tree.specs.Tree.{len, slice_of, filter_of};
 ghost use Rattle.vx_json.specs.Refused.{IsRefused};
 ghost use Rattle.vx_json.specs.SpelledNodes.{constant_spelled, null_spelled, slice_spelled, filter_spelled, masked_spelled, is_valid_spelled, call_spelled};
 
@@ -13,6 +15,7 @@ use crate::types::type_at;
 use crate::values::{booleans, scalar};
 use serde_json::Value;
 use std::alloc::Global;
+use std::ops::Range;
 use vx_mask::Mask;
 use vx_tree::{
     ArrayRef, ConstantArray, FilterArray, IntoArray, MaskedArray, NullArray, ScalarFnArray,
@@ -43,10 +46,11 @@ pub(crate) fn null(alloc: Global, value: &Value) -> VortexResult<ArrayRef>
     Ok(NullArray::new(alloc, len as usize)?.into_array())
 }
 
-/// Reads a lazy slice of `child`.
-pub(crate) fn slice(alloc: Global, value: &Value, child: ArrayRef) -> VortexResult<ArrayRef>
-    ensures ok { IfOk result (λ t. slice_spelled (view value.now) child ≡ Some t) }
-    ensures err { IfErr result (IsRefused (slice_spelled (view value.now) child ≡ None)) }
+/// Reads the rows of a lazy slice of `child`, which must be in order and within it.
+fn slice_rows(value: &Value, child: &ArrayRef) -> VortexResult<Range<usize>>
+    ensures ok { IfOk result (λ rows. slice_spelled (view value.now) child.now ≡ Some (slice_of rows.start rows.end child.now)) }
+    ensures within { IfOk result (λ rows. (rows.start ≤ rows.end) × (rows.end ≤ len child.now)) }
+    ensures err { IfErr result (IsRefused (slice_spelled (view value.now) child.now ≡ None)) }
 {
     check_keys(value, 4)?;
     let start = number(value, "start").ok_or(BAD_VALUE)?;
@@ -54,14 +58,24 @@ pub(crate) fn slice(alloc: Global, value: &Value, child: ArrayRef) -> VortexResu
     if stop < start || stop > child.len() as u64 {
         return Err(BAD_VALUE);
     }
-    Ok(SliceArray::new(alloc, child, start as usize..stop as usize)?.into_array())
+    Ok(start as usize..stop as usize)
 }
 
-/// Reads a lazy filter of `child`, whose mask is a list of booleans.
+/// Reads a lazy slice of `child`.
+pub(crate) fn slice(alloc: Global, value: &Value, child: ArrayRef) -> VortexResult<ArrayRef>
+    ensures ok { IfOk result (λ t. slice_spelled (view value.now) child ≡ Some t) }
+    ensures err { IfErr result (IsRefused (slice_spelled (view value.now) child ≡ None)) }
+{
+    let rows = slice_rows(value, &child)?;
+    Ok(SliceArray::new(alloc, child, rows)?.into_array())
+}
+
+/// Reads the mask of a lazy filter of `child`, a list of as many booleans as `child` has rows.
 #[tactic(auto, using(vx_mask::proofs::MasksLemmas::bits_in_mask_of))]
-pub(crate) fn filter(alloc: Global, value: &Value, child: ArrayRef) -> VortexResult<ArrayRef>
-    ensures ok { IfOk result (λ t. filter_spelled (view value.now) child ≡ Some t) }
-    ensures err { IfErr result (IsRefused (filter_spelled (view value.now) child ≡ None)) }
+fn filter_mask(alloc: Global, value: &Value, child: &ArrayRef) -> VortexResult<Mask>
+    ensures ok { IfOk result (λ mask. filter_spelled (view value.now) child.now ≡ Some (filter_of (bits_in mask) child.now)) }
+    ensures rows { IfOk result (λ mask. length (bits_in mask) ≡ len child.now) }
+    ensures err { IfErr result (IsRefused (filter_spelled (view value.now) child.now ≡ None)) }
 {
     check_keys(value, 3)?;
     let list = items(value, "mask").ok_or(BAD_VALUE)?;
@@ -69,6 +83,15 @@ pub(crate) fn filter(alloc: Global, value: &Value, child: ArrayRef) -> VortexRes
     if mask.len() != child.len() {
         return Err(BAD_VALUE);
     }
+    Ok(mask)
+}
+
+/// Reads a lazy filter of `child`, whose mask is a list of booleans.
+pub(crate) fn filter(alloc: Global, value: &Value, child: ArrayRef) -> VortexResult<ArrayRef>
+    ensures ok { IfOk result (λ t. filter_spelled (view value.now) child ≡ Some t) }
+    ensures err { IfErr result (IsRefused (filter_spelled (view value.now) child ≡ None)) }
+{
+    let mask = filter_mask(alloc, value, &child)?;
     Ok(FilterArray::new(alloc, child, mask)?.into_array())
 }
 
