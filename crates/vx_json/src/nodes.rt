@@ -3,7 +3,8 @@
 ghost use Rattle.std.specs.Prelude.{◌≡◌, ◌≤◌, length, Some, None, IfOk, IfErr};
 ghost use Rattle.serde_json.specs.View.{view};
 ghost use Rattle.vx_mask.specs.Masks.{bits_in};
-ghost use Rattle.vx_tree.specs.Tree.{len, slice_of, filter_of};
+ghost use Rattle.vx_tree.specs.Tree.{len, slice_of, filter_of, masked_of};
+ghost use Rattle.vx_tree.specs.Validities.{HasRows, child_of, nullability_by};
 ghost use Rattle.vx_json.specs.Refused.{IsRefused};
 ghost use Rattle.vx_json.specs.SpelledNodes.{constant_spelled, null_spelled, slice_spelled, filter_spelled, masked_spelled, is_valid_spelled, call_spelled};
 
@@ -19,7 +20,7 @@ use std::ops::Range;
 use vx_mask::Mask;
 use vx_tree::{
     ArrayRef, ConstantArray, FilterArray, IntoArray, MaskedArray, NullArray, ScalarFnArray,
-    ScalarFnValidityArray, SliceArray,
+    ScalarFnValidityArray, SliceArray, Validity,
 };
 use vx_value::{Nullability, VortexError, VortexResult};
 
@@ -95,6 +96,17 @@ pub(crate) fn filter(alloc: Global, value: &Value, child: ArrayRef) -> VortexRes
     Ok(FilterArray::new(alloc, child, mask)?.into_array())
 }
 
+/// Reads which rows of a masked array of `child` are valid, as `nulls` says.
+fn masked_validity(value: &Value, child: &ArrayRef, nulls: &Nulls) -> VortexResult<Validity>
+    ensures ok { IfOk result (λ v. masked_spelled (view value.now) child.now nulls.now ≡ Some (masked_of child.now (child_of v (len child.now)))) }
+    ensures nullability { IfOk result (λ v. nullability_by v ≡ Nullability.Nullable) }
+    ensures rows { IfOk result (λ v. HasRows v (len child.now)) }
+    ensures err { IfErr result (IsRefused (masked_spelled (view value.now) child.now nulls.now ≡ None)) }
+{
+    check_keys(value, 2 + nulls.keys())?;
+    nulls.validity(Nullability::Nullable, child.len())
+}
+
 /// Reads a masked array: the rows of `child`, null where `nulls` says so or `child` is.
 pub(crate) fn masked(
     alloc: Global,
@@ -105,8 +117,7 @@ pub(crate) fn masked(
     ensures ok { IfOk result (λ t. masked_spelled (view value.now) child nulls.now ≡ Some t) }
     ensures err { IfErr result (IsRefused (masked_spelled (view value.now) child nulls.now ≡ None)) }
 {
-    check_keys(value, 2 + nulls.keys())?;
-    let validity = nulls.validity(Nullability::Nullable, child.len())?;
+    let validity = masked_validity(value, &child, nulls)?;
     Ok(MaskedArray::new_unchecked(alloc, child, &validity)?.into_array())
 }
 
