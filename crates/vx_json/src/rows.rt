@@ -73,6 +73,13 @@ fn push_utf8(text: &mut String, bytes: &[u8]) -> Result<(), AllocError>
     if !has_escapes(bytes) {
         return push_quoted(text, utf8);
     }
+    push_escaped(text, utf8)
+}
+
+/// Appends `utf8` as a JSON string, with its escapes.
+fn push_escaped(text: &mut String, utf8: &str) -> Result<(), AllocError>
+    ensures { OnOk result (string_bytes text.new ≡ string_bytes text.old ++ compact_text (string utf8.now)) }
+{
     let alloc = *text.allocator();
     let value = Value::String(String::from_str(alloc, utf8)?);
     text.push_str(value.to_string(alloc)?.as_str())
