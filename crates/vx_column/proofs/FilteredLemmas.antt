@@ -27,7 +27,7 @@ use Rattle.vx_tree.specs.Validities.{nullability_by, without_nulls, child_of, va
 use Rattle.vx_tree.specs.declared.validity.Validity.{Validity}
 use Rattle.vx_tree.specs.declared.validity.Validity.TheVariants as validity
 use Rattle.vx_tree.proofs.KeepsLemmas.{rows_equal}
-use Rattle.vx_tree.proofs.NodeValiditiesLemmas.{chosen_clean}
+use Rattle.vx_tree.proofs.TellsLemmas.{chosen_clean}
 use Rattle.vx_tree.proofs.CellsLemmas.{rows_counted}
 use Rattle.vx_tree.proofs.ValiditiesLemmas.{told_back, whole, no_child, same_nullability}
 use Rattle.vx_column.specs.Filtered.{IsChoice}

@@ -37,7 +37,7 @@ use Rattle.vx_rows.specs.Nulls.{validity_cells}
 use Rattle.vx_rows.proofs.CellsLemmas.{fault_cell, masked_rows}
 use Rattle.vx_column.proofs.FilteredLemmas.{column_cells}
 use Rattle.vx_tree.proofs.TypedLemmas.{CellFits, AllFit, rows_fit}
-use Rattle.vx_tree.proofs.NodeValiditiesLemmas.{and_cell, and_cells, and_rows, and_clean}
+use Rattle.vx_tree.proofs.JoinedLemmas.{and_cell, and_cells, and_rows, and_clean}
 
 -- ---- the cells of a conjunction
 

@@ -29,7 +29,7 @@ use Rattle.vx_rows.specs.Nulls.{IsRowBy, validity_cells}
 use Rattle.vx_rows.specs.ValidRows.{null_unless}
 use Rattle.vx_rows.proofs.ValidRowsLemmas.{filled_cell, one_slot}
 use Rattle.vx_native.proofs.NativesLemmas.{map_copies}
-use Rattle.vx_tree.proofs.NodeValiditiesLemmas.{shown_value}
+use Rattle.vx_tree.proofs.TellsLemmas.{shown_value}
 use Rattle.vx_value.specs.Storage.{storage_of}
 use Rattle.vx_value.specs.declared.decimal.DecimalType.{DecimalType}
 use Rattle.vx_tree.specs.ColumnTypes.{scale_of}

@@ -25,7 +25,7 @@ use Rattle.vx_tree.proofs.CellsLemmas.{rows_counted}
 use Rattle.vx_tree.proofs.ChoicesLemmas.{filter_twice}
 use Rattle.vx_tree.proofs.KeepsLemmas.{exactly_refl}
 use Rattle.vx_tree.proofs.KindsLemmas.{type_in, len_in}
-use Rattle.vx_tree.proofs.NodeValiditiesLemmas.{chosen_clean}
+use Rattle.vx_tree.proofs.TellsLemmas.{chosen_clean}
 use Rattle.vx_tree.proofs.SlotsLemmas.{no_shapes}
 use Rattle.vx_tree.proofs.ValiditiesLemmas.{whole}
 use Rattle.vx_rule.proofs.PicksLemmas.{exactly_by, map_clean, function_picked, masked_picked}

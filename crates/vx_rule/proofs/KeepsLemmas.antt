@@ -12,7 +12,7 @@ use Rattle.vx_rule.proofs.RangesLemmas.{S_whole_keeps, S_empty_keeps, S1_keeps, 
 
 -- ---- a row of a child stands exactly for the tree: a line for each
 
-pub child_exactly : (i : ℕ) (t u : Tree) (os : List ℕ) → IsWell t → Row (Some i) t u os → KeepsExactly t u
+child_exactly : (i : ℕ) (t u : Tree) (os : List ℕ) → IsWell t → Row (Some i) t u os → KeepsExactly t u
 child_exactly i t u os g (S_whole ty n a b c l z y) = S_whole_keeps ty n a b c g z y
 child_exactly i t u os g (S_empty ty n a b c l z y) = S_empty_keeps ty n a b c g z
 child_exactly i t u os g (S1 ty sty n a b k s r c p) = S1_keeps ty sty n a b k s r c g

@@ -19,7 +19,7 @@ use Rattle.vx_tree.specs.Well.{IsWell, AreWell}
 use Rattle.vx_tree.proofs.CellsLemmas.{rows_counted}
 use Rattle.vx_tree.proofs.KeepsLemmas.{exactly_of_rows}
 use Rattle.vx_tree.proofs.KindsLemmas.{type_in, len_in}
-use Rattle.vx_tree.proofs.NodeValiditiesLemmas.{and_cell, and_rows, and_clean}
+use Rattle.vx_tree.proofs.JoinedLemmas.{and_cell, and_rows, and_clean}
 use Rattle.vx_tree.proofs.TypedLemmas.{CellFits, rows_fit}
 use Rattle.vx_tree.proofs.ValiditiesLemmas.{whole}
 use Rattle.vx_rule.specs.Rules.{told}

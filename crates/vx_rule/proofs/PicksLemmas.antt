@@ -121,7 +121,7 @@ module _ (places : List ℕ → List ℕ) (pick : List Cell → List Cell) (natu
       (λ i lt. ap (apply f ty) (row_picked css i long lt) ∙ sym (at_place call i lt)))
 
   -- rows by a validity that is as long
-  pub valid_picked : (vs cs : List Cell) → length vs ≡ k → length cs ≡ k → pick (valid_cells vs cs) ≡ valid_cells (pick vs) (pick cs)
+  valid_picked : (vs cs : List Cell) → length vs ≡ k → length cs ≡ k → pick (valid_cells vs cs) ≡ valid_cells (pick vs) (pick cs)
   valid_picked vs cs long longs =
       let f = λ (i : ℕ). get_or vs i fault in
       let g = λ (i : ℕ). get_or cs i fault in

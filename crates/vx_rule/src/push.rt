@@ -3,7 +3,7 @@
 ghost use Rattle.std.specs.Prelude.{◌≡◌, ◌≤◌, ◌*◌, ◌+◌, IfOk, IfErr, true, false};
 ghost use Rattle.vx_value.specs.declared.error.VortexError.TheVariants.{OutOfMemory};
 ghost use Rattle.vx_tree.specs.Tree.{dtype, len, datum, node, function, constant_of, masked_of, slots_of, slice_of, is_canonical};
-ghost use Rattle.vx_tree.specs.Well.{IsNode, IsNodeOf, shapes};
+ghost use Rattle.vx_tree.specs.Well.{IsNode, shapes};
 ghost use Rattle.vx_tree.specs.Keeps.{KeepsExactly};
 ghost use Rattle.vx_tree.specs.Cost.{cost, reach};
 ghost use Rattle.vx_rule.specs.Pushes.{IsPushed};

@@ -19,10 +19,10 @@ pub trait ArrayReduceRule<V: VTable> {
 
     /// Returns the answer of `array`, if the rule covers it: `None` exactly if no row fits. `None` if the rule doesn't cover it. The only
     /// error is `OutOfMemory`.
-    fn reduce(&self, alloc: Global, array: ArrayView<'_, V>) -> VortexResult<Option<RawNode>>
-        requires payload { V.stands_for array.payload.now ≡ datum array.array.now }
-        ensures answer { covers array.entry.array.now ≡ true → IfOk result (λ o. IsAnswer None array.entry.array.now o) }
-        ensures other { covers array.entry.array.now ≡ false → IfOk result (λ o. o ≡ None) }
+    fn reduce(&self, alloc: Global, array: &ArrayView<'_, V>) -> VortexResult<Option<RawNode>>
+        requires payload { V.stands_for array.now.payload.now ≡ datum array.now.array.now }
+        ensures answer { covers array.now.array.now ≡ true → IfOk result (λ o. IsAnswer None array.now.array.now o) }
+        ensures other { covers array.now.array.now ≡ false → IfOk result (λ o. o ≡ None) }
         ensures err { IfErr result (λ e. e ≡ OutOfMemory) };
 }
 
@@ -35,13 +35,13 @@ pub trait ArrayParentReduceRule<V: VTable> {
     fn reduce_parent(
         &self,
         alloc: Global,
-        child: ArrayView<'_, V>,
+        child: &ArrayView<'_, V>,
         parent: &ArrayRef,
         slot: usize,
     ) -> VortexResult<Option<RawNode>>
-        requires payload { V.stands_for child.payload.now ≡ datum child.array.now }
+        requires payload { V.stands_for child.now.payload.now ≡ datum child.now.array.now }
         requires fits { Self.Parent.fits parent.now ≡ true }
-        requires slot { HasSlot slot child.array.now parent.now }
+        requires slot { HasSlot slot child.now.array.now parent.now }
         ensures answer { IfOk result (λ o. IsAnswer (Some slot) parent.now o) }
         ensures err { IfErr result (λ e. e ≡ OutOfMemory) };
 }
@@ -59,12 +59,12 @@ pub trait DynArrayParentReduceRule<V: VTable> {
     fn reduce_parent(
         &self,
         alloc: Global,
-        child: ArrayView<'_, V>,
+        child: &ArrayView<'_, V>,
         parent: &ArrayRef,
         slot: usize,
     ) -> VortexResult<Option<RawNode>>
-        requires payload { V.stands_for child.payload.now ≡ datum child.array.now }
-        requires slot { HasSlot slot child.array.now parent.now }
+        requires payload { V.stands_for child.now.payload.now ≡ datum child.now.array.now }
+        requires slot { HasSlot slot child.now.array.now parent.now }
         ensures answer { covers parent.now ≡ true → IfOk result (λ o. IsAnswer (Some slot) parent.now o) }
         ensures other { covers parent.now ≡ false → IfOk result (λ o. o ≡ None) }
         ensures err { IfErr result (λ e. e ≡ OutOfMemory) };
@@ -100,16 +100,10 @@ impl<V: VTable, R: ArrayParentReduceRule<V>> DynArrayParentReduceRule<V>
     fn reduce_parent(
         &self,
         alloc: Global,
-        child: ArrayView<'_, V>,
+        child: &ArrayView<'_, V>,
         parent: &ArrayRef,
         slot: usize,
-    ) -> VortexResult<Option<RawNode>>
-        requires payload { V.stands_for child.payload.now ≡ datum child.array.now }
-        requires slot { HasSlot slot child.array.now parent.now }
-        ensures answer { R.Parent.fits parent.now ≡ true → IfOk result (λ o. IsAnswer (Some slot) parent.now o) }
-        ensures other { R.Parent.fits parent.now ≡ false → IfOk result (λ o. o ≡ None) }
-        ensures err { IfErr result (λ e. e ≡ OutOfMemory) }
-    {
+    ) -> VortexResult<Option<RawNode>> {
         if !R::Parent::matches(parent) {
             return Ok(None);
         }

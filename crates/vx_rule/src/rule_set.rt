@@ -15,21 +15,21 @@ use vx_value::VortexResult;
 /// Encodings with their rules. (own)
 pub trait ReduceVTable: VTable {
     /// Returns the answer of `array` itself: `None` exactly if no row fits. The only error is `OutOfMemory`. (own)
-    fn reduce(alloc: Global, array: ArrayView<'_, Self>) -> VortexResult<Option<RawNode>>
-        requires payload { Self.stands_for array.payload.now ≡ datum array.array.now }
-        ensures answer { IfOk result (λ o. IsAnswer None array.entry.array.now o) }
+    fn reduce(alloc: Global, array: &ArrayView<'_, Self>) -> VortexResult<Option<RawNode>>
+        requires payload { Self.stands_for array.now.payload.now ≡ datum array.now.array.now }
+        ensures answer { IfOk result (λ o. IsAnswer None array.now.array.now o) }
         ensures err { IfErr result (λ e. e ≡ OutOfMemory) };
 
     /// Returns the answer of `child`, which stands in `slot` of `parent`: `None` exactly if no row fits there. The only error is
     /// `OutOfMemory`. (own)
     fn reduce_parent(
         alloc: Global,
-        child: ArrayView<'_, Self>,
+        child: &ArrayView<'_, Self>,
         parent: &ArrayRef,
         slot: usize,
     ) -> VortexResult<Option<RawNode>>
-        requires payload { Self.stands_for child.payload.now ≡ datum child.array.now }
-        requires slot { HasSlot slot child.array.now parent.now }
+        requires payload { Self.stands_for child.now.payload.now ≡ datum child.now.array.now }
+        requires slot { HasSlot slot child.now.array.now parent.now }
         ensures answer { IfOk result (λ o. IsAnswer (Some slot) parent.now o) }
         ensures err { IfErr result (λ e. e ≡ OutOfMemory) };
 }
@@ -49,9 +49,9 @@ impl<V: ReduceVTable> ReduceRuleSet<V> {
     }
 
     /// Returns the answer of `array` itself: `None` exactly if no row fits. The only error is `OutOfMemory`.
-    pub fn evaluate(&self, alloc: Global, array: ArrayView<'_, V>) -> VortexResult<Option<RawNode>>
-        requires payload { V.stands_for array.payload.now ≡ datum array.array.now }
-        ensures answer { IfOk result (λ o. IsAnswer None array.entry.array.now o) }
+    pub fn evaluate(&self, alloc: Global, array: &ArrayView<'_, V>) -> VortexResult<Option<RawNode>>
+        requires payload { V.stands_for array.now.payload.now ≡ datum array.now.array.now }
+        ensures answer { IfOk result (λ o. IsAnswer None array.now.array.now o) }
         ensures err { IfErr result (λ e. e ≡ OutOfMemory) }
     {
         V::reduce(alloc, array)
@@ -77,12 +77,12 @@ impl<V: ReduceVTable> ParentRuleSet<V> {
     pub fn evaluate(
         &self,
         alloc: Global,
-        child: ArrayView<'_, V>,
+        child: &ArrayView<'_, V>,
         parent: &ArrayRef,
         slot: usize,
     ) -> VortexResult<Option<RawNode>>
-        requires payload { V.stands_for child.payload.now ≡ datum child.array.now }
-        requires slot { HasSlot slot child.array.now parent.now }
+        requires payload { V.stands_for child.now.payload.now ≡ datum child.now.array.now }
+        requires slot { HasSlot slot child.now.array.now parent.now }
         ensures answer { IfOk result (λ o. IsAnswer (Some slot) parent.now o) }
         ensures err { IfErr result (λ e. e ≡ OutOfMemory) }
     {

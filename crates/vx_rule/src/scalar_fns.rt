@@ -9,7 +9,7 @@ use std::marker::PhantomData;
 use vx_fn::ScalarFnRef;
 use vx_tree::{ArrayRef, Encoding, Matcher};
 
-/// Tags of functions. (own)
+/// Tags of functions: types without values. (own)
 pub trait ScalarFnTag {
     ghost is_fn: { Function → Bool };
 
@@ -19,7 +19,6 @@ pub trait ScalarFnTag {
 }
 
 /// Matches the nodes of the function that `F` names.
-#[derive(Debug, Default)]
 pub struct ExactScalarFn<F> {
     tag: PhantomData<F>,
 }
@@ -36,8 +35,7 @@ impl<F: ScalarFnTag> Matcher for ExactScalarFn<F> {
 }
 
 /// The tag of `mask`.
-#[derive(Clone, Copy, Debug)]
-pub struct Mask;
+pub enum Mask {}
 
 impl ScalarFnTag for Mask {
     ghost is_fn = { is_mask };
@@ -48,8 +46,7 @@ impl ScalarFnTag for Mask {
 }
 
 /// The tag of casts.
-#[derive(Clone, Copy, Debug)]
-pub struct Cast;
+pub enum Cast {}
 
 impl ScalarFnTag for Cast {
     ghost is_fn = { is_cast };
@@ -60,8 +57,7 @@ impl ScalarFnTag for Cast {
 }
 
 /// The tag of `not`.
-#[derive(Clone, Copy, Debug)]
-pub struct Not;
+pub enum Not {}
 
 impl ScalarFnTag for Not {
     ghost is_fn = { is_not };
@@ -72,8 +68,7 @@ impl ScalarFnTag for Not {
 }
 
 /// The tag of `between`.
-#[derive(Clone, Copy, Debug)]
-pub struct Between;
+pub enum Between {}
 
 impl ScalarFnTag for Between {
     ghost is_fn = { is_between };
@@ -84,8 +79,7 @@ impl ScalarFnTag for Between {
 }
 
 /// The tag of `fill_null`.
-#[derive(Clone, Copy, Debug)]
-pub struct FillNull;
+pub enum FillNull {}
 
 impl ScalarFnTag for FillNull {
     ghost is_fn = { is_fill_null };

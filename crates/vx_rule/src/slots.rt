@@ -1,8 +1,6 @@
 //! The children of answers.
 
-ghost use Rattle.std.specs.Prelude.{◌≡◌, ℕ, ◌≤◌, ◌-◌, ◌++◌, List, [], ◌∷◌, length, map, Option, Some, None, option_map, IfOk, IfErr, IfSome, true};
-ghost use Rattle.vx_value.specs.Types.{DataType};
-ghost use Rattle.vx_value.specs.View.{type_of};
+ghost use Rattle.std.specs.Prelude.{◌≡◌, ◌≤◌, ◌-◌, [], ◌∷◌, length, Option, Some, None, option_map, IfOk, IfErr, IfSome, true};
 ghost use Rattle.vx_value.specs.declared.error.VortexError.TheVariants.{OutOfMemory};
 ghost use Rattle.vx_mask.specs.Masks.{bits_in};
 ghost use Rattle.vx_tree.specs.Tree.{Tree, dtype, len, node, function, masked, slots_of, slice_of};

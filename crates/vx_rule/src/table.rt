@@ -50,7 +50,7 @@ pub fn reduce(alloc: Global, array: &ArrayRef) -> VortexResult<Option<RawNode>>
     ensures answer { IfOk result (λ o. IsAnswer None array.now o) }
     ensures err { IfErr result (λ e. e ≡ OutOfMemory) }
 {
-    by_encoding!(array, view => ReduceRuleSet::new().evaluate(alloc, view))
+    by_encoding!(array, view => ReduceRuleSet::new().evaluate(alloc, &view))
 }
 
 /// Returns the answer of `child`, which stands in `slot` of `parent`, by the rows S1 to S5, F5 to F8, M1 and K1 to K4: `None` exactly if
@@ -65,5 +65,5 @@ pub fn reduce_parent(
     ensures answer { IfOk result (λ o. IsAnswer (Some slot) parent.now o) }
     ensures err { IfErr result (λ e. e ≡ OutOfMemory) }
 {
-    by_encoding!(child, view => ParentRuleSet::new().evaluate(alloc, view, parent, slot))
+    by_encoding!(child, view => ParentRuleSet::new().evaluate(alloc, &view, parent, slot))
 }

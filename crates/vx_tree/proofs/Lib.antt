@@ -16,6 +16,8 @@ pub mod ValiditiesLemmas
 pub mod FlatLemmas
 pub mod PartsLemmas
 pub mod TypedLemmas
+pub mod JoinedLemmas
+pub mod TellsLemmas
 pub mod NodeValiditiesLemmas
 pub mod NullsLemmas
 pub mod ReplacementsLemmas

@@ -11,7 +11,7 @@ use Rattle.vx_tree.specs.Slots.{map_slots}
 use Rattle.vx_tree.specs.Parts.{part_of, column_range}
 use Rattle.vx_tree.proofs.KeepsLemmas.{rows_equal}
 use Rattle.vx_tree.proofs.SlotsLemmas.{no_shapes}
-use Rattle.vx_tree.proofs.NodeValiditiesLemmas.{part_copies}
+use Rattle.vx_tree.proofs.TellsLemmas.{part_copies}
 
 -- a range of them is one of as many nulls
 pub nulls_part : (t : Tree) (a b : ℕ) → IsWell t → enc.nulls ≡ datum t → a ≤ b → b ≤ len t → KeepsExactly (slice_of a b t) (nulls_of (b - a))

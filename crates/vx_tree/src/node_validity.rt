@@ -124,7 +124,7 @@ fn join(alloc: Global, first: Validity, second: Validity, len: usize) -> VortexR
 
 /// Makes the lazy conjunction of two arrays, which must be non-nullable booleans, `len` rows each. The only error is
 /// `OutOfMemory`. (own)
-#[tactic(auto, using(crate::proofs::NodeValiditiesLemmas::and_taken, crate::proofs::NodeValiditiesLemmas::and_made))]
+#[tactic(auto, using(crate::proofs::JoinedLemmas::and_taken, crate::proofs::JoinedLemmas::and_made))]
 pub fn and_lazily(
     alloc: Global,
     first: ArrayRef,

@@ -1,11 +1,10 @@
 //! Bounds of a child: the row K3.
 
-ghost use Rattle.std.specs.Prelude.{◌≡◌, Some, IfOk, IfErr, ◌∷◌, [], true};
+ghost use Rattle.std.specs.Prelude.{◌≡◌, Some, IfOk, IfErr, ◌∷◌, []};
 ghost use Rattle.vx_value.specs.declared.error.VortexError.TheVariants.{OutOfMemory};
 ghost use Rattle.vx_fn.specs.declared.function.ScalarFnRef.TheVariants as fn_of;
 ghost use Rattle.vx_tree.specs.Tree.{datum};
-ghost use Rattle.vx_rule.specs.Calls.{IsCallOf, applies, is_between};
-ghost use Rattle.vx_tree.specs.Slots.{HasSlot};
+ghost use Rattle.vx_rule.specs.Calls.{IsCallOf};
 ghost use Rattle.vx_rule.specs.Answers.{IsAnswer};
 
 use crate::raw_node::RawNode;
@@ -23,14 +22,14 @@ pub trait BetweenReduce: VTable {
     /// is `OutOfMemory`.
     fn between(
         alloc: Global,
-        array: ArrayView<'_, Self>,
+        array: &ArrayView<'_, Self>,
         parent: &ArrayRef,
         lower: &ArrayRef,
         upper: &ArrayRef,
         options: &BetweenOptions,
     ) -> VortexResult<Option<RawNode>>
-        requires payload { Self.stands_for array.payload.now ≡ datum array.array.now }
-        requires call { IsCallOf (fn_of.Between options.now) (array.array.now ∷ lower.now ∷ upper.now ∷ []) parent.now }
+        requires payload { Self.stands_for array.now.payload.now ≡ datum array.now.array.now }
+        requires call { IsCallOf (fn_of.Between options.now) (array.now.array.now ∷ lower.now ∷ upper.now ∷ []) parent.now }
         ensures answer { IfOk result (λ o. IsAnswer (Some 0) parent.now o) }
         ensures err { IfErr result (λ e. e ≡ OutOfMemory) };
 }
@@ -46,16 +45,10 @@ impl<V: BetweenReduce> ArrayParentReduceRule<V> for BetweenReduceAdaptor<V> {
     fn reduce_parent(
         &self,
         alloc: Global,
-        child: ArrayView<'_, V>,
+        child: &ArrayView<'_, V>,
         parent: &ArrayRef,
         slot: usize,
-    ) -> VortexResult<Option<RawNode>>
-        requires payload { V.stands_for child.payload.now ≡ datum child.array.now }
-        requires fits { applies is_between (datum parent.now) ≡ true }
-        requires slot { HasSlot slot child.array.now parent.now }
-        ensures answer { IfOk result (λ o. IsAnswer (Some slot) parent.now o) }
-        ensures err { IfErr result (λ e. e ≡ OutOfMemory) }
-    {
+    ) -> VortexResult<Option<RawNode>> {
         let ArrayKind::ScalarFn(ScalarFnRef::Between(options), slots) = parent.kind() else {
             unreachable!()
         };

@@ -1,11 +1,10 @@
 //! Fillings of nulls of a child: the row K4.
 
-ghost use Rattle.std.specs.Prelude.{◌≡◌, Some, IfOk, IfErr, ◌∷◌, [], true};
+ghost use Rattle.std.specs.Prelude.{◌≡◌, Some, IfOk, IfErr, ◌∷◌, []};
 ghost use Rattle.vx_value.specs.declared.error.VortexError.TheVariants.{OutOfMemory};
 ghost use Rattle.vx_fn.specs.declared.function.ScalarFnRef.TheVariants as fn_of;
 ghost use Rattle.vx_tree.specs.Tree.{datum};
-ghost use Rattle.vx_rule.specs.Calls.{IsCallOf, applies, is_fill_null};
-ghost use Rattle.vx_tree.specs.Slots.{HasSlot};
+ghost use Rattle.vx_rule.specs.Calls.{IsCallOf};
 ghost use Rattle.vx_rule.specs.Answers.{IsAnswer};
 
 use crate::raw_node::RawNode;
@@ -22,12 +21,12 @@ pub trait FillNullReduce: VTable {
     /// Returns what stands for `parent`, the filling of nulls of `array` by `fill_value`: `None` exactly if no row fits. The only error is `OutOfMemory`.
     fn fill_null(
         alloc: Global,
-        array: ArrayView<'_, Self>,
+        array: &ArrayView<'_, Self>,
         parent: &ArrayRef,
         fill_value: &ArrayRef,
     ) -> VortexResult<Option<RawNode>>
-        requires payload { Self.stands_for array.payload.now ≡ datum array.array.now }
-        requires call { IsCallOf fn_of.FillNull (array.array.now ∷ fill_value.now ∷ []) parent.now }
+        requires payload { Self.stands_for array.now.payload.now ≡ datum array.now.array.now }
+        requires call { IsCallOf fn_of.FillNull (array.now.array.now ∷ fill_value.now ∷ []) parent.now }
         ensures answer { IfOk result (λ o. IsAnswer (Some 0) parent.now o) }
         ensures err { IfErr result (λ e. e ≡ OutOfMemory) };
 }
@@ -43,16 +42,10 @@ impl<V: FillNullReduce> ArrayParentReduceRule<V> for FillNullReduceAdaptor<V> {
     fn reduce_parent(
         &self,
         alloc: Global,
-        child: ArrayView<'_, V>,
+        child: &ArrayView<'_, V>,
         parent: &ArrayRef,
         slot: usize,
-    ) -> VortexResult<Option<RawNode>>
-        requires payload { V.stands_for child.payload.now ≡ datum child.array.now }
-        requires fits { applies is_fill_null (datum parent.now) ≡ true }
-        requires slot { HasSlot slot child.array.now parent.now }
-        ensures answer { IfOk result (λ o. IsAnswer (Some slot) parent.now o) }
-        ensures err { IfErr result (λ e. e ≡ OutOfMemory) }
-    {
+    ) -> VortexResult<Option<RawNode>> {
         let ArrayKind::ScalarFn(ScalarFnRef::FillNull, slots) = parent.kind() else {
             unreachable!()
         };

@@ -1,10 +1,9 @@
 //! Filters of a child: the rows F5 to F8.
 
-ghost use Rattle.std.specs.Prelude.{◌≡◌, Some, IfOk, IfErr, length, true};
+ghost use Rattle.std.specs.Prelude.{◌≡◌, Some, IfOk, IfErr, length};
 ghost use Rattle.vx_value.specs.declared.error.VortexError.TheVariants.{OutOfMemory};
 ghost use Rattle.vx_mask.specs.Masks.{bits_in};
-ghost use Rattle.vx_tree.specs.Tree.{len, datum, filter_of, is_filter};
-ghost use Rattle.vx_tree.specs.Slots.{HasSlot};
+ghost use Rattle.vx_tree.specs.Tree.{len, datum, filter_of};
 ghost use Rattle.vx_rule.specs.Answers.{IsAnswer};
 
 use crate::raw_node::RawNode;
@@ -20,12 +19,12 @@ pub trait FilterReduce: VTable {
     /// error is `OutOfMemory`.
     fn filter(
         alloc: Global,
-        array: ArrayView<'_, Self>,
+        array: &ArrayView<'_, Self>,
         mask: &Mask,
     ) -> VortexResult<Option<RawNode>>
-        requires payload { Self.stands_for array.payload.now ≡ datum array.array.now }
-        requires long { length (bits_in mask.now) ≡ len array.array.now }
-        ensures answer { IfOk result (λ o. IsAnswer (Some 0) (filter_of (bits_in mask.now) array.entry.array.now) o) }
+        requires payload { Self.stands_for array.now.payload.now ≡ datum array.now.array.now }
+        requires long { length (bits_in mask.now) ≡ len array.now.array.now }
+        ensures answer { IfOk result (λ o. IsAnswer (Some 0) (filter_of (bits_in mask.now) array.now.array.now) o) }
         ensures err { IfErr result (λ e. e ≡ OutOfMemory) };
 }
 
@@ -39,16 +38,10 @@ impl<V: FilterReduce> ArrayParentReduceRule<V> for FilterReduceAdaptor<V> {
     fn reduce_parent(
         &self,
         alloc: Global,
-        child: ArrayView<'_, V>,
+        child: &ArrayView<'_, V>,
         parent: &ArrayRef,
         _slot: usize,
-    ) -> VortexResult<Option<RawNode>>
-        requires payload { V.stands_for child.payload.now ≡ datum child.array.now }
-        requires fits { is_filter (datum parent.now) ≡ true }
-        requires slot { HasSlot _slot child.array.now parent.now }
-        ensures answer { IfOk result (λ o. IsAnswer (Some _slot) parent.now o) }
-        ensures err { IfErr result (λ e. e ≡ OutOfMemory) }
-    {
+    ) -> VortexResult<Option<RawNode>> {
         let ArrayKind::Filter(_, mask) = parent.kind() else {
             unreachable!()
         };

@@ -1,11 +1,10 @@
 //! Negations of a child: the row K2.
 
-ghost use Rattle.std.specs.Prelude.{◌≡◌, Some, IfOk, IfErr, ◌∷◌, [], true};
+ghost use Rattle.std.specs.Prelude.{◌≡◌, Some, IfOk, IfErr, ◌∷◌, []};
 ghost use Rattle.vx_value.specs.declared.error.VortexError.TheVariants.{OutOfMemory};
 ghost use Rattle.vx_fn.specs.declared.function.ScalarFnRef.TheVariants as fn_of;
 ghost use Rattle.vx_tree.specs.Tree.{datum};
-ghost use Rattle.vx_rule.specs.Calls.{IsCallOf, applies, is_not};
-ghost use Rattle.vx_tree.specs.Slots.{HasSlot};
+ghost use Rattle.vx_rule.specs.Calls.{IsCallOf};
 ghost use Rattle.vx_rule.specs.Answers.{IsAnswer};
 
 use crate::raw_node::RawNode;
@@ -21,11 +20,11 @@ pub trait NotReduce: VTable {
     /// Returns what stands for `parent`, the negation of `array`: `None` exactly if no row fits. The only error is `OutOfMemory`.
     fn invert(
         alloc: Global,
-        array: ArrayView<'_, Self>,
+        array: &ArrayView<'_, Self>,
         parent: &ArrayRef,
     ) -> VortexResult<Option<RawNode>>
-        requires payload { Self.stands_for array.payload.now ≡ datum array.array.now }
-        requires call { IsCallOf fn_of.Not (array.array.now ∷ []) parent.now }
+        requires payload { Self.stands_for array.now.payload.now ≡ datum array.now.array.now }
+        requires call { IsCallOf fn_of.Not (array.now.array.now ∷ []) parent.now }
         ensures answer { IfOk result (λ o. IsAnswer (Some 0) parent.now o) }
         ensures err { IfErr result (λ e. e ≡ OutOfMemory) };
 }
@@ -41,16 +40,10 @@ impl<V: NotReduce> ArrayParentReduceRule<V> for NotReduceAdaptor<V> {
     fn reduce_parent(
         &self,
         alloc: Global,
-        child: ArrayView<'_, V>,
+        child: &ArrayView<'_, V>,
         parent: &ArrayRef,
         slot: usize,
-    ) -> VortexResult<Option<RawNode>>
-        requires payload { V.stands_for child.payload.now ≡ datum child.array.now }
-        requires fits { applies is_not (datum parent.now) ≡ true }
-        requires slot { HasSlot slot child.array.now parent.now }
-        ensures answer { IfOk result (λ o. IsAnswer (Some slot) parent.now o) }
-        ensures err { IfErr result (λ e. e ≡ OutOfMemory) }
-    {
+    ) -> VortexResult<Option<RawNode>> {
         let ArrayKind::ScalarFn(ScalarFnRef::Not, _) = parent.kind() else {
             unreachable!()
         };

@@ -2,9 +2,8 @@
 
 ghost use Rattle.std.specs.Prelude.{◌≡◌, ◌≤◌, ◌<◌, Some, IfOk, IfErr, true};
 ghost use Rattle.vx_value.specs.declared.error.VortexError.TheVariants.{OutOfMemory};
-ghost use Rattle.vx_tree.specs.Tree.{Data, len, datum, slice_of, is_slice};
+ghost use Rattle.vx_tree.specs.Tree.{Data, len, datum, slice_of};
 ghost use Rattle.vx_rule.specs.Rules.{Row, IsPart, lets_slice};
-ghost use Rattle.vx_tree.specs.Slots.{HasSlot};
 ghost use Rattle.vx_rule.specs.Answers.{IsAnswer};
 
 use crate::raw_node::RawNode;
@@ -20,13 +19,13 @@ pub trait SliceReduce: VTable {
     /// row fits. The only error is `OutOfMemory`.
     fn slice(
         alloc: Global,
-        array: ArrayView<'_, Self>,
+        array: &ArrayView<'_, Self>,
         range: Range<usize>,
     ) -> VortexResult<Option<RawNode>>
-        requires payload { Self.stands_for array.payload.now ≡ datum array.array.now }
-        requires part { IsPart range.start range.end (len array.array.now) }
-        requires bounds { range.end ≤ len array.array.now }
-        ensures answer { IfOk result (λ o. IsAnswer (Some 0) (slice_of range.start range.end array.entry.array.now) o) }
+        requires payload { Self.stands_for array.now.payload.now ≡ datum array.now.array.now }
+        requires part { IsPart range.start range.end (len array.now.array.now) }
+        requires bounds { range.end ≤ len array.now.array.now }
+        ensures answer { IfOk result (λ o. IsAnswer (Some 0) (slice_of range.start range.end array.now.array.now) o) }
         ensures err { IfErr result (λ e. e ≡ OutOfMemory) };
 
     // a slice passes through the encoding
@@ -43,16 +42,10 @@ impl<V: SliceReduce> ArrayParentReduceRule<V> for SliceReduceAdaptor<V> {
     fn reduce_parent(
         &self,
         alloc: Global,
-        child: ArrayView<'_, V>,
+        child: &ArrayView<'_, V>,
         parent: &ArrayRef,
         _slot: usize,
-    ) -> VortexResult<Option<RawNode>>
-        requires payload { V.stands_for child.payload.now ≡ datum child.array.now }
-        requires fits { is_slice (datum parent.now) ≡ true }
-        requires slot { HasSlot _slot child.array.now parent.now }
-        ensures answer { IfOk result (λ o. IsAnswer (Some _slot) parent.now o) }
-        ensures err { IfErr result (λ e. e ≡ OutOfMemory) }
-    {
+    ) -> VortexResult<Option<RawNode>> {
         let ArrayKind::Slice(_, start, end) = parent.kind() else {
             unreachable!()
         };
@@ -64,12 +57,12 @@ impl<V: SliceReduce> ArrayParentReduceRule<V> for SliceReduceAdaptor<V> {
 /// error is `OutOfMemory`.
 fn slice_of_child<V: SliceReduce>(
     alloc: Global,
-    child: ArrayView<'_, V>,
+    child: &ArrayView<'_, V>,
     range: Range<usize>,
 ) -> VortexResult<Option<RawNode>>
-    requires payload { V.stands_for child.payload.now ≡ datum child.array.now }
-    requires within { (range.start ≤ range.end) × (range.end ≤ len child.array.now) }
-    ensures answer { IfOk result (λ o. IsAnswer (Some 0) (slice_of range.start range.end child.entry.array.now) o) }
+    requires payload { V.stands_for child.now.payload.now ≡ datum child.now.array.now }
+    requires within { (range.start ≤ range.end) × (range.end ≤ len child.now.array.now) }
+    ensures answer { IfOk result (λ o. IsAnswer (Some 0) (slice_of range.start range.end child.now.array.now) o) }
     ensures err { IfErr result (λ e. e ≡ OutOfMemory) }
 {
     if range.start == 0 && range.end == child.len() {

@@ -3,9 +3,7 @@
 ghost use Rattle.std.specs.Prelude.{◌≡◌, ◌≤◌, Some, None, IfOk, IfErr, true};
 ghost use Rattle.vx_value.specs.declared.error.VortexError.TheVariants.{OutOfMemory};
 ghost use Rattle.vx_tree.specs.Tree.{Data, len, datum, slice_of, is_canonical};
-ghost use Rattle.vx_tree.specs.Slots.{HasSlot};
 ghost use Rattle.vx_rule.specs.Rules.{Row, IsPart};
-ghost use Rattle.vx_rule.specs.Answers.{IsAnswer};
 ghost use Rattle.vx_rule.specs.SliceLaws.{column_lets, nulls_canonical, bool_canonical, primitive_canonical, decimals_canonical, views_canonical};
 
 use crate::adaptors::{SliceReduce, SliceReduceAdaptor};
@@ -49,25 +47,16 @@ impl CanonicalEncoding for VarBinView {
 
 impl<V: CanonicalEncoding> ReduceVTable for V {
     #[tactic(auto, using(crate::proofs::QuietLemmas::own_quiet))]
-    fn reduce(_alloc: Global, _array: ArrayView<'_, V>) -> VortexResult<Option<RawNode>>
-        requires payload { V.stands_for _array.payload.now ≡ datum _array.array.now }
-        ensures answer { IfOk result (λ o. IsAnswer None _array.entry.array.now o) }
-        ensures err { IfErr result (λ e. e ≡ OutOfMemory) }
-    {
+    fn reduce(_alloc: Global, _array: &ArrayView<'_, V>) -> VortexResult<Option<RawNode>> {
         Ok(None)
     }
 
     fn reduce_parent(
         alloc: Global,
-        child: ArrayView<'_, V>,
+        child: &ArrayView<'_, V>,
         parent: &ArrayRef,
         slot: usize,
-    ) -> VortexResult<Option<RawNode>>
-        requires payload { V.stands_for child.payload.now ≡ datum child.array.now }
-        requires slot { HasSlot slot child.array.now parent.now }
-        ensures answer { IfOk result (λ o. IsAnswer (Some slot) parent.now o) }
-        ensures err { IfErr result (λ e. e ≡ OutOfMemory) }
-    {
+    ) -> VortexResult<Option<RawNode>> {
         parent_rules!(V, alloc, child, parent, slot; SliceReduceAdaptor)
     }
 }
@@ -75,15 +64,9 @@ impl<V: CanonicalEncoding> ReduceVTable for V {
 impl<V: CanonicalEncoding> SliceReduce for V {
     fn slice(
         alloc: Global,
-        array: ArrayView<'_, V>,
+        array: &ArrayView<'_, V>,
         range: Range<usize>,
-    ) -> VortexResult<Option<RawNode>>
-        requires payload { V.stands_for array.payload.now ≡ datum array.array.now }
-        requires part { IsPart range.start range.end (len array.array.now) }
-        requires bounds { range.end ≤ len array.array.now }
-        ensures answer { IfOk result (λ o. IsAnswer (Some 0) (slice_of range.start range.end array.entry.array.now) o) }
-        ensures err { IfErr result (λ e. e ≡ OutOfMemory) }
-    {
+    ) -> VortexResult<Option<RawNode>> {
         Ok(Some(s3(alloc, array.array(), range)?))
     }
 

@@ -1,15 +1,13 @@
 //! The rules of constants.
 
-ghost use Rattle.std.specs.Prelude.{◌≡◌, ◌≤◌, Some, None, IfOk, IfErr, IfSome, IfNone, ◌∷◌, [], length, true};
+ghost use Rattle.std.specs.Prelude.{◌≡◌, Some, None, IfOk, IfErr, IfSome, IfNone, true};
 ghost use Rattle.vx_value.specs.declared.error.VortexError.TheVariants.{OutOfMemory};
 ghost use Rattle.vx_mask.specs.Masks.{bits_in};
 ghost use Rattle.vx_mask.specs.Places.{true_count};
-ghost use Rattle.vx_fn.specs.declared.function.ScalarFnRef.TheVariants as fn_of;
 ghost use Rattle.vx_tree.specs.Tree.{dtype, len, datum, node, constant, function, slots_of, constant_of, slice_of, filter_of};
 ghost use Rattle.vx_tree.specs.Well.{IsNode, shapes};
-ghost use Rattle.vx_tree.specs.Slots.{HasSlot};
 ghost use Rattle.vx_rule.specs.Rules.{Row, IsPart};
-ghost use Rattle.vx_rule.specs.Calls.{IsCallOf, applies, is_cast, is_not, is_between, is_fill_null};
+ghost use Rattle.vx_rule.specs.Calls.{applies, is_cast, is_not, is_between, is_fill_null};
 ghost use Rattle.vx_rule.specs.Constants.{folds, slot_value, constant_values, IsFolded};
 ghost use Rattle.vx_rule.specs.Answers.{IsAnswer};
 ghost use Rattle.vx_rule.specs.SliceLaws.{constant_lets};
@@ -32,26 +30,17 @@ use vx_value::{DType, Scalar, VortexError, VortexResult};
 
 impl ReduceVTable for Constant {
     #[tactic(auto, using(crate::proofs::QuietLemmas::own_quiet))]
-    fn reduce(_alloc: Global, _array: ArrayView<'_, Constant>) -> VortexResult<Option<RawNode>>
-        requires payload { constant _array.payload.now.scalar ≡ datum _array.array.now }
-        ensures answer { IfOk result (λ o. IsAnswer None _array.entry.array.now o) }
-        ensures err { IfErr result (λ e. e ≡ OutOfMemory) }
-    {
+    fn reduce(_alloc: Global, _array: &ArrayView<'_, Constant>) -> VortexResult<Option<RawNode>> {
         Ok(None)
     }
 
     #[tactic(auto, using(crate::proofs::ChildrenLemmas::constant_quiet))]
     fn reduce_parent(
         alloc: Global,
-        child: ArrayView<'_, Constant>,
+        child: &ArrayView<'_, Constant>,
         parent: &ArrayRef,
         slot: usize,
-    ) -> VortexResult<Option<RawNode>>
-        requires payload { constant child.payload.now.scalar ≡ datum child.array.now }
-        requires slot { HasSlot slot child.array.now parent.now }
-        ensures answer { IfOk result (λ o. IsAnswer (Some slot) parent.now o) }
-        ensures err { IfErr result (λ e. e ≡ OutOfMemory) }
-    {
+    ) -> VortexResult<Option<RawNode>> {
         parent_rules!(Constant, alloc, child, parent, slot; BetweenReduceAdaptor, CastReduceAdaptor, FillNullReduceAdaptor, FilterReduceAdaptor, NotReduceAdaptor, SliceReduceAdaptor)
     }
 }
@@ -59,15 +48,9 @@ impl ReduceVTable for Constant {
 impl SliceReduce for Constant {
     fn slice(
         alloc: Global,
-        array: ArrayView<'_, Constant>,
+        array: &ArrayView<'_, Constant>,
         range: Range<usize>,
-    ) -> VortexResult<Option<RawNode>>
-        requires payload { constant array.payload.now.scalar ≡ datum array.array.now }
-        requires part { IsPart range.start range.end (len array.array.now) }
-        requires bounds { range.end ≤ len array.array.now }
-        ensures answer { IfOk result (λ o. IsAnswer (Some 0) (slice_of range.start range.end array.entry.array.now) o) }
-        ensures err { IfErr result (λ e. e ≡ OutOfMemory) }
-    {
+    ) -> VortexResult<Option<RawNode>> {
         let ArrayKind::Constant(scalar) = array.array().kind() else {
             unreachable!()
         };
@@ -80,14 +63,9 @@ impl SliceReduce for Constant {
 impl FilterReduce for Constant {
     fn filter(
         alloc: Global,
-        array: ArrayView<'_, Constant>,
+        array: &ArrayView<'_, Constant>,
         mask: &Mask,
-    ) -> VortexResult<Option<RawNode>>
-        requires payload { constant array.payload.now.scalar ≡ datum array.array.now }
-        requires long { length (bits_in mask.now) ≡ len array.array.now }
-        ensures answer { IfOk result (λ o. IsAnswer (Some 0) (filter_of (bits_in mask.now) array.entry.array.now) o) }
-        ensures err { IfErr result (λ e. e ≡ OutOfMemory) }
-    {
+    ) -> VortexResult<Option<RawNode>> {
         let ArrayKind::Constant(scalar) = array.array().kind() else {
             unreachable!()
         };
@@ -98,14 +76,10 @@ impl FilterReduce for Constant {
 impl CastReduce for Constant {
     fn cast(
         alloc: Global,
-        _array: ArrayView<'_, Constant>,
+        _array: &ArrayView<'_, Constant>,
         parent: &ArrayRef,
         _dtype: &DType,
-    ) -> VortexResult<Option<RawNode>>
-        requires call { IsCallOf (fn_of.Cast _dtype.now) (_array.array.now ∷ []) parent.now }
-        ensures answer { IfOk result (λ o. IsAnswer (Some 0) parent.now o) }
-        ensures err { IfErr result (λ e. e ≡ OutOfMemory) }
-    {
+    ) -> VortexResult<Option<RawNode>> {
         k1(alloc, parent)
     }
 }
@@ -113,13 +87,9 @@ impl CastReduce for Constant {
 impl NotReduce for Constant {
     fn invert(
         alloc: Global,
-        _array: ArrayView<'_, Constant>,
+        _array: &ArrayView<'_, Constant>,
         parent: &ArrayRef,
-    ) -> VortexResult<Option<RawNode>>
-        requires call { IsCallOf fn_of.Not (_array.array.now ∷ []) parent.now }
-        ensures answer { IfOk result (λ o. IsAnswer (Some 0) parent.now o) }
-        ensures err { IfErr result (λ e. e ≡ OutOfMemory) }
-    {
+    ) -> VortexResult<Option<RawNode>> {
         k2(alloc, parent)
     }
 }
@@ -127,16 +97,12 @@ impl NotReduce for Constant {
 impl BetweenReduce for Constant {
     fn between(
         alloc: Global,
-        _array: ArrayView<'_, Constant>,
+        _array: &ArrayView<'_, Constant>,
         parent: &ArrayRef,
         _lower: &ArrayRef,
         _upper: &ArrayRef,
         _options: &BetweenOptions,
-    ) -> VortexResult<Option<RawNode>>
-        requires call { IsCallOf (fn_of.Between _options.now) (_array.array.now ∷ _lower.now ∷ _upper.now ∷ []) parent.now }
-        ensures answer { IfOk result (λ o. IsAnswer (Some 0) parent.now o) }
-        ensures err { IfErr result (λ e. e ≡ OutOfMemory) }
-    {
+    ) -> VortexResult<Option<RawNode>> {
         k3(alloc, parent)
     }
 }
@@ -144,14 +110,10 @@ impl BetweenReduce for Constant {
 impl FillNullReduce for Constant {
     fn fill_null(
         alloc: Global,
-        _array: ArrayView<'_, Constant>,
+        _array: &ArrayView<'_, Constant>,
         parent: &ArrayRef,
         _fill_value: &ArrayRef,
-    ) -> VortexResult<Option<RawNode>>
-        requires call { IsCallOf fn_of.FillNull (_array.array.now ∷ _fill_value.now ∷ []) parent.now }
-        ensures answer { IfOk result (λ o. IsAnswer (Some 0) parent.now o) }
-        ensures err { IfErr result (λ e. e ≡ OutOfMemory) }
-    {
+    ) -> VortexResult<Option<RawNode>> {
         k4(alloc, parent)
     }
 }

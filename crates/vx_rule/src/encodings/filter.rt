@@ -5,9 +5,7 @@ ghost use Rattle.vx_value.specs.declared.error.VortexError.TheVariants.{OutOfMem
 ghost use Rattle.vx_mask.specs.Masks.{bits_in, is_all_true};
 ghost use Rattle.vx_mask.specs.Places.{true_count, combined, IsRun};
 ghost use Rattle.vx_tree.specs.Tree.{len, datum, filter, filter_of, is_filter};
-ghost use Rattle.vx_tree.specs.Slots.{HasSlot};
 ghost use Rattle.vx_rule.specs.Rules.{Row};
-ghost use Rattle.vx_rule.specs.Answers.{IsAnswer};
 
 use crate::adaptors::{FilterReduce, FilterReduceAdaptor};
 use crate::encodings::{own_rules, parent_rules};
@@ -23,26 +21,17 @@ use vx_tree::{
 use vx_value::VortexResult;
 
 impl ReduceVTable for Filter {
-    fn reduce(alloc: Global, array: ArrayView<'_, Filter>) -> VortexResult<Option<RawNode>>
-        requires payload { filter (bits_in array.payload.now.mask) ≡ datum array.array.now }
-        ensures answer { IfOk result (λ o. IsAnswer None array.entry.array.now o) }
-        ensures err { IfErr result (λ e. e ≡ OutOfMemory) }
-    {
+    fn reduce(alloc: Global, array: &ArrayView<'_, Filter>) -> VortexResult<Option<RawNode>> {
         own_rules!(alloc, array; TrivialFilterRule)
     }
 
     #[tactic(auto, using(crate::proofs::ChildrenLemmas::filter_quiet))]
     fn reduce_parent(
         alloc: Global,
-        child: ArrayView<'_, Filter>,
+        child: &ArrayView<'_, Filter>,
         parent: &ArrayRef,
         slot: usize,
-    ) -> VortexResult<Option<RawNode>>
-        requires payload { filter (bits_in child.payload.now.mask) ≡ datum child.array.now }
-        requires slot { HasSlot slot child.array.now parent.now }
-        ensures answer { IfOk result (λ o. IsAnswer (Some slot) parent.now o) }
-        ensures err { IfErr result (λ e. e ≡ OutOfMemory) }
-    {
+    ) -> VortexResult<Option<RawNode>> {
         parent_rules!(Filter, alloc, child, parent, slot; FilterReduceAdaptor)
     }
 }
@@ -50,14 +39,9 @@ impl ReduceVTable for Filter {
 impl FilterReduce for Filter {
     fn filter(
         alloc: Global,
-        array: ArrayView<'_, Filter>,
+        array: &ArrayView<'_, Filter>,
         mask: &Mask,
-    ) -> VortexResult<Option<RawNode>>
-        requires payload { filter (bits_in array.payload.now.mask) ≡ datum array.array.now }
-        requires long { length (bits_in mask.now) ≡ len array.array.now }
-        ensures answer { IfOk result (λ o. IsAnswer (Some 0) (filter_of (bits_in mask.now) array.entry.array.now) o) }
-        ensures err { IfErr result (λ e. e ≡ OutOfMemory) }
-    {
+    ) -> VortexResult<Option<RawNode>> {
         let ArrayKind::Filter(inner, outer) = array.array().kind() else {
             unreachable!()
         };
@@ -73,12 +57,11 @@ impl ArrayReduceRule<Filter> for TrivialFilterRule {
     ghost covers = { λ t. is_filter (datum t) };
 
     #[tactic(auto, using(crate::proofs::QuietLemmas::filter_quiet))]
-    fn reduce(&self, alloc: Global, array: ArrayView<'_, Filter>) -> VortexResult<Option<RawNode>>
-        requires payload { filter (bits_in array.payload.now.mask) ≡ datum array.array.now }
-        ensures answer { is_filter (datum array.entry.array.now) ≡ true → IfOk result (λ o. IsAnswer None array.entry.array.now o) }
-        ensures other { is_filter (datum array.entry.array.now) ≡ false → IfOk result (λ o. o ≡ None) }
-        ensures err { IfErr result (λ e. e ≡ OutOfMemory) }
-    {
+    fn reduce(
+        &self,
+        alloc: Global,
+        array: &ArrayView<'_, Filter>,
+    ) -> VortexResult<Option<RawNode>> {
         let ArrayKind::Filter(child, mask) = array.array().kind() else {
             unreachable!()
         };

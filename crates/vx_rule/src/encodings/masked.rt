@@ -4,12 +4,9 @@ ghost use Rattle.std.specs.Prelude.{◌≡◌, ◌≤◌, Some, None, IfOk, IfEr
 ghost use Rattle.vx_value.specs.declared.error.VortexError.TheVariants.{OutOfMemory};
 ghost use Rattle.vx_mask.specs.Masks.{bits_in};
 ghost use Rattle.vx_fn.specs.declared.function.ScalarFnRef.TheVariants as fn_of;
-ghost use Rattle.vx_tree.specs.Tree.{dtype, len, datum, node, function, masked, slots_of, slice_of, filter_of, masked_of};
+ghost use Rattle.vx_tree.specs.Tree.{dtype, len, node, function, masked, slots_of, slice_of, filter_of, masked_of};
 ghost use Rattle.vx_tree.specs.Well.{IsNode, IsNodeOf, shapes};
-ghost use Rattle.vx_tree.specs.Slots.{HasSlot};
 ghost use Rattle.vx_rule.specs.Rules.{Row, IsPart, told};
-ghost use Rattle.vx_rule.specs.Calls.{IsCallOf};
-ghost use Rattle.vx_rule.specs.Answers.{IsAnswer};
 ghost use Rattle.vx_rule.specs.SliceLaws.{masked_lets};
 
 use crate::adaptors::{
@@ -33,26 +30,17 @@ use vx_value::VortexResult;
 
 impl ReduceVTable for Masked {
     #[tactic(auto, using(crate::proofs::QuietLemmas::own_quiet))]
-    fn reduce(_alloc: Global, _array: ArrayView<'_, Masked>) -> VortexResult<Option<RawNode>>
-        requires payload { masked ≡ datum _array.array.now }
-        ensures answer { IfOk result (λ o. IsAnswer None _array.entry.array.now o) }
-        ensures err { IfErr result (λ e. e ≡ OutOfMemory) }
-    {
+    fn reduce(_alloc: Global, _array: &ArrayView<'_, Masked>) -> VortexResult<Option<RawNode>> {
         Ok(None)
     }
 
     #[tactic(auto, using(crate::proofs::ChildrenLemmas::masked_quiet))]
     fn reduce_parent(
         alloc: Global,
-        child: ArrayView<'_, Masked>,
+        child: &ArrayView<'_, Masked>,
         parent: &ArrayRef,
         slot: usize,
-    ) -> VortexResult<Option<RawNode>>
-        requires payload { masked ≡ datum child.array.now }
-        requires slot { HasSlot slot child.array.now parent.now }
-        ensures answer { IfOk result (λ o. IsAnswer (Some slot) parent.now o) }
-        ensures err { IfErr result (λ e. e ≡ OutOfMemory) }
-    {
+    ) -> VortexResult<Option<RawNode>> {
         parent_rules!(Masked, alloc, child, parent, slot; FilterReduceAdaptor, MaskReduceAdaptor, SliceReduceAdaptor)
     }
 }
@@ -60,15 +48,9 @@ impl ReduceVTable for Masked {
 impl SliceReduce for Masked {
     fn slice(
         alloc: Global,
-        array: ArrayView<'_, Masked>,
+        array: &ArrayView<'_, Masked>,
         range: Range<usize>,
-    ) -> VortexResult<Option<RawNode>>
-        requires payload { masked ≡ datum array.array.now }
-        requires part { IsPart range.start range.end (len array.array.now) }
-        requires bounds { range.end ≤ len array.array.now }
-        ensures answer { IfOk result (λ o. IsAnswer (Some 0) (slice_of range.start range.end array.entry.array.now) o) }
-        ensures err { IfErr result (λ e. e ≡ OutOfMemory) }
-    {
+    ) -> VortexResult<Option<RawNode>> {
         let ArrayKind::Masked(inner, validity) = array.array().kind() else {
             unreachable!()
         };
@@ -81,14 +63,9 @@ impl SliceReduce for Masked {
 impl FilterReduce for Masked {
     fn filter(
         alloc: Global,
-        array: ArrayView<'_, Masked>,
+        array: &ArrayView<'_, Masked>,
         mask: &Mask,
-    ) -> VortexResult<Option<RawNode>>
-        requires payload { masked ≡ datum array.array.now }
-        requires long { length (bits_in mask.now) ≡ len array.array.now }
-        ensures answer { IfOk result (λ o. IsAnswer (Some 0) (filter_of (bits_in mask.now) array.entry.array.now) o) }
-        ensures err { IfErr result (λ e. e ≡ OutOfMemory) }
-    {
+    ) -> VortexResult<Option<RawNode>> {
         let ArrayKind::Masked(inner, validity) = array.array().kind() else {
             unreachable!()
         };
@@ -99,15 +76,10 @@ impl FilterReduce for Masked {
 impl MaskReduce for Masked {
     fn mask(
         alloc: Global,
-        array: ArrayView<'_, Masked>,
+        array: &ArrayView<'_, Masked>,
         parent: &ArrayRef,
         mask: &ArrayRef,
-    ) -> VortexResult<Option<RawNode>>
-        requires payload { masked ≡ datum array.array.now }
-        requires call { IsCallOf fn_of.Mask (array.array.now ∷ mask.now ∷ []) parent.now }
-        ensures answer { IfOk result (λ o. IsAnswer (Some 0) parent.now o) }
-        ensures err { IfErr result (λ e. e ≡ OutOfMemory) }
-    {
+    ) -> VortexResult<Option<RawNode>> {
         let ArrayKind::Masked(child, validity) = array.array().kind() else {
             unreachable!()
         };

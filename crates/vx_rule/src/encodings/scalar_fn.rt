@@ -8,7 +8,6 @@ ghost use Rattle.vx_mask.specs.Masks.{bits_in};
 ghost use Rattle.vx_fn.specs.declared.function.ScalarFnRef.TheVariants as fn_of;
 ghost use Rattle.vx_tree.specs.Tree.{dtype, len, datum, node, function, slot, no_slots, slots_of, slice_of, filter_of};
 ghost use Rattle.vx_tree.specs.Well.{IsNode, shapes};
-ghost use Rattle.vx_tree.specs.Slots.{HasSlot};
 ghost use Rattle.vx_rule.specs.Rules.{Row, IsPart};
 ghost use Rattle.vx_rule.specs.Calls.{applies, is_cast, is_null_test};
 ghost use Rattle.vx_rule.specs.Answers.{IsAnswer};
@@ -29,26 +28,17 @@ use vx_value::{DType, VortexResult};
 
 impl ReduceVTable for ScalarFn {
     #[tactic(auto, using(crate::proofs::ChildrenLemmas::function_rules))]
-    fn reduce(alloc: Global, array: ArrayView<'_, ScalarFn>) -> VortexResult<Option<RawNode>>
-        requires payload { function array.payload.now.scalar_fn ≡ datum array.array.now }
-        ensures answer { IfOk result (λ o. IsAnswer None array.entry.array.now o) }
-        ensures err { IfErr result (λ e. e ≡ OutOfMemory) }
-    {
+    fn reduce(alloc: Global, array: &ArrayView<'_, ScalarFn>) -> VortexResult<Option<RawNode>> {
         own_rules!(alloc, array; TrivialCastRule, TrivialNullTestRule)
     }
 
     #[tactic(auto, using(crate::proofs::ChildrenLemmas::function_quiet))]
     fn reduce_parent(
         alloc: Global,
-        child: ArrayView<'_, ScalarFn>,
+        child: &ArrayView<'_, ScalarFn>,
         parent: &ArrayRef,
         slot: usize,
-    ) -> VortexResult<Option<RawNode>>
-        requires payload { function child.payload.now.scalar_fn ≡ datum child.array.now }
-        requires slot { HasSlot slot child.array.now parent.now }
-        ensures answer { IfOk result (λ o. IsAnswer (Some slot) parent.now o) }
-        ensures err { IfErr result (λ e. e ≡ OutOfMemory) }
-    {
+    ) -> VortexResult<Option<RawNode>> {
         parent_rules!(ScalarFn, alloc, child, parent, slot; FilterReduceAdaptor, SliceReduceAdaptor)
     }
 }
@@ -56,15 +46,9 @@ impl ReduceVTable for ScalarFn {
 impl SliceReduce for ScalarFn {
     fn slice(
         alloc: Global,
-        array: ArrayView<'_, ScalarFn>,
+        array: &ArrayView<'_, ScalarFn>,
         range: Range<usize>,
-    ) -> VortexResult<Option<RawNode>>
-        requires payload { function array.payload.now.scalar_fn ≡ datum array.array.now }
-        requires part { IsPart range.start range.end (len array.array.now) }
-        requires bounds { range.end ≤ len array.array.now }
-        ensures answer { IfOk result (λ o. IsAnswer (Some 0) (slice_of range.start range.end array.entry.array.now) o) }
-        ensures err { IfErr result (λ e. e ≡ OutOfMemory) }
-    {
+    ) -> VortexResult<Option<RawNode>> {
         let ArrayKind::ScalarFn(scalar_fn, slots) = array.array().kind() else {
             unreachable!()
         };
@@ -77,14 +61,9 @@ impl SliceReduce for ScalarFn {
 impl FilterReduce for ScalarFn {
     fn filter(
         alloc: Global,
-        array: ArrayView<'_, ScalarFn>,
+        array: &ArrayView<'_, ScalarFn>,
         mask: &Mask,
-    ) -> VortexResult<Option<RawNode>>
-        requires payload { function array.payload.now.scalar_fn ≡ datum array.array.now }
-        requires long { length (bits_in mask.now) ≡ len array.array.now }
-        ensures answer { IfOk result (λ o. IsAnswer (Some 0) (filter_of (bits_in mask.now) array.entry.array.now) o) }
-        ensures err { IfErr result (λ e. e ≡ OutOfMemory) }
-    {
+    ) -> VortexResult<Option<RawNode>> {
         let ArrayKind::ScalarFn(scalar_fn, slots) = array.array().kind() else {
             unreachable!()
         };
@@ -99,12 +78,11 @@ struct TrivialCastRule;
 impl ArrayReduceRule<ScalarFn> for TrivialCastRule {
     ghost covers = { λ t. applies is_cast (datum t) };
 
-    fn reduce(&self, alloc: Global, array: ArrayView<'_, ScalarFn>) -> VortexResult<Option<RawNode>>
-        requires payload { function array.payload.now.scalar_fn ≡ datum array.array.now }
-        ensures answer { applies is_cast (datum array.entry.array.now) ≡ true → IfOk result (λ o. IsAnswer None array.entry.array.now o) }
-        ensures other { applies is_cast (datum array.entry.array.now) ≡ false → IfOk result (λ o. o ≡ None) }
-        ensures err { IfErr result (λ e. e ≡ OutOfMemory) }
-    {
+    fn reduce(
+        &self,
+        alloc: Global,
+        array: &ArrayView<'_, ScalarFn>,
+    ) -> VortexResult<Option<RawNode>> {
         match array.array().kind() {
             ArrayKind::ScalarFn(ScalarFnRef::Cast(target), slots) => {
                 c1(alloc, array.array(), target, only_argument(slots))
@@ -121,12 +99,11 @@ struct TrivialNullTestRule;
 impl ArrayReduceRule<ScalarFn> for TrivialNullTestRule {
     ghost covers = { λ t. applies is_null_test (datum t) };
 
-    fn reduce(&self, alloc: Global, array: ArrayView<'_, ScalarFn>) -> VortexResult<Option<RawNode>>
-        requires payload { function array.payload.now.scalar_fn ≡ datum array.array.now }
-        ensures answer { applies is_null_test (datum array.entry.array.now) ≡ true → IfOk result (λ o. IsAnswer None array.entry.array.now o) }
-        ensures other { applies is_null_test (datum array.entry.array.now) ≡ false → IfOk result (λ o. o ≡ None) }
-        ensures err { IfErr result (λ e. e ≡ OutOfMemory) }
-    {
+    fn reduce(
+        &self,
+        alloc: Global,
+        array: &ArrayView<'_, ScalarFn>,
+    ) -> VortexResult<Option<RawNode>> {
         match array.array().kind() {
             ArrayKind::ScalarFn(ScalarFnRef::IsNull, slots) => {
                 n1_null(alloc, array.array(), only_argument(slots))

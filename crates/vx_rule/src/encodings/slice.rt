@@ -2,10 +2,8 @@
 
 ghost use Rattle.std.specs.Prelude.{◌≡◌, ◌≤◌, ℕ, Some, None, IfOk, IfErr};
 ghost use Rattle.vx_value.specs.declared.error.VortexError.TheVariants.{OutOfMemory};
-ghost use Rattle.vx_tree.specs.Tree.{len, datum, slice, slice_of};
-ghost use Rattle.vx_tree.specs.Slots.{HasSlot};
+ghost use Rattle.vx_tree.specs.Tree.{len, slice, slice_of};
 ghost use Rattle.vx_rule.specs.Rules.{Row, IsPart};
-ghost use Rattle.vx_rule.specs.Answers.{IsAnswer};
 ghost use Rattle.vx_rule.specs.SliceLaws.{slice_lets};
 
 use crate::adaptors::{SliceReduce, SliceReduceAdaptor};
@@ -20,26 +18,17 @@ use vx_value::VortexResult;
 
 impl ReduceVTable for Slice {
     #[tactic(auto, using(crate::proofs::QuietLemmas::own_quiet))]
-    fn reduce(_alloc: Global, _array: ArrayView<'_, Slice>) -> VortexResult<Option<RawNode>>
-        requires payload { slice _array.payload.now.range.start _array.payload.now.range.end ≡ datum _array.array.now }
-        ensures answer { IfOk result (λ o. IsAnswer None _array.entry.array.now o) }
-        ensures err { IfErr result (λ e. e ≡ OutOfMemory) }
-    {
+    fn reduce(_alloc: Global, _array: &ArrayView<'_, Slice>) -> VortexResult<Option<RawNode>> {
         Ok(None)
     }
 
     #[tactic(auto, using(crate::proofs::ChildrenLemmas::slice_quiet))]
     fn reduce_parent(
         alloc: Global,
-        child: ArrayView<'_, Slice>,
+        child: &ArrayView<'_, Slice>,
         parent: &ArrayRef,
         slot: usize,
-    ) -> VortexResult<Option<RawNode>>
-        requires payload { slice child.payload.now.range.start child.payload.now.range.end ≡ datum child.array.now }
-        requires slot { HasSlot slot child.array.now parent.now }
-        ensures answer { IfOk result (λ o. IsAnswer (Some slot) parent.now o) }
-        ensures err { IfErr result (λ e. e ≡ OutOfMemory) }
-    {
+    ) -> VortexResult<Option<RawNode>> {
         parent_rules!(Slice, alloc, child, parent, slot; SliceReduceAdaptor)
     }
 }
@@ -47,15 +36,9 @@ impl ReduceVTable for Slice {
 impl SliceReduce for Slice {
     fn slice(
         alloc: Global,
-        array: ArrayView<'_, Slice>,
+        array: &ArrayView<'_, Slice>,
         range: Range<usize>,
-    ) -> VortexResult<Option<RawNode>>
-        requires payload { slice array.payload.now.range.start array.payload.now.range.end ≡ datum array.array.now }
-        requires part { IsPart range.start range.end (len array.array.now) }
-        requires bounds { range.end ≤ len array.array.now }
-        ensures answer { IfOk result (λ o. IsAnswer (Some 0) (slice_of range.start range.end array.entry.array.now) o) }
-        ensures err { IfErr result (λ e. e ≡ OutOfMemory) }
-    {
+    ) -> VortexResult<Option<RawNode>> {
         let ArrayKind::Slice(inner, start, _) = array.array().kind() else {
             unreachable!()
         };

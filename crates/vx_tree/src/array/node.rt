@@ -52,9 +52,17 @@ pub struct Node {
 
 /// A shared, immutable and well-formed tree. A clone copies the reference alone.
 #[cycle(tree)]
-#[derive(Debug, Drop)]
+#[derive(Debug)]
 pub struct ArrayRef {
     pub(crate) node: Rc<Node>,
+}
+
+// by hand: each crate that lets an array go would prove a derived drop again, and those of all encodings with it
+impl Drop for ArrayRef {
+    #[cycle(tree)]
+    fn drop(self) {
+        let ArrayRef { node: _node } = self;
+    }
 }
 
 impl Model for ArrayRef {

@@ -5,7 +5,7 @@ use Rattle.vx_rule.proofs.encodings.column.AnyReduceVTable.reduce_parent.Goals a
 
 pub returns-clause-answer : goal.returns-clause-answer
 returns-clause-answer g c =
-    let x = c.args.child.array.now in
-    let kind = subst (λ d. g.V.EncodingVariant.is_kind d ≡ true) c.requires.payload (g.met.V.EncodingVariant.kind_of c.args.child.payload.now) in
+    let x = c.args.child.now.array.now in
+    let kind = subst (λ d. g.V.EncodingVariant.is_kind d ≡ true) c.requires.payload (g.met.V.EncodingVariant.kind_of c.args.child.now.payload.now) in
     let other : is_slice (datum c.args.parent.now) ≡ false = search rules in
     column_quiet c.args.slot x c.args.parent.now (g.met.V.CanonicalEncoding.canonical (datum x) kind) c.requires.slot other
