@@ -1,6 +1,7 @@
 -- What one read or write adds to those before it.
-use Rattle.std.proofs.Common.{◌≡◌, ℕ, ◌+◌, ◌≤◌, List, ◌++◌, length, take, drop, ap, sym, ◌∙◌, arith, length-append, length-take, length-drop, Option, [], Some, None, IfSome}
-use Rattle.std.specs.Io.KnownBytes.{Appends, Consumes}
+use Rattle.std.proofs.Common.{◌≡◌, ℕ, ◌+◌, ◌<◌, ◌≤◌, List, [], ◌++◌, length, take, drop, Option, Some, None, IfSome}
+use Rattle.std.proofs.Common.{ap, ap₂, sym, ◌∙◌, arith, append-nil, length-append, length-take, length-drop}
+use Rattle.std.specs.Io.KnownBytes.{Appends, Consumes, IsAtEnd}
 use Rattle.std.proofs.KnownBytes.{Consumes-trans, Appends-trans}
 use Rattle.std.proofs.Math.Seq.{take-add}
 use Rattle.std.proofs.lemmas.List.{take_at, take-append-drop, drop-drop}
@@ -24,6 +25,22 @@ takes_more a b c bs piece k p q h =
 pub appends_more : (a b c : Option (List ℕ)) (bs : List ℕ) (k n : ℕ) → Appends a b (take k bs) → Appends b c (take n (drop k bs))
     → Appends a c (take (k + n) bs)
 appends_more a b c bs k n p q = rw (take-add k n bs) (Appends-trans a b c _ _ p q)
+
+-- some bytes that were taken, and then none though there was room, are all
+pub takes_all : (a b c : Option (List ℕ)) (bs piece : List ℕ) (k : ℕ) → Consumes a b bs → Consumes b c (take k piece) → (k ≡ 0 → 0 < length piece → IsAtEnd c)
+    → k ≡ 0 → 0 < length piece → TakesAll a c bs
+takes_all None b c bs piece k p q end none room = tt
+takes_all (Some x) None c bs piece k p q end none room = absurd p
+takes_all (Some x) (Some y) None bs piece k p q end none room = absurd q
+takes_all (Some x) (Some y) (Some z) bs piece k p q end none room =
+    let rest : y ≡ [] = q ∙ ap₂ (λ n l. take n piece ++ l) none (end none room) in
+    (p ∙ ap (λ l. bs ++ l) rest ∙ append-nil bs, end none room)
+
+-- bytes that were taken whole are as many as there were
+pub taken_whole : (old new : Option (List ℕ)) (xs bs : List ℕ) → TakesAll old new bs → old ≡ Some xs → length xs ≡ length bs
+taken_whole None new xs bs h e = cc
+taken_whole (Some ys) None xs bs h e = absurd h
+taken_whole (Some ys) (Some zs) xs bs h e = cc
 
 -- a source that was taken whole stands at its end
 pub taken_to_the_end : (old new : Option (List ℕ)) (bs : List ℕ) → TakesAll old new bs → IfSome old (λ _. new ≡ Some [])

@@ -1,5 +1,5 @@
 -- The validity of every node tells which of its rows are null.
-use Rattle.std.proofs.Common.{ℤ, ◌≡◌, ℕ, ◌-◌, ◌≤◌, List, [], ◌∷◌, length, map, replicate, Bool, true, Option, Some, None, refl, sym, ap, subst, ◌∙◌}
+use Rattle.std.proofs.Common.{ℤ, ◌≡◌, ℕ, ◌≤◌, List, [], ◌∷◌, length, map, replicate, Bool, true, Option, Some, None, refl, sym, ap, subst, ◌∙◌}
 use Rattle.std.specs.Prelude.{option_map}
 use Rattle.std.proofs.lemmas.List.{length-map}
 use Rattle.vx_value.specs.Types as type

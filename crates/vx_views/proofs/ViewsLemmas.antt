@@ -1,11 +1,12 @@
 -- The rows of views: of a part of them, of those that a mask chooses, of equal ones, and of data that grows.
 use Rattle.std.proofs.Common.{◌≡◌, ◌<◌, ◌≤◌, ◌+◌, ◌-◌, ℕ, zero, suc, Bool, true, false, List, [], ◌∷◌, ◌++◌, length, take, drop, replicate, slice_range}
-use Rattle.std.proofs.Common.{arith, refl, sym, ◌∙◌, ap, ap₂}
-use Rattle.std.specs.Prelude.{slice_index_or}
+use Rattle.std.proofs.Common.{arith, refl, sym, subst, ◌∙◌, ap, ap₂}
+use Rattle.std.specs.Prelude.{slice_index_or, slice_get, Some, option_map}
 use Rattle.std.specs.List.{All}
-use Rattle.std.proofs.lemmas.List.{map-append, take_all, take-append-le, drop_at, drop-append-le, length-drop, length-append, take-map, drop-map, map_push}
+use Rattle.std.proofs.lemmas.List.{map-append, take_all, take-append-le, drop_at, drop-append-le, length-drop, length-append, length-map, get_or_read, take-map, drop-map, map_push}
 use Rattle.std.proofs.lemmas.List.Elements.{All-nil, All-cons, All-head, All-tail, All-same, All-take, All-drop, All-push, All-weaker}
 use Rattle.std.proofs.lemmas.List.Elements.{All-replicate, All-append}
+use Rattle.std.proofs.lemmas.Option.{slice_get-map, slice_get-get_or}
 use Rattle.vx_mask.specs.Places.{chosen}
 use Rattle.vx_mask.proofs.PlacesLemmas.{chosen-nil}
 use Rattle.vx_mask.proofs.ChosenLemmas.{chosen_map}
@@ -32,6 +33,19 @@ lie_in_chosen buffers shared bits views kept same are lie = rw (same, are) (all_
 
 pub rows_chosen : (buffers : List (List ℕ)) (bits : List Bool) (views : List View) → rows_of buffers (chosen bits views) ≡ chosen bits (rows_of buffers views)
 rows_chosen buffers bits views = sym (chosen_map (bytes_at buffers) bits views)
+
+-- ---- one row: as many bytes as its view has of those that follow its start
+pub row_at : (buffers : List (List ℕ)) (views : List View) (i : ℕ) (v other : View) (bytes item : List ℕ) → AllLieIn buffers views
+    → i < length (rows_of buffers views) → v ≡ slice_index_or views i other → bytes ≡ item → item ≡ slice_index_or buffers v.buffer item
+    → slice_get (rows_of buffers views) i ≡ Some (take v.size (take (length bytes - v.start) (drop v.start bytes)))
+row_at buffers views i v other bytes item lie within seen same held =
+    let here : i < length views = omega (arith, within, length-map views (bytes_at buffers)) in
+    let lies = subst (LiesIn buffers) (sym seen) (lie i other here) in
+    let whole : buffer_of buffers v ≡ bytes = sym (same ∙ get_or_read buffers v.buffer item lies.0 held []) in
+    let rest = take_all (length bytes - v.start) (drop v.start bytes) (omega (arith, length-drop v.start bytes)) in
+    slice_get-map (bytes_at buffers) views i
+    ∙ ap (option_map (bytes_at buffers)) (slice_get-get_or views i other here ∙ ap Some (sym seen))
+    ∙ ap (λ l. Some (take v.size l)) (ap (drop v.start) whole ∙ sym rest)
 
 -- ---- equal views of all bytes of one buffer
 -- the view of all bytes of the first buffer
