@@ -1,7 +1,6 @@
 use Rattle.std.proofs.Common.{◌≡◌, ◌<◌, ◌+◌, rules, arith, subst, sym, inl, inr, length}
 use Rattle.std.specs.Prelude.{◌⊎◌}
 use Rattle.std.proofs.lemmas.Result.{err_from_is_err_and}
-use Rattle.vx_tree.specs.Well.{IsWell}
 use Rattle.vx_tree.specs.Slots.{IsPresent}
 use Rattle.vx_rule.proofs.LighterLemmas.{row_present}
 use Rattle.vx_opt.specs.Pass.{IsPass, HasOptimized, settled}
@@ -22,7 +21,7 @@ optimize_root-returns-then-at_root-gt-MAX_OPTIMIZER_REWRITE_PASS-clause-limited 
       | optimize_root-then-at_root-gt-MAX_OPTIMIZER_REWRITE_PASS-via-else-at_root-gt-MAX_OPTIMIZER_REWRITE_PASS+then-total-eq-MAX_OPTIMIZER_REWRITES w ↦ inr (omega arith)
     ] in
     limit_row c.args.array c.loop-current.current c.in-Some.raw.tree c.in-Some.raw.optimize.items c.args.total.now c.loop-current.total c.loop-current.at_root
-    (subst IsWell c.current.view_is c.current.invariant) c.loop-current.invariant (first_row c.loop-current.current c.in-Some.raw.tree c.in-Some.raw.optimize.items (subst (IsPass c.loop-current.current) c.in-Some.is c.in_ok-raw.ensures.answer)) l
+    c.well.ensures.formed c.loop-current.invariant (first_row c.loop-current.current c.in-Some.raw.tree c.in-Some.raw.optimize.items (subst (IsPass c.loop-current.current) c.in-Some.is c.in_ok-raw.ensures.answer)) l
 
 pub optimize_root-optimize_slots-requires : goal.optimize_root-optimize_slots-requires
 optimize_root-optimize_slots-requires t c =
@@ -34,13 +33,13 @@ pub optimize_root-returns-in_err-current-clause-limited : goal.optimize_root-ret
 optimize_root-returns-in_err-current-clause-limited t c =
     let p = err_from_is_err_and c.from_residual-in_err-current.result c.from_residual-in_err-current.ensures.1 in
     let m = made_row c.args.array c.loop-current.current c.in-Some.raw.tree c.in-Some.raw.optimize.items c.args.total.now c.loop-current.total c.loop-current.at_root
-    (subst IsWell c.current.view_is c.current.invariant) c.loop-current.invariant (first_row c.loop-current.current c.in-Some.raw.tree c.in-Some.raw.optimize.items (subst (IsPass c.loop-current.current) c.in-Some.is c.in_ok-raw.ensures.answer)) in
+    c.well.ensures.formed c.loop-current.invariant (first_row c.loop-current.current c.in-Some.raw.tree c.in-Some.raw.optimize.items (subst (IsPass c.loop-current.current) c.in-Some.is c.in_ok-raw.ensures.answer)) in
     rw p.1 (subst (IsLimited c.args.array c.args.total.now) (sym p.2) (limited_after c.args.array c.in-Some.raw.tree c.args.total.now (c.loop-current.total + 1) (c.loop-current.at_root + 1) c.in_err-current.field-0.0 m c.in_err-current.ensures.limited))
 
 pub optimize_root-loop-current-preserved : goal.optimize_root-loop-current-preserved
 optimize_root-loop-current-preserved t c =
     way_go c.args.array c.loop-current.current c.in-Some.raw.tree c.in_ok-current.current c.in-Some.raw.optimize.items c.args.total.now c.loop-current.total c.optimize_slots.new.total c.loop-current.at_root
-    (subst IsWell c.current.view_is c.current.invariant) c.loop-current.invariant (subst (IsPass c.loop-current.current) c.in-Some.is c.in_ok-raw.ensures.answer) c.in_ok-current.ensures.passes
+    c.well.ensures.formed c.loop-current.invariant (subst (IsPass c.loop-current.current) c.in-Some.is c.in_ok-raw.ensures.answer) c.in_ok-current.ensures.passes
     (omega arith) c.in_ok-current.ensures.room c.in_ok-current.ensures.made
 
 pub optimize_root-returns-clause-passes : goal.optimize_root-returns-clause-passes
