@@ -10,11 +10,13 @@ mod key;
 mod nodes;
 mod nulls;
 mod numbers;
+mod printed;
 mod rows;
 mod tree;
 mod types;
 mod values;
 
+pub use printed::PrintedNumber;
 pub use rows::{push_integer, push_row, row_text};
 pub use tree::{tree_of, tree_of_bytes};
 use vx_value::{ArgKind, VortexError};

@@ -41,7 +41,7 @@ pub(crate) fn numbers<T: NativeNumber, R: NumberReader<T>>(
     let mut numbers: Vec<T> = Vec::with_capacity(alloc, list.len())?;
     for value in list {
         match reader.number(value) {
-            Some(number) => numbers.push(number)?,
+            Some(number) => numbers.push_reserved(number),
             None => return Err(BAD_VALUE),
         }
     }
@@ -80,7 +80,7 @@ pub(crate) fn nullable_numbers<T: NativeNumber, R: NumberReader<T>>(
     let mut valid = BitBuilder::with_capacity(alloc, list.len())?;
     for value in list {
         match number_or(zero, reader, value) {
-            Some(number) => numbers.push(number)?,
+            Some(number) => numbers.push_reserved(number),
             None => return Err(BAD_VALUE),
         }
         valid.push(!value.is_null())?;

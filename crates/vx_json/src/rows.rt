@@ -9,6 +9,7 @@ ghost use Rattle.std.specs.Str.{is_utf8};
 ghost use Rattle.std.specs.List.{list_any};
 ghost use Rattle.vx_json.specs.RowText.{has_escape, in_quotes, row_text};
 
+use crate::printed::PrintedNumber;
 use itoa::Buffer;
 use serde_json::Value;
 use std::alloc::{AllocError, Global};
@@ -33,11 +34,12 @@ pub fn push_row(text: &mut String, scalar: &Scalar) -> Result<(), AllocError>
     }
 }
 
-/// Appends the text of an integer: `number` in decimal. If memory runs out, part of it may have been appended. (own)
+/// Appends `number` in decimal. If memory runs out, part of it may have been appended. (own)
 #[inline]
-pub fn push_integer(text: &mut String, number: i128) -> Result<(), AllocError>
-    ensures { OnOk result (string_bytes text.new ≡ string_bytes text.old ++ signed_decimal number) }
+pub fn push_integer<T: PrintedNumber>(text: &mut String, number: T) -> Result<(), AllocError>
+    ensures { OnOk result (string_bytes text.new ≡ string_bytes text.old ++ signed_decimal (T.value number)) }
 {
+    number.is_printed();
     text.push_str(Buffer::new().format(number))
 }
 

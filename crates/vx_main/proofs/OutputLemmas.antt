@@ -1,25 +1,25 @@
 -- The text of the rows so far.
-use Rattle.std.proofs.Common.{◌≡◌, ◌⊎◌, ℕ, ◌+◌, ◌<◌, ◌≤◌, List, [], ◌∷◌, ◌++◌, length, zero, suc, add-one, subst, take, map, slice_get, Some, refl, sym, ◌∙◌, ap, append_assoc, arith, flat_map, inl, inr}
+use Rattle.std.proofs.Common.{◌≡◌, ℕ, ◌<◌, ◌≤◌, List, [], ◌∷◌, ◌++◌, length, zero, suc, subst, take, map, slice_get, Some, refl, sym, ◌∙◌, ap, append_assoc, arith, flat_map, inl, inr}
 use Rattle.std.specs.Prelude.{codes, Bool, true, false}
 use Rattle.std.proofs.lemmas.Grind.{common_steps, flat_map-append}
 use Rattle.vx_value.specs.Types.{DataType}
 use Rattle.vx_value.specs.Values.{Value, null}
 use Rattle.vx_value.specs.declared.error.VortexError.{VortexError}
-use Rattle.vx_value.specs.declared.error.VortexError.TheVariants.{OutOfMemory, Fault}
 use Rattle.vx_value.specs.declared.id.Id.{Id}
 use Rattle.vx_value.specs.Cell.{Cell, value, fault}
 use Rattle.vx_tree.specs.Cells.{rows}
 use Rattle.vx_json.specs.RowText.{row_text}
-use Rattle.vx_tree.specs.Tree.{Tree, len}
+use Rattle.vx_tree.specs.Tree.{Tree, dtype, datum, id_of, len}
 use Rattle.vx_tree.specs.Columns.{columnar_tree}
 use Rattle.vx_tree.specs.declared.columnar.Columnar.{Columnar}
 use Rattle.vx_tree.proofs.CellsLemmas.{no_fault_at}
-use Rattle.vx_rows.specs.Arguments.{IsArgument, cell_at, value_at}
+use Rattle.vx_rows.specs.Arguments.{IsArgument, cell_at, value_at, type_of_argument}
 use Rattle.vx_rows.specs.ValidRows.{is_valid, null_unless}
 use Rattle.vx_rows.specs.Arguments.{IsUnread as IsNotRead}
 use Rattle.vx_rows.specs.declared.argument.Argument.{Argument}
 use Rattle.std.proofs.lemmas.Option.{slice_get-get_or}
 use Rattle.vx_main.specs.Output.{Shows, IsUnread, head_lines, line}
+use Rattle.vx_main.specs.Lines.{unless_null, row_text_at, row_lines}
 
 -- the lines of the type and of the encoding, as they are appended
 head_of : (h ty e id n : List ℕ) → (((h ++ ty) ++ 10 ∷ e) ++ id) ++ n ≡ ((h ++ ty) ++ 10 ∷ []) ++ ((e ++ id) ++ n)
@@ -55,17 +55,16 @@ lines_more f h vs v = append_assoc h (flat_map f vs) (f v) ∙ ap (λ l. h ++ l)
     (ap (λ l. flat_map f vs ++ l) (sym (append_none (f v))) ∙ sym (flat_map-append f vs (v ∷ [])))
 
 -- a further row has its line
-pub shows_more : (ty : DataType) (id : Id) (cs : List Cell) (i : ℕ) (v : Value) (text longer : List ℕ) → Shows ty id (take i cs) text
-    → slice_get cs i ≡ Some (value v) → longer ≡ (text ++ row_text ty v) ++ 10 ∷ [] → Shows ty id (take (i + 1) cs) longer
+shows_more : (ty : DataType) (id : Id) (cs : List Cell) (i : ℕ) (v : Value) (text longer : List ℕ) → Shows ty id (take i cs) text
+    → slice_get cs i ≡ Some (value v) → longer ≡ text ++ line (row_text ty v) → Shows ty id (take (suc i) cs) longer
 shows_more ty id cs i v text longer s e j = record {
   values = s.values ++ v ∷ [];
-  own = rw add-one (take_suc cs i (value v) e) ∙ ap (λ l. l ++ value v ∷ []) s.own ∙ sym (map_more s.values v);
-  printed = j ∙ append_assoc text (row_text ty v) (10 ∷ []) ∙ ap (λ l. l ++ line (row_text ty v)) s.printed
-      ∙ lines_more (λ w. line (row_text ty w)) (head_lines ty id) s.values v;
+  own = take_suc cs i (value v) e ∙ ap (λ l. l ++ value v ∷ []) s.own ∙ sym (map_more s.values v);
+  printed = j ∙ ap (λ l. l ++ line (row_text ty v)) s.printed ∙ lines_more (λ w. line (row_text ty w)) (head_lines ty id) s.values v;
 }
 
 -- all rows are shown
-pub shows_all : (ty : DataType) (id : Id) (cs : List Cell) (i : ℕ) (text : List ℕ) → Shows ty id (take i cs) text → length cs ≤ i → Shows ty id cs text
+shows_all : (ty : DataType) (id : Id) (cs : List Cell) (i : ℕ) (text : List ℕ) → Shows ty id (take i cs) text → length cs ≤ i → Shows ty id cs text
 shows_all ty id cs i text s h = let e : take i cs ≡ cs = grind (arith, common_steps) in subst (λ l. Shows ty id l text) e s
 
 -- rows that aren't read
@@ -73,16 +72,33 @@ pub column_unread : (t : Tree) (e : VortexError) → IsNotRead t e → IsUnread 
 column_unread t e (inl m) = inl m
 column_unread t e (inr f) = inr (f.0, λ whole. no_fault_at (rows t) f.1 whole f.3)
 
--- each of its cells is a value
-pub value_opened : (a : Argument) (i : ℕ) → (v : Value) × (value v ≡ cell_at a i)
+-- each of its cells is a value, with its text
+value_opened : (a : Argument) (i : ℕ)
+    → (v : Value) × (value v ≡ cell_at a i) × (row_text (type_of_argument a) v ≡ unless_null (is_valid a.valid i) (row_text_at a i))
 value_opened a i = by_validity (is_valid a.valid i)
   where
-    by_validity : (b : Bool) → (v : Value) × (value v ≡ null_unless b (value (value_at a.rows i)))
-    by_validity true = (value_at a.rows i, refl)
-    by_validity false = (null, refl)
+    by_validity : (b : Bool)
+        → (v : Value) × (value v ≡ null_unless b (value (value_at a.rows i))) × (row_text (type_of_argument a) v ≡ unless_null b (row_text_at a i))
+    by_validity true = (value_at a.rows i, refl, refl)
+    by_validity false = (null, refl, refl)
 
--- row i of a column, by its rows as they were opened
-pub row_opened : (c : Columnar) (a : Argument) (i : ℕ) (v : Value) → IsArgument c a → length (rows (columnar_tree c)) ≡ len (columnar_tree c)
-    → i < len (columnar_tree c) → value v ≡ cell_at a i → slice_get (rows (columnar_tree c)) i ≡ Some (value v)
-row_opened c a i v is counted lt read =
-    slice_get-get_or (rows (columnar_tree c)) i fault (omega (arith, counted)) ∙ ap Some (is.shown i lt ∙ sym read)
+-- the lines of the first n rows of an argument show them
+shows_rows : (ty : DataType) (id : Id) (cs : List Cell) (a : Argument) (n : ℕ) → ty ≡ type_of_argument a
+    → ((i : ℕ) → i < n → slice_get cs i ≡ Some (cell_at a i)) → Shows ty id (take n cs) (head_lines ty id ++ row_lines a n)
+shows_rows ty id cs a zero e h = shows_none ty id _ (append_none (head_lines ty id))
+shows_rows ty id cs a (suc n) e h =
+    let found = value_opened a n in
+    let head = head_lines ty id in
+    let shown = sym (ap (λ y. row_text y found.0) e ∙ found.2) in
+    let longer = sym (append_assoc head (row_lines a n) _) ∙ ap (λ t. (head ++ row_lines a n) ++ line t) shown in
+    shows_more ty id cs n found.0 _ _ (shows_rows ty id cs a n e (λ i lt. h i (omega (arith, lt)))) (h n (omega arith) ∙ ap Some (sym found.1)) longer
+
+-- those of all rows show the column
+pub shows_column : (c : Columnar) (a : Argument) (n : ℕ) (text : List ℕ) → IsArgument c a → length (rows (columnar_tree c)) ≡ len (columnar_tree c)
+    → n ≡ len (columnar_tree c) → text ≡ head_lines (dtype (columnar_tree c)) (id_of (datum (columnar_tree c))) ++ row_lines a n
+    → Shows (dtype (columnar_tree c)) (id_of (datum (columnar_tree c))) (rows (columnar_tree c)) text
+shows_column c a n text is counted end e =
+    let t = columnar_tree c in
+    let shown = shows_rows (dtype t) (id_of (datum t)) (rows t) a n is.typed
+    (λ i lt. slice_get-get_or (rows t) i fault (omega (arith, counted, end, lt)) ∙ ap Some (is.shown i (omega (arith, end, lt)))) in
+    subst (Shows (dtype t) (id_of (datum t)) (rows t)) (sym e) (shows_all (dtype t) (id_of (datum t)) (rows t) n _ shown (omega (arith, counted, end)))

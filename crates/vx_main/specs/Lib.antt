@@ -15,4 +15,5 @@ pub use Rattle.vx_opt.specs.Descends
 pub mod Commands
 pub mod Statuses
 pub mod Output
+pub mod Lines
 pub mod Runs

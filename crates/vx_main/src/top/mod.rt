@@ -2,6 +2,7 @@
 
 mod answer;
 mod column_text;
+mod lines;
 mod run;
 mod session;
 mod status;

@@ -1,4 +1,4 @@
-use Rattle.std.proofs.Common.{◌∙◌, ap, sym, refl, Some, inr, map}
+use Rattle.std.proofs.Common.{◌+◌, ◌∙◌, ap, sym, refl, Some, inr, map, arith}
 use Rattle.std.specs.Prelude.{not, is_some}
 use Rattle.std.proofs.lemmas.List.{map-append}
 use Rattle.serde_json.specs.View.{view, items_view}
@@ -17,8 +17,15 @@ returns-in-None-clause-err g c =
     let none = read_none _ list c.loop-value.value-index _ c.loop-value.invariant.values c.value-item.result within item (sym c.in-None.ensures) in
     inr (refl, unmapped_none (item_or (g.T.Number.value c.args.zero)) read (items_view list) none)
 
+pub push_reserved-requires : goal.push_reserved-requires
+push_reserved-requires g c =
+    let within = rw c.deref-value-items.ensures.value at c.loop-value-test.true in
+    omega (arith, within, c.loop-value.invariant.counted, c.loop-value.invariant.room)
+
 pub loop-value-preserved : goal.loop-value-preserved
 loop-value-preserved g c =
+    let before = c.loop-value.invariant in
+    let push = c.push_reserved.ensures in
     let list = c.args.list.now.items in
     let index = c.loop-value.value-index in
     let value = c.value-item.result in
@@ -27,10 +34,12 @@ loop-value-preserved g c =
     let item = rw c.deref-value-items.ensures.value at c.value-item.is in
     let is_read = sym c.in-Some.ensures in
     let is_there = there (item_or (g.T.Number.value c.args.zero)) spelled (view value) _ is_read ∙ ap (λ b. Some (not b)) (sym c.is_null.ensures) in
-    let pushed = ap (map g.T.Number.value) c.in_ok-push-in-Some.ensures.items ∙ map-append g.T.Number.value c.loop-value.numbers.items _ in
+    let pushed = ap (map g.T.Number.value) push.items ∙ map-append g.T.Number.value c.loop-value.numbers.items _ in
     record {
-      values = read_one _ list index _ c.loop-value.invariant.values value _ _ within item is_read pushed;
-      valid = read_one _ list index _ c.loop-value.invariant.valid value _ _ within item is_there c.in_ok-push.ensures.ok;
+      counted = push.len ∙ ap (λ n. n + 1) before.counted;
+      room = omega (arith, push.capacity, before.room);
+      values = read_one _ list index _ before.values value _ _ within item is_read pushed;
+      valid = read_one _ list index _ before.valid value _ _ within item is_there c.in_ok-push.ensures.ok;
     }
 
 pub returns-clause-values : goal.returns-clause-values
