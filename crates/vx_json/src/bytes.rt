@@ -1,6 +1,6 @@
 //! Values of text and of bytes, and lists of them.
 
-ghost use Rattle.std.specs.Prelude.{◌≡◌, ◌≢◌, ℕ, List, ◌∷◌, [], true, map, Some, None, is_some, option_map, IfOk, IfErr, OnOk};
+ghost use Rattle.std.specs.Prelude.{◌≡◌, ◌≢◌, ℕ, List, ◌∷◌, [], true, Some, None, option_map, IfOk, IfErr, OnOk};
 ghost use Rattle.std.specs.List.{list_any};
 ghost use Rattle.std.specs.Char.{is_ascii_uppercase};
 ghost use Rattle.hex.specs.Hex.{IsBytes, encode_lower};
@@ -8,7 +8,7 @@ ghost use Rattle.serde_json.specs.View.{view, items_view};
 ghost use Rattle.vx_tree.specs.ColumnTypes.{are_bytes_of};
 ghost use Rattle.vx_tree.specs.Rows.{item_or};
 ghost use Rattle.vx_json.specs.Refused.{IsRefused};
-ghost use Rattle.vx_json.specs.SpelledValues.{hex_bytes, bytes_spelled, or_null, all_read};
+ghost use Rattle.vx_json.specs.SpelledValues.{hex_bytes, bytes_spelled, or_null, all_read, all_or_null, values_read, valid_read};
 
 use crate::BAD_VALUE;
 use serde_json::Value;
@@ -114,13 +114,10 @@ pub(crate) fn nullable_byte_rows(
     storage: Storage,
     list: &Vec<Value>,
 ) -> VortexResult<(BinaryViews, BitBuffer)>
-    ensures values { IfOk result (λ rows. option_map (map (item_or []))
-        (all_read (or_null Nullability.Nullable (bytes_spelled storage)) (items_view list.now.items)) ≡ Some rows.0) }
-    ensures valid { IfOk result (λ rows. option_map (map is_some)
-        (all_read (or_null Nullability.Nullable (bytes_spelled storage)) (items_view list.now.items)) ≡ Some rows.1) }
+    ensures values { IfOk result (λ rows. values_read [] (bytes_spelled storage) (items_view list.now.items) ≡ Some rows.0) }
+    ensures valid { IfOk result (λ rows. valid_read (bytes_spelled storage) (items_view list.now.items) ≡ Some rows.1) }
     ensures typed { IfOk result (λ rows. are_bytes_of storage rows.0 ≡ true) }
-    ensures err { IfErr result (IsRefused
-        (all_read (or_null Nullability.Nullable (bytes_spelled storage)) (items_view list.now.items) ≡ None)) }
+    ensures err { IfErr result (IsRefused (all_or_null (bytes_spelled storage) (items_view list.now.items) ≡ None)) }
 {
     let mut rows = BinaryBuilder::with_capacity(alloc, list.len())?;
     let mut valid = BitBuilder::with_capacity(alloc, list.len())?;

@@ -10,7 +10,7 @@ ghost use Rattle.vx_tree.specs.Tree.{views, nulls_of};
 ghost use Rattle.vx_tree.specs.ColumnTypes.{bytes_type};
 ghost use Rattle.vx_tree.specs.Rows.{boolean_rows, integer_rows, bytes_rows};
 ghost use Rattle.vx_json.specs.Refused.{IsRefused};
-ghost use Rattle.vx_json.specs.SpelledValues.{integer_spelled, bytes_spelled, or_null, all_read};
+ghost use Rattle.vx_json.specs.SpelledValues.{integer_spelled, bytes_spelled, all_read, all_or_null};
 ghost use Rattle.vx_json.specs.SpelledColumns.{column_of_rows, rows_stored, col_spelled, column_of_values, values_stored, flat_of, flat_spelled};
 
 use crate::BAD_VALUE;
@@ -82,9 +82,8 @@ fn null_column(alloc: Global, list: &Vec<Value>) -> VortexResult<ArrayRef>
 
 /// Reads a nullable column of the booleans in `list`, null among them.
 fn nullable_bool_column(alloc: Global, list: &Vec<Value>) -> VortexResult<ArrayRef>
-    ensures ok { IfOk result (λ t. option_map (boolean_rows Nullability.Nullable)
-        (all_read (or_null Nullability.Nullable as_bool) (items_view list.now.items)) ≡ Some t) }
-    ensures err { IfErr result (IsRefused (all_read (or_null Nullability.Nullable as_bool) (items_view list.now.items) ≡ None)) }
+    ensures ok { IfOk result (λ t. option_map (boolean_rows Nullability.Nullable) (all_or_null as_bool (items_view list.now.items)) ≡ Some t) }
+    ensures err { IfErr result (IsRefused (all_or_null as_bool (items_view list.now.items) ≡ None)) }
 {
     let (bits, valid) = nullable_booleans(alloc, list)?;
     let validity = Validity::from_bits(alloc, valid)?;
@@ -99,9 +98,8 @@ fn nullable_primitive_column(
     list: &Vec<Value>,
 ) -> VortexResult<ArrayRef>
     ensures ok { IfOk result (λ t. option_map (integer_rows Nullability.Nullable ptype)
-        (all_read (or_null Nullability.Nullable (integer_spelled ptype)) (items_view list.now.items)) ≡ Some t) }
-    ensures err { IfErr result (IsRefused
-        (all_read (or_null Nullability.Nullable (integer_spelled ptype)) (items_view list.now.items) ≡ None)) }
+        (all_or_null (integer_spelled ptype) (items_view list.now.items)) ≡ Some t) }
+    ensures err { IfErr result (IsRefused (all_or_null (integer_spelled ptype) (items_view list.now.items) ≡ None)) }
 {
     let (values, valid) = nullable_integers(alloc, ptype, list)?;
     let validity = Validity::from_bits(alloc, valid)?;
@@ -144,9 +142,8 @@ fn nullable_bytes_column(
     list: &Vec<Value>,
 ) -> VortexResult<ArrayRef>
     ensures ok { IfOk result (λ t. option_map (bytes_rows (with_nullability Nullability.Nullable (bytes_type storage)))
-        (all_read (or_null Nullability.Nullable (bytes_spelled storage)) (items_view list.now.items)) ≡ Some t) }
-    ensures err { IfErr result (IsRefused
-        (all_read (or_null Nullability.Nullable (bytes_spelled storage)) (items_view list.now.items) ≡ None)) }
+        (all_or_null (bytes_spelled storage) (items_view list.now.items)) ≡ Some t) }
+    ensures err { IfErr result (IsRefused (all_or_null (bytes_spelled storage) (items_view list.now.items) ≡ None)) }
 {
     let (rows, valid) = nullable_byte_rows(alloc, storage, list)?;
     let validity = Validity::from_bits(alloc, valid)?;

@@ -1,13 +1,12 @@
 //! Values of decimals, and lists of them.
 
-ghost use Rattle.std.specs.Prelude.{◌≡◌, ◌≢◌, ℤ, pos, true, map, Some, None, is_some, option_map, IfSome, IfNone, IfOk, IfErr};
+ghost use Rattle.std.specs.Prelude.{◌≡◌, ◌≢◌, ℤ, pos, true, Some, None, IfSome, IfNone, IfOk, IfErr};
 ghost use Rattle.std.specs.Fmt.{signed_decimal};
 ghost use Rattle.serde_json.specs.View.{view, items_view};
 ghost use Rattle.vx_value.specs.Decimals.{has_digits, smallest_width};
 ghost use Rattle.vx_native.specs.DecimalNumbers.{numbers_of, decimal_type_of};
-ghost use Rattle.vx_tree.specs.Rows.{item_or};
 ghost use Rattle.vx_json.specs.Refused.{IsRefused};
-ghost use Rattle.vx_json.specs.SpelledValues.{decimal_in, decimal_spelled, or_null, all_read};
+ghost use Rattle.vx_json.specs.SpelledValues.{decimal_in, decimal_spelled, all_read, all_or_null, values_read, valid_read};
 
 use crate::BAD_VALUE;
 use crate::numbers::{NumberReader, nullable_numbers, numbers};
@@ -105,12 +104,9 @@ fn nullable_native_decimals<T: NativeDecimalType>(
 ) -> VortexResult<(DecimalValues, BitBuffer)>
     requires { T.kind ≡ smallest_width digits.precision }
     ensures kind { IfOk result (λ v. decimal_type_of v.0 ≡ T.kind) }
-    ensures values { IfOk result (λ v. option_map (map (item_or (pos 0)))
-        (all_read (or_null Nullability.Nullable (decimal_spelled digits.precision)) (items_view list.now.items)) ≡ Some (numbers_of v.0)) }
-    ensures valid { IfOk result (λ v. option_map (map is_some)
-        (all_read (or_null Nullability.Nullable (decimal_spelled digits.precision)) (items_view list.now.items)) ≡ Some v.1) }
-    ensures err { IfErr result (IsRefused
-        (all_read (or_null Nullability.Nullable (decimal_spelled digits.precision)) (items_view list.now.items) ≡ None)) }
+    ensures values { IfOk result (λ v. values_read (pos 0) (decimal_spelled digits.precision) (items_view list.now.items) ≡ Some (numbers_of v.0)) }
+    ensures valid { IfOk result (λ v. valid_read (decimal_spelled digits.precision) (items_view list.now.items) ≡ Some v.1) }
+    ensures err { IfErr result (IsRefused (all_or_null (decimal_spelled digits.precision) (items_view list.now.items) ≡ None)) }
 {
     let zero: T = narrowed(0);
     let (values, valid) = nullable_numbers(alloc, zero, &digits, list)?;
@@ -126,12 +122,9 @@ pub(crate) fn nullable_decimals(
     list: &Vec<Value>,
 ) -> VortexResult<(DecimalValues, BitBuffer)>
     ensures kind { IfOk result (λ v. decimal_type_of v.0 ≡ smallest_width decimal.now.precision) }
-    ensures values { IfOk result (λ v. option_map (map (item_or (pos 0)))
-        (all_read (or_null Nullability.Nullable (decimal_spelled decimal.now.precision)) (items_view list.now.items)) ≡ Some (numbers_of v.0)) }
-    ensures valid { IfOk result (λ v. option_map (map is_some)
-        (all_read (or_null Nullability.Nullable (decimal_spelled decimal.now.precision)) (items_view list.now.items)) ≡ Some v.1) }
-    ensures err { IfErr result (IsRefused
-        (all_read (or_null Nullability.Nullable (decimal_spelled decimal.now.precision)) (items_view list.now.items) ≡ None)) }
+    ensures values { IfOk result (λ v. values_read (pos 0) (decimal_spelled decimal.now.precision) (items_view list.now.items) ≡ Some (numbers_of v.0)) }
+    ensures valid { IfOk result (λ v. valid_read (decimal_spelled decimal.now.precision) (items_view list.now.items) ≡ Some v.1) }
+    ensures err { IfErr result (IsRefused (all_or_null (decimal_spelled decimal.now.precision) (items_view list.now.items) ≡ None)) }
 {
     let width = DecimalType::smallest_decimal_value_type(decimal);
     let digits = decimal.digits();

@@ -1,11 +1,11 @@
 //! Lists of numbers of a native type.
 
-ghost use Rattle.std.specs.Prelude.{◌≡◌, ℤ, map, Option, Some, None, is_some, option_map, IfOk, IfErr};
+ghost use Rattle.std.specs.Prelude.{◌≡◌, ℤ, map, Option, Some, None, option_map, IfOk, IfErr};
 ghost use Rattle.serde_json.specs.Data.{Data};
 ghost use Rattle.serde_json.specs.View.{view, items_view};
 ghost use Rattle.vx_tree.specs.Rows.{item_or};
 ghost use Rattle.vx_json.specs.Refused.{IsRefused};
-ghost use Rattle.vx_json.specs.SpelledValues.{or_null, all_read};
+ghost use Rattle.vx_json.specs.SpelledValues.{or_null, all_read, all_or_null, values_read, valid_read};
 
 use crate::BAD_VALUE;
 use serde_json::Value;
@@ -69,12 +69,9 @@ pub(crate) fn nullable_numbers<T: NativeNumber, R: NumberReader<T>>(
     list: &Vec<Value>,
 ) -> VortexResult<(Vec<T>, BitBuffer)>
     requires { R.fits reader.now }
-    ensures values { IfOk result (λ v. option_map (map (item_or (T.value zero)))
-        (all_read (or_null Nullability.Nullable (R.spelled reader.now)) (items_view list.now.items)) ≡ Some (map T.value v.0.items)) }
-    ensures valid { IfOk result (λ v. option_map (map is_some)
-        (all_read (or_null Nullability.Nullable (R.spelled reader.now)) (items_view list.now.items)) ≡ Some v.1) }
-    ensures err { IfErr result (IsRefused
-        (all_read (or_null Nullability.Nullable (R.spelled reader.now)) (items_view list.now.items) ≡ None)) }
+    ensures values { IfOk result (λ v. values_read (T.value zero) (R.spelled reader.now) (items_view list.now.items) ≡ Some (map T.value v.0.items)) }
+    ensures valid { IfOk result (λ v. valid_read (R.spelled reader.now) (items_view list.now.items) ≡ Some v.1) }
+    ensures err { IfErr result (IsRefused (all_or_null (R.spelled reader.now) (items_view list.now.items) ≡ None)) }
 {
     let mut numbers: Vec<T> = Vec::with_capacity(alloc, list.len())?;
     let mut valid = BitBuilder::with_capacity(alloc, list.len())?;

@@ -14,12 +14,10 @@
 //! hexadecimal digits for each byte. A decimal is a string of its unscaled integer, without `+`, leading zeros or `-0`: `"4200"` for
 //! 42.00.
 
-ghost use Rattle.std.specs.Prelude.{◌≡◌, ◌⊎◌, Some, None, option_and_then, IfOk, IfErr};
+ghost use Rattle.std.specs.Prelude.{◌≡◌, ◌⊎◌, Some, None, IfOk, IfErr};
 ghost use Rattle.serde_json.specs.View.{view, items_view};
 ghost use Rattle.vx_json.specs.Keys.{key_text};
 ghost use Rattle.vx_json.specs.Refused.{IsRefused};
-ghost use Rattle.vx_json.specs.SpelledColumns.{flat_spelled};
-ghost use Rattle.vx_json.specs.SpelledNodes.{slice_spelled, filter_spelled, masked_spelled, is_valid_spelled, call_spelled};
 ghost use Rattle.vx_json.specs.SpelledNulls.{nulls_at};
 ghost use Rattle.vx_json.specs.Spelled.{tree_spelled, trees_spelled, tree_at, trees_at, Spells, SpellsNone};
 
@@ -92,87 +90,6 @@ fn nulls(alloc: Global, value: &Value) -> VortexResult<Nulls>
     }
 }
 
-/// Reads a column and what stands under `validity`.
-#[cycle(tree_of)]
-fn flat_tree(alloc: Global, value: &Value) -> VortexResult<ArrayRef>
-    ensures ok { IfOk result (λ t. option_and_then (flat_spelled (view value.now))
-        (nulls_at (view value.now) (tree_at (key_text Key.Validity) (view value.now))) ≡ Some t) }
-    ensures err { IfErr result (IsRefused (option_and_then (flat_spelled (view value.now))
-        (nulls_at (view value.now) (tree_at (key_text Key.Validity) (view value.now))) ≡ None)) }
-{
-    match nulls(alloc, value) {
-        Ok(nulls) => flat(alloc, value, &nulls),
-        Err(e) => Err(e),
-    }
-}
-
-/// Reads a lazy slice of the tree under `child`.
-#[cycle(tree_of)]
-fn slice_tree(alloc: Global, value: &Value) -> VortexResult<ArrayRef>
-    ensures ok { IfOk result (λ t. option_and_then (slice_spelled (view value.now)) (tree_at (key_text Key.Child) (view value.now)) ≡ Some t) }
-    ensures err { IfErr result (IsRefused (option_and_then (slice_spelled (view value.now)) (tree_at (key_text Key.Child) (view value.now)) ≡ None)) }
-{
-    match child(alloc, value, Key::Child) {
-        Ok(child) => slice(alloc, value, child),
-        Err(e) => Err(e),
-    }
-}
-
-/// Reads a lazy filter of the tree under `child`.
-#[cycle(tree_of)]
-fn filter_tree(alloc: Global, value: &Value) -> VortexResult<ArrayRef>
-    ensures ok { IfOk result (λ t. option_and_then (filter_spelled (view value.now)) (tree_at (key_text Key.Child) (view value.now)) ≡ Some t) }
-    ensures err { IfErr result (IsRefused (option_and_then (filter_spelled (view value.now)) (tree_at (key_text Key.Child) (view value.now)) ≡ None)) }
-{
-    match child(alloc, value, Key::Child) {
-        Ok(child) => filter(alloc, value, child),
-        Err(e) => Err(e),
-    }
-}
-
-/// Reads the tree under `child` with further nulls, those under `validity`.
-#[cycle(tree_of)]
-fn masked_tree(alloc: Global, value: &Value) -> VortexResult<ArrayRef>
-    ensures ok { IfOk result (λ t. option_and_then
-        (λ u. option_and_then (masked_spelled (view value.now) u) (nulls_at (view value.now) (tree_at (key_text Key.Validity) (view value.now))))
-        (tree_at (key_text Key.Child) (view value.now)) ≡ Some t) }
-    ensures err { IfErr result (IsRefused (option_and_then
-        (λ u. option_and_then (masked_spelled (view value.now) u) (nulls_at (view value.now) (tree_at (key_text Key.Validity) (view value.now))))
-        (tree_at (key_text Key.Child) (view value.now)) ≡ None)) }
-{
-    match child(alloc, value, Key::Child) {
-        Ok(child) => match nulls(alloc, value) {
-            Ok(nulls) => masked(alloc, value, child, &nulls),
-            Err(e) => Err(e),
-        },
-        Err(e) => Err(e),
-    }
-}
-
-/// Reads the lazy test of which rows of the tree under `child` are valid.
-#[cycle(tree_of)]
-fn is_valid_tree(alloc: Global, value: &Value) -> VortexResult<ArrayRef>
-    ensures ok { IfOk result (λ t. option_and_then (is_valid_spelled (view value.now)) (tree_at (key_text Key.Child) (view value.now)) ≡ Some t) }
-    ensures err { IfErr result (IsRefused (option_and_then (is_valid_spelled (view value.now)) (tree_at (key_text Key.Child) (view value.now)) ≡ None)) }
-{
-    match child(alloc, value, Key::Child) {
-        Ok(child) => is_valid(alloc, value, child),
-        Err(e) => Err(e),
-    }
-}
-
-/// Reads a lazy function of the trees under `args`.
-#[cycle(tree_of)]
-fn call_tree(alloc: Global, value: &Value) -> VortexResult<ArrayRef>
-    ensures ok { IfOk result (λ t. option_and_then (call_spelled (view value.now)) (trees_at (key_text Key.Args) (view value.now)) ≡ Some t) }
-    ensures err { IfErr result (IsRefused (option_and_then (call_spelled (view value.now)) (trees_at (key_text Key.Args) (view value.now)) ≡ None)) }
-{
-    match children(alloc, value, Key::Args) {
-        Ok(children) => call(alloc, value, children),
-        Err(e) => Err(e),
-    }
-}
-
 /// Reads the tree that `value` spells. (own)
 ///
 /// # Errors
@@ -188,14 +105,17 @@ pub fn tree_of(alloc: Global, value: &Value) -> VortexResult<ArrayRef>
 {
     match text(value, "enc") {
         Some("col") => col(alloc, value),
-        Some("flat") => flat_tree(alloc, value),
+        Some("flat") => flat(alloc, value, &nulls(alloc, value)?),
         Some("constant") => constant(alloc, value),
         Some("null") => null(alloc, value),
-        Some("slice") => slice_tree(alloc, value),
-        Some("filter") => filter_tree(alloc, value),
-        Some("masked") => masked_tree(alloc, value),
-        Some("is_valid") => is_valid_tree(alloc, value),
-        Some("fn") => call_tree(alloc, value),
+        Some("slice") => slice(alloc, value, child(alloc, value, Key::Child)?),
+        Some("filter") => filter(alloc, value, child(alloc, value, Key::Child)?),
+        Some("masked") => {
+            let child = child(alloc, value, Key::Child)?;
+            masked(alloc, value, child, &nulls(alloc, value)?)
+        }
+        Some("is_valid") => is_valid(alloc, value, child(alloc, value, Key::Child)?),
+        Some("fn") => call(alloc, value, children(alloc, value, Key::Args)?),
         _ => Err(BAD_VALUE),
     }
 }

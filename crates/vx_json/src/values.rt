@@ -1,6 +1,6 @@
 //! Single values of a type, and lists of them.
 
-ghost use Rattle.std.specs.Prelude.{◌≡◌, pos, false, map, Some, None, is_some, option_map, option_and_then, IfOk, IfErr};
+ghost use Rattle.std.specs.Prelude.{◌≡◌, pos, false, Some, None, option_map, option_and_then, IfOk, IfErr};
 ghost use Rattle.std.specs.List.{list_all};
 ghost use Rattle.serde_json.specs.View.{view, items_view};
 ghost use Rattle.serde_json.specs.Find.{as_bool, as_number, as_integer};
@@ -8,7 +8,7 @@ ghost use Rattle.vx_value.specs.View.{type_of};
 ghost use Rattle.vx_native.specs.Natives.{values_of, ptype_of};
 ghost use Rattle.vx_tree.specs.Rows.{item_or};
 ghost use Rattle.vx_json.specs.Refused.{IsRefused};
-ghost use Rattle.vx_json.specs.SpelledValues.{integer_spelled, is_null, value_spelled, or_null, all_read};
+ghost use Rattle.vx_json.specs.SpelledValues.{integer_spelled, is_null, value_spelled, or_null, all_read, all_or_null, values_read, valid_read};
 
 use crate::BAD_VALUE;
 use crate::bytes::bytes;
@@ -93,12 +93,9 @@ fn nullable_natives<T: NativeInteger>(
     list: &Vec<Value>,
 ) -> VortexResult<(PrimitiveValues, BitBuffer)>
     ensures kind { IfOk result (λ v. ptype_of v.0 ≡ T.kind) }
-    ensures values { IfOk result (λ v. option_map (map (item_or (pos 0)))
-        (all_read (or_null Nullability.Nullable (integer_spelled T.kind)) (items_view list.now.items)) ≡ Some (values_of v.0)) }
-    ensures valid { IfOk result (λ v. option_map (map is_some)
-        (all_read (or_null Nullability.Nullable (integer_spelled T.kind)) (items_view list.now.items)) ≡ Some v.1) }
-    ensures err { IfErr result (IsRefused
-        (all_read (or_null Nullability.Nullable (integer_spelled T.kind)) (items_view list.now.items) ≡ None)) }
+    ensures values { IfOk result (λ v. values_read (pos 0) (integer_spelled T.kind) (items_view list.now.items) ≡ Some (values_of v.0)) }
+    ensures valid { IfOk result (λ v. valid_read (integer_spelled T.kind) (items_view list.now.items) ≡ Some v.1) }
+    ensures err { IfErr result (IsRefused (all_or_null (integer_spelled T.kind) (items_view list.now.items) ≡ None)) }
 {
     let zero: T = native_of(0);
     let (values, valid) = nullable_numbers(alloc, zero, &InRange, list)?;
@@ -114,12 +111,9 @@ pub(crate) fn nullable_integers(
     list: &Vec<Value>,
 ) -> VortexResult<(PrimitiveValues, BitBuffer)>
     ensures kind { IfOk result (λ v. ptype_of v.0 ≡ ptype) }
-    ensures values { IfOk result (λ v. option_map (map (item_or (pos 0)))
-        (all_read (or_null Nullability.Nullable (integer_spelled ptype)) (items_view list.now.items)) ≡ Some (values_of v.0)) }
-    ensures valid { IfOk result (λ v. option_map (map is_some)
-        (all_read (or_null Nullability.Nullable (integer_spelled ptype)) (items_view list.now.items)) ≡ Some v.1) }
-    ensures err { IfErr result (IsRefused
-        (all_read (or_null Nullability.Nullable (integer_spelled ptype)) (items_view list.now.items) ≡ None)) }
+    ensures values { IfOk result (λ v. values_read (pos 0) (integer_spelled ptype) (items_view list.now.items) ≡ Some (values_of v.0)) }
+    ensures valid { IfOk result (λ v. valid_read (integer_spelled ptype) (items_view list.now.items) ≡ Some v.1) }
+    ensures err { IfErr result (IsRefused (all_or_null (integer_spelled ptype) (items_view list.now.items) ≡ None)) }
 {
     by_type!(ptype, nullable_natives(alloc, list))
 }
@@ -141,11 +135,9 @@ pub(crate) fn nullable_booleans(
     alloc: Global,
     list: &Vec<Value>,
 ) -> VortexResult<(BitBuffer, BitBuffer)>
-    ensures values { IfOk result (λ bits. option_map (map (item_or false))
-        (all_read (or_null Nullability.Nullable as_bool) (items_view list.now.items)) ≡ Some bits.0) }
-    ensures valid { IfOk result (λ bits. option_map (map is_some)
-        (all_read (or_null Nullability.Nullable as_bool) (items_view list.now.items)) ≡ Some bits.1) }
-    ensures err { IfErr result (IsRefused (all_read (or_null Nullability.Nullable as_bool) (items_view list.now.items) ≡ None)) }
+    ensures values { IfOk result (λ bits. values_read false as_bool (items_view list.now.items) ≡ Some bits.0) }
+    ensures valid { IfOk result (λ bits. valid_read as_bool (items_view list.now.items) ≡ Some bits.1) }
+    ensures err { IfErr result (IsRefused (all_or_null as_bool (items_view list.now.items) ≡ None)) }
 {
     let mut bits = BitBuilder::with_capacity(alloc, list.len())?;
     let mut valid = BitBuilder::with_capacity(alloc, list.len())?;

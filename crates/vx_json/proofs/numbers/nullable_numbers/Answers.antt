@@ -17,11 +17,6 @@ returns-in-None-clause-err g c =
     let none = read_none _ list c.loop-value.value-index _ c.loop-value.invariant.values c.value-item.result within item (sym c.in-None.ensures) in
     inr (refl, unmapped_none (item_or (g.T.Number.value c.args.zero)) read (items_view list) none)
 
-pub push_reserved-requires : goal.push_reserved-requires
-push_reserved-requires g c =
-    let within = rw c.deref-value-items.ensures.value at c.loop-value-test.true in
-    omega (arith, within, c.loop-value.invariant.counted, c.loop-value.invariant.room)
-
 pub loop-value-preserved : goal.loop-value-preserved
 loop-value-preserved g c =
     let before = c.loop-value.invariant in

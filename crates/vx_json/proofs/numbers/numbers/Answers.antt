@@ -9,11 +9,6 @@ returns-in-None-clause-err g c =
     let item = rw c.deref-value-items.ensures.value at c.value-item.is in
     inr (refl, read_none _ c.args.list.now.items c.loop-value.value-index _ c.loop-value.invariant.read c.value-item.result within item (sym c.in-None.ensures))
 
-pub push_reserved-requires : goal.push_reserved-requires
-push_reserved-requires g c =
-    let within = rw c.deref-value-items.ensures.value at c.loop-value-test.true in
-    omega (arith, within, c.loop-value.invariant.counted, c.loop-value.invariant.room)
-
 pub loop-value-preserved : goal.loop-value-preserved
 loop-value-preserved g c =
     let before = c.loop-value.invariant in
