@@ -1,6 +1,6 @@
 -- Columns with some of their rows made null: the two validities joined.
-use Rattle.std.proofs.Common.{◌≡◌, ℕ, suc, ◌+◌, List, [], ◌∷◌, length, map, Bool, true, false, ◌&&◌, Option, Some}
-use Rattle.std.proofs.Common.{refl, sym, ap, subst, ◌∙◌, arith, Result, IfOk}
+use Rattle.std.proofs.Common.{◌≡◌, ℕ, suc, ◌+◌, List, [], ◌∷◌, length, map, Bool, true, false, ◌&&◌, Option, Some, None}
+use Rattle.std.proofs.Common.{refl, sym, ap, subst, ◌∙◌, arith, rules, Result, IfOk}
 use Rattle.std.proofs.lemmas.Result.{IfOk-weaker}
 use Rattle.std.specs.List.{range_with_len}
 use Rattle.std.proofs.lemmas.List.{length-map}
@@ -29,7 +29,7 @@ use Rattle.vx_tree.proofs.KeepsLemmas.{rows_equal}
 use Rattle.vx_tree.proofs.ValiditiesLemmas.{whole}
 use Rattle.vx_mask.specs.Logic.{bit_row}
 use Rattle.std.proofs.lemmas.List.FromFn.{length-map-range_with_len}
-use Rattle.vx_column.specs.Masked.{IsBoth}
+use Rattle.vx_column.specs.Masked.{TellsAll, IsBoth}
 use Rattle.vx_rows.specs.ValidRows.{IsValidityOf}
 use Rattle.vx_rows.specs.declared.valid.ValidRows.TheVariants as rows_valid
 use Rattle.vx_rows.proofs.ValidRowsLemmas.{child_told, filled_clean}
@@ -75,6 +75,22 @@ both_and n t u w first second made =
       told = λ cs h. both_cells (rows t) (rows u) cs (left ∙ sym right) (h ∙ sym left) left_fit right_fit ∙ ap (λ vs. valid_cells vs cs) (sym cells);
       clean = λ h k. ((subst HasNoFault (sym cells) (and_clean (rows t) (rows u) (whole t h.0) (whole u k.0)), (h.0, (k.0, tt))), tt);
     })
+
+-- the tree of a validity of n rows tells them
+pub tells_child : (n k : ℕ) (v : Validity) (x : Option Tree) → x ≡ child_of v n → n ≡ k → HasRows v k → TellsAll n x
+tells_child n k v x slot same has = subst (TellsAll n) (sym slot) (told v (subst (HasRows v) (sym same) has))
+  where
+    told : (v : Validity) → HasRows v n → TellsAll n (child_of v n)
+    told validity.AllInvalid h = search rules
+    told (validity.Array t) h = h
+    told _ h = tt
+
+-- of which one tells nothing
+pub none_first : (n : ℕ) (u v : Option Tree) → u ≡ None → IsBoth n u v v
+none_first n u v e = subst (λ x. IsBoth n x v v) (sym e) (record { told = λ cs h. refl; clean = λ h k. k })
+
+pub none_second : (n : ℕ) (u v : Option Tree) → v ≡ None → IsBoth n u v u
+none_second n u v e = subst (λ x. IsBoth n u x u) (sym e) (record { told = λ cs h. refl; clean = λ h k. h })
 
 -- of bits, joined by words
 bits_fit : (bits : List Bool) → AllFit (bool NonNullable) (map (λ b. value (boolean b)) bits)

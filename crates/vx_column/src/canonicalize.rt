@@ -33,7 +33,6 @@ pub fn constant_canonicalize(
 }
 
 /// Makes the column of `len` rows, each `scalar`; `false`, 0 or no bytes stand under a null. The only error is `OutOfMemory`.
-#[tactic(auto, using(vx_rows::proofs::StoredLemmas::stored_integer, crate::proofs::RepeatedLemmas::repeated_rows))]
 fn repeat(alloc: Global, scalar: &Scalar, len: usize) -> VortexResult<Canonical>
     ensures ok { IfOk result (λ c. KeepsExactly (constant_of scalar.now len) (canonical_tree c)) }
     ensures err { IfErr result (λ e. e ≡ VortexError.OutOfMemory) }

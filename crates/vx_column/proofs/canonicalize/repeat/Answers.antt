@@ -1,16 +1,16 @@
-use Rattle.std.proofs.Common.{◌≡◌, ◌⊎◌, [], ◌∷◌, FitsSigned, replicate, sym, ap, subst, ◌∙◌, rules}
+use Rattle.std.proofs.Common.{◌≡◌, ◌⊎◌, [], ◌∷◌, FitsSigned, pos, replicate, sym, ap, subst, ◌∙◌, rules}
 use Rattle.std.specs.Prelude.{unwrap_or}
 use Rattle.std.proofs.Math.Facts.{to_z-of_z}
 use Rattle.std.specs.Int.{w128}
 use Rattle.vx_value.specs.Storage.{storage_of}
 use Rattle.vx_value.specs.declared.dtype.Storage.TheVariants.{Nulls, Bits, Integers, Text, Bytes}
 use Rattle.vx_value.specs.Types.{nullability_of}
-use Rattle.vx_value.specs.IsOf.{is_stored}
+use Rattle.vx_value.specs.IsOf.{is_stored, in_range}
 use Rattle.vx_value.specs.Parts.{bytes_in}
 use Rattle.vx_tree.specs.ColumnTypes.{are_bytes_of}
-use Rattle.vx_rows.proofs.StoredLemmas.{bytes_kept, decimal_kept}
+use Rattle.vx_rows.proofs.StoredLemmas.{stored_integer, bytes_kept, decimal_kept}
 use Rattle.vx_native.specs.Natives.{values_of, ptype_of}
-use Rattle.vx_column.proofs.RepeatedLemmas.{bools_repeated, integers_repeated, bytes_repeated, bytes_copies, decimals_repeated, all_copies}
+use Rattle.vx_column.proofs.RepeatedLemmas.{repeated_has, bools_repeated, integers_repeated, bytes_repeated, bytes_copies, decimals_repeated, all_copies}
 use Rattle.vx_column.proofs.NullsLemmas.{nulls_repeated}
 use Rattle.vx_column.proofs.canonicalize.repeat.Goals as goal
 use Rattle.vx_value.specs.View.{type_of}
@@ -92,3 +92,30 @@ returns-clause-ok c =
     let s = c.args.scalar.now in
     let stored : storage_of s.of_type ≡ Nulls = ap storage_of (sym c.dtype.ensures.dtype) ∙ sym c.storage.ensures ∙ c.in-Nulls.is in
     nulls_repeated s c.args.len c.in_ok-new-in-Nulls.field-0 stored c.dtype.ensures.typed c.in_ok-new-in-Nulls.ensures.ok
+
+pub bool_column-requires : goal.bool_column-requires
+bool_column-requires c =
+    repeated_has c.args.scalar.now c.args.len c.repeated_validity-validity.result c.repeated_validity-validity.ensures c.in_ok-bits-in-Bits.bits
+    c.unwrap_or-bit.result c.in_ok-bits-in-Bits.ensures
+
+pub primitive_column-requires : goal.primitive_column-requires
+primitive_column-requires c =
+    let made = c.in_ok-values-in-Integers in
+    repeated_has c.args.scalar.now c.args.len c.repeated_validity-validity.result c.repeated_validity-validity.ensures (values_of made.values) _ made.ensures.values
+
+pub decimal_column-requires-clause-sized : goal.decimal_column-requires-clause-sized
+decimal_column-requires-clause-sized c =
+    let made = c.in_ok-values-in-Decimals in
+    repeated_has c.args.scalar.now c.args.len c.repeated_validity-validity.result c.repeated_validity-validity.ensures (numbers_of made.values) _ made.ensures.values
+
+pub varbinview_column-requires-clause-sized : goal.varbinview_column-requires-clause-sized
+varbinview_column-requires-clause-sized c =
+    let made = c.in_ok-rows-in-Text in
+    repeated_has c.args.scalar.now c.args.len c.repeated_validity-validity.result c.repeated_validity-validity.ensures made.rows _ made.ensures
+
+pub repeat-requires-in-Integers : goal.repeat-requires-in-Integers
+repeat-requires-in-Integers c =
+    let fits : FitsSigned w128 c.unwrap_or-wide.result = search rules in
+    let stored = ap storage_of (sym c.dtype.ensures.dtype) ∙ sym c.in-Integers.ensures in
+    ap (in_range c.in-Integers.ptype) (to_z-of_z fits ∙ c.unwrap_or-wide.ensures ∙ ap (λ o. unwrap_or o (pos 0)) c.as_integer.ensures)
+    ∙ stored_integer c.in-Integers.ptype c.args.scalar.now stored c.dtype.ensures.typed

@@ -1,4 +1,5 @@
-use Rattle.std.proofs.Common.{◌≡◌, refl, ap, subst, ◌∙◌, rules, true, [], ◌∷◌, length, sym}
+use Rattle.std.proofs.Common.{◌≡◌, refl, ap, subst, ◌∙◌, rules, true, [], ◌∷◌, length, sym, inr, IfOk}
+use Rattle.std.proofs.lemmas.Result.{IfErr-weaker}
 use Rattle.vx_value.specs.Types.{bool, primitive}
 use Rattle.vx_value.specs.Values.{boolean, integer, bytes, decimal}
 use Rattle.vx_value.specs.Storage.{storage_of}
@@ -10,13 +11,15 @@ use Rattle.vx_tree.specs.Tree.{dtype, len, slots_of}
 use Rattle.vx_tree.specs.Well.{IsNodeOf, IsFlat, shapes}
 use Rattle.vx_tree.specs.Columns.{canonical_tree}
 use Rattle.vx_rows.specs.Stored.{boolean_column, integer_column, bytes_column, decimal_column}
-use Rattle.vx_column.proofs.MaskedLemmas.{bytes_set, canonical_masked}
+use Rattle.vx_column.proofs.MaskedLemmas.{tells_child, bytes_set, canonical_masked}
 use Rattle.vx_column.proofs.mask.mask_validity_canonical.Goals as goal
 use Rattle.vx_value.specs.Types as type
 use Rattle.vx_value.specs.View.{type_of}
 use Rattle.vx_native.specs.DecimalNumbers.{numbers_of, decimal_type_of}
 use Rattle.vx_rows.proofs.StoredLemmas.{decimal_typed}
-use Rattle.vx_rows.specs.Arguments.{stored_decimals}
+use Rattle.vx_rows.specs.Arguments.{stored_decimals, AreUnread}
+use Rattle.vx_tree.specs.Keeps.{KeepsExactly}
+use Rattle.vx_tree.specs.Validities.{child_of, HasRows}
 
 pub returns-in_ok-clone-in-Bool-clause-ok : goal.returns-in_ok-clone-in-Bool-clause-ok
 returns-in_ok-clone-in-Bool-clause-ok c =
@@ -93,3 +96,64 @@ returns-in_ok-clone-in-VarBinView-clause-ok c =
     c.in_ok-child.child c.args.validity.now both.both c.len-len.result t (canonical_tree c.args.column.now) _ c.as_array-array.ensures.of c.len-len.ensures
     c.in_ok-child.ensures.ok c.in-VarBinView.ensures.0 flat.0 both.ensures.nullable both.ensures.both (λ i. bytes_column (kind i) (shared i) both.both)
     c.varbinview_column.ensures.ok
+
+pub returns-in-Null-clause-ok : goal.returns-in-Null-clause-ok
+returns-in-Null-clause-ok c =
+    let v = c.args.validity.now in
+    let same = ap enc.nulls_of c.len-len.ensures ∙ sym c.in-Null.ensures ∙ c.as_array-array.ensures.of in
+    let slot = c.in_ok-child.ensures.ok ∙ ap (child_of v) (c.len-len.ensures ∙ ap len c.as_array-array.ensures.of) in
+    subst (λ t. IfOk c.mask_nulls.result (λ u. KeepsExactly t (canonical_tree u))) (λ i. enc.masked_of (same i) (slot i)) c.mask_nulls.ensures.ok
+
+pub returns-in-Null-clause-err : goal.returns-in-Null-clause-err
+returns-in-Null-clause-err c =
+    let v = c.args.validity.now in
+    let same = ap enc.nulls_of c.len-len.ensures ∙ sym c.in-Null.ensures ∙ c.as_array-array.ensures.of in
+    let sized = c.len-len.ensures ∙ ap len c.as_array-array.ensures.of in
+    IfErr-weaker c.mask_nulls.result _ _
+    (λ e h. inr (ap dtype (sym same), subst (λ n. AreUnread n (child_of v n) e) sized (subst (λ x. AreUnread c.len-len.result x e) c.in_ok-child.ensures.ok h)))
+    c.mask_nulls.ensures.err
+
+pub mask_nulls-requires : goal.mask_nulls-requires
+mask_nulls-requires c =
+    tells_child c.len-len.result _ c.args.validity.now c.in_ok-child.child c.in_ok-child.ensures.ok (c.len-len.ensures ∙ ap len c.as_array-array.ensures.of)
+    c.requires.rows
+
+pub both_valid-requires-clause-second : goal.both_valid-requires-clause-second
+both_valid-requires-clause-second c =
+    tells_child c.len-len.result _ c.args.validity.now c.in_ok-child.child c.in_ok-child.ensures.ok (c.len-len.ensures ∙ ap len c.as_array-array.ensures.of)
+    c.requires.rows
+
+pub both_valid-requires-in-Primitive-clause-second : goal.both_valid-requires-in-Primitive-clause-second
+both_valid-requires-in-Primitive-clause-second c =
+    tells_child c.len-len.result _ c.args.validity.now c.in_ok-child.child c.in_ok-child.ensures.ok (c.len-len.ensures ∙ ap len c.as_array-array.ensures.of)
+    c.requires.rows
+
+pub both_valid-requires-in-Decimal-clause-second : goal.both_valid-requires-in-Decimal-clause-second
+both_valid-requires-in-Decimal-clause-second c =
+    tells_child c.len-len.result _ c.args.validity.now c.in_ok-child.child c.in_ok-child.ensures.ok (c.len-len.ensures ∙ ap len c.as_array-array.ensures.of)
+    c.requires.rows
+
+pub both_valid-requires-in-VarBinView-clause-second : goal.both_valid-requires-in-VarBinView-clause-second
+both_valid-requires-in-VarBinView-clause-second c =
+    tells_child c.len-len.result _ c.args.validity.now c.in_ok-child.child c.in_ok-child.ensures.ok (c.len-len.ensures ∙ ap len c.as_array-array.ensures.of)
+    c.requires.rows
+
+pub bool_column-requires : goal.bool_column-requires
+bool_column-requires c =
+    let flat = subst IsNodeOf c.in-Bool.ensures.0 c.in-Bool.ensures.1 in
+    subst (HasRows c.in_ok-both-in-Bool.both) (c.len-len.ensures ∙ flat.2 ∙ sym (ap length c.in_ok-clone-in-Bool.ensures.cases)) c.in_ok-both-in-Bool.ensures.sized
+
+pub primitive_column-requires : goal.primitive_column-requires
+primitive_column-requires c =
+    let flat = subst IsNodeOf c.in-Primitive.ensures.0 c.in-Primitive.ensures.1 in
+    subst (HasRows c.in_ok-both-in-Primitive.both) (c.len-len.ensures ∙ flat.2 ∙ sym (ap length c.in_ok-clone-in-Primitive.ensures.cases.1)) c.in_ok-both-in-Primitive.ensures.sized
+
+pub decimal_column-requires-clause-sized : goal.decimal_column-requires-clause-sized
+decimal_column-requires-clause-sized c =
+    let flat = subst IsNodeOf c.in-Decimal.ensures.0 c.in-Decimal.ensures.1 in
+    subst (HasRows c.in_ok-both-in-Decimal.both) (c.len-len.ensures ∙ flat.0.2 ∙ sym (ap length c.in_ok-clone-in-Decimal.ensures.cases.1)) c.in_ok-both-in-Decimal.ensures.sized
+
+pub varbinview_column-requires-clause-sized : goal.varbinview_column-requires-clause-sized
+varbinview_column-requires-clause-sized c =
+    let flat = subst IsNodeOf c.in-VarBinView.ensures.0 c.in-VarBinView.ensures.1 in
+    subst (HasRows c.in_ok-both-in-VarBinView.both) (c.len-len.ensures ∙ flat.0.2 ∙ sym (ap length c.in_ok-clone-in-VarBinView.ensures.cases)) c.in_ok-both-in-VarBinView.ensures.sized

@@ -1,10 +1,11 @@
-use Rattle.std.proofs.Common.{◌≡◌, true, ap, subst, ◌∙◌}
+use Rattle.std.proofs.Common.{◌≡◌, true, ap, subst, sym, ◌∙◌}
 use Rattle.std.specs.List.{list_all}
 use Rattle.std.proofs.lemmas.Result.{IfOk-weaker}
 use Rattle.vx_value.specs.View.{type_of}
 use Rattle.vx_value.specs.Types.{nullability_of}
 use Rattle.vx_value.specs.IsOf.{is_of}
 use Rattle.vx_tree.specs.Cells.{rows}
+use Rattle.vx_tree.specs.Validities.{HasRows}
 use Rattle.vx_rows.specs.ValidRows.{child_in, nullability_in}
 use Rattle.vx_column.specs.Built.{built}
 use Rattle.vx_column.specs.Growing.{told_rows}
@@ -28,3 +29,6 @@ returns-clause-rows c =
     let r = c.args.self in
     let typed = subst (λ r. list_all (is_of r.of_type) r.values ≡ true) c.self.view_is (rows_typed _ _ _ _ c.self.invariant) in
     IfOk-weaker c.finish-2.result _ _ (λ column is. ap rows is ∙ rows_built r.of_type r.values typed) (returns-clause-ok c)
+
+pub finish-requires-2-clause-sized : goal.finish-requires-2-clause-sized
+finish-requires-2-clause-sized c = subst (HasRows c.in_ok-validity.validity) (sym c.self.invariant.counted) c.in_ok-validity.ensures.ok.2
