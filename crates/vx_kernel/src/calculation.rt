@@ -128,7 +128,6 @@ fn calculate_rows<U: NativeNumber, C: Calculation<U>>(
 }
 
 /// Calculates each of `len` rows. `Fault` if a row has no value.
-#[tactic(auto, using(crate::proofs::ComputedLemmas::rows_more))]
 fn calculate_all<U: NativeNumber, C: Calculation<U>>(
     alloc: Global,
     calculation: &C,
@@ -150,7 +149,6 @@ fn calculate_all<U: NativeNumber, C: Calculation<U>>(
 }
 
 /// Calculates the rows at the true bits of `valid`, `len` rows; 0 stands for the others. `Fault` if a row has no value.
-#[tactic(auto, using(crate::proofs::ComputedLemmas::calculated_more))]
 fn calculate_valid<U: NativeNumber, C: Calculation<U>>(
     alloc: Global,
     calculation: &C,
