@@ -31,7 +31,6 @@ pub fn bool_column(alloc: Global, bits: BitBuffer, validity: &Validity) -> Vorte
 }
 
 /// Makes the column of `values`, whose null rows `validity` tells. The only error is `OutOfMemory`.
-#[tactic(auto, using(crate::proofs::NullsLemmas::flat_taken))]
 pub fn primitive_column(
     alloc: Global,
     values: PrimitiveValues,

@@ -1,7 +1,5 @@
-use Rattle.std.proofs.Common.{◌≡◌, sym, subst, rules}
-use Rattle.std.proofs.lemmas.Result.{IfErr-weaker}
-use Rattle.vx_value.specs.declared.error.VortexError.TheVariants.{OutOfMemory}
-use Rattle.vx_rows.specs.Arguments.{IsArgument, AnyUnread}
+use Rattle.std.proofs.lemmas.Result.{err_from_is_err_and}
+use Rattle.vx_rows.specs.Arguments.{IsArgument}
 use Rattle.vx_rows.proofs.ArgumentsLemmas.{zipped_more, any_memory, any_unread}
 use Rattle.vx_rows.proofs.argument.arguments_of.Goals as goal
 
@@ -13,9 +11,14 @@ loop-column-preserved c =
 
 pub returns-in_err-arguments-clause-err : goal.returns-in_err-arguments-clause-err
 returns-in_err-arguments-clause-err c =
-    IfErr-weaker c.from_residual.result (λ e. e ≡ OutOfMemory) (AnyUnread c.args.columns.now)
-    (λ e memory. subst (AnyUnread c.args.columns.now) (sym memory) (any_memory c.args.columns.now)) (search rules)
+    let p = err_from_is_err_and c.from_residual.result c.from_residual.ensures.1 in
+    rw (p.1, p.2) (any_memory c.args.columns.now)
 
 pub returns-in-Err-clause-err : goal.returns-in-Err-clause-err
 returns-in-Err-clause-err c =
     any_unread c.args.columns.now c.loop-column.column-index c.column-item.result c.in-Err.e c.loop-column-test.true c.column-item.is c.in-Err.ensures.err
+
+pub returns-in_err-push-in-Ok-clause-err : goal.returns-in_err-push-in-Ok-clause-err
+returns-in_err-push-in-Ok-clause-err c =
+    let p = err_from_is_err_and c.from_residual-in_err-push-in-Ok.result c.from_residual-in_err-push-in-Ok.ensures.1 in
+    rw (p.1, p.2) (any_memory c.args.columns.now)
