@@ -1,0 +1,25 @@
+use Rattle.std.proofs.Common.{◌≡◌, ◌∷◌, [], ap, subst, ◌∙◌}
+use Rattle.vx_value.specs.View.{type_of}
+use Rattle.vx_fn.specs.declared.function.ScalarFnRef.TheVariants as fn_of
+use Rattle.vx_tree.specs.Tree.{len, constant_of}
+use Rattle.vx_opt.specs.Builtins.{Calls}
+use Rattle.vx_opt.proofs.builtins.ArrayRefArrayBuiltins.fill_null.Goals as goal
+
+pub returns-then-not-is_nullable-clause-filled : goal.returns-then-not-is_nullable-clause-filled
+returns-then-not-is_nullable-clause-filled c = λ nullable. absurd (cc)
+
+pub returns-then-not-is_nullable-clause-cast : goal.returns-then-not-is_nullable-clause-cast
+returns-then-not-is_nullable-clause-cast c =
+    let typed : type_of c.in_ok-target.target ≡ c.args.fill_value.of_type =
+    ap type_of c.in_ok-target.ensures.cases ∙ c.dtype-then-not-is_nullable.ensures.dtype in
+    λ _. (c.in_ok-target.target, typed, c.cast_to.ensures.call)
+
+pub returns-clause-filled : goal.returns-clause-filled
+returns-clause-filled c =
+    let t = c.args.self.now in
+    let fill : c.into_array.result ≡ constant_of c.args.fill_value (len t) =
+    c.into_array.ensures ∙ c.in_ok-fill.ensures.ok ∙ ap (constant_of c.args.fill_value) c.len.ensures in
+    λ _. subst (λ v. Calls fn_of.FillNull (t ∷ v ∷ []) (len t) c.call_of_two.result) fill c.call_of_two.ensures
+
+pub returns-clause-cast : goal.returns-clause-cast
+returns-clause-cast c = λ fixed. absurd (cc)
