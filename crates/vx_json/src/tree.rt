@@ -19,7 +19,7 @@ ghost use Rattle.serde_json.specs.View.{view, items_view};
 ghost use Rattle.vx_json.specs.Keys.{key_text};
 ghost use Rattle.vx_json.specs.Refused.{IsRefused};
 ghost use Rattle.vx_json.specs.SpelledNulls.{nulls_at};
-ghost use Rattle.vx_json.specs.Spelled.{tree_spelled, trees_spelled, tree_at, trees_at, Spells, SpellsNone};
+ghost use Rattle.vx_json.specs.Spelled.{tree_spelled, trees_spelled, tree_at, trees_at, tree_by, Spells, SpellsNone};
 
 use crate::BAD_VALUE;
 use crate::columns::{col, flat};
@@ -40,10 +40,7 @@ fn trees_of(alloc: Global, list: &Vec<Value>) -> VortexResult<Vec<ArrayRef>>
 {
     let mut trees = Vec::with_capacity(alloc, list.len())?;
     for value in list {
-        match tree_of(alloc, value) {
-            Ok(tree) => trees.push(tree)?,
-            Err(e) => return Err(e),
-        }
+        trees.push(tree_of(alloc, value)?)?;
     }
     Ok(trees)
 }
@@ -84,9 +81,29 @@ fn nulls(alloc: Global, value: &Value) -> VortexResult<Nulls>
     if let Value::Bool(false) = spelled {
         return Ok(Nulls::EveryRow);
     }
-    match tree_of(alloc, spelled) {
-        Ok(tree) => Ok(Nulls::Told(tree)),
-        Err(e) => Err(e),
+    Ok(Nulls::Told(tree_of(alloc, spelled)?))
+}
+
+/// Reads the tree of the encoding `enc`.
+#[cycle(tree_of)]
+fn node(alloc: Global, value: &Value, enc: &str) -> VortexResult<ArrayRef>
+    ensures ok { IfOk result (λ t. tree_by (view value.now) (Some enc.now) ≡ Some t) }
+    ensures err { IfErr result (IsRefused (tree_by (view value.now) (Some enc.now) ≡ None)) }
+{
+    match enc {
+        "col" => col(alloc, value),
+        "flat" => flat(alloc, value, &nulls(alloc, value)?),
+        "constant" => constant(alloc, value),
+        "null" => null(alloc, value),
+        "slice" => slice(alloc, value, child(alloc, value, Key::Child)?),
+        "filter" => filter(alloc, value, child(alloc, value, Key::Child)?),
+        "masked" => {
+            let child = child(alloc, value, Key::Child)?;
+            masked(alloc, value, child, &nulls(alloc, value)?)
+        }
+        "is_valid" => is_valid(alloc, value, child(alloc, value, Key::Child)?),
+        "fn" => call(alloc, value, children(alloc, value, Key::Args)?),
+        _ => Err(BAD_VALUE),
     }
 }
 
@@ -104,19 +121,8 @@ pub fn tree_of(alloc: Global, value: &Value) -> VortexResult<ArrayRef>
         × (tree_spelled (view value.now) ≡ None))) }
 {
     match text(value, "enc") {
-        Some("col") => col(alloc, value),
-        Some("flat") => flat(alloc, value, &nulls(alloc, value)?),
-        Some("constant") => constant(alloc, value),
-        Some("null") => null(alloc, value),
-        Some("slice") => slice(alloc, value, child(alloc, value, Key::Child)?),
-        Some("filter") => filter(alloc, value, child(alloc, value, Key::Child)?),
-        Some("masked") => {
-            let child = child(alloc, value, Key::Child)?;
-            masked(alloc, value, child, &nulls(alloc, value)?)
-        }
-        Some("is_valid") => is_valid(alloc, value, child(alloc, value, Key::Child)?),
-        Some("fn") => call(alloc, value, children(alloc, value, Key::Args)?),
-        _ => Err(BAD_VALUE),
+        Some(enc) => node(alloc, value, enc),
+        None => Err(BAD_VALUE),
     }
 }
 

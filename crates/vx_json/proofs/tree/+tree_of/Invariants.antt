@@ -5,10 +5,13 @@ use Rattle.vx_json.specs.Spelled.{trees_spelled}
 use Rattle.vx_json.proofs.tree.+tree_of.Given as goal
 
 abbrev pub decreases-tree_of : goal.decreases-tree_of
-decreases-tree_of l = 2 * depth (view l.value.now) + 1
+decreases-tree_of l = 3 * depth (view l.value.now) + 2
+
+abbrev pub decreases-node : goal.decreases-node
+decreases-node l = 3 * depth (view l.value.now) + 1
 
 abbrev pub decreases-trees_of : goal.decreases-trees_of
-decreases-trees_of l = 2 * items_depth (items_view l.list.now.items) + 2
+decreases-trees_of l = 3 * items_depth (items_view l.list.now.items) + 3
 
 -- the trees so far, and then those of the values that are left
 abbrev pub invariant-trees_of-loop-value : goal.invariant-trees_of-loop-value
@@ -16,10 +19,10 @@ invariant-trees_of-loop-value l = trees_spelled (items_view l.list.items) ≡ op
     (trees_spelled (items_view (drop l.value-index l.list.items)))
 
 abbrev pub decreases-children : goal.decreases-children
-decreases-children l = 2 * depth (view l.value.now)
+decreases-children l = 3 * depth (view l.value.now)
 
 abbrev pub decreases-child : goal.decreases-child
-decreases-child l = 2 * depth (view l.value.now)
+decreases-child l = 3 * depth (view l.value.now)
 
 abbrev pub decreases-nulls : goal.decreases-nulls
-decreases-nulls l = 2 * depth (view l.value.now)
+decreases-nulls l = 3 * depth (view l.value.now)
