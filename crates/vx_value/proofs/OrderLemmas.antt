@@ -5,9 +5,21 @@ use Rattle.std.specs.declared.cmp.Ordering.TheVariants.{Less, Equal, Greater}
 use Rattle.std.specs.Ordering.{is_eq, ordering_then}
 use Rattle.vx_value.specs.Types.{same_type, same_type_Decides}
 use Rattle.vx_value.specs.Typed.{Typed}
+use Rattle.vx_value.specs.View.{value_of}
+use Rattle.vx_value.specs.contracts.scalar.ScalarValueOrd.TheImpl.{ghosts}
+use Rattle.vx_value.specs.declared.scalar.ScalarValue.{ScalarValue}
+use Rattle.vx_value.specs.declared.scalar.ScalarValue.TheVariants as scalar
 use Rattle.vx_value.specs.Order.{value_cmp, same_value, same_scalar, scalar_cmp}
 use Rattle.vx_value.specs.OrderLaws.{same_value_Decides, same_scalar_Decides, scalar_cmp_order}
 use Rattle.std.proofs.Common.{ap}
+
+-- the derived order of values is that of what they stand for: a line for each kind of value
+pub derived_order : (v w : ScalarValue) → ghosts.cmp v w ≡ value_cmp (value_of v) (value_of w)
+derived_order (scalar.Bool a) (scalar.Bool b) = refl
+derived_order (scalar.Integer y) (scalar.Integer z) = refl
+derived_order (scalar.Decimal d) (scalar.Decimal e) = refl
+derived_order (scalar.Bytes bs) (scalar.Bytes cs) = refl
+derived_order _ _ = refl
 
 -- an order of two parts finds no difference exactly where neither does
 pub then_ties : (o p : Ordering) → is_eq (ordering_then o p) ≡ (is_eq o && is_eq p)

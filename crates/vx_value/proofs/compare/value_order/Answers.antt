@@ -8,6 +8,7 @@ use Rattle.vx_value.specs.declared.scalar.ScalarValue.TheVariants as scalar
 use Rattle.vx_value.specs.Order.{value_cmp}
 use Rattle.vx_value.specs.Values as value
 use Rattle.vx_value.specs.View.{value_of, cell_seen}
+use Rattle.vx_value.proofs.OrderLemmas.{derived_order}
 use Rattle.vx_value.proofs.compare.value_order.Goals as goal
 
 -- null comes first: a line for each place
@@ -19,19 +20,12 @@ null_after : (v : ScalarValue) → Greater ≡ value_cmp (value_of v) value.null
 null_after (scalar.Bool b) = refl
 null_after _ = refl
 
--- and the rest as the derived order has it: a line for each kind of value
-derived : (v w : ScalarValue) → ghosts.cmp v w ≡ value_cmp (value_of v) (value_of w)
-derived (scalar.Bool a) (scalar.Bool b) = refl
-derived (scalar.Integer y) (scalar.Integer z) = refl
-derived (scalar.Decimal d) (scalar.Decimal e) = refl
-derived (scalar.Bytes bs) (scalar.Bytes cs) = refl
-derived _ _ = refl
-
+-- and the rest as the derived order has it
 seen : (v w : Option (Bor ScalarValue)) → option_cmp (λ x y. ghosts.cmp x.now y.now) v w ≡ value_cmp (cell_seen v) (cell_seen w)
 seen None None = refl
 seen None (Some w) = null_before w.now
 seen (Some v) None = null_after v.now
-seen (Some v) (Some w) = derived v.now w.now
+seen (Some v) (Some w) = derived_order v.now w.now
 
 pub returns : goal.returns
 returns c = c.cmp.ensures ∙ seen c.args.left c.args.right

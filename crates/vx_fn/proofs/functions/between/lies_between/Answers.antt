@@ -1,0 +1,62 @@
+use Rattle.std.proofs.Common.{◌≡◌, Bool, rules, ◌&&◌, refl, ap, ap₂, sym, ◌∙◌}
+use Rattle.vx_value.specs.Values.{Value, null, boolean}
+use Rattle.vx_value.specs.Cell.{Cell, value}
+use Rattle.vx_value.specs.View.{value_of}
+use Rattle.vx_value.specs.Order.{value_cmp}
+use Rattle.vx_value.specs.declared.scalar.ScalarValue.{ScalarValue}
+use Rattle.vx_value.specs.declared.scalar.ScalarValue.TheVariants as scalar
+use Rattle.vx_value.proofs.OrderLemmas.{derived_order}
+use Rattle.vx_fn.specs.Between.{is_below}
+use Rattle.vx_fn.specs.Meanings.{null_through}
+use Rattle.vx_fn.proofs.functions.between.lies_between.Goals as goal
+use Rattle.vx_fn.proofs.functions.between.lies_between.Goals.{in_default-2-via-in-Some+in-Some+in_default, in_default-2-via-in-Some+in_default}
+use Rattle.vx_fn.proofs.functions.between.lies_between.Goals.{in_default-2-via-in_default, then-is_below, else-is_below}
+
+-- a null gives null, and one further on does too
+by_null : (v : Value) (c : Cell) → null ≡ v → null_through v c ≡ value null
+by_null v c e = ap (λ x. null_through x c) (sym e)
+
+by_later : (v : Value) (c : Cell) → c ≡ value null → null_through v c ≡ value null
+by_later null c e = refl
+by_later _ c e = e
+
+-- so what is answered is null
+answered : (c : Cell) (r : Value) → r ≡ null → c ≡ value null → c ≡ value r
+answered c r e d = d ∙ ap value (sym e)
+
+-- a value there leaves what is given
+past_value : (x : ScalarValue) (c : Cell) → null_through (value_of x) c ≡ c
+past_value (scalar.Bool b) c = refl
+past_value _ c = refl
+
+pub returns-in_default-2-clause-value : goal.returns-in_default-2-clause-value
+returns-in_default-2-clause-value c =
+    let v = c.args.array.now.value in
+    let l = c.args.lower.now.value in
+    let u = c.args.upper.now.value in
+    answered _ _ (search rules) (elim c.in_default-2.branch [
+      | in_default-2-via-in-Some+in-Some+in_default w ↦ by_later v _ (by_later l _ (by_null u _ (search rules)))
+      | in_default-2-via-in-Some+in_default w ↦ by_later v _ (by_null l _ (search rules))
+      | in_default-2-via-in_default w ↦ by_null v _ (search rules)
+    ])
+
+pub returns-after-is_below-clause-value : goal.returns-after-is_below-clause-value
+returns-after-is_below-clause-value c =
+    let o = c.args.options in
+    let there = c.in-Some-Some-Some in
+    let v : Value = value_of there.value.now in
+    let l : Value = value_of there.least.now in
+    let u : Value = value_of there.greatest.now in
+    let last : Bool = is_below o.upper_strict (value_cmp v u) in
+    let first : is_below o.lower_strict (value_cmp l v) ≡ c.is_below.result =
+    ap (is_below o.lower_strict) (sym (c.cmp.ensures ∙ derived_order there.least.now there.value.now)) ∙ sym c.is_below.ensures in
+    let held : is_below o.lower_strict (value_cmp l v) && last ≡ c.if-is_below.bool =
+    elim c.if-is_below.branch [
+      | then-is_below w ↦
+          ap₂ ◌&&◌ (first ∙ w.if-is_below.true) (ap (is_below o.upper_strict) (sym (w.cmp-then-is_below.ensures ∙ derived_order there.value.now there.greatest.now)))
+          ∙ sym w.is_below-then-is_below.ensures ∙ sym w.bool-is
+      | else-is_below w ↦ ap (λ b. b && last) (first ∙ w.if-is_below.false) ∙ sym w.if-is_below.false ∙ sym w.bool-is
+    ] in
+    rw (sym there.ensures.value) (rw (sym there.ensures'.value) (rw (sym there.ensures''.value)
+    (past_value there.value.now _ ∙ past_value there.least.now _ ∙ past_value there.greatest.now _
+    ∙ ap (λ b. value (boolean b)) held ∙ ap (λ s. value s.value) (sym c.bool.ensures))))
