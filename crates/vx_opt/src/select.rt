@@ -52,7 +52,6 @@ impl ArraySelect for ArrayRef {
 }
 
 /// Returns the rows of `array` in `range`.
-#[tactic(auto, using(crate::proofs::SelectLemmas::whole_keeps, crate::proofs::SelectLemmas::empty_keeps))]
 fn slice_rows(alloc: Global, array: &ArrayRef, range: Range<usize>) -> VortexResult<ArrayRef>
     ensures keeps { IfOk result (Keeps (slice_of range.start range.end array.now)) }
     ensures whole { range.start ≡ 0 → range.end ≡ len array.now → IfOk result (λ t. t ≡ array.now) }
