@@ -62,7 +62,8 @@ repeated_rows s n = by_value s.value
     by_value _ = any_rows (nullability_of s.of_type) n
 
 -- it has a row for each of the copies
-pub repeated_has : {X : Type 0} (s : Typed) (n : ℕ) (v : Validity) → v ≡ repeated_validity s → (xs : List X) (x : X) → xs ≡ replicate n x → HasRows v (length xs)
+pub repeated_has : {X : Type 0} (s : Typed) (n : ℕ) (v : Validity) → v ≡ repeated_validity s → (xs : List X) (x : X) → xs ≡ replicate n x
+    → HasRows v (length xs)
 repeated_has s n v told xs x made =
     subst (λ w. HasRows w (length xs)) (sym told) (subst (HasRows (repeated_validity s)) (sym (ap length made ∙ length-replicate n x)) (repeated_rows s n))
 

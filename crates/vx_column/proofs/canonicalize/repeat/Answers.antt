@@ -101,12 +101,14 @@ bool_column-requires c =
 pub primitive_column-requires : goal.primitive_column-requires
 primitive_column-requires c =
     let made = c.in_ok-values-in-Integers in
-    repeated_has c.args.scalar.now c.args.len c.repeated_validity-validity.result c.repeated_validity-validity.ensures (values_of made.values) _ made.ensures.values
+    repeated_has c.args.scalar.now c.args.len c.repeated_validity-validity.result c.repeated_validity-validity.ensures (values_of made.values) _
+    made.ensures.values
 
 pub decimal_column-requires-clause-sized : goal.decimal_column-requires-clause-sized
 decimal_column-requires-clause-sized c =
     let made = c.in_ok-values-in-Decimals in
-    repeated_has c.args.scalar.now c.args.len c.repeated_validity-validity.result c.repeated_validity-validity.ensures (numbers_of made.values) _ made.ensures.values
+    repeated_has c.args.scalar.now c.args.len c.repeated_validity-validity.result c.repeated_validity-validity.ensures (numbers_of made.values) _
+    made.ensures.values
 
 pub varbinview_column-requires-clause-sized : goal.varbinview_column-requires-clause-sized
 varbinview_column-requires-clause-sized c =

@@ -141,19 +141,23 @@ both_valid-requires-in-VarBinView-clause-second c =
 pub bool_column-requires : goal.bool_column-requires
 bool_column-requires c =
     let flat = subst IsNodeOf c.in-Bool.ensures.0 c.in-Bool.ensures.1 in
-    subst (HasRows c.in_ok-both-in-Bool.both) (c.len-len.ensures ∙ flat.2 ∙ sym (ap length c.in_ok-clone-in-Bool.ensures.cases)) c.in_ok-both-in-Bool.ensures.sized
+    subst (HasRows c.in_ok-both-in-Bool.both) (c.len-len.ensures ∙ flat.2 ∙ sym (ap length c.in_ok-clone-in-Bool.ensures.cases))
+    c.in_ok-both-in-Bool.ensures.sized
 
 pub primitive_column-requires : goal.primitive_column-requires
 primitive_column-requires c =
     let flat = subst IsNodeOf c.in-Primitive.ensures.0 c.in-Primitive.ensures.1 in
-    subst (HasRows c.in_ok-both-in-Primitive.both) (c.len-len.ensures ∙ flat.2 ∙ sym (ap length c.in_ok-clone-in-Primitive.ensures.cases.1)) c.in_ok-both-in-Primitive.ensures.sized
+    subst (HasRows c.in_ok-both-in-Primitive.both) (c.len-len.ensures ∙ flat.2 ∙ sym (ap length c.in_ok-clone-in-Primitive.ensures.cases.1))
+    c.in_ok-both-in-Primitive.ensures.sized
 
 pub decimal_column-requires-clause-sized : goal.decimal_column-requires-clause-sized
 decimal_column-requires-clause-sized c =
     let flat = subst IsNodeOf c.in-Decimal.ensures.0 c.in-Decimal.ensures.1 in
-    subst (HasRows c.in_ok-both-in-Decimal.both) (c.len-len.ensures ∙ flat.0.2 ∙ sym (ap length c.in_ok-clone-in-Decimal.ensures.cases.1)) c.in_ok-both-in-Decimal.ensures.sized
+    subst (HasRows c.in_ok-both-in-Decimal.both) (c.len-len.ensures ∙ flat.0.2 ∙ sym (ap length c.in_ok-clone-in-Decimal.ensures.cases.1))
+    c.in_ok-both-in-Decimal.ensures.sized
 
 pub varbinview_column-requires-clause-sized : goal.varbinview_column-requires-clause-sized
 varbinview_column-requires-clause-sized c =
     let flat = subst IsNodeOf c.in-VarBinView.ensures.0 c.in-VarBinView.ensures.1 in
-    subst (HasRows c.in_ok-both-in-VarBinView.both) (c.len-len.ensures ∙ flat.0.2 ∙ sym (ap length c.in_ok-clone-in-VarBinView.ensures.cases)) c.in_ok-both-in-VarBinView.ensures.sized
+    subst (HasRows c.in_ok-both-in-VarBinView.both) (c.len-len.ensures ∙ flat.0.2 ∙ sym (ap length c.in_ok-clone-in-VarBinView.ensures.cases))
+    c.in_ok-both-in-VarBinView.ensures.sized

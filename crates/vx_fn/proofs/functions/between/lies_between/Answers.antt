@@ -53,7 +53,8 @@ returns-after-is_below-clause-value c =
     let held : is_below o.lower_strict (value_cmp l v) && last ≡ c.if-is_below.bool =
     elim c.if-is_below.branch [
       | then-is_below w ↦
-          ap₂ ◌&&◌ (first ∙ w.if-is_below.true) (ap (is_below o.upper_strict) (sym (w.cmp-then-is_below.ensures ∙ derived_order there.value.now there.greatest.now)))
+          ap₂ ◌&&◌ (first ∙ w.if-is_below.true)
+          (ap (is_below o.upper_strict) (sym (w.cmp-then-is_below.ensures ∙ derived_order there.value.now there.greatest.now)))
           ∙ sym w.is_below-then-is_below.ensures ∙ sym w.bool-is
       | else-is_below w ↦ ap (λ b. b && last) (first ∙ w.if-is_below.false) ∙ sym w.if-is_below.false ∙ sym w.bool-is
     ] in
