@@ -1,4 +1,5 @@
-//! Tests of vx_value, vx_fn, vx_mask, vx_views and vx_tree: what their contracts and the program don't show.
+//! Tests of vx_value, vx_mask, vx_views and vx_tree, and laws that tell what their definitions come to in worked examples: what
+//! their contracts and the program don't show.
 //!
 //! A crate with tests is proved once more for them, so they stand here together.
 #![tactic(auto)]
@@ -6,15 +7,13 @@
 #[cfg(test)]
 mod buffers;
 #[cfg(test)]
-mod columns;
+mod errors;
+mod refusals;
 #[cfg(test)]
-mod functions;
-#[cfg(test)]
-mod parts;
-#[cfg(test)]
-mod trees;
-#[cfg(test)]
+mod sharing;
 mod values;
 mod weights;
 
+pub use refusals::{worked_columns, worked_functions, worked_lazy_nodes, worked_values};
+pub use values::{worked_orders, worked_types};
 pub use weights::worked_weights;
