@@ -3,12 +3,13 @@
 ghost use Rattle.std.specs.Prelude.{◌≡◌, ◌^◌, IfOk, map, replicate, true};
 ghost use Rattle.vx_value.specs.IsOf.{is_signed_below};
 
-use num_traits::{FromPrimitive, PrimInt};
+use num_traits::{FromPrimitive, Integral, ToPrimitive, Zero};
 use std::alloc::{AllocError, Global};
 use vx_mask::Buffer;
 
 /// The native integer types that a column stores: the eight of `NativeInteger`, and `i128`. (own)
-pub trait NativeNumber: PrimInt + FromPrimitive {
+// no more of num_traits than columns need: each function over such a type is proved with all that it has
+pub trait NativeNumber: Copy + Integral + Zero + ToPrimitive + FromPrimitive {
     /// States that the number fits in 128 bits.
     fn fits_wide(self)
         ensures { is_signed_below (2 ^ 127) (Self.value self) ≡ true };

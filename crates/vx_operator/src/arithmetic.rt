@@ -15,7 +15,7 @@ ghost use Rattle.vx_kernel.specs.Operands.{number_in, HasRow};
 ghost use Rattle.vx_rows.specs.ValidRows.{HasValidity};
 ghost use Rattle.vx_rows.specs.declared.argument.ArgumentRows.TheVariants.{Integers};
 
-use num_traits::{CheckedAdd, CheckedDiv, CheckedMul, CheckedSub};
+use crate::checked::CheckedNumber;
 use std::alloc::Global;
 use std::marker::PhantomData;
 use vx_kernel::{Calculation, IntegerCalculation, Operand, calculated_column, operand_of};
@@ -30,7 +30,7 @@ pub(crate) trait Arithmetic {
     ghost operator: { OperatorOf };
 
     /// Computes one row; `None` if its value isn't in the range of `T`, or the divisor is 0.
-    fn calculate_row<T: NativeInteger>(lhs: T, rhs: T) -> Option<T>
+    fn calculate_row<T: NativeInteger + CheckedNumber>(lhs: T, rhs: T) -> Option<T>
         ensures { MatchOption result
             (calculated operator T.kind (T.value lhs) (T.value rhs) ≡ fault)
             (λ r. calculated operator T.kind (T.value lhs) (T.value rhs) ≡ value (integer (T.value r))) };
@@ -43,7 +43,7 @@ impl Arithmetic for Sum {
     ghost operator = { Add };
 
     #[inline]
-    fn calculate_row<T: NativeInteger>(lhs: T, rhs: T) -> Option<T> {
+    fn calculate_row<T: NativeInteger + CheckedNumber>(lhs: T, rhs: T) -> Option<T> {
         lhs.checked_add(&rhs)
     }
 }
@@ -55,7 +55,7 @@ impl Arithmetic for Difference {
     ghost operator = { Sub };
 
     #[inline]
-    fn calculate_row<T: NativeInteger>(lhs: T, rhs: T) -> Option<T> {
+    fn calculate_row<T: NativeInteger + CheckedNumber>(lhs: T, rhs: T) -> Option<T> {
         lhs.checked_sub(&rhs)
     }
 }
@@ -67,7 +67,7 @@ impl Arithmetic for Product {
     ghost operator = { Mul };
 
     #[inline]
-    fn calculate_row<T: NativeInteger>(lhs: T, rhs: T) -> Option<T> {
+    fn calculate_row<T: NativeInteger + CheckedNumber>(lhs: T, rhs: T) -> Option<T> {
         lhs.checked_mul(&rhs)
     }
 }
@@ -79,7 +79,7 @@ impl Arithmetic for Quotient {
     ghost operator = { Div };
 
     #[inline]
-    fn calculate_row<T: NativeInteger>(lhs: T, rhs: T) -> Option<T> {
+    fn calculate_row<T: NativeInteger + CheckedNumber>(lhs: T, rhs: T) -> Option<T> {
         if rhs.to_wide() == 0 {
             return None;
         }
@@ -95,7 +95,7 @@ struct Operation<'a, T, A> {
     operator: PhantomData<A>,
 }
 
-impl<'a, T: NativeInteger, A: Arithmetic> Calculation<T> for Operation<'a, T, A> {
+impl<'a, T: NativeInteger + CheckedNumber, A: Arithmetic> Calculation<T> for Operation<'a, T, A> {
     ghost has_row = { λ s i. HasRow s.left i × HasRow s.right i };
 
     ghost cell = { λ s i. calculated A.operator T.kind (number_in T.value s.left i) (number_in T.value s.right i) };
@@ -108,13 +108,14 @@ impl<'a, T: NativeInteger, A: Arithmetic> Calculation<T> for Operation<'a, T, A>
     }
 }
 
-impl<'a, T: NativeInteger, A: Arithmetic> IntegerCalculation<T> for Operation<'a, T, A> {
+impl<'a, T: NativeInteger + CheckedNumber, A: Arithmetic> IntegerCalculation<T>
+    for Operation<'a, T, A> {
     fn are_integers(&self) {}
 }
 
 /// Applies `A` to the `valid` rows of `lhs` and `rhs`, `len` rows each, which must be of the type `T`; the other rows are null.
 /// `Fault` if a row has no value.
-pub(crate) fn calculate<T: NativeInteger, A: Arithmetic>(
+pub(crate) fn calculate<T: NativeInteger + CheckedNumber, A: Arithmetic>(
     alloc: Global,
     lhs: IntegerOperand<'_>,
     rhs: IntegerOperand<'_>,

@@ -17,22 +17,22 @@ ghost use Rattle.vx_operator.specs.Digits.{is_within, AreLimits, HasLimits, IsWi
 ghost use Rattle.vx_kernel.specs.Operands.{number_in, HasRow};
 
 use crate::arithmetic::{Arithmetic, Difference, Sum};
+use crate::checked::CheckedNumber;
 use crate::comparison::compare_ordered;
-use num_traits::{CheckedAdd, CheckedSub};
 use std::alloc::Global;
 use std::marker::PhantomData;
 use vx_fn::Operator;
 use vx_kernel::{
     Calculation, DecimalCalculation, Operand, calculated_decimals, decimal_operand_of,
 };
-use vx_native::{NativeDecimalType, NativeNumber, narrowed};
+use vx_native::{NativeDecimalType, narrowed};
 use vx_rows::{DecimalOperand, ValidRows};
 use vx_tree::Canonical;
 use vx_value::{DecimalDType, VortexError, VortexResult};
 
 /// Applies `operator` to the `valid` rows of `lhs` and `rhs`, `len` rows each, which must be of one type and stored in the width
 /// of `T`. The other rows are null. `Fault` if a row has no value.
-pub(crate) fn operate_decimals<T: NativeDecimalType>(
+pub(crate) fn operate_decimals<T: NativeDecimalType + CheckedNumber>(
     alloc: Global,
     operator: Operator,
     lhs: DecimalOperand<'_>,
@@ -90,7 +90,7 @@ fn compare_decimals<T: NativeDecimalType>(
 /// An arithmetic operator on decimals of one type.
 trait DecimalArithmetic: Arithmetic {
     /// Computes one row whatever its digits; `None` if `T` doesn't have its value.
-    fn calculate_number<T: NativeNumber>(lhs: T, rhs: T) -> Option<T>
+    fn calculate_number<T: CheckedNumber>(lhs: T, rhs: T) -> Option<T>
         ensures { (fit : ℤ → Cell) → IsWithin T.fits fit → MatchOption result
             (calculated_by Self.operator fit (T.value lhs) (T.value rhs) ≡ fault)
             (λ r. calculated_by Self.operator fit (T.value lhs) (T.value rhs) ≡ fit (T.value r)) };
@@ -98,14 +98,14 @@ trait DecimalArithmetic: Arithmetic {
 
 impl DecimalArithmetic for Sum {
     #[inline]
-    fn calculate_number<T: NativeNumber>(lhs: T, rhs: T) -> Option<T> {
+    fn calculate_number<T: CheckedNumber>(lhs: T, rhs: T) -> Option<T> {
         lhs.checked_add(&rhs)
     }
 }
 
 impl DecimalArithmetic for Difference {
     #[inline]
-    fn calculate_number<T: NativeNumber>(lhs: T, rhs: T) -> Option<T> {
+    fn calculate_number<T: CheckedNumber>(lhs: T, rhs: T) -> Option<T> {
         lhs.checked_sub(&rhs)
     }
 }
@@ -149,7 +149,8 @@ struct DecimalOperation<'a, T, A> {
     operator: PhantomData<A>,
 }
 
-impl<'a, T: NativeDecimalType, A: DecimalArithmetic> Calculation<T> for DecimalOperation<'a, T, A> {
+impl<'a, T: NativeDecimalType + CheckedNumber, A: DecimalArithmetic> Calculation<T>
+    for DecimalOperation<'a, T, A> {
     ghost has_row = { λ s i. HasRow s.left i × HasRow s.right i
         × HasLimits T.kind s.decimal.precision (T.value s.limits.least) (T.value s.limits.greatest) };
 
@@ -170,7 +171,7 @@ impl<'a, T: NativeDecimalType, A: DecimalArithmetic> Calculation<T> for DecimalO
     }
 }
 
-impl<'a, T: NativeDecimalType, A: DecimalArithmetic> DecimalCalculation<T>
+impl<'a, T: NativeDecimalType + CheckedNumber, A: DecimalArithmetic> DecimalCalculation<T>
     for DecimalOperation<'a, T, A> {
     ghost of_type = { λ s. s.decimal };
 
@@ -181,7 +182,7 @@ impl<'a, T: NativeDecimalType, A: DecimalArithmetic> DecimalCalculation<T>
 
 /// Applies `A` to the `valid` rows of `lhs` and `rhs`, `len` rows each, which must be of one type and stored in the width of `T`.
 /// The other rows are null. `Fault` if a row has no value.
-fn calculate_decimals<T: NativeDecimalType, A: DecimalArithmetic>(
+fn calculate_decimals<T: NativeDecimalType + CheckedNumber, A: DecimalArithmetic>(
     alloc: Global,
     lhs: DecimalOperand<'_>,
     rhs: DecimalOperand<'_>,

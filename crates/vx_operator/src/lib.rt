@@ -5,6 +5,7 @@ mod arithmetic;
 mod boolean;
 mod bounds;
 mod bytes;
+mod checked;
 mod checks;
 mod comparison;
 mod decimals;

@@ -13,6 +13,7 @@ ghost use Rattle.vx_rows.specs.declared.argument.ArgumentRows.TheVariants.{Integ
 use crate::arithmetic::{Difference, Product, Quotient, Sum, calculate};
 use crate::boolean::operate_bools;
 use crate::bytes::operate_bytes;
+use crate::checked::CheckedNumber;
 use crate::comparison::compare_natives;
 use crate::decimals::operate_decimals;
 use crate::logic::join;
@@ -100,7 +101,7 @@ fn operate_rows(
 /// Applies `operator` to the `valid` rows of `lhs` and `rhs`, `len` rows each, which must be of the type `T`. `Fault` if a row
 /// has no value.
 #[tactic(auto, using(crate::proofs::OperatorLemmas::integers_plain))]
-fn operate_natives<T: NativeInteger>(
+fn operate_natives<T: NativeInteger + CheckedNumber>(
     alloc: Global,
     operator: Operator,
     lhs: IntegerOperand<'_>,
