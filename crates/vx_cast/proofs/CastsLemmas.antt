@@ -3,7 +3,7 @@ use Rattle.std.proofs.Common.{◌≡◌, ◌==◌, ◌<◌, ◌+◌, ℕ, suc, �
 use Rattle.std.proofs.Common.{Option, Some, None, inl, inr, refl, sym, ap, ◌∙◌, subst, if◌then◌else◌, arith}
 use Rattle.std.specs.Prelude.{is_some, nat_lt, MatchOption, option_map}
 use Rattle.std.proofs.lemmas.Bool.Decides.{nat_tests}
-use Rattle.std.proofs.lemmas.Bool.{and_from}
+use Rattle.std.proofs.lemmas.Bool.{and_from, false≢true}
 use Rattle.std.specs.Cmp.{unsigned_Decides, second_so}
 use Rattle.vx_value.specs.Types.{DataType, null as null_type, bool, primitive, decimal, utf8, binary, nullability_of, is_nullable}
 use Rattle.vx_value.specs.Nullabilities.{with_nullability}
@@ -65,8 +65,8 @@ bytes_target : (m : Nullability) (st : Storage) (t : DataType) → has_cast (wit
     → t ≡ with_nullability (nullability_of t) (bytes_type (storage_of t))
 bytes_target m st (utf8 k) h = refl
 bytes_target m st (binary k) h = refl
-bytes_target m Text _ h = absurd (cc)
-bytes_target m _ _ h = absurd (cc)
+bytes_target m Text _ h = absurd (false≢true h)
+bytes_target m _ _ h = absurd (false≢true h)
 
 -- null alone goes into each nullable type
 nulls_target : (t : DataType) → has_cast null_type t ≡ true → nullability_of t ≡ Nullable
@@ -76,17 +76,17 @@ nulls_target (primitive p Nullable) h = refl
 nulls_target (decimal p s Nullable) h = refl
 nulls_target (utf8 Nullable) h = refl
 nulls_target (binary Nullable) h = refl
-nulls_target _ h = absurd (cc)
+nulls_target _ h = absurd (false≢true h)
 
 cast_target : (r : ArgumentRows) (m : Nullability) (t : DataType) → has_cast (with_nullability m (plain_type r)) t ≡ true → IsCastTarget r t
 cast_target stored.Nulls m t h = nulls_target t h
 cast_target (stored.Bits bs) m (bool k) h = refl
-cast_target (stored.Bits bs) m _ h = absurd (cc)
+cast_target (stored.Bits bs) m _ h = absurd (false≢true h)
 cast_target (stored.Integers zs) m (primitive p k) h = inl (p, refl)
 cast_target (stored.Integers zs) m (decimal p s k) h = inr (p, s, refl)
-cast_target (stored.Integers zs) m _ h = absurd (cc)
+cast_target (stored.Integers zs) m _ h = absurd (false≢true h)
 cast_target (stored.Decimals ds) m (decimal p s k) h = (p, s, refl)
-cast_target (stored.Decimals ds) m _ h = absurd (cc)
+cast_target (stored.Decimals ds) m _ h = absurd (false≢true h)
 cast_target (stored.Bytes bs) m t h = bytes_target m bs.storage t h
 
 -- ---- rows
