@@ -8,3 +8,6 @@ returns-clause-ok c =
     let whole : is_canonical (datum c.args.child.now) ≡ true = search rules in
     part_done c.args.range.start c.args.range.end c.args.child.now c.args.array.now c.in_ok-part.part c.requires.shape whole c.well.ensures.formed
     c.in_ok-part.ensures.canonical c.in_ok-part.ensures.ok
+
+pub returns-then-not-is-clause-ok : goal.returns-then-not-is-clause-ok
+returns-then-not-is-clause-ok c = search rules

@@ -17,3 +17,21 @@ returns-in-Ok-answer-clause-write_fault g c = λ d named fault.
     let answers : Answers command c.in-Ok.bytes.items text = subst (λ (bs : List ℕ). Answers command bs text) c.as_slice.ensures.value c.in-Ok-answer.ensures.ok in
     let told = c.finish-in-Ok-answer.ensures.fault fault in
     (told.0, (_, owed command d _ _ c.in-Ok.bytes.items _ same reads c.in-Ok.ensures.all (subst (Answers command c.in-Ok.bytes.items) (sym c.as_bytes-in-Ok-answer.ensures.value) answers), told.1))
+
+pub returns-in-None-clause-sink_kept : goal.returns-in-None-clause-sink_kept
+returns-in-None-clause-sink_kept g c = search rules
+
+pub returns-in-None-clause-unwritten : goal.returns-in-None-clause-unwritten
+returns-in-None-clause-unwritten g c = search rules
+
+pub returns-in-Ok-answer-clause-headline : goal.returns-in-Ok-answer-clause-headline
+returns-in-Ok-answer-clause-headline g c = λ d named done.
+    let command = c.in-Some.command in
+    let same : command ≡ d = cc (c.read_command.ensures, c.in-Some.is, named) in
+    let reads : reads_tree (Some command) ≡ true = search rules in
+    let text = string_bytes c.in-Ok-answer.text in
+    let answers : Answers command c.in-Ok.bytes.items text = subst (λ (bs : List ℕ). Answers command bs text) c.as_slice.ensures.value c.in-Ok-answer.ensures.ok in (
+      _,
+      owed command d _ _ c.in-Ok.bytes.items _ same reads c.in-Ok.ensures.all (subst (Answers command c.in-Ok.bytes.items) (sym c.as_bytes-in-Ok-answer.ensures.value) answers),
+      c.finish-in-Ok-answer.ensures.done done,
+    )
