@@ -92,22 +92,11 @@ fn text_at<'a>(bytes: &'a BytesOperand<'_>, valid: &ValidRows, index: usize) -> 
         ((is_valid valid.now index ≡ true) × (to_text (bytes_value (bytes_in bytes.now index)) ≡ fault))
         (λ r. (r.now ≡ none_unless (is_valid valid.now index) (bytes_in bytes.now index)) × (is_utf8 r.now ≡ true)) }
 {
-    if !is_valid_row(valid, index) {
+    if !valid.is_valid(index) {
         return Some(&[]);
     }
     let value = bytes.value(index);
     if is_text(value) { Some(value) } else { None }
-}
-
-/// Checks whether row `index`, which must exist, is valid.
-fn is_valid_row(valid: &ValidRows, index: usize) -> bool
-    requires { (n : ℕ) × (index < n) × HasValidity valid.now n }
-    ensures { result ≡ is_valid valid.now index }
-{
-    match valid {
-        ValidRows::All(_) => true,
-        ValidRows::Bits(bits) => bits.value(index),
-    }
 }
 
 /// Checks whether `bytes` are UTF-8.

@@ -13,7 +13,7 @@ use Rattle.vx_exec.specs.Moves.{IsExecuted, GoesOn}
 use Rattle.vx_json.specs.Spelled.{Spells}
 use Rattle.vx_stream.specs.Streams.{TakesAll}
 use Rattle.vx_main.specs.Commands.{limit_of, reads_tree}
-use Rattle.vx_main.specs.Output.{Shows}
+use Rattle.vx_text.specs.Output.{Shows}
 use Rattle.vx_main.specs.Runs.{Answers, IsSource, IsUnprepared, HasNoAnswer, Owes, is_column}
 use Rattle.vx_main.specs.Statuses.{status_of}
 use Rattle.vx_main.specs.declared.top.words.Command.{Command}

@@ -14,6 +14,4 @@ pub use Rattle.vx_tree.specs.Weight
 pub use Rattle.vx_opt.specs.Descends
 pub mod Commands
 pub mod Statuses
-pub mod Output
-pub mod Lines
 pub mod Runs

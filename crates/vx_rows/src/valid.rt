@@ -35,6 +35,18 @@ impl ValidRows {
         }
     }
 
+    /// Checks whether row `index`, which must exist, is valid. (own)
+    #[inline]
+    pub fn is_valid(&self, index: usize) -> bool
+        requires { (n : ℕ) × (index < n) × HasValidity self.now n }
+        ensures { result ≡ is_valid self.now index }
+    {
+        match self {
+            ValidRows::All(_) => true,
+            ValidRows::Bits(bits) => bits.value(index),
+        }
+    }
+
     /// Returns a bit for each row, true if the row is valid.
     pub fn as_operand(&self) -> BitOperand<'_>
         ensures bits { (i : ℕ) → bit_in result i ≡ is_valid self.now i }

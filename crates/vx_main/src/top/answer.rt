@@ -4,13 +4,13 @@ ghost use Rattle.std.specs.Prelude.{◌≡◌, IfOk, IfErr, Some, true, string_b
 ghost use Rattle.vx_main.specs.Commands.{reads_tree};
 ghost use Rattle.vx_main.specs.Runs.{Answers, HasNoAnswer, IsSource, IsUnprepared};
 
-use crate::top::column_text::column_text;
 use crate::top::status::Status;
 use crate::top::words::Command;
 use std::alloc::Global;
 use vx_exec::{ExecutionCtx, execute};
 use vx_json::tree_of_bytes;
 use vx_opt::{ArrayOptimizer, RuleRegistry};
+use vx_text::column_text;
 use vx_tree::ArrayRef;
 use vx_value::VortexResult;
 

@@ -1,8 +1,6 @@
 //! The run of the program: from words and input to output and status.
 
 mod answer;
-mod column_text;
-mod lines;
 mod run;
 mod session;
 mod status;

@@ -4,6 +4,6 @@ use Rattle.vx_cast.specs.Casts.{none_unless}
 use Rattle.vx_cast.proofs.TextLemmas.{none_text}
 use Rattle.vx_cast.proofs.text.text_at.Goals as goal
 
-pub returns-then-not-is_valid_row : goal.returns-then-not-is_valid_row
-returns-then-not-is_valid_row c =
-    (sym (ap (λ b. none_unless b (bytes_in c.args.bytes.now c.args.index)) (sym c.is_valid_row.ensures ∙ c.if-not-is_valid_row.true)), none_text)
+pub returns-then-not-is_valid : goal.returns-then-not-is_valid
+returns-then-not-is_valid c =
+    (sym (ap (λ b. none_unless b (bytes_in c.args.bytes.now c.args.index)) (sym c.is_valid.ensures ∙ c.if-not-is_valid.true)), none_text)

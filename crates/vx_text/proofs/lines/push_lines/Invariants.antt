@@ -1,7 +1,7 @@
 use Rattle.std.proofs.Common.{◌≡◌, ◌++◌, string_bytes}
 use Rattle.vx_rows.specs.ValidRows.{is_valid}
-use Rattle.vx_main.specs.Lines.{lines}
-use Rattle.vx_main.proofs.top.lines.push_lines.Given as goal
+use Rattle.vx_text.specs.Lines.{lines}
+use Rattle.vx_text.proofs.lines.push_lines.Given as goal
 
 -- the lines so far
 abbrev pub invariant-loop-index : goal.invariant-loop-index

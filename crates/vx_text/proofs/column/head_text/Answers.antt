@@ -1,8 +1,8 @@
 use Rattle.std.proofs.Common.{◌∙◌, ap}
 use Rattle.vx_value.specs.Ids.{id_text}
 use Rattle.vx_value.specs.Text.{type_text}
-use Rattle.vx_main.proofs.OutputLemmas.{head_pushed}
-use Rattle.vx_main.proofs.top.column_text.head_text.Goals as goal
+use Rattle.vx_text.proofs.OutputLemmas.{head_pushed}
+use Rattle.vx_text.proofs.column.head_text.Goals as goal
 
 pub returns : goal.returns
 returns c =

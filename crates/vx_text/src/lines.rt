@@ -7,7 +7,7 @@ ghost use Rattle.vx_native.specs.Natives.{values_of, ptype_of};
 ghost use Rattle.vx_rows.specs.Arguments.{IsSized};
 ghost use Rattle.vx_rows.specs.ValidRows.{is_valid, HasValidity};
 ghost use Rattle.vx_json.specs.RowText.{boolean_text};
-ghost use Rattle.vx_main.specs.Lines.{lines, integer_lines, row_text_at, row_lines, unless_null};
+ghost use Rattle.vx_text.specs.Lines.{lines, integer_lines, row_text_at, row_lines, unless_null};
 
 use vx_json::{PrintedNumber, push_integer, push_row};
 use vx_mask::{BitBuffer, BitOperand};
@@ -74,18 +74,6 @@ impl TextRows for Argument<'_> {
     }
 }
 
-/// Checks whether row `index`, which must exist, is valid.
-#[inline]
-fn is_valid_row(valid: &ValidRows, index: usize) -> bool
-    requires { (n : ℕ) × (index < n) × HasValidity valid.now n }
-    ensures { result ≡ is_valid valid.now index }
-{
-    match valid {
-        ValidRows::All(_) => true,
-        ValidRows::Bits(bits) => bits.value(index),
-    }
-}
-
 /// Appends a line for each of `len` rows: its text, or `null` unless it is `valid`. The only error is `OutOfMemory`; some of the lines
 /// may have been appended.
 fn push_lines<R: TextRows>(
@@ -100,7 +88,7 @@ fn push_lines<R: TextRows>(
     ensures err { IfErr result (λ e. e ≡ VortexError.OutOfMemory) }
 {
     for index in 0..len {
-        if is_valid_row(valid, index) {
+        if valid.is_valid(index) {
             rows.push_text(text, index)?;
             text.push('\n')?;
         } else {

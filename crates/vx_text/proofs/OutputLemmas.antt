@@ -18,8 +18,8 @@ use Rattle.vx_rows.specs.ValidRows.{is_valid, null_unless}
 use Rattle.vx_rows.specs.Arguments.{IsUnread as IsNotRead}
 use Rattle.vx_rows.specs.declared.argument.Argument.{Argument}
 use Rattle.std.proofs.lemmas.Option.{slice_get-get_or}
-use Rattle.vx_main.specs.Output.{Shows, IsUnread, head_lines, line}
-use Rattle.vx_main.specs.Lines.{unless_null, row_text_at, row_lines}
+use Rattle.vx_text.specs.Output.{Shows, IsUnread, head_lines, line}
+use Rattle.vx_text.specs.Lines.{unless_null, row_text_at, row_lines}
 
 -- the lines of the type and of the encoding, as they are appended
 head_of : (h ty e id n : List ℕ) → (((h ++ ty) ++ 10 ∷ e) ++ id) ++ n ≡ ((h ++ ty) ++ 10 ∷ []) ++ ((e ++ id) ++ n)

@@ -4,10 +4,10 @@ use Rattle.vx_tree.specs.Cells.{rows}
 use Rattle.vx_tree.specs.Well.{IsWell}
 use Rattle.vx_tree.specs.Columns.{columnar_tree}
 use Rattle.vx_tree.proofs.ColumnsLemmas.{column_known}
-use Rattle.vx_main.specs.Output.{head_lines}
-use Rattle.vx_main.specs.Lines.{row_lines}
-use Rattle.vx_main.proofs.OutputLemmas.{column_unread, shows_column}
-use Rattle.vx_main.proofs.top.column_text.column_text.Goals as goal
+use Rattle.vx_text.specs.Output.{head_lines}
+use Rattle.vx_text.specs.Lines.{row_lines}
+use Rattle.vx_text.proofs.OutputLemmas.{column_unread, shows_column}
+use Rattle.vx_text.proofs.column.column_text.Goals as goal
 
 pub returns-clause-ok : goal.returns-clause-ok
 returns-clause-ok c =

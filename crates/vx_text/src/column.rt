@@ -4,9 +4,9 @@ ghost use Rattle.std.specs.Prelude.{◌≡◌, IfOk, IfErr, OnOk, string_bytes};
 ghost use Rattle.vx_tree.specs.Tree.{dtype, datum, id_of};
 ghost use Rattle.vx_tree.specs.Cells.{rows};
 ghost use Rattle.vx_tree.specs.Columns.{IsLawful, columnar_tree};
-ghost use Rattle.vx_main.specs.Output.{Shows, IsUnread, head_lines};
+ghost use Rattle.vx_text.specs.Output.{Shows, IsUnread, head_lines};
 
-use crate::top::lines::push_rows;
+use crate::lines::push_rows;
 use std::alloc::{AllocError, Global};
 use vx_rows::argument_of;
 use vx_tree::{ArrayRef, Columnar};
@@ -26,7 +26,7 @@ fn head_text(alloc: Global, array: &ArrayRef) -> Result<String, AllocError>
 
 /// Returns the lines of the type and the encoding, and a line for each row. `Fault` only if a row has no value, as its validity
 /// may have none; `OutOfMemory`.
-pub(crate) fn column_text(alloc: Global, column: &Columnar) -> VortexResult<String>
+pub fn column_text(alloc: Global, column: &Columnar) -> VortexResult<String>
     ensures ok { IfOk result (λ s. Shows (dtype (columnar_tree column.now)) (id_of (datum (columnar_tree column.now))) (rows (columnar_tree column.now))
         (string_bytes s)) }
     ensures lawful { OnOk result (IsLawful (id_of (datum (columnar_tree column.now))) (dtype (columnar_tree column.now)) (rows (columnar_tree column.now))) }
