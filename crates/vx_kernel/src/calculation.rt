@@ -68,14 +68,10 @@ pub fn calculated_column<U: NativeInteger, C: IntegerCalculation<U>>(
     ensures ok { IfOk result (λ c. IsCalculated U.kind valid.now (C.cell calculation.now) len (canonical_tree c)) }
     ensures err { IfErr result (IsFaultyRow (is_valid valid.now) (C.cell calculation.now) len) }
 {
-    match calculate_rows::<U, C>(alloc, calculation, valid, len) {
-        Ok(numbers) => {
-            calculation.are_integers();
-            let values = U::wrap(Buffer::from_vec(alloc, numbers)?);
-            valid_integers(alloc, values, valid, len)
-        }
-        Err(e) => Err(e),
-    }
+    let numbers = calculate_rows::<U, C>(alloc, calculation, valid, len)?;
+    calculation.are_integers();
+    let values = U::wrap(Buffer::from_vec(alloc, numbers)?);
+    valid_integers(alloc, values, valid, len)
 }
 
 /// Makes the column of `calculation`, `len` rows of decimals, which must be stored in the width of `U`. The rows are null unless
@@ -92,14 +88,10 @@ pub fn calculated_decimals<U: NativeDecimalType, C: DecimalCalculation<U>>(
     ensures ok { IfOk result (λ c. AreCalculated (C.of_type calculation.now) valid.now (C.cell calculation.now) len (canonical_tree c)) }
     ensures err { IfErr result (IsFaultyRow (is_valid valid.now) (C.cell calculation.now) len) }
 {
-    match calculate_rows::<U, C>(alloc, calculation, valid, len) {
-        Ok(numbers) => {
-            let decimal = calculation.decimal();
-            let values = U::wrap_decimals(Buffer::from_vec(alloc, numbers)?);
-            valid_decimals(alloc, decimal, values, valid, len)
-        }
-        Err(e) => Err(e),
-    }
+    let numbers = calculate_rows::<U, C>(alloc, calculation, valid, len)?;
+    let decimal = calculation.decimal();
+    let values = U::wrap_decimals(Buffer::from_vec(alloc, numbers)?);
+    valid_decimals(alloc, decimal, values, valid, len)
 }
 
 /// Calculates the `valid` rows of `calculation`, `len` rows; 0 stands for the others. `Fault` if a row has no value.
@@ -116,14 +108,8 @@ fn calculate_rows<U: NativeNumber, C: Calculation<U>>(
     ensures err { IfErr result (IsFaultyRow (is_valid valid.now) (C.cell calculation.now) len) }
 {
     match valid {
-        ValidRows::All(_) => match calculate_all::<U, C>(alloc, calculation, len) {
-            Ok(numbers) => Ok(numbers),
-            Err(e) => Err(e),
-        },
-        ValidRows::Bits(valid) => match calculate_valid::<U, C>(alloc, calculation, valid, len) {
-            Ok(numbers) => Ok(numbers),
-            Err(e) => Err(e),
-        },
+        ValidRows::All(_) => calculate_all::<U, C>(alloc, calculation, len),
+        ValidRows::Bits(valid) => calculate_valid::<U, C>(alloc, calculation, valid, len),
     }
 }
 

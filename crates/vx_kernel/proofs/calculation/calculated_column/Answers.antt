@@ -13,20 +13,20 @@ use Rattle.vx_kernel.proofs.calculation.calculated_column.Goals as goal
 pub valid_integers-requires-clause-values : goal.valid_integers-requires-clause-values
 valid_integers-requires-clause-values g c =
     calculated_long g.U.Number.value (g.C.Calculation.stands_for c.args.calculation.now) c.args.valid.now (g.C.Calculation.cell c.args.calculation.now)
-    c.args.len c.in-Ok.numbers.items (values_of c.wrap-values.result)
-    (c.wrap-values.ensures.values ∙ ap (map g.U.Number.value) c.in_ok-from_vec-in-Ok.ensures) c.in-Ok.ensures.ok
+    c.args.len c.in_ok-numbers.numbers.items (values_of c.wrap-values.result)
+    (c.wrap-values.ensures.values ∙ ap (map g.U.Number.value) c.in_ok-from_vec.ensures) c.in_ok-numbers.ensures.ok
 
-pub returns-in_ok-from_vec-in-Ok-clause-ok : goal.returns-in_ok-from_vec-in-Ok-clause-ok
-returns-in_ok-from_vec-in-Ok-clause-ok g c =
+pub returns-clause-ok : goal.returns-clause-ok
+returns-clause-ok g c =
     IfOk-weaker c.valid_integers.result _ _
     (λ u made. (
       made.0 ∙ ap (λ p. primitive p (nullability_in c.args.valid.now)) c.wrap-values.ensures.same_kind,
       calculated_made g.U.Number.value integer c.args.valid.now (g.C.Calculation.cell c.args.calculation.now) c.args.len
-          c.in-Ok.numbers.items (values_of c.wrap-values.result)
-          (c.wrap-values.ensures.values ∙ ap (map g.U.Number.value) c.in_ok-from_vec-in-Ok.ensures)
-          (subst (λ f. map (λ x. value (f (g.U.Number.value x))) c.in-Ok.numbers.items
+          c.in_ok-numbers.numbers.items (values_of c.wrap-values.result)
+          (c.wrap-values.ensures.values ∙ ap (map g.U.Number.value) c.in_ok-from_vec.ensures)
+          (subst (λ f. map (λ x. value (f (g.U.Number.value x))) c.in_ok-numbers.numbers.items
           ≡ calculated_rows (f (pos 0)) (is_valid c.args.valid.now) (g.C.Calculation.cell c.args.calculation.now) c.args.len)
-          c.are_integers.ensures c.in-Ok.ensures.ok)
+          c.are_integers.ensures c.in_ok-numbers.ensures.ok)
           (canonical_tree u) made.1,
     ))
     c.valid_integers.ensures.ok

@@ -15,34 +15,34 @@ use Rattle.vx_kernel.proofs.calculation.calculated_decimals.Goals as goal
 pub valid_decimals-requires-clause-values : goal.valid_decimals-requires-clause-values
 valid_decimals-requires-clause-values g c =
     calculated_long g.U.Number.value (g.C.Calculation.stands_for c.args.calculation.now) c.args.valid.now (g.C.Calculation.cell c.args.calculation.now)
-    c.args.len c.in-Ok.numbers.items (numbers_of c.wrap_decimals-values.result)
-    (c.wrap_decimals-values.ensures.values ∙ ap (map g.U.Number.value) c.in_ok-from_vec-in-Ok.ensures) c.in-Ok.ensures.ok
+    c.args.len c.in_ok-numbers.numbers.items (numbers_of c.wrap_decimals-values.result)
+    (c.wrap_decimals-values.ensures.values ∙ ap (map g.U.Number.value) c.in_ok-from_vec.ensures) c.in_ok-numbers.ensures.ok
 
 pub valid_decimals-requires-clause-stored : goal.valid_decimals-requires-clause-stored
 valid_decimals-requires-clause-stored g c =
     let d = g.C.DecimalCalculation.of_type c.args.calculation.now in
     subst (λ e. are_decimals_of (stored_decimals e) (decimal_type_of c.wrap_decimals-values.result) (numbers_of c.wrap_decimals-values.result) ≡ true)
     (sym c.decimal-decimal.ensures.value)
-    (digits_stored g.U.Number.value d c.args.valid.now (g.C.Calculation.cell c.args.calculation.now) c.args.len c.in-Ok.numbers.items
+    (digits_stored g.U.Number.value d c.args.valid.now (g.C.Calculation.cell c.args.calculation.now) c.args.len c.in_ok-numbers.numbers.items
     (numbers_of c.wrap_decimals-values.result)
-    (c.wrap_decimals-values.ensures.values ∙ ap (map g.U.Number.value) c.in_ok-from_vec-in-Ok.ensures)
-    (subst (λ f. map (λ x. value (f (g.U.Number.value x))) c.in-Ok.numbers.items
+    (c.wrap_decimals-values.ensures.values ∙ ap (map g.U.Number.value) c.in_ok-from_vec.ensures)
+    (subst (λ f. map (λ x. value (f (g.U.Number.value x))) c.in_ok-numbers.numbers.items
     ≡ calculated_rows (f (pos 0)) (is_valid c.args.valid.now) (g.C.Calculation.cell c.args.calculation.now) c.args.len)
-    c.decimal-decimal.ensures.numbers c.in-Ok.ensures.ok)
+    c.decimal-decimal.ensures.numbers c.in_ok-numbers.ensures.ok)
     c.decimal-decimal.ensures.digits (decimal_type_of c.wrap_decimals-values.result) (c.wrap_decimals-values.ensures.same_kind ∙ c.requires.kind))
 
-pub returns-in_ok-from_vec-in-Ok-clause-ok : goal.returns-in_ok-from_vec-in-Ok-clause-ok
-returns-in_ok-from_vec-in-Ok-clause-ok g c =
+pub returns-clause-ok : goal.returns-clause-ok
+returns-clause-ok g c =
     IfOk-weaker c.valid_decimals.result _ _
     (λ u made. subst (λ d. AreCalculated d c.args.valid.now (g.C.Calculation.cell c.args.calculation.now) c.args.len (canonical_tree u))
     c.decimal-decimal.ensures.value (
       made.0,
       calculated_made g.U.Number.value (λ z. decimal z c.decimal-decimal.result.scale) c.args.valid.now (g.C.Calculation.cell c.args.calculation.now) c.args.len
-          c.in-Ok.numbers.items (numbers_of c.wrap_decimals-values.result)
-          (c.wrap_decimals-values.ensures.values ∙ ap (map g.U.Number.value) c.in_ok-from_vec-in-Ok.ensures)
-          (subst (λ f. map (λ x. value (f (g.U.Number.value x))) c.in-Ok.numbers.items
+          c.in_ok-numbers.numbers.items (numbers_of c.wrap_decimals-values.result)
+          (c.wrap_decimals-values.ensures.values ∙ ap (map g.U.Number.value) c.in_ok-from_vec.ensures)
+          (subst (λ f. map (λ x. value (f (g.U.Number.value x))) c.in_ok-numbers.numbers.items
           ≡ calculated_rows (f (pos 0)) (is_valid c.args.valid.now) (g.C.Calculation.cell c.args.calculation.now) c.args.len)
-          (c.decimal-decimal.ensures.numbers ∙ ap (λ d z. decimal z d.scale) (sym c.decimal-decimal.ensures.value)) c.in-Ok.ensures.ok)
+          (c.decimal-decimal.ensures.numbers ∙ ap (λ d z. decimal z d.scale) (sym c.decimal-decimal.ensures.value)) c.in_ok-numbers.ensures.ok)
           (canonical_tree u) made.1,
     ))
     c.valid_decimals.ensures.ok
