@@ -44,13 +44,8 @@ pub fn cast(
     ensures ok { IfOk result (λ c. IsComputed (Cast target.now) (input.now ∷ []) len (canonical_tree c)) }
     ensures err { IfErr result (IsNotComputed (Cast target.now) (input.now ∷ []) len) }
 {
-    match cast_valid_rows(&input.valid, target.nullability(), len) {
-        Ok(valid) => match cast_rows(alloc, target, input.rows, &valid, len) {
-            Ok(column) => Ok(column),
-            Err(e) => Err(e),
-        },
-        Err(e) => Err(e),
-    }
+    let valid = cast_valid_rows(&input.valid, target.nullability(), len)?;
+    cast_rows(alloc, target, input.rows, &valid, len)
 }
 
 /// Returns `valid`, of `len` rows, as the rows of a column of this nullability. `Fault` if a row is null and can't be.
@@ -165,10 +160,7 @@ fn cast_integers(
         valid,
         len,
     };
-    match convert(alloc, &conversion) {
-        Ok(column) => Ok(column),
-        Err(e) => Err(e),
-    }
+    convert(alloc, &conversion)
 }
 
 /// Makes the column of `integers`, `len` rows, that are null unless they are `valid`: shares their buffer. The only error is

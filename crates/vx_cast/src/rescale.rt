@@ -39,10 +39,7 @@ pub(crate) fn integers_to_decimals(
 {
     let values = integer_rows(alloc, integers, len)?;
     let rescaling = Rescaling::new(target, 0);
-    match rescale_numbers(alloc, rescaling, Numbers::Integers(&values), valid, len) {
-        Ok(column) => Ok(column),
-        Err(e) => Err(e),
-    }
+    rescale_numbers(alloc, rescaling, Numbers::Integers(&values), valid, len)
 }
 
 /// Casts the `valid` rows of `decimals`, `len` rows, to decimals of type `target`; the others are null. Shares their numbers if they are
@@ -66,10 +63,7 @@ pub(crate) fn cast_decimals(
     }
     let values = decimal_rows(alloc, decimals, len)?;
     let rescaling = Rescaling::new(target, decimals.decimal.scale());
-    match rescale_numbers(alloc, rescaling, Numbers::Decimals(&values), valid, len) {
-        Ok(column) => Ok(column),
-        Err(e) => Err(e),
-    }
+    rescale_numbers(alloc, rescaling, Numbers::Decimals(&values), valid, len)
 }
 
 /// Numbers that are cast to decimals.

@@ -45,10 +45,8 @@ pub(crate) fn cast_to_text(
         };
         return stored_column(alloc, ArgumentRows::Bytes(text), valid, len);
     }
-    match text_rows(alloc, bytes, valid, len) {
-        Ok(rows) => valid_bytes(alloc, Storage::Text, rows, valid, len),
-        Err(e) => Err(e),
-    }
+    let rows = text_rows(alloc, bytes, valid, len)?;
+    valid_bytes(alloc, Storage::Text, rows, valid, len)
 }
 
 /// Checks whether each row of `bytes` is UTF-8.

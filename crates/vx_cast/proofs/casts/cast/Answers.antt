@@ -1,33 +1,36 @@
-use Rattle.std.proofs.Common.{inl, inr, sym, ◌∙◌}
+use Rattle.std.proofs.Common.{inl, inr, sym, subst, ◌∙◌, ◌∷◌, []}
+use Rattle.std.proofs.lemmas.Result.{IfOk-weaker, IfErr-weaker, err_from_is_err_and}
+use Rattle.vx_fn.specs.declared.function.ScalarFnRef.TheVariants.{Cast}
 use Rattle.vx_tree.specs.Columns.{canonical_tree}
+use Rattle.vx_kernel.specs.Computed.{IsNotComputed}
 use Rattle.vx_cast.proofs.CastsLemmas.{shown_again, is_cast_target, cast_computed, cast_not_computed, null_not_computed}
 use Rattle.vx_cast.proofs.casts.cast.Goals as goal
 
 pub cast_rows-requires-clause-shown : goal.cast_rows-requires-clause-shown
 cast_rows-requires-clause-shown c =
     let a = c.args.input.now in
-    shown_again a.rows a.valid c.in-Ok.valid c.args.len c.in-Ok.ensures.rows c.requires.input.2
+    shown_again a.rows a.valid c.in_ok-valid.valid c.args.len c.in_ok-valid.ensures.rows c.requires.input.2
 
 pub cast_rows-requires-clause-target : goal.cast_rows-requires-clause-target
 cast_rows-requires-clause-target c = is_cast_target c.args.len c.args.input.now c.args.target.now c.requires.input c.requires.taken
 
-pub returns-in-Ok-cast_rows-clause-ok : goal.returns-in-Ok-cast_rows-clause-ok
-returns-in-Ok-cast_rows-clause-ok c =
-    cast_computed c.args.len c.args.input.now c.args.target.now c.requires.input c.requires.taken c.in-Ok.valid c.in-Ok.ensures.rows
-    (canonical_tree c.in-Ok-cast_rows.column) (c.in-Ok.ensures.nullability ∙ c.nullability.ensures) c.in-Ok-cast_rows.ensures.ok
-
-pub returns-in-Ok-clause-err : goal.returns-in-Ok-clause-err
-returns-in-Ok-clause-err c =
-    cast_not_computed c.args.len c.args.input.now c.args.target.now c.requires.input c.requires.taken c.in-Ok.valid c.in-Ok.ensures.rows c.in-Err-cast_rows.e
-    c.in-Err-cast_rows.ensures.err
+pub returns-clause-ok : goal.returns-clause-ok
+returns-clause-ok c =
+    IfOk-weaker c.cast_rows.result _ _
+    (λ u. cast_computed c.args.len c.args.input.now c.args.target.now c.requires.input c.requires.taken c.in_ok-valid.valid c.in_ok-valid.ensures.rows
+    (canonical_tree u) (c.in_ok-valid.ensures.nullability ∙ c.nullability.ensures)) c.cast_rows.ensures.ok
 
 pub returns-clause-err : goal.returns-clause-err
 returns-clause-err c =
-    elim c.in-Err.ensures.err [
+    IfErr-weaker c.cast_rows.result _ _
+    (cast_not_computed c.args.len c.args.input.now c.args.target.now c.requires.input c.requires.taken c.in_ok-valid.valid c.in_ok-valid.ensures.rows)
+    c.cast_rows.ensures.err
+
+pub returns-in_err-valid-clause-err : goal.returns-in_err-valid-clause-err
+returns-in_err-valid-clause-err c =
+    let p = err_from_is_err_and c.from_residual.result c.from_residual.ensures.1 in
+    let never = null_not_computed c.args.len c.args.input.now c.args.target.now c.requires.input c.requires.taken in
+    rw p.1 (subst (IsNotComputed (Cast c.args.target.now) (c.args.input.now ∷ []) c.args.len) (sym p.2) (elim c.in_err-valid.ensures.err [
       | inl memory ↦ inl memory
-      | inr h ↦
-          inr (
-            h.0,
-            null_not_computed c.args.len c.args.input.now c.args.target.now c.requires.input c.requires.taken h.2 h.3 h.4 (sym c.nullability.ensures ∙ h.1),
-          )
-    ]
+      | inr h ↦ inr (h.0, never h.2 h.3 h.4 (sym c.nullability.ensures ∙ h.1))
+    ]))

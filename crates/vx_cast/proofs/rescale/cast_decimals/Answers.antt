@@ -1,7 +1,7 @@
 use Rattle.std.proofs.Common.{◌≡◌, ◌==◌, ◌∙◌, true, sym}
 use Rattle.std.specs.Cmp.{unsigned_Decides, first_so, second_so}
 use Rattle.std.specs.Prelude.{◌&&◌}
-use Rattle.std.proofs.lemmas.Result.{IfOk-weaker}
+use Rattle.std.proofs.lemmas.Result.{IfOk-weaker, IfErr-weaker}
 use Rattle.vx_native.specs.DecimalNumbers.{numbers_of}
 use Rattle.vx_tree.specs.Columns.{canonical_tree}
 use Rattle.vx_rows.specs.Arguments.{unscaled_in}
@@ -23,14 +23,18 @@ pub rescale_numbers-requires-clause-rows : goal.rescale_numbers-requires-clause-
 rescale_numbers-requires-clause-rows c =
     counted (unscaled_in c.args.decimals) (numbers_of c.in_ok-values.values) c.args.len c.in_ok-values.ensures.values
 
-pub returns-in-Ok-clause-ok : goal.returns-in-Ok-clause-ok
-returns-in-Ok-clause-ok c =
+pub returns-clause-ok : goal.returns-clause-ok
+returns-clause-ok c =
     let new = c.new-rescaling in
-    decimals_cast new.result c.args.target c.args.decimals.decimal.scale new.ensures.target (new.ensures.scale ∙ c.scale.ensures) (unscaled_in c.args.decimals)
-    (numbers_of c.in_ok-values.values) c.args.valid.now c.args.len c.in_ok-values.ensures.values (canonical_tree c.in-Ok.column) c.in-Ok.ensures.ok
+    IfOk-weaker c.rescale_numbers.result _ _
+    (λ u. decimals_cast new.result c.args.target c.args.decimals.decimal.scale new.ensures.target (new.ensures.scale ∙ c.scale.ensures)
+    (unscaled_in c.args.decimals) (numbers_of c.in_ok-values.values) c.args.valid.now c.args.len c.in_ok-values.ensures.values (canonical_tree u))
+    c.rescale_numbers.ensures.ok
 
 pub returns-clause-err : goal.returns-clause-err
 returns-clause-err c =
     let new = c.new-rescaling in
-    decimals_not_cast new.result c.args.target c.args.decimals.decimal.scale new.ensures.target (new.ensures.scale ∙ c.scale.ensures)
-    (unscaled_in c.args.decimals) (numbers_of c.in_ok-values.values) c.args.valid.now c.args.len c.in_ok-values.ensures.values c.in-Err.e c.in-Err.ensures.err
+    IfErr-weaker c.rescale_numbers.result _ _
+    (decimals_not_cast new.result c.args.target c.args.decimals.decimal.scale new.ensures.target (new.ensures.scale ∙ c.scale.ensures)
+    (unscaled_in c.args.decimals) (numbers_of c.in_ok-values.values) c.args.valid.now c.args.len c.in_ok-values.ensures.values)
+    c.rescale_numbers.ensures.err

@@ -10,9 +10,9 @@ returns-then-are_text-clause-ok c =
     IfOk-weaker c.stored_column.result _ _ (λ u h. (h.0, text_kept c.args.bytes.rows c.args.valid.now c.args.len (canonical_tree u) are h.1))
     c.stored_column.ensures.ok
 
-pub returns-in-Ok-clause-ok : goal.returns-in-Ok-clause-ok
-returns-in-Ok-clause-ok c =
-    let made = c.in-Ok.ensures in
+pub returns-clause-ok : goal.returns-clause-ok
+returns-clause-ok c =
+    let made = c.in_ok-rows.ensures in
     IfOk-weaker c.valid_bytes.result _ _
-    (λ u h. (h.0, text_made (bytes_in c.args.bytes) c.args.valid.now c.args.len c.in-Ok.rows (canonical_tree u) made.rows made.text h.1))
+    (λ u h. (h.0, text_made (bytes_in c.args.bytes) c.args.valid.now c.args.len c.in_ok-rows.rows (canonical_tree u) made.rows made.text h.1))
     c.valid_bytes.ensures.ok
