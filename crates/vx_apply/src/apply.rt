@@ -35,17 +35,12 @@ pub fn apply_fn(
     ensures err { IfErr result (IsUnapplied function.now (map columnar_tree arguments.now) len) }
 {
     match constants(alloc, arguments, len)? {
-        Some(scalars) => match apply_constants(alloc, function, scalars.as_slice(), len) {
-            Ok(column) => Ok(column),
-            Err(e) => Err(e),
-        },
-        None => match arguments_of(alloc, arguments) {
-            Ok(rows) => match apply_to_columns(alloc, function, rows.as_slice(), len) {
-                Ok(column) => Ok(Columnar::Canonical(column)),
-                Err(e) => Err(e),
-            },
-            Err(e) => Err(e),
-        },
+        Some(scalars) => apply_constants(alloc, function, scalars.as_slice(), len),
+        None => {
+            let rows = arguments_of(alloc, arguments)?;
+            let column = apply_to_columns(alloc, function, rows.as_slice(), len)?;
+            Ok(Columnar::Canonical(column))
+        }
     }
 }
 

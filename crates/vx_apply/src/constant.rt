@@ -60,11 +60,6 @@ pub(crate) fn apply_constants(
     ensures constant { IfOk result (λ c. is_constant (datum (columnar_tree c)) ≡ true) }
     ensures err { IfErr result (IsNoResult function.now (types_of_scalars scalars.now) (λ _. cells_of_scalars scalars.now) len) }
 {
-    match apply_row(function, scalars) {
-        Ok(scalar) => match Columnar::constant(alloc, scalar, len) {
-            Ok(column) => Ok(column),
-            Err(e) => Err(e),
-        },
-        Err(e) => Err(e),
-    }
+    let scalar = apply_row(function, scalars)?;
+    Columnar::constant(alloc, scalar, len)
 }

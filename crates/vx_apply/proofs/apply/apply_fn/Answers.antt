@@ -1,7 +1,10 @@
-use Rattle.std.proofs.Common.{◌∙◌, sym}
+use Rattle.std.proofs.Common.{◌∙◌, sym, subst, map}
+use Rattle.std.proofs.lemmas.Result.{IfErr-weaker, err_from_is_err_and}
 use Rattle.vx_tree.specs.Tree.{datum}
-use Rattle.vx_tree.specs.Columns.{canonical_tree}
+use Rattle.vx_tree.specs.Columns.{canonical_tree, columnar_tree}
 use Rattle.vx_tree.proofs.ColumnsLemmas.{canonical_open}
+use Rattle.vx_rows.proofs.CellsLemmas.{IfOk-both}
+use Rattle.vx_apply.specs.Applied.{IsUnapplied}
 use Rattle.vx_apply.proofs.AppliedLemmas.{taken, call_taken, applied, unapplied, unread, all_repeat}
 use Rattle.vx_apply.proofs.CallsLemmas.{argument_rows, scalar_rows, arguments_sized}
 use Rattle.vx_apply.proofs.apply.apply_fn.Goals as goal
@@ -12,44 +15,52 @@ apply_constants-requires-clause-taken c =
     let rows = scalar_rows c.args.function.now c.args.len c.args.arguments.now c.in-Some.scalars.items c.requires all in
     rw c.as_slice.ensures.value (taken c.args.function.now rows c.requires)
 
-pub returns-in-Ok-clause-ok : goal.returns-in-Ok-clause-ok
-returns-in-Ok-clause-ok c =
+pub returns-in-Some-clause-ok : goal.returns-in-Some-clause-ok
+returns-in-Some-clause-ok c =
     let n = c.args.len in
     let xs = c.args.arguments.now in
     let ss = c.in-Some.scalars.items in
     let all = rw c.in-Some.is at c.in_ok-scalars.ensures.all in
     let some = rw c.in-Some.is at c.in_ok-scalars.ensures.some in
-    let result = rw c.as_slice.ensures.value at c.in-Ok.ensures.ok in
-    applied (scalar_rows c.args.function.now n xs ss c.requires all) result (c.in-Ok.ensures.constant ∙ sym (all_repeat n xs ss some all))
+    IfOk-both c.apply_constants.result
+    (λ u made constant. applied (scalar_rows c.args.function.now n xs ss c.requires all) made (constant ∙ sym (all_repeat n xs ss some all)))
+    (rw c.as_slice.ensures.value at c.apply_constants.ensures.ok) c.apply_constants.ensures.constant
 
 pub returns-in-Some-clause-err : goal.returns-in-Some-clause-err
 returns-in-Some-clause-err c =
     let all = rw c.in-Some.is at c.in_ok-scalars.ensures.all in
     let rows = scalar_rows c.args.function.now c.args.len c.args.arguments.now c.in-Some.scalars.items c.requires all in
-    unapplied c.args.function.now rows c.in-Err.e (rw c.as_slice.ensures.value at c.in-Err.ensures.err)
+    IfErr-weaker c.apply_constants.result _ _ (unapplied c.args.function.now rows) (rw c.as_slice.ensures.value at c.apply_constants.ensures.err)
 
 pub apply_to_columns-requires-clause-sized : goal.apply_to_columns-requires-clause-sized
 apply_to_columns-requires-clause-sized c =
-    rw c.as_slice-in-Ok-arguments_of.ensures.value
-    (arguments_sized c.args.function.now c.args.len c.args.arguments.now c.in-Ok-arguments_of.rows.items c.requires c.in-Ok-arguments_of.ensures.ok)
+    rw c.as_slice-in-None.ensures.value
+    (arguments_sized c.args.function.now c.args.len c.args.arguments.now c.in_ok-rows-in-None.rows.items c.requires c.in_ok-rows-in-None.ensures.ok)
 
 pub apply_to_columns-requires-clause-taken : goal.apply_to_columns-requires-clause-taken
 apply_to_columns-requires-clause-taken c =
-    let rows = argument_rows c.args.function.now c.args.len c.args.arguments.now c.in-Ok-arguments_of.rows.items c.requires c.in-Ok-arguments_of.ensures.ok in
-    rw c.as_slice-in-Ok-arguments_of.ensures.value (call_taken c.args.function.now rows c.requires)
+    let rows = argument_rows c.args.function.now c.args.len c.args.arguments.now c.in_ok-rows-in-None.rows.items c.requires c.in_ok-rows-in-None.ensures.ok in
+    rw c.as_slice-in-None.ensures.value (call_taken c.args.function.now rows c.requires)
 
-pub returns-in-Ok-apply_to_columns-clause-ok : goal.returns-in-Ok-apply_to_columns-clause-ok
-returns-in-Ok-apply_to_columns-clause-ok c =
-    let rows = argument_rows c.args.function.now c.args.len c.args.arguments.now c.in-Ok-arguments_of.rows.items c.requires c.in-Ok-arguments_of.ensures.ok in
-    let made = rw c.as_slice-in-Ok-arguments_of.ensures.value at c.in-Ok-apply_to_columns.ensures.ok in
+pub returns-in_ok-column-in-None-clause-ok : goal.returns-in_ok-column-in-None-clause-ok
+returns-in_ok-column-in-None-clause-ok c =
+    let rows = argument_rows c.args.function.now c.args.len c.args.arguments.now c.in_ok-rows-in-None.rows.items c.requires c.in_ok-rows-in-None.ensures.ok in
+    let made = rw c.as_slice-in-None.ensures.value at c.in_ok-column-in-None.ensures.ok in
     let other = rw c.in-None.is at c.in_ok-scalars.ensures.not_all in
-    applied rows made.result (canonical_open (datum (canonical_tree c.in-Ok-apply_to_columns.column)) made.canonical ∙ sym other)
+    applied rows made.result (canonical_open (datum (canonical_tree c.in_ok-column-in-None.column)) made.canonical ∙ sym other)
 
-pub returns-in-Ok-arguments_of-clause-err : goal.returns-in-Ok-arguments_of-clause-err
-returns-in-Ok-arguments_of-clause-err c =
-    let rows = argument_rows c.args.function.now c.args.len c.args.arguments.now c.in-Ok-arguments_of.rows.items c.requires c.in-Ok-arguments_of.ensures.ok in
-    unapplied c.args.function.now rows c.in-Err-apply_to_columns.e (rw c.as_slice-in-Ok-arguments_of.ensures.value at c.in-Err-apply_to_columns.ensures.err)
+pub returns-in_err-column-in-None-clause-err : goal.returns-in_err-column-in-None-clause-err
+returns-in_err-column-in-None-clause-err c =
+    let f = c.args.function.now in
+    let xs = c.args.arguments.now in
+    let p = err_from_is_err_and c.from_residual-in_err-column-in-None.result c.from_residual-in_err-column-in-None.ensures.1 in
+    let rows = argument_rows f c.args.len xs c.in_ok-rows-in-None.rows.items c.requires c.in_ok-rows-in-None.ensures.ok in
+    rw p.1 (subst (IsUnapplied f (map columnar_tree xs) c.args.len) (sym p.2)
+    (unapplied f rows c.in_err-column-in-None.field-0.0 (rw c.as_slice-in-None.ensures.value at c.in_err-column-in-None.ensures.err)))
 
-pub returns-clause-err : goal.returns-clause-err
-returns-clause-err c =
-    unread c.args.function.now c.args.arguments.now c.args.len c.in-Err-arguments_of.e c.requires c.in-Err-arguments_of.ensures.err
+pub returns-in_err-rows-in-None-clause-err : goal.returns-in_err-rows-in-None-clause-err
+returns-in_err-rows-in-None-clause-err c =
+    let f = c.args.function.now in
+    let xs = c.args.arguments.now in
+    let p = err_from_is_err_and c.from_residual-in_err-rows-in-None.result c.from_residual-in_err-rows-in-None.ensures.1 in
+    rw p.1 (subst (IsUnapplied f (map columnar_tree xs) c.args.len) (sym p.2) (unread f xs c.args.len c.in_err-rows-in-None.field-0.0 c.requires c.in_err-rows-in-None.ensures.err))
