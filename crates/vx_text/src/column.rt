@@ -37,10 +37,7 @@ pub fn column_text(alloc: Global, column: &Columnar) -> VortexResult<String>
     let mut text = head_text(alloc, array)?;
     // A row takes at least two bytes, so a column too long for memory is refused at once.
     text.reserve(array.len().saturating_mul(2))?;
-    let argument = match argument_of(alloc, column) {
-        Ok(argument) => argument,
-        Err(e) => return Err(e),
-    };
+    let argument = argument_of(alloc, column)?;
     push_rows(&mut text, &argument, array.len())?;
     Ok(text)
 }
