@@ -231,10 +231,7 @@ fn function_at(
             Err(e) => return Err(e),
         }
     }
-    match apply_row(scalar_fn, scalars.as_slice()) {
-        Ok(scalar) => Ok(scalar),
-        Err(e) => Err(e),
-    }
+    apply_row(scalar_fn, scalars.as_slice())
 }
 
 /// Returns the boolean that a column of type `dtype` stores in row `index`.

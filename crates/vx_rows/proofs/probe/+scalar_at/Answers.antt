@@ -148,14 +148,15 @@ function_at-apply_row-requires t c =
     c.loop-slot.invariant in
     function_taken c.args.array.now c.args.scalar_fn.now xs c.args.index c.requires.shape c.requires.well ss read
 
-pub function_at-returns-in-Ok-apply_row-clause-ok : goal.function_at-returns-in-Ok-apply_row-clause-ok
-function_at-returns-in-Ok-apply_row-clause-ok t c =
+pub function_at-returns-clause-ok : goal.function_at-returns-clause-ok
+function_at-returns-clause-ok t c =
     let xs = c.args.slots.now in
     let ss = c.as_slice.result.now in
     let read = all_read c.args.index c.loop-slot.slot-index xs c.loop-slot.scalars.items ss c.loop-slot-test.false c.as_slice.ensures.value
     c.loop-slot.invariant in
-    function_row c.args.array.now c.args.scalar_fn.now xs c.args.index c.requires.shape c.requires.well ss read c.in-Ok-apply_row.scalar c.requires.index
-    c.in-Ok-apply_row.ensures.typed c.in-Ok-apply_row.ensures.ok
+    IfOk-both c.apply_row.result
+    (λ s typed ok. function_row c.args.array.now c.args.scalar_fn.now xs c.args.index c.requires.shape c.requires.well ss read s c.requires.index typed ok)
+    c.apply_row.ensures.typed c.apply_row.ensures.ok
 
 pub function_at-returns-clause-err : goal.function_at-returns-clause-err
 function_at-returns-clause-err t c =
@@ -163,11 +164,13 @@ function_at-returns-clause-err t c =
     let ss = c.as_slice.result.now in
     let read = all_read c.args.index c.loop-slot.slot-index xs c.loop-slot.scalars.items ss c.loop-slot-test.false c.as_slice.ensures.value
     c.loop-slot.invariant in
-    elim c.in-Err-apply_row.ensures.fault [
+    IfErr-weaker c.apply_row.result _ _
+    (λ e h. elim h [
       | inl memory ↦ inl memory
       | inr m ↦
           inr (m.0, function_faulted c.args.array.now c.args.scalar_fn.now xs c.args.index c.requires.shape c.requires.well ss read c.requires.index m.1)
-    ]
+    ])
+    c.apply_row.ensures.fault
 
 pub unless_null-returns-in-Bool-default-None-clause-ok : goal.unless_null-returns-in-Bool-default-None-clause-ok
 unless_null-returns-in-Bool-default-None-clause-ok t c =
