@@ -12,3 +12,7 @@ unsigned_range k (negsuc n) = ((λ h. absurd h), (λ h. cc))
 pub signed_range : (w : Width) (z : ℤ) → FitsSigned w z ↔ (is_signed_below (2 ^ hbits w) z ≡ true)
 signed_range w (pos n) = ((λ h. lt-ltb n (2 ^ hbits w) h.sfits), (λ h. record { sfits = ltb-true n (2 ^ hbits w) h }))
 signed_range w (negsuc n) = ((λ h. lt-ltb n (2 ^ hbits w) h.sfits), (λ h. record { sfits = ltb-true n (2 ^ hbits w) h }))
+
+-- a clone of a number that is no more than its integer is the number
+pub same_number : {X : Type 0} (x y : X) → y ≡ x → y ≡ x
+same_number x y same = same

@@ -6,18 +6,14 @@ ghost use Rattle.vx_value.specs.Decimals.{same_width};
 ghost use Rattle.vx_native.specs.Widths.{fits_width};
 ghost use Rattle.vx_native.specs.DecimalNumbers.{numbers_of, decimal_type_of};
 
+use crate::number::fitted;
 use crate::{DecimalValues, NativeNumber};
 use vx_mask::Buffer;
-use vx_value::DecimalType;
 
 /// The integer types that decimals are stored in, without their points.
 pub trait NativeDecimalType: NativeNumber {
     // which of the five it is
     ghost kind: { WidthOf };
-
-    /// Returns the type as a `DecimalType`.
-    fn decimal_type() -> DecimalType
-        ensures { result ≡ kind };
 
     /// Returns the numbers as those of a column. Shares their storage.
     fn wrap_decimals(values: Buffer<Self>) -> DecimalValues
@@ -28,10 +24,6 @@ pub trait NativeDecimalType: NativeNumber {
     fn project_decimals(values: &DecimalValues) -> Option<&Buffer<Self>>
         ensures which { is_some result ≡ same_width (decimal_type_of values.now) kind }
         ensures value { IfSome result (λ b. map Self.value b.now ≡ numbers_of values.now) };
-
-    /// States that the number fits its own width.
-    fn fits_own(self)
-        ensures { fits_width kind (Self.value self) ≡ true };
 
     // the type has the integers of its width
     ghost fits_kind: { (z : ℤ) → Self.fits z ↔ (fits_width kind z ≡ true) };
@@ -50,8 +42,5 @@ pub fn narrowed<T: NativeDecimalType>(wide: i128) -> T
     requires { fits_width T.kind wide ≡ true }
     ensures { T.value result ≡ wide }
 {
-    let Some(value) = T::narrow(wide) else {
-        unreachable!()
-    };
-    value
+    fitted(wide)
 }

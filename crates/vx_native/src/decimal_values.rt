@@ -8,8 +8,9 @@ ghost use Rattle.vx_mask.specs.Places.{chosen};
 ghost use Rattle.vx_native.specs.Widths.{fits_width};
 ghost use Rattle.vx_native.specs.DecimalNumbers.{numbers_of, decimal_type_of};
 
-use crate::number::repeated;
-use crate::{NativeDecimalType, by_decimal_type, by_decimals, narrowed};
+use crate::buffers::{chosen_of, copies_of, number_at, part_of};
+use crate::macros::{kind_of, made};
+use crate::{NativeNumber, by_decimals};
 use std::alloc::{AllocError, Global};
 use std::ops::Range;
 use vx_mask::{Buffer, Mask};
@@ -25,23 +26,7 @@ pub enum DecimalValues {
     I128(Buffer<i128>),
 }
 
-fn type_of_buffer<T: NativeDecimalType>(_buffer: &Buffer<T>) -> DecimalType
-    ensures { result ≡ T.kind }
-{
-    T::decimal_type()
-}
-
-fn wide_at<T: NativeDecimalType>(buffer: &Buffer<T>, index: usize) -> i128
-    requires { index < length buffer.now }
-    ensures value { slice_get (map T.value buffer.now) index ≡ Some result }
-    ensures fits { fits_width T.kind result ≡ true }
-{
-    let value = buffer.as_slice()[index];
-    value.fits_own();
-    value.wide()
-}
-
-fn all_digits<T: NativeDecimalType>(buffer: &Buffer<T>, decimal: &DecimalDType) -> bool
+fn all_digits<T: NativeNumber>(buffer: &Buffer<T>, decimal: &DecimalDType) -> bool
     ensures { result ≡ list_all (has_digits decimal.now.precision) (map T.value buffer.now) }
 {
     let digits = decimal.digits();
@@ -51,52 +36,6 @@ fn all_digits<T: NativeDecimalType>(buffer: &Buffer<T>, decimal: &DecimalDType) 
         }
     }
     true
-}
-
-fn shared<T: NativeDecimalType>(buffer: &Buffer<T>) -> Result<DecimalValues, AllocError>
-    ensures kind { IfOk result (λ copy. decimal_type_of copy ≡ T.kind) }
-    ensures values { IfOk result (λ copy. numbers_of copy ≡ map T.value buffer.now) }
-{
-    Ok(T::wrap_decimals(buffer.clone()?))
-}
-
-#[tactic(auto, using(crate::proofs::NativesLemmas::map_part))]
-fn part_of<T: NativeDecimalType>(
-    buffer: &Buffer<T>,
-    range: Range<usize>,
-) -> Result<DecimalValues, AllocError>
-    requires order { range.start ≤ range.end }
-    requires bounds { range.end ≤ length buffer.now }
-    ensures kind { IfOk result (λ part. decimal_type_of part ≡ T.kind) }
-    ensures values { IfOk result (λ part. numbers_of part ≡ slice_range (map T.value buffer.now) range.start range.end) }
-{
-    Ok(T::wrap_decimals(buffer.slice(range)?))
-}
-
-#[tactic(auto, using(vx_mask::proofs::ChosenLemmas::chosen_map))]
-fn chosen_of<T: NativeDecimalType>(
-    buffer: &Buffer<T>,
-    alloc: Global,
-    mask: &Mask,
-) -> Result<DecimalValues, AllocError>
-    requires { length (bits_in mask.now) ≡ length buffer.now }
-    ensures kind { IfOk result (λ kept. decimal_type_of kept ≡ T.kind) }
-    ensures values { IfOk result (λ kept. numbers_of kept ≡ chosen (bits_in mask.now) (map T.value buffer.now)) }
-{
-    Ok(T::wrap_decimals(buffer.filter(alloc, mask)?))
-}
-
-fn copies_of<T: NativeDecimalType>(
-    alloc: Global,
-    wide: i128,
-    len: usize,
-) -> Result<DecimalValues, AllocError>
-    requires { fits_width T.kind wide ≡ true }
-    ensures kind { IfOk result (λ copies. decimal_type_of copies ≡ T.kind) }
-    ensures values { IfOk result (λ copies. numbers_of copies ≡ replicate len wide) }
-{
-    let value: T = narrowed(wide);
-    Ok(T::wrap_decimals(repeated(alloc, value, len)?))
 }
 
 impl DecimalValues {
@@ -111,7 +50,7 @@ impl DecimalValues {
     pub fn values_type(&self) -> DecimalType
         ensures { result ≡ decimal_type_of self.now }
     {
-        by_decimals!(self, |buffer| type_of_buffer(buffer))
+        kind_of!(self, DecimalValues => DecimalType, [I8, I16, I32, I64, I128])
     }
 
     /// Returns the value at `index`, counted from 0, without its point. It must be in bounds. (own)
@@ -120,7 +59,7 @@ impl DecimalValues {
         ensures value { slice_get (numbers_of self.now) index ≡ Some result }
         ensures fits { fits_width (decimal_type_of self.now) result ≡ true }
     {
-        by_decimals!(self, |buffer| wide_at(buffer, index))
+        by_decimals!(self, |buffer| number_at(buffer, index))
     }
 
     /// Checks whether each value has at most as many digits as the precision of `decimal`. (own)
@@ -137,7 +76,7 @@ impl DecimalValues {
         ensures kind { IfOk result (λ part. decimal_type_of part ≡ decimal_type_of self.now) }
         ensures values { IfOk result (λ part. numbers_of part ≡ slice_range (numbers_of self.now) range.start range.end) }
     {
-        by_decimals!(self, |buffer| part_of(buffer, range))
+        made!(self, DecimalValues(buffer) => DecimalValues, [I8, I16, I32, I64, I128], part_of(buffer, range))
     }
 
     /// Returns the values at the true bits of `mask`, in order; it must have a bit for each value. They share their storage with
@@ -147,7 +86,7 @@ impl DecimalValues {
         ensures kind { IfOk result (λ kept. decimal_type_of kept ≡ decimal_type_of self.now) }
         ensures values { IfOk result (λ kept. numbers_of kept ≡ chosen (bits_in mask.now) (numbers_of self.now)) }
     {
-        by_decimals!(self, |buffer| chosen_of(buffer, alloc, mask))
+        made!(self, DecimalValues(buffer) => DecimalValues, [I8, I16, I32, I64, I128], chosen_of(buffer, alloc, mask))
     }
 
     /// Returns `len` times the number `wide`, which must fit the width. Takes one allocation. (own)
@@ -161,7 +100,7 @@ impl DecimalValues {
         ensures kind { IfOk result (λ copies. decimal_type_of copies ≡ decimal_type) }
         ensures values { IfOk result (λ copies. numbers_of copies ≡ replicate len wide) }
     {
-        by_decimal_type!(decimal_type, copies_of(alloc, wide, len))
+        made!(decimal_type, DecimalType => DecimalValues, [I8, I16, I32, I64, I128], copies_of(alloc, wide, len))
     }
 }
 
@@ -169,6 +108,6 @@ impl Clone for DecimalValues {
     ghost is_clone = { λ a b. (decimal_type_of b ≡ decimal_type_of a) × (numbers_of b ≡ numbers_of a) };
 
     fn clone(&self) -> Result<DecimalValues, AllocError> {
-        by_decimals!(self, |buffer| shared(buffer))
+        made!(self, DecimalValues(buffer) => DecimalValues, [I8, I16, I32, I64, I128], buffer.clone())
     }
 }

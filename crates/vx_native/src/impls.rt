@@ -2,25 +2,19 @@
 
 ghost use Rattle.std.specs.Prelude.{◌≡◌, pos, map};
 ghost use Rattle.vx_value.specs.declared.dtype.PType.TheVariants as ptype;
-ghost use Rattle.vx_native.specs.Natives.{values_of, ptype_of};
+ghost use Rattle.vx_native.specs.declared.values.PrimitiveValues.TheVariants as variant;
 
 use crate::macros::variant;
 use crate::{NativeInteger, PrimitiveValues};
 use vx_mask::Buffer;
-use vx_value::PType;
 
 impl NativeInteger for u8 {
     ghost use Rattle.vx_native.specs.Ranges.{unsigned_range};
 
     ghost kind = { ptype.U8 };
 
-    fn ptype() -> PType {
-        PType::U8
-    }
-
     fn wrap(values: Buffer<u8>) -> PrimitiveValues
-        ensures same_kind { ptype_of result ≡ ptype.U8 }
-        ensures values { values_of result ≡ map (λ n. pos n) values }
+        ensures { result ≡ variant.U8 values }
     {
         PrimitiveValues::U8(values)
     }
@@ -28,8 +22,6 @@ impl NativeInteger for u8 {
     fn project(values: &PrimitiveValues) -> Option<&Buffer<u8>> {
         variant!(values, PrimitiveValues::U8)
     }
-
-    fn ranged(self) {}
 
     ghost fits_kind = { unsigned_range 8 };
 }
@@ -39,13 +31,8 @@ impl NativeInteger for u16 {
 
     ghost kind = { ptype.U16 };
 
-    fn ptype() -> PType {
-        PType::U16
-    }
-
     fn wrap(values: Buffer<u16>) -> PrimitiveValues
-        ensures same_kind { ptype_of result ≡ ptype.U16 }
-        ensures values { values_of result ≡ map (λ n. pos n) values }
+        ensures { result ≡ variant.U16 values }
     {
         PrimitiveValues::U16(values)
     }
@@ -53,8 +40,6 @@ impl NativeInteger for u16 {
     fn project(values: &PrimitiveValues) -> Option<&Buffer<u16>> {
         variant!(values, PrimitiveValues::U16)
     }
-
-    fn ranged(self) {}
 
     ghost fits_kind = { unsigned_range 16 };
 }
@@ -64,13 +49,8 @@ impl NativeInteger for u32 {
 
     ghost kind = { ptype.U32 };
 
-    fn ptype() -> PType {
-        PType::U32
-    }
-
     fn wrap(values: Buffer<u32>) -> PrimitiveValues
-        ensures same_kind { ptype_of result ≡ ptype.U32 }
-        ensures values { values_of result ≡ map (λ n. pos n) values }
+        ensures { result ≡ variant.U32 values }
     {
         PrimitiveValues::U32(values)
     }
@@ -78,8 +58,6 @@ impl NativeInteger for u32 {
     fn project(values: &PrimitiveValues) -> Option<&Buffer<u32>> {
         variant!(values, PrimitiveValues::U32)
     }
-
-    fn ranged(self) {}
 
     ghost fits_kind = { unsigned_range 32 };
 }
@@ -89,13 +67,8 @@ impl NativeInteger for u64 {
 
     ghost kind = { ptype.U64 };
 
-    fn ptype() -> PType {
-        PType::U64
-    }
-
     fn wrap(values: Buffer<u64>) -> PrimitiveValues
-        ensures same_kind { ptype_of result ≡ ptype.U64 }
-        ensures values { values_of result ≡ map (λ n. pos n) values }
+        ensures { result ≡ variant.U64 values }
     {
         PrimitiveValues::U64(values)
     }
@@ -103,8 +76,6 @@ impl NativeInteger for u64 {
     fn project(values: &PrimitiveValues) -> Option<&Buffer<u64>> {
         variant!(values, PrimitiveValues::U64)
     }
-
-    fn ranged(self) {}
 
     ghost fits_kind = { unsigned_range 64 };
 }
@@ -115,13 +86,8 @@ impl NativeInteger for i8 {
 
     ghost kind = { ptype.I8 };
 
-    fn ptype() -> PType {
-        PType::I8
-    }
-
     fn wrap(values: Buffer<i8>) -> PrimitiveValues
-        ensures same_kind { ptype_of result ≡ ptype.I8 }
-        ensures values { values_of result ≡ map (λ n. n) values }
+        ensures { result ≡ variant.I8 values }
     {
         PrimitiveValues::I8(values)
     }
@@ -129,8 +95,6 @@ impl NativeInteger for i8 {
     fn project(values: &PrimitiveValues) -> Option<&Buffer<i8>> {
         variant!(values, PrimitiveValues::I8)
     }
-
-    fn ranged(self) {}
 
     ghost fits_kind = { signed_range w8 };
 }
@@ -141,13 +105,8 @@ impl NativeInteger for i16 {
 
     ghost kind = { ptype.I16 };
 
-    fn ptype() -> PType {
-        PType::I16
-    }
-
     fn wrap(values: Buffer<i16>) -> PrimitiveValues
-        ensures same_kind { ptype_of result ≡ ptype.I16 }
-        ensures values { values_of result ≡ map (λ n. n) values }
+        ensures { result ≡ variant.I16 values }
     {
         PrimitiveValues::I16(values)
     }
@@ -155,8 +114,6 @@ impl NativeInteger for i16 {
     fn project(values: &PrimitiveValues) -> Option<&Buffer<i16>> {
         variant!(values, PrimitiveValues::I16)
     }
-
-    fn ranged(self) {}
 
     ghost fits_kind = { signed_range w16 };
 }
@@ -167,13 +124,8 @@ impl NativeInteger for i32 {
 
     ghost kind = { ptype.I32 };
 
-    fn ptype() -> PType {
-        PType::I32
-    }
-
     fn wrap(values: Buffer<i32>) -> PrimitiveValues
-        ensures same_kind { ptype_of result ≡ ptype.I32 }
-        ensures values { values_of result ≡ map (λ n. n) values }
+        ensures { result ≡ variant.I32 values }
     {
         PrimitiveValues::I32(values)
     }
@@ -181,8 +133,6 @@ impl NativeInteger for i32 {
     fn project(values: &PrimitiveValues) -> Option<&Buffer<i32>> {
         variant!(values, PrimitiveValues::I32)
     }
-
-    fn ranged(self) {}
 
     ghost fits_kind = { signed_range w32 };
 }
@@ -193,13 +143,8 @@ impl NativeInteger for i64 {
 
     ghost kind = { ptype.I64 };
 
-    fn ptype() -> PType {
-        PType::I64
-    }
-
     fn wrap(values: Buffer<i64>) -> PrimitiveValues
-        ensures same_kind { ptype_of result ≡ ptype.I64 }
-        ensures values { values_of result ≡ map (λ n. n) values }
+        ensures { result ≡ variant.I64 values }
     {
         PrimitiveValues::I64(values)
     }
@@ -207,8 +152,6 @@ impl NativeInteger for i64 {
     fn project(values: &PrimitiveValues) -> Option<&Buffer<i64>> {
         variant!(values, PrimitiveValues::I64)
     }
-
-    fn ranged(self) {}
 
     ghost fits_kind = { signed_range w64 };
 }

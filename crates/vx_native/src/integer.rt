@@ -6,18 +6,14 @@ ghost use Rattle.vx_value.specs.IsOf.{in_range};
 ghost use Rattle.vx_value.specs.declared.dtype.PType.{PType as PTypeOf};
 ghost use Rattle.vx_native.specs.Natives.{values_of, ptype_of};
 
+use crate::number::fitted;
 use crate::{NativeNumber, PrimitiveValues};
 use vx_mask::Buffer;
-use vx_value::PType;
 
 /// The integer types that a column can hold. (own)
 pub trait NativeInteger: NativeNumber {
     // which of the eight it is
     ghost kind: { PTypeOf };
-
-    /// Returns the type as a `PType`.
-    fn ptype() -> PType
-        ensures { result ≡ kind };
 
     /// Returns the values as those of a column. Shares their storage.
     fn wrap(values: Buffer<Self>) -> PrimitiveValues
@@ -28,10 +24,6 @@ pub trait NativeInteger: NativeNumber {
     fn project(values: &PrimitiveValues) -> Option<&Buffer<Self>>
         ensures which { is_some result ≡ same_ptype (ptype_of values.now) kind }
         ensures value { IfSome result (λ b. map Self.value b.now ≡ values_of values.now) };
-
-    /// States that the number is in the range of its type.
-    fn ranged(self)
-        ensures { in_range kind (Self.value self) ≡ true };
 
     // the type has the integers of its range
     ghost fits_kind: { (z : ℤ) → Self.fits z ↔ (in_range kind z ≡ true) };
@@ -50,8 +42,14 @@ pub trait NativeInteger: NativeNumber {
         ensures wide { result ≡ Self.value self }
         ensures ranged { in_range kind result ≡ true }
     {
-        self.ranged();
-        self.wide()
+        self.widened()
+    }
+
+    /// States that the number is in the range of its type.
+    final fn ranged(self)
+        ensures { in_range kind (Self.value self) ≡ true }
+    {
+        let _in_range = self.to_wide();
     }
 }
 
@@ -60,8 +58,5 @@ pub fn native_of<T: NativeInteger>(wide: i128) -> T
     requires { in_range T.kind wide ≡ true }
     ensures { T.value result ≡ wide }
 {
-    let Some(value) = T::from_wide(wide) else {
-        unreachable!()
-    };
-    value
+    fitted(wide)
 }

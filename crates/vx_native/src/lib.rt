@@ -1,6 +1,7 @@
 //! The native integer types of columns, and values of any of them in shared storage.
 #![tactic(auto)]
 
+mod buffers;
 mod decimal;
 mod decimal_impls;
 mod decimal_values;

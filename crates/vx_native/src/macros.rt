@@ -73,4 +73,35 @@ macro_rules! variant {
     };
 }
 
+/// Evaluates to the kind, of the enum `$kinds`, that the variant of a borrowed enum is named after.
+macro_rules! kind_of {
+    ($values:expr, $from:ident => $kinds:ident, [$($variant:ident),*]) => {
+        match $values {
+            $($from::$variant(_) => $kinds::$variant,)*
+        }
+    };
+}
+
+/// Makes an enum `$to` of the variant that a kind names, or that a value of the enum `$from` is of, out of the result of `$body`.
+macro_rules! made {
+    ($kind:expr, $kinds:ident => $to:ident, [$($variant:ident),*], $body:expr) => {
+        match $kind {
+            $($kinds::$variant => Ok($to::$variant($body?)),)*
+        }
+    };
+    ($values:expr, $from:ident($value:ident) => $to:ident, [$($variant:ident),*], $body:expr) => {
+        match $values {
+            $($from::$variant($value) => Ok($to::$variant($body?)),)*
+        }
+    };
+    ($values:expr, $from:ident($value:ident) => $to:ident, [$($variant:ident),*], $body:expr, else $rest:expr) => {
+        match $values {
+            $($from::$variant($value) => Ok($to::$variant($body?)),)*
+            _ => $rest,
+        }
+    };
+}
+
+pub(crate) use kind_of;
+pub(crate) use made;
 pub(crate) use variant;

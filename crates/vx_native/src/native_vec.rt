@@ -5,6 +5,8 @@ ghost use Rattle.vx_native.specs.Natives.{values_of, ptype_of};
 ghost use Rattle.vx_native.specs.DecimalNumbers.{numbers_of, decimal_type_of};
 ghost use Rattle.vx_native.specs.NativeVecs.{integers_in, ptype_in, width_in, can_hold};
 
+use crate::macros::made;
+use crate::number::fitted;
 use crate::{DecimalValues, NativeNumber, PrimitiveValues};
 use std::alloc::{AllocError, Global};
 use vx_mask::Buffer;
@@ -41,34 +43,12 @@ macro_rules! by_vec {
     };
 }
 
-/// Makes an empty `NativeVec` of the type that `kind`, one of these variants of its enum, names.
-macro_rules! new_vec {
-    ($kind:expr, $kinds:ident, [$($variant:ident),*], $alloc:expr, $capacity:expr) => {
-        match $kind {
-            $($kinds::$variant => Ok(NativeVec::$variant(Vec::with_capacity($alloc, $capacity)?)),)*
-        }
-    };
-}
-
-/// Puts the vector of a `NativeVec`, one of these variants, into shared storage as values of this enum.
-macro_rules! shared_vec {
-    ($values:expr, $enum:ident, [$($variant:ident),*], $alloc:expr) => {
-        match $values {
-            $(NativeVec::$variant(vec) => Ok($enum::$variant(Buffer::from_vec($alloc, vec)?)),)*
-            _ => unreachable!(),
-        }
-    };
-}
-
 fn push_wide<T: NativeNumber>(values: &mut Vec<T>, wide: i128) -> Result<(), AllocError>
     requires { T.fits wide }
     ensures ok { OnOk result (map T.value values.new.items ≡ map T.value values.old.items ++ wide ∷ []) }
     ensures err { OnErr result (values.new.items ≡ values.old.items) }
 {
-    let Some(value) = T::from_i128(wide) else {
-        unreachable!()
-    };
-    values.push(value)?;
+    values.push(fitted(wide))?;
     Ok(())
 }
 
@@ -92,13 +72,7 @@ impl NativeVec {
         ensures kind { IfOk result (λ v. ptype_in v ≡ Some ptype) }
         ensures empty { IfOk result (λ v. integers_in v ≡ []) }
     {
-        new_vec!(
-            ptype,
-            PType,
-            [U8, U16, U32, U64, I8, I16, I32, I64],
-            alloc,
-            capacity
-        )
+        made!(ptype, PType => NativeVec, [U8, U16, U32, U64, I8, I16, I32, I64], Vec::with_capacity(alloc, capacity))
     }
 
     /// Makes an empty vector of integers of this width, which decimals are stored in, with room for `capacity` of them. Fails only
@@ -111,13 +85,7 @@ impl NativeVec {
         ensures kind { IfOk result (λ v. width_in v ≡ Some width) }
         ensures empty { IfOk result (λ v. integers_in v ≡ []) }
     {
-        new_vec!(
-            width,
-            DecimalType,
-            [I8, I16, I32, I64, I128],
-            alloc,
-            capacity
-        )
+        made!(width, DecimalType => NativeVec, [I8, I16, I32, I64, I128], Vec::with_capacity(alloc, capacity))
     }
 
     /// Appends `wide`, which must be one of the type's integers. Fails only if there is no memory for it; the integers are then
@@ -149,12 +117,7 @@ impl NativeVec {
         ensures kind { IfOk result (λ v. ptype_in self ≡ Some (ptype_of v)) }
         ensures values { IfOk result (λ v. values_of v ≡ integers_in self) }
     {
-        shared_vec!(
-            self,
-            PrimitiveValues,
-            [U8, U16, U32, U64, I8, I16, I32, I64],
-            alloc
-        )
+        made!(self, NativeVec(vec) => PrimitiveValues, [U8, U16, U32, U64, I8, I16, I32, I64], Buffer::from_vec(alloc, vec), else unreachable!())
     }
 
     /// Returns the integers, which must be of one of the five widths that decimals are stored in, in shared storage, without
@@ -164,6 +127,6 @@ impl NativeVec {
         ensures kind { IfOk result (λ v. width_in self ≡ Some (decimal_type_of v)) }
         ensures values { IfOk result (λ v. numbers_of v ≡ integers_in self) }
     {
-        shared_vec!(self, DecimalValues, [I8, I16, I32, I64, I128], alloc)
+        made!(self, NativeVec(vec) => DecimalValues, [I8, I16, I32, I64, I128], Buffer::from_vec(alloc, vec), else unreachable!())
     }
 }

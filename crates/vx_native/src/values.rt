@@ -1,13 +1,14 @@
 //! Values of any of the eight types.
 
-ghost use Rattle.std.specs.Prelude.{◌≡◌, ◌<◌, ◌≤◌, ℤ, map, length, IfOk, Some, true, slice_get, slice_range, replicate};
+ghost use Rattle.std.specs.Prelude.{◌≡◌, ◌<◌, ◌≤◌, length, IfOk, Some, true, slice_get, slice_range, replicate};
 ghost use Rattle.vx_value.specs.IsOf.{in_range};
 ghost use Rattle.vx_mask.specs.Masks.{bits_in};
 ghost use Rattle.vx_mask.specs.Places.{chosen};
 ghost use Rattle.vx_native.specs.Natives.{values_of, ptype_of};
 
-use crate::number::repeated;
-use crate::{NativeInteger, by_buffer, by_type, native_of};
+use crate::buffers::{chosen_of, copies_of, number_at, part_of};
+use crate::by_buffer;
+use crate::macros::{kind_of, made};
 use std::alloc::{AllocError, Global};
 use std::ops::Range;
 use vx_mask::{Buffer, Mask};
@@ -26,66 +27,6 @@ pub enum PrimitiveValues {
     I64(Buffer<i64>),
 }
 
-fn type_of_buffer<T: NativeInteger>(_buffer: &Buffer<T>) -> PType
-    ensures { result ≡ T.kind }
-{
-    T::ptype()
-}
-
-fn wide_at<T: NativeInteger>(buffer: &Buffer<T>, index: usize) -> i128
-    requires { index < length buffer.now }
-    ensures value { slice_get (map T.value buffer.now) index ≡ Some result }
-    ensures ranged { in_range T.kind result ≡ true }
-{
-    buffer.as_slice()[index].to_wide()
-}
-
-fn shared<T: NativeInteger>(buffer: &Buffer<T>) -> Result<PrimitiveValues, AllocError>
-    ensures kind { IfOk result (λ copy. ptype_of copy ≡ T.kind) }
-    ensures values { IfOk result (λ copy. values_of copy ≡ map T.value buffer.now) }
-{
-    Ok(T::wrap(buffer.clone()?))
-}
-
-#[tactic(auto, using(crate::proofs::NativesLemmas::map_part))]
-fn part_of<T: NativeInteger>(
-    buffer: &Buffer<T>,
-    range: Range<usize>,
-) -> Result<PrimitiveValues, AllocError>
-    requires order { range.start ≤ range.end }
-    requires bounds { range.end ≤ length buffer.now }
-    ensures kind { IfOk result (λ part. ptype_of part ≡ T.kind) }
-    ensures values { IfOk result (λ part. values_of part ≡ slice_range (map T.value buffer.now) range.start range.end) }
-{
-    Ok(T::wrap(buffer.slice(range)?))
-}
-
-#[tactic(auto, using(vx_mask::proofs::ChosenLemmas::chosen_map))]
-fn chosen_of<T: NativeInteger>(
-    buffer: &Buffer<T>,
-    alloc: Global,
-    mask: &Mask,
-) -> Result<PrimitiveValues, AllocError>
-    requires { length (bits_in mask.now) ≡ length buffer.now }
-    ensures kind { IfOk result (λ kept. ptype_of kept ≡ T.kind) }
-    ensures values { IfOk result (λ kept. values_of kept ≡ chosen (bits_in mask.now) (map T.value buffer.now)) }
-{
-    Ok(T::wrap(buffer.filter(alloc, mask)?))
-}
-
-fn copies_of<T: NativeInteger>(
-    alloc: Global,
-    wide: i128,
-    len: usize,
-) -> Result<PrimitiveValues, AllocError>
-    requires { in_range T.kind wide ≡ true }
-    ensures kind { IfOk result (λ copies. ptype_of copies ≡ T.kind) }
-    ensures values { IfOk result (λ copies. values_of copies ≡ replicate len wide) }
-{
-    let value: T = native_of(wide);
-    Ok(T::wrap(repeated(alloc, value, len)?))
-}
-
 impl PrimitiveValues {
     /// Returns the number of values.
     pub fn len(&self) -> usize
@@ -98,7 +39,7 @@ impl PrimitiveValues {
     pub fn ptype(&self) -> PType
         ensures { result ≡ ptype_of self.now }
     {
-        by_buffer!(self, |buffer| type_of_buffer(buffer))
+        kind_of!(self, PrimitiveValues => PType, [U8, U16, U32, U64, I8, I16, I32, I64])
     }
 
     /// Returns the value at `index`, counted from 0. It must be in bounds. (own)
@@ -107,7 +48,7 @@ impl PrimitiveValues {
         ensures value { slice_get (values_of self.now) index ≡ Some result }
         ensures ranged { in_range (ptype_of self.now) result ≡ true }
     {
-        by_buffer!(self, |buffer| wide_at(buffer, index))
+        by_buffer!(self, |buffer| number_at(buffer, index))
     }
 
     /// Returns the values of `range`, which must be in order and in bounds. They share their storage with these.
@@ -117,7 +58,7 @@ impl PrimitiveValues {
         ensures kind { IfOk result (λ part. ptype_of part ≡ ptype_of self.now) }
         ensures values { IfOk result (λ part. values_of part ≡ slice_range (values_of self.now) range.start range.end) }
     {
-        by_buffer!(self, |buffer| part_of(buffer, range))
+        made!(self, PrimitiveValues(buffer) => PrimitiveValues, [U8, U16, U32, U64, I8, I16, I32, I64], part_of(buffer, range))
     }
 
     /// Returns the values at the true bits of `mask`, in order; it must have a bit for each value. They share their storage with
@@ -127,7 +68,7 @@ impl PrimitiveValues {
         ensures kind { IfOk result (λ kept. ptype_of kept ≡ ptype_of self.now) }
         ensures values { IfOk result (λ kept. values_of kept ≡ chosen (bits_in mask.now) (values_of self.now)) }
     {
-        by_buffer!(self, |buffer| chosen_of(buffer, alloc, mask))
+        made!(self, PrimitiveValues(buffer) => PrimitiveValues, [U8, U16, U32, U64, I8, I16, I32, I64], chosen_of(buffer, alloc, mask))
     }
 
     /// Returns `len` times the number `wide`, which must be in the type's range. Takes one allocation. (own)
@@ -141,7 +82,7 @@ impl PrimitiveValues {
         ensures kind { IfOk result (λ copies. ptype_of copies ≡ ptype) }
         ensures values { IfOk result (λ copies. values_of copies ≡ replicate len wide) }
     {
-        by_type!(ptype, copies_of(alloc, wide, len))
+        made!(ptype, PType => PrimitiveValues, [U8, U16, U32, U64, I8, I16, I32, I64], copies_of(alloc, wide, len))
     }
 }
 
@@ -149,6 +90,6 @@ impl Clone for PrimitiveValues {
     ghost is_clone = { λ a b. (ptype_of b ≡ ptype_of a) × (values_of b ≡ values_of a) };
 
     fn clone(&self) -> Result<PrimitiveValues, AllocError> {
-        by_buffer!(self, |buffer| shared(buffer))
+        made!(self, PrimitiveValues(buffer) => PrimitiveValues, [U8, U16, U32, U64, I8, I16, I32, I64], buffer.clone())
     }
 }
