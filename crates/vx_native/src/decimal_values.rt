@@ -9,7 +9,7 @@ ghost use Rattle.vx_native.specs.Widths.{fits_width};
 ghost use Rattle.vx_native.specs.DecimalNumbers.{numbers_of, decimal_type_of};
 
 use crate::buffers::{chosen_of, copies_of, number_at, part_of};
-use crate::macros::{kind_of, made};
+use crate::macros::{for_decimals, kind_of, made};
 use crate::{NativeNumber, by_decimals};
 use std::alloc::{AllocError, Global};
 use std::ops::Range;
@@ -50,7 +50,7 @@ impl DecimalValues {
     pub fn values_type(&self) -> DecimalType
         ensures { result ≡ decimal_type_of self.now }
     {
-        kind_of!(self, DecimalValues => DecimalType, [I8, I16, I32, I64, I128])
+        for_decimals!(kind_of!(self, DecimalValues => DecimalType))
     }
 
     /// Returns the value at `index`, counted from 0, without its point. It must be in bounds. (own)
@@ -76,7 +76,7 @@ impl DecimalValues {
         ensures kind { IfOk result (λ part. decimal_type_of part ≡ decimal_type_of self.now) }
         ensures values { IfOk result (λ part. numbers_of part ≡ slice_range (numbers_of self.now) range.start range.end) }
     {
-        made!(self, DecimalValues(buffer) => DecimalValues, [I8, I16, I32, I64, I128], part_of(buffer, range))
+        for_decimals!(made!(self, DecimalValues(buffer) => DecimalValues, part_of(buffer, range)))
     }
 
     /// Returns the values at the true bits of `mask`, in order; it must have a bit for each value. They share their storage with
@@ -86,7 +86,9 @@ impl DecimalValues {
         ensures kind { IfOk result (λ kept. decimal_type_of kept ≡ decimal_type_of self.now) }
         ensures values { IfOk result (λ kept. numbers_of kept ≡ chosen (bits_in mask.now) (numbers_of self.now)) }
     {
-        made!(self, DecimalValues(buffer) => DecimalValues, [I8, I16, I32, I64, I128], chosen_of(buffer, alloc, mask))
+        for_decimals!(
+            made!(self, DecimalValues(buffer) => DecimalValues, chosen_of(buffer, alloc, mask))
+        )
     }
 
     /// Returns `len` times the number `wide`, which must fit the width. Takes one allocation. (own)
@@ -100,7 +102,9 @@ impl DecimalValues {
         ensures kind { IfOk result (λ copies. decimal_type_of copies ≡ decimal_type) }
         ensures values { IfOk result (λ copies. numbers_of copies ≡ replicate len wide) }
     {
-        made!(decimal_type, DecimalType => DecimalValues, [I8, I16, I32, I64, I128], copies_of(alloc, wide, len))
+        for_decimals!(
+            made!(decimal_type, DecimalType => DecimalValues, copies_of(alloc, wide, len))
+        )
     }
 }
 
@@ -108,6 +112,6 @@ impl Clone for DecimalValues {
     ghost is_clone = { λ a b. (decimal_type_of b ≡ decimal_type_of a) × (numbers_of b ≡ numbers_of a) };
 
     fn clone(&self) -> Result<DecimalValues, AllocError> {
-        made!(self, DecimalValues(buffer) => DecimalValues, [I8, I16, I32, I64, I128], buffer.clone())
+        for_decimals!(made!(self, DecimalValues(buffer) => DecimalValues, buffer.clone()))
     }
 }

@@ -1,18 +1,37 @@
 //! Macros that open the eight types, and the five that decimals are stored in.
 
+/// Evaluates one expression over what an enum holds, whichever of these variants it is of.
+#[macro_export]
+macro_rules! by_variant {
+    ($values:expr, $enum:ident[$($variant:ident),*], |$value:ident| $body:expr) => {
+        match $values {
+            $($crate::$enum::$variant($value) => $body,)*
+        }
+    };
+}
+
 /// Evaluates one expression over the buffer of a `PrimitiveValues`, whichever its type: `by_buffer!(values, |buffer| buffer.len())`.
 #[macro_export]
 macro_rules! by_buffer {
     ($values:expr, |$buffer:ident| $body:expr) => {
-        match $values {
-            $crate::PrimitiveValues::U8($buffer) => $body,
-            $crate::PrimitiveValues::U16($buffer) => $body,
-            $crate::PrimitiveValues::U32($buffer) => $body,
-            $crate::PrimitiveValues::U64($buffer) => $body,
-            $crate::PrimitiveValues::I8($buffer) => $body,
-            $crate::PrimitiveValues::I16($buffer) => $body,
-            $crate::PrimitiveValues::I32($buffer) => $body,
-            $crate::PrimitiveValues::I64($buffer) => $body,
+        $crate::by_variant!($values, PrimitiveValues[U8, U16, U32, U64, I8, I16, I32, I64], |$buffer| $body)
+    };
+}
+
+/// Evaluates one expression over the buffer of a `DecimalValues`, whichever its width: `by_decimals!(values, |buffer| buffer.len())`.
+#[macro_export]
+macro_rules! by_decimals {
+    ($values:expr, |$buffer:ident| $body:expr) => {
+        $crate::by_variant!($values, DecimalValues[I8, I16, I32, I64, I128], |$buffer| $body)
+    };
+}
+
+/// Calls a generic function at the type that a kind, one of these variants of its enum, names.
+#[macro_export]
+macro_rules! at_type {
+    ($kind:expr, $kinds:ident[$($variant:ident = $type:ident),*], $function:ident $arguments:tt) => {
+        match $kind {
+            $($crate::$kinds::$variant => $function::<$type> $arguments,)*
         }
     };
 }
@@ -21,30 +40,11 @@ macro_rules! by_buffer {
 #[macro_export]
 macro_rules! by_type {
     ($ptype:expr, $function:ident($($argument:expr),* $(,)?)) => {
-        match $ptype {
-            $crate::PType::U8 => $function::<u8>($($argument),*),
-            $crate::PType::U16 => $function::<u16>($($argument),*),
-            $crate::PType::U32 => $function::<u32>($($argument),*),
-            $crate::PType::U64 => $function::<u64>($($argument),*),
-            $crate::PType::I8 => $function::<i8>($($argument),*),
-            $crate::PType::I16 => $function::<i16>($($argument),*),
-            $crate::PType::I32 => $function::<i32>($($argument),*),
-            $crate::PType::I64 => $function::<i64>($($argument),*),
-        }
-    };
-}
-
-/// Evaluates one expression over the buffer of a `DecimalValues`, whichever its width: `by_decimals!(values, |buffer| buffer.len())`.
-#[macro_export]
-macro_rules! by_decimals {
-    ($values:expr, |$buffer:ident| $body:expr) => {
-        match $values {
-            $crate::DecimalValues::I8($buffer) => $body,
-            $crate::DecimalValues::I16($buffer) => $body,
-            $crate::DecimalValues::I32($buffer) => $body,
-            $crate::DecimalValues::I64($buffer) => $body,
-            $crate::DecimalValues::I128($buffer) => $body,
-        }
+        $crate::at_type!(
+            $ptype,
+            PType[U8 = u8, U16 = u16, U32 = u32, U64 = u64, I8 = i8, I16 = i16, I32 = i32, I64 = i64],
+            $function($($argument),*)
+        )
     };
 }
 
@@ -53,13 +53,11 @@ macro_rules! by_decimals {
 #[macro_export]
 macro_rules! by_decimal_type {
     ($decimal_type:expr, $function:ident($($argument:expr),* $(,)?)) => {
-        match $decimal_type {
-            $crate::DecimalType::I8 => $function::<i8>($($argument),*),
-            $crate::DecimalType::I16 => $function::<i16>($($argument),*),
-            $crate::DecimalType::I32 => $function::<i32>($($argument),*),
-            $crate::DecimalType::I64 => $function::<i64>($($argument),*),
-            $crate::DecimalType::I128 => $function::<i128>($($argument),*),
-        }
+        $crate::at_type!(
+            $decimal_type,
+            DecimalType[I8 = i8, I16 = i16, I32 = i32, I64 = i64, I128 = i128],
+            $function($($argument),*)
+        )
     };
 }
 
@@ -73,35 +71,46 @@ macro_rules! variant {
     };
 }
 
+/// Calls one of the macros below for the variants of the eight types, which come first among its arguments.
+macro_rules! for_integers {
+    ($macro:ident!($($argument:tt)*)) => {
+        $macro!([U8, U16, U32, U64, I8, I16, I32, I64] $($argument)*)
+    };
+}
+
+/// Calls one of the macros below for the variants of the five types that decimals are stored in, which come first among its arguments.
+macro_rules! for_decimals {
+    ($macro:ident!($($argument:tt)*)) => {
+        $macro!([I8, I16, I32, I64, I128] $($argument)*)
+    };
+}
+
 /// Evaluates to the kind, of the enum `$kinds`, that the variant of a borrowed enum is named after.
 macro_rules! kind_of {
-    ($values:expr, $from:ident => $kinds:ident, [$($variant:ident),*]) => {
+    ([$($variant:ident),*] $values:expr, $enum:ident => $kinds:ident) => {
         match $values {
-            $($from::$variant(_) => $kinds::$variant,)*
+            $($enum::$variant(_) => $kinds::$variant,)*
         }
     };
 }
 
-/// Makes an enum `$to` of the variant that a kind names, or that a value of the enum `$from` is of, out of the result of `$body`.
+/// Makes an enum `$to` out of the result of `$body`: of the variant that a kind names, or that a value of the enum `$from` is of.
 macro_rules! made {
-    ($kind:expr, $kinds:ident => $to:ident, [$($variant:ident),*], $body:expr) => {
+    ([$($variant:ident),*] $kind:expr, $kinds:ident => $to:ident, $body:expr) => {
         match $kind {
             $($kinds::$variant => Ok($to::$variant($body?)),)*
         }
     };
-    ($values:expr, $from:ident($value:ident) => $to:ident, [$($variant:ident),*], $body:expr) => {
+    ([$($variant:ident),*] $values:expr, $from:ident($value:ident) => $to:ident, $body:expr $(, _ => $rest:expr)?) => {
         match $values {
             $($from::$variant($value) => Ok($to::$variant($body?)),)*
-        }
-    };
-    ($values:expr, $from:ident($value:ident) => $to:ident, [$($variant:ident),*], $body:expr, else $rest:expr) => {
-        match $values {
-            $($from::$variant($value) => Ok($to::$variant($body?)),)*
-            _ => $rest,
+            $(_ => $rest,)?
         }
     };
 }
 
+pub(crate) use for_decimals;
+pub(crate) use for_integers;
 pub(crate) use kind_of;
 pub(crate) use made;
 pub(crate) use variant;

@@ -5,9 +5,9 @@ ghost use Rattle.vx_native.specs.Natives.{values_of, ptype_of};
 ghost use Rattle.vx_native.specs.DecimalNumbers.{numbers_of, decimal_type_of};
 ghost use Rattle.vx_native.specs.NativeVecs.{integers_in, ptype_in, width_in, can_hold};
 
-use crate::macros::made;
+use crate::macros::{for_decimals, for_integers, made};
 use crate::number::fitted;
-use crate::{DecimalValues, NativeNumber, PrimitiveValues};
+use crate::{DecimalValues, NativeNumber, PrimitiveValues, by_variant};
 use std::alloc::{AllocError, Global};
 use vx_mask::Buffer;
 use vx_value::{DecimalType, PType};
@@ -29,17 +29,7 @@ pub enum NativeVec {
 /// Evaluates one expression over the vector of a `NativeVec`, whichever its type.
 macro_rules! by_vec {
     ($values:expr, |$vec:ident| $body:expr) => {
-        match $values {
-            NativeVec::U8($vec) => $body,
-            NativeVec::U16($vec) => $body,
-            NativeVec::U32($vec) => $body,
-            NativeVec::U64($vec) => $body,
-            NativeVec::I8($vec) => $body,
-            NativeVec::I16($vec) => $body,
-            NativeVec::I32($vec) => $body,
-            NativeVec::I64($vec) => $body,
-            NativeVec::I128($vec) => $body,
-        }
+        by_variant!($values, NativeVec[U8, U16, U32, U64, I8, I16, I32, I64, I128], |$vec| $body)
     };
 }
 
@@ -72,7 +62,7 @@ impl NativeVec {
         ensures kind { IfOk result (λ v. ptype_in v ≡ Some ptype) }
         ensures empty { IfOk result (λ v. integers_in v ≡ []) }
     {
-        made!(ptype, PType => NativeVec, [U8, U16, U32, U64, I8, I16, I32, I64], Vec::with_capacity(alloc, capacity))
+        for_integers!(made!(ptype, PType => NativeVec, Vec::with_capacity(alloc, capacity)))
     }
 
     /// Makes an empty vector of integers of this width, which decimals are stored in, with room for `capacity` of them. Fails only
@@ -85,7 +75,7 @@ impl NativeVec {
         ensures kind { IfOk result (λ v. width_in v ≡ Some width) }
         ensures empty { IfOk result (λ v. integers_in v ≡ []) }
     {
-        made!(width, DecimalType => NativeVec, [I8, I16, I32, I64, I128], Vec::with_capacity(alloc, capacity))
+        for_decimals!(made!(width, DecimalType => NativeVec, Vec::with_capacity(alloc, capacity)))
     }
 
     /// Appends `wide`, which must be one of the type's integers. Fails only if there is no memory for it; the integers are then
@@ -117,7 +107,9 @@ impl NativeVec {
         ensures kind { IfOk result (λ v. ptype_in self ≡ Some (ptype_of v)) }
         ensures values { IfOk result (λ v. values_of v ≡ integers_in self) }
     {
-        made!(self, NativeVec(vec) => PrimitiveValues, [U8, U16, U32, U64, I8, I16, I32, I64], Buffer::from_vec(alloc, vec), else unreachable!())
+        for_integers!(
+            made!(self, NativeVec(vec) => PrimitiveValues, Buffer::from_vec(alloc, vec), _ => unreachable!())
+        )
     }
 
     /// Returns the integers, which must be of one of the five widths that decimals are stored in, in shared storage, without
@@ -127,6 +119,8 @@ impl NativeVec {
         ensures kind { IfOk result (λ v. width_in self ≡ Some (decimal_type_of v)) }
         ensures values { IfOk result (λ v. numbers_of v ≡ integers_in self) }
     {
-        made!(self, NativeVec(vec) => DecimalValues, [I8, I16, I32, I64, I128], Buffer::from_vec(alloc, vec), else unreachable!())
+        for_decimals!(
+            made!(self, NativeVec(vec) => DecimalValues, Buffer::from_vec(alloc, vec), _ => unreachable!())
+        )
     }
 }

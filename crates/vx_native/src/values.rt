@@ -8,7 +8,7 @@ ghost use Rattle.vx_native.specs.Natives.{values_of, ptype_of};
 
 use crate::buffers::{chosen_of, copies_of, number_at, part_of};
 use crate::by_buffer;
-use crate::macros::{kind_of, made};
+use crate::macros::{for_integers, kind_of, made};
 use std::alloc::{AllocError, Global};
 use std::ops::Range;
 use vx_mask::{Buffer, Mask};
@@ -39,7 +39,7 @@ impl PrimitiveValues {
     pub fn ptype(&self) -> PType
         ensures { result ≡ ptype_of self.now }
     {
-        kind_of!(self, PrimitiveValues => PType, [U8, U16, U32, U64, I8, I16, I32, I64])
+        for_integers!(kind_of!(self, PrimitiveValues => PType))
     }
 
     /// Returns the value at `index`, counted from 0. It must be in bounds. (own)
@@ -58,7 +58,9 @@ impl PrimitiveValues {
         ensures kind { IfOk result (λ part. ptype_of part ≡ ptype_of self.now) }
         ensures values { IfOk result (λ part. values_of part ≡ slice_range (values_of self.now) range.start range.end) }
     {
-        made!(self, PrimitiveValues(buffer) => PrimitiveValues, [U8, U16, U32, U64, I8, I16, I32, I64], part_of(buffer, range))
+        for_integers!(
+            made!(self, PrimitiveValues(buffer) => PrimitiveValues, part_of(buffer, range))
+        )
     }
 
     /// Returns the values at the true bits of `mask`, in order; it must have a bit for each value. They share their storage with
@@ -68,7 +70,9 @@ impl PrimitiveValues {
         ensures kind { IfOk result (λ kept. ptype_of kept ≡ ptype_of self.now) }
         ensures values { IfOk result (λ kept. values_of kept ≡ chosen (bits_in mask.now) (values_of self.now)) }
     {
-        made!(self, PrimitiveValues(buffer) => PrimitiveValues, [U8, U16, U32, U64, I8, I16, I32, I64], chosen_of(buffer, alloc, mask))
+        for_integers!(
+            made!(self, PrimitiveValues(buffer) => PrimitiveValues, chosen_of(buffer, alloc, mask))
+        )
     }
 
     /// Returns `len` times the number `wide`, which must be in the type's range. Takes one allocation. (own)
@@ -82,7 +86,7 @@ impl PrimitiveValues {
         ensures kind { IfOk result (λ copies. ptype_of copies ≡ ptype) }
         ensures values { IfOk result (λ copies. values_of copies ≡ replicate len wide) }
     {
-        made!(ptype, PType => PrimitiveValues, [U8, U16, U32, U64, I8, I16, I32, I64], copies_of(alloc, wide, len))
+        for_integers!(made!(ptype, PType => PrimitiveValues, copies_of(alloc, wide, len)))
     }
 }
 
@@ -90,6 +94,6 @@ impl Clone for PrimitiveValues {
     ghost is_clone = { λ a b. (ptype_of b ≡ ptype_of a) × (values_of b ≡ values_of a) };
 
     fn clone(&self) -> Result<PrimitiveValues, AllocError> {
-        made!(self, PrimitiveValues(buffer) => PrimitiveValues, [U8, U16, U32, U64, I8, I16, I32, I64], buffer.clone())
+        for_integers!(made!(self, PrimitiveValues(buffer) => PrimitiveValues, buffer.clone()))
     }
 }
