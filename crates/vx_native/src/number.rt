@@ -37,6 +37,7 @@ pub(crate) fn fitted<T: NativeNumber>(wide: i128) -> T
 }
 
 impl NativeNumber for u8 {
+    #[inline]
     fn widened(self) -> i128 {
         self as i128
     }
@@ -45,6 +46,7 @@ impl NativeNumber for u8 {
 }
 
 impl NativeNumber for u16 {
+    #[inline]
     fn widened(self) -> i128 {
         self as i128
     }
@@ -53,6 +55,7 @@ impl NativeNumber for u16 {
 }
 
 impl NativeNumber for u32 {
+    #[inline]
     fn widened(self) -> i128 {
         self as i128
     }
@@ -61,6 +64,7 @@ impl NativeNumber for u32 {
 }
 
 impl NativeNumber for u64 {
+    #[inline]
     fn widened(self) -> i128 {
         self as i128
     }
@@ -69,6 +73,7 @@ impl NativeNumber for u64 {
 }
 
 impl NativeNumber for i8 {
+    #[inline]
     fn widened(self) -> i128 {
         self as i128
     }
@@ -77,6 +82,7 @@ impl NativeNumber for i8 {
 }
 
 impl NativeNumber for i16 {
+    #[inline]
     fn widened(self) -> i128 {
         self as i128
     }
@@ -85,6 +91,7 @@ impl NativeNumber for i16 {
 }
 
 impl NativeNumber for i32 {
+    #[inline]
     fn widened(self) -> i128 {
         self as i128
     }
@@ -93,6 +100,7 @@ impl NativeNumber for i32 {
 }
 
 impl NativeNumber for i64 {
+    #[inline]
     fn widened(self) -> i128 {
         self as i128
     }
@@ -101,6 +109,7 @@ impl NativeNumber for i64 {
 }
 
 impl NativeNumber for i128 {
+    #[inline]
     fn widened(self) -> i128 {
         self
     }

@@ -1,8 +1,8 @@
-use Rattle.std.proofs.Common.{◌≡◌, ◌≤◌, ◌<◌, ◌+◌, ◌&&◌, ℕ, ℤ, List, Bool, true, false, map, take, length, get_or, to_z, of_z, sym, ap, ap₂, subst, ◌∙◌, arith}
+use Rattle.std.proofs.Common.{◌≡◌, ◌≤◌, ◌<◌, ℕ, ℤ, List, Bool, true, false, map, take, length, get_or, to_z, of_z, sym, ap, subst, ◌∙◌, arith}
 use Rattle.std.specs.Int.{w128}
 use Rattle.std.specs.List.{list_all}
 use Rattle.std.proofs.lemmas.List.{take_all}
-use Rattle.std.proofs.lemmas.List.Folds.{list_all_at, list_all_more, list_all-map}
+use Rattle.std.proofs.lemmas.List.Folds.{list_all_at, list_all-map}
 use Rattle.vx_value.specs.Decimals.{has_digits}
 use Rattle.vx_native.proofs.NativesLemmas.{is_wide}
 use Rattle.vx_native.proofs.decimal_values.all_digits.Goals as goal
@@ -15,15 +15,7 @@ fails_at f test xs ys i x z w answer same before item number through tested miss
     sym (ap (λ l. list_all test (map f l)) (sym same) ∙ list_all-map test f ys
     ∙ list_all_at (λ y. test (f y)) ys i x before (ap (λ y. test (f y)) (sym item) ∙ failed))
 
--- it was answered true, as those before it were
-passes_at : {X : Type 0} (f : X → ℤ) (test : ℤ → Bool) (ys : List X) (i : ℕ) (x : X) (z w : ℤ) (answer : Bool) →
-    i < length ys → x ≡ get_or ys i x → z ≡ f x → w ≡ z → answer ≡ test w → answer ≡ true →
-    list_all (λ y. test (f y)) (take i ys) ≡ true → list_all (λ y. test (f y)) (take (i + 1) ys) ≡ true
-passes_at f test ys i x z w answer before item number through tested held passed =
-    let here : test (f (get_or ys i x)) ≡ true = ap (λ y. test (f y)) (sym item) ∙ sym (tested ∙ ap test (through ∙ number)) ∙ held in
-    list_all_more (λ y. test (f y)) ys i x before ∙ ap₂ ◌&&◌ passed here
-
--- and all of them passed it
+-- all of them passed it
 passed_all : {X : Type 0} (f : X → ℤ) (test : ℤ → Bool) (xs ys : List X) (i : ℕ) →
     ys ≡ xs → length ys ≤ i → list_all (λ y. test (f y)) (take i ys) ≡ true → true ≡ list_all test (map f xs)
 passed_all f test xs ys i same past passed =
@@ -43,12 +35,3 @@ pub returns : goal.returns
 returns g c =
     passed_all g.T.Number.value (has_digits c.args.decimal.now.precision) c.args.buffer.now c.as_slice-value-items.result.now c.loop-value.value-index
     c.as_slice-value-items.ensures (omega arith) c.loop-value.invariant
-
-pub loop-value-preserved : goal.loop-value-preserved
-loop-value-preserved g c =
-    let z = c.wide.result in
-    let tested : c.contain.result ≡ has_digits c.args.decimal.now.precision (to_z w128 (of_z w128 z)) =
-    subst (λ p. c.contain.result ≡ has_digits p (to_z w128 (of_z w128 z))) c.digits-digits.ensures c.contain.ensures in
-    passes_at g.T.Number.value (has_digits c.args.decimal.now.precision) c.as_slice-value-items.result.now c.loop-value.value-index
-    c.value-item.result z (to_z w128 (of_z w128 z)) c.contain.result c.loop-value-test.true c.value-item.is c.wide.ensures
-    (is_wide z c.wide.type_inv) tested c.if-not-contain.false c.loop-value.invariant
