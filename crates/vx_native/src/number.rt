@@ -3,11 +3,11 @@
 ghost use Rattle.std.specs.Prelude.{◌≡◌};
 ghost use Rattle.vx_native.specs.Ranges.{same_number};
 
-use num_traits::{FromPrimitive, Integral, ToPrimitive, Zero};
+use num_traits::{FromPrimitive, Integral, Zero};
 
 /// The native integer types that a column stores: the eight of `NativeInteger`, and `i128`. (own)
 // no more of num_traits than columns need: each function over such a type is proved with all that it has
-pub trait NativeNumber: Copy + Integral + Zero + ToPrimitive + FromPrimitive {
+pub trait NativeNumber: Copy + Integral + Zero + FromPrimitive {
     /// Returns the number, one of the type's, in 128 bits.
     fn widened(self) -> i128
         ensures value { result ≡ Self.value self }
