@@ -1,6 +1,6 @@
 //! The five native integer types that decimals are stored in.
 
-ghost use Rattle.std.specs.Prelude.{◌≡◌, map};
+ghost use Rattle.std.specs.Prelude.{◌≡◌};
 ghost use Rattle.std.specs.Int.{w8, w16, w32, w64, w128};
 ghost use Rattle.vx_value.specs.declared.decimal.DecimalType.TheVariants as width;
 ghost use Rattle.vx_native.specs.Ranges.{signed_range};

@@ -1,16 +1,16 @@
 //! The eight native integer types.
 
-ghost use Rattle.std.specs.Prelude.{◌≡◌, pos, map};
+ghost use Rattle.std.specs.Prelude.{◌≡◌};
+ghost use Rattle.std.specs.Int.{w8, w16, w32, w64};
 ghost use Rattle.vx_value.specs.declared.dtype.PType.TheVariants as ptype;
 ghost use Rattle.vx_native.specs.declared.values.PrimitiveValues.TheVariants as variant;
+ghost use Rattle.vx_native.specs.Ranges.{unsigned_range, signed_range};
 
 use crate::macros::variant;
 use crate::{NativeInteger, PrimitiveValues};
 use vx_mask::Buffer;
 
 impl NativeInteger for u8 {
-    ghost use Rattle.vx_native.specs.Ranges.{unsigned_range};
-
     ghost kind = { ptype.U8 };
 
     fn wrap(values: Buffer<u8>) -> PrimitiveValues
@@ -27,8 +27,6 @@ impl NativeInteger for u8 {
 }
 
 impl NativeInteger for u16 {
-    ghost use Rattle.vx_native.specs.Ranges.{unsigned_range};
-
     ghost kind = { ptype.U16 };
 
     fn wrap(values: Buffer<u16>) -> PrimitiveValues
@@ -45,8 +43,6 @@ impl NativeInteger for u16 {
 }
 
 impl NativeInteger for u32 {
-    ghost use Rattle.vx_native.specs.Ranges.{unsigned_range};
-
     ghost kind = { ptype.U32 };
 
     fn wrap(values: Buffer<u32>) -> PrimitiveValues
@@ -63,8 +59,6 @@ impl NativeInteger for u32 {
 }
 
 impl NativeInteger for u64 {
-    ghost use Rattle.vx_native.specs.Ranges.{unsigned_range};
-
     ghost kind = { ptype.U64 };
 
     fn wrap(values: Buffer<u64>) -> PrimitiveValues
@@ -81,9 +75,6 @@ impl NativeInteger for u64 {
 }
 
 impl NativeInteger for i8 {
-    ghost use Rattle.vx_native.specs.Ranges.{signed_range};
-    ghost use Rattle.std.specs.Int.{w8};
-
     ghost kind = { ptype.I8 };
 
     fn wrap(values: Buffer<i8>) -> PrimitiveValues
@@ -100,9 +91,6 @@ impl NativeInteger for i8 {
 }
 
 impl NativeInteger for i16 {
-    ghost use Rattle.vx_native.specs.Ranges.{signed_range};
-    ghost use Rattle.std.specs.Int.{w16};
-
     ghost kind = { ptype.I16 };
 
     fn wrap(values: Buffer<i16>) -> PrimitiveValues
@@ -119,9 +107,6 @@ impl NativeInteger for i16 {
 }
 
 impl NativeInteger for i32 {
-    ghost use Rattle.vx_native.specs.Ranges.{signed_range};
-    ghost use Rattle.std.specs.Int.{w32};
-
     ghost kind = { ptype.I32 };
 
     fn wrap(values: Buffer<i32>) -> PrimitiveValues
@@ -138,9 +123,6 @@ impl NativeInteger for i32 {
 }
 
 impl NativeInteger for i64 {
-    ghost use Rattle.vx_native.specs.Ranges.{signed_range};
-    ghost use Rattle.std.specs.Int.{w64};
-
     ghost kind = { ptype.I64 };
 
     fn wrap(values: Buffer<i64>) -> PrimitiveValues
