@@ -1,5 +1,5 @@
 -- Ranges of columns that hold their rows themselves.
-use Rattle.std.proofs.Common.{◌≡◌, ◌≤◌, ℕ, ◌-◌, List, [], ◌∷◌, length, slice_range, true, Option, refl, sym, ap, ◌∙◌, subst}
+use Rattle.std.proofs.Common.{◌≡◌, ◌≤◌, ℕ, ◌-◌, List, [], ◌∷◌, length, slice_range, true, Option, refl, ap, ◌∙◌, subst}
 use Rattle.vx_value.specs.Types as type
 use Rattle.vx_value.specs.Types.{DataType}
 use Rattle.vx_value.specs.Storage.{storage_of}
@@ -9,7 +9,7 @@ use Rattle.vx_tree.specs.ColumnTypes.{decimal_type, scale_of, bytes_type}
 use Rattle.vx_tree.specs.Tree as enc
 use Rattle.vx_tree.specs.Tree.{Tree, Data, Slots, node, dtype, len, datum, slots, slots_of, column, slice_of, is_flat}
 use Rattle.vx_tree.specs.Well.{Shape, IsFlat, IsNode, IsNodeOf, IsWell, shapes}
-use Rattle.vx_tree.specs.Columns.{data_range}
+use Rattle.vx_tree.specs.Columns.{count_in, data_range}
 use Rattle.vx_tree.specs.Keeps.{KeepsExactly}
 use Rattle.vx_tree.specs.Validities.{HasRange, IsValidityPart}
 use Rattle.vx_tree.proofs.SlotsLemmas.{only_slot}
@@ -51,6 +51,14 @@ flat_has_range (node ty n (enc.decimals d zs) ss) v a b w h s p q = range_in (de
 flat_has_range (node ty n (enc.views rs) ss) v a b w h s p q = range_in (bytes_type (storage_of ty)) ty (length rs) n a b v ss w.0.0 s p q
 flat_has_range _ v a b w h s p q = absurd (cc)
 
+-- it has as many values as rows: a line for each
+pub flat_counted : (t : Tree) → IsWell t → is_flat (datum t) ≡ true → len t ≡ count_in (datum t)
+flat_counted (node ty n (enc.bool bs) ss) w h = w.0.2
+flat_counted (node ty n (enc.primitive p zs) ss) w h = w.0.2
+flat_counted (node ty n (enc.decimals d zs) ss) w h = w.0.0.2
+flat_counted (node ty n (enc.views rs) ss) w h = w.0.0.2
+flat_counted _ w h = absurd (cc)
+
 -- it has one slot: a line for each
 flat_shape : (t : Tree) → IsNodeOf t → is_flat (datum t) ≡ true → (x : Option Shape) × (shapes (slots t) ≡ x ∷ [])
 flat_shape (node ty n (enc.bool bs) ss) w h = (w.0, w.3)
@@ -62,9 +70,8 @@ flat_shape _ w h = absurd (cc)
 well_node : (t : Tree) → IsWell t → IsNodeOf t
 well_node (node ty n d ss) w = w.0
 
-pub flat_slot : (t : Tree) (d : Data) (xs : List (Option Tree)) → IsWell t → d ≡ datum t → is_flat d ≡ true → slots_of xs ≡ slots t
-    → (v : Option Tree) × (xs ≡ v ∷ [])
-flat_slot t d xs w same h e =
-    let shape = flat_shape t (well_node t w) (ap is_flat (sym same) ∙ h) in
+pub flat_slot : (t : Tree) (xs : List (Option Tree)) → IsWell t → is_flat (datum t) ≡ true → slots_of xs ≡ slots t → (v : Option Tree) × (xs ≡ v ∷ [])
+flat_slot t xs w h e =
+    let shape = flat_shape t (well_node t w) h in
     let found = only_slot xs shape.0 (ap shapes e ∙ shape.1) in
     (found.0, found.1)

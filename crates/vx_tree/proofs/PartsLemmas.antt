@@ -1,10 +1,11 @@
 -- Rows of a tree as its parent's slot holds them, and the range of a canonical column.
 use Rattle.std.proofs.Common.{◌≡◌, ◌≤◌, ℕ, ◌-◌, [], ◌∷◌, Option, Some, None, true, refl, sym, ap, ◌∙◌, subst}
 use Rattle.std.specs.Prelude.{option_map}
+use Rattle.vx_value.specs.Types.{DataType}
 use Rattle.vx_tree.specs.Tree as enc
-use Rattle.vx_tree.specs.Tree.{Tree, Slots, node, slots, slots_of, dtype, len, datum, column, slice_of, constant_of, is_flat}
+use Rattle.vx_tree.specs.Tree.{Tree, Data, Slots, node, slots, slots_of, dtype, len, datum, column, slice_of, constant_of, is_flat}
 use Rattle.vx_tree.specs.Slots.{map_slots}
-use Rattle.vx_tree.specs.Well.{IsWell, AreWell}
+use Rattle.vx_tree.specs.Well.{IsWell, AreWell, IsNode, shapes}
 use Rattle.vx_tree.specs.Columns.{data_range}
 use Rattle.vx_tree.specs.Keeps.{KeepsExactly}
 use Rattle.vx_tree.specs.Parts.{part_of, column_range}
@@ -12,7 +13,7 @@ use Rattle.vx_tree.specs.Validities.{HasRange, IsValidityPart}
 use Rattle.vx_tree.proofs.SlotsLemmas.{no_shapes}
 use Rattle.vx_tree.proofs.KeepsLemmas.{exactly_refl}
 use Rattle.vx_tree.proofs.ValiditiesLemmas.{constant_part}
-use Rattle.vx_tree.proofs.FlatLemmas.{flat_has_range}
+use Rattle.vx_tree.proofs.FlatLemmas.{flat_has_range, flat_range_kept}
 
 -- a part has the rows of the slice
 pub part_exact : (a b : ℕ) (t : Tree) → IsWell t → a ≤ b → b ≤ len t → KeepsExactly (slice_of a b t) (part_of a b t)
@@ -41,3 +42,14 @@ pub flat_range_is : (a b : ℕ) (v w : Option Tree) (t : Tree) → slots t ≡ s
     → column (dtype t) (b - a) (data_range a b (datum t)) w ≡ column_range a b t
 flat_range_is a b v w (node ty n d ss) s e =
     ap (node ty (b - a) (data_range a b d)) (ap (λ x. slots_of (x ∷ [])) e ∙ mapped_slot (part_of a b) v ∙ ap (map_slots (part_of a b)) (sym s))
+
+-- a column of these parts may stand, keeps the slice, and is its range
+abbrev pub IsCut : ℕ → ℕ → Tree → Option Tree → DataType → Data → Type 0
+IsCut a b t w ty d =
+    IsNode ty (b - a) d (shapes (slots_of (w ∷ []))) × KeepsExactly (slice_of a b t) (column ty (b - a) d w) × (column ty (b - a) d w ≡ column_range a b t)
+
+pub flat_cut : (a b : ℕ) (t : Tree) (v w : Option Tree) (ty : DataType) (d : Data) → IsWell t → slots t ≡ slots_of (v ∷ []) → a ≤ b → b ≤ len t
+    → is_flat (datum t) ≡ true → w ≡ option_map (part_of a b) v → ty ≡ dtype t → d ≡ data_range a b (datum t) → IsCut a b t w ty d
+flat_cut a b t v w ty d well s h k flat e typed held =
+    let kept = flat_range_kept t v w a b well flat s k (slot_part a b v w t well s h k flat e) in
+    subst (λ x. x) (λ i. IsCut a b t w (sym typed i) (sym held i)) (kept.0, kept.1, flat_range_is a b v w t s e)

@@ -1,5 +1,5 @@
 -- What a column is, and the tree that a column of the program stands for.
-use Rattle.std.specs.Prelude.{◌≡◌, ◌⊎◌, ◌≤◌, ℕ, List, [], length, replicate, slice_range, Option, Some, None, true}
+use Rattle.std.specs.Prelude.{◌≡◌, ◌⊎◌, ◌≤◌, ℕ, List, [], length, replicate, slice_range, Option, Some, None, true, if◌then◌else◌}
 use Rattle.vx_value.specs.Types.{DataType}
 use Rattle.vx_value.specs.Values.{Value}
 use Rattle.vx_value.specs.Cell.{Cell, value}
@@ -7,6 +7,7 @@ use Rattle.vx_value.specs.Decimals.{smallest_width}
 use Rattle.vx_value.specs.Storage.{storage_of}
 use Rattle.vx_value.specs.declared.dtype.Storage.{Storage}
 use Rattle.vx_value.specs.declared.dtype.Storage.TheVariants.{Nulls, Integers, Decimals, Text, Bytes}
+use Rattle.vx_value.specs.Ids.{same_id}
 use Rattle.vx_value.specs.declared.id.Id.{Id}
 use Rattle.vx_value.specs.declared.id.Id.TheVariants as id
 use Rattle.vx_tree.specs.Tree as enc
@@ -47,26 +48,32 @@ canonical_tree (Primitive t) = t
 canonical_tree (Decimal t) = t
 canonical_tree (VarBinView t) = t
 
--- the column if it is one of nulls, of booleans, of integers, of decimals, and of text or bytes
+-- its encoding
+abbrev pub encoding_in : Canonical → Id
+encoding_in (Null t) = id.Null
+encoding_in (Bool t) = id.Bool
+encoding_in (Primitive t) = id.Primitive
+encoding_in (Decimal t) = id.Decimal
+encoding_in (VarBinView t) = id.VarBinView
+
+-- the column if it has an encoding, and if it is one of nulls, of booleans, of integers, of decimals, and of text or bytes
+abbrev pub column_of : Id → Canonical → Option Tree
+column_of i c = if same_id (encoding_in c) i then Some (canonical_tree c) else None
+
 abbrev pub null_column : Canonical → Option Tree
-null_column (Null t) = Some t
-null_column _ = None
+null_column = column_of id.Null
 
 abbrev pub bool_column : Canonical → Option Tree
-bool_column (Bool t) = Some t
-bool_column _ = None
+bool_column = column_of id.Bool
 
 abbrev pub primitive_column : Canonical → Option Tree
-primitive_column (Primitive t) = Some t
-primitive_column _ = None
+primitive_column = column_of id.Primitive
 
 abbrev pub decimal_column : Canonical → Option Tree
-decimal_column (Decimal t) = Some t
-decimal_column _ = None
+decimal_column = column_of id.Decimal
 
 abbrev pub varbinview_column : Canonical → Option Tree
-varbinview_column (VarBinView t) = Some t
-varbinview_column _ = None
+varbinview_column = column_of id.VarBinView
 
 abbrev pub columnar_tree : Columnar → Tree
 columnar_tree (columnar.Canonical c) = canonical_tree c

@@ -1,9 +1,9 @@
 //! Columns in the canonical encoding of their type.
 
-ghost use Rattle.std.specs.Prelude.{◌≡◌, ◌==◌, true, is_ok, IfOk, IfErr};
+ghost use Rattle.std.specs.Prelude.{◌≡◌, true, is_ok, IfOk, IfErr, option_map};
 ghost use Rattle.vx_value.specs.View.{type_of};
-ghost use Rattle.vx_tree.specs.Tree.{Tree, dtype, len, datum, is_canonical};
-ghost use Rattle.vx_tree.specs.Columns.{canonical_tree, empty_of};
+ghost use Rattle.vx_tree.specs.Tree.{Tree, datum, is_canonical};
+ghost use Rattle.vx_tree.specs.Columns.{canonical_tree, null_column, bool_column, primitive_column, decimal_column, varbinview_column, empty_of};
 
 use crate::array::{Array, ArrayRef, Encoding, IntoArray};
 use crate::arrays::boolean::BoolArray;
@@ -11,7 +11,9 @@ use crate::arrays::decimal::DecimalArray;
 use crate::arrays::null::NullArray;
 use crate::arrays::primitive::PrimitiveArray;
 use crate::arrays::varbinview::VarBinViewArray;
+use crate::arrays::{into_variant, variant};
 use std::alloc::Global;
+use std::ops::Deref;
 use vx_value::{DType, VortexError, VortexResult};
 
 /// A column in the canonical encoding of its type.
@@ -74,25 +76,84 @@ impl Canonical {
         }
     }
 
-    /// Returns the number of rows.
-    pub fn len(&self) -> usize
-        ensures { result ≡ len (canonical_tree self.now) }
+    /// Returns the column if it is one of nulls, else `None`.
+    pub fn as_null(&self) -> Option<&NullArray>
+        ensures { option_map (λ c. c.now) result ≡ null_column self.now }
     {
-        self.as_array().len()
+        variant!(self, Canonical::Null)
     }
 
-    /// Returns whether there are no rows.
-    pub fn is_empty(&self) -> bool
-        ensures { result ≡ (len (canonical_tree self.now) == 0) }
+    /// Returns the column if it is a boolean column, else `None`.
+    pub fn as_bool(&self) -> Option<&BoolArray>
+        ensures { option_map (λ c. c.now) result ≡ bool_column self.now }
     {
-        self.as_array().is_empty()
+        variant!(self, Canonical::Bool)
     }
 
-    /// Returns the type of the rows.
-    pub fn dtype(&self) -> &DType
-        ensures { type_of result.now ≡ dtype (canonical_tree self.now) }
+    /// Returns the column if it is an integer column, else `None`.
+    pub fn as_primitive(&self) -> Option<&PrimitiveArray>
+        ensures { option_map (λ c. c.now) result ≡ primitive_column self.now }
     {
-        self.as_array().dtype()
+        variant!(self, Canonical::Primitive)
+    }
+
+    /// Returns the column if it is one of decimals, else `None`.
+    pub fn as_decimal(&self) -> Option<&DecimalArray>
+        ensures { option_map (λ c. c.now) result ≡ decimal_column self.now }
+    {
+        variant!(self, Canonical::Decimal)
+    }
+
+    /// Returns the column if it is one of text or bytes, else `None`.
+    pub fn as_varbinview(&self) -> Option<&VarBinViewArray>
+        ensures { option_map (λ c. c.now) result ≡ varbinview_column self.now }
+    {
+        variant!(self, Canonical::VarBinView)
+    }
+
+    /// Returns the column by value if it is one of nulls, else `None`.
+    pub fn into_null(self) -> Option<NullArray>
+        ensures { result ≡ null_column self }
+    {
+        into_variant!(self, Canonical::Null)
+    }
+
+    /// Returns the column by value if it is a boolean column, else `None`.
+    pub fn into_bool(self) -> Option<BoolArray>
+        ensures { result ≡ bool_column self }
+    {
+        into_variant!(self, Canonical::Bool)
+    }
+
+    /// Returns the column by value if it is an integer column, else `None`.
+    pub fn into_primitive(self) -> Option<PrimitiveArray>
+        ensures { result ≡ primitive_column self }
+    {
+        into_variant!(self, Canonical::Primitive)
+    }
+
+    /// Returns the column by value if it is one of decimals, else `None`.
+    pub fn into_decimal(self) -> Option<DecimalArray>
+        ensures { result ≡ decimal_column self }
+    {
+        into_variant!(self, Canonical::Decimal)
+    }
+
+    /// Returns the column by value if it is one of text or bytes, else `None`.
+    pub fn into_varbinview(self) -> Option<VarBinViewArray>
+        ensures { result ≡ varbinview_column self }
+    {
+        into_variant!(self, Canonical::VarBinView)
+    }
+}
+
+impl Deref for Canonical {
+    type Target = ArrayRef;
+
+    ghost deref_gives = { λ c a. a ≡ canonical_tree c };
+
+    fn deref(&self) -> &ArrayRef {
+        self.as_array()
     }
 }
 

@@ -9,9 +9,15 @@ use std::alloc::{AllocError, Global};
 use std::marker::Model;
 
 /// A node with an empty slot. It is never an `ArrayRef`. (own)
-#[derive(Drop)]
 pub struct Suspended {
     node: Node,
+}
+
+// by hand: see `ArrayRef`
+impl Drop for Suspended {
+    fn drop(self) {
+        let Suspended { node: _node } = self;
+    }
 }
 
 impl Model for Suspended {

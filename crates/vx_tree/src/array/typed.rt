@@ -1,6 +1,6 @@
 //! Handles that know their encoding.
 
-ghost use Rattle.std.specs.Prelude.{◌≡◌, ◌⊎◌, ◌==◌, is_ok, IfOk, IfErr, OnOk, Some, None, true};
+ghost use Rattle.std.specs.Prelude.{◌≡◌, ◌⊎◌, ◌==◌, [], ◌∷◌, is_ok, IfOk, IfErr, OnOk, Some, None, true};
 ghost use Rattle.vx_value.specs.View.{type_of};
 ghost use Rattle.vx_tree.specs.Tree.{Tree, dtype, len, datum, slots, slots_of, node, id_of};
 ghost use Rattle.vx_tree.specs.Well.{shapes, IsNode};
@@ -109,6 +109,33 @@ impl<V: VTable> Array<V> {
             dtype,
             len,
             encoding: V::wrap(payload),
+            slots,
+        };
+        Ok(Array {
+            array: node.into_array(alloc)?,
+            tag: PhantomData,
+        })
+    }
+
+    /// Makes the node of these parts and this one slot, which must meet the conditions of the encoding. The only error is
+    /// `OutOfMemory`.
+    pub(crate) fn over(
+        alloc: Global,
+        dtype: DType,
+        len: usize,
+        payload: V::TypedArrayData,
+        slot: Option<ArrayRef>,
+    ) -> VortexResult<Array<V>>
+        requires { IsNode (type_of dtype) len (V.stands_for payload) (shapes (slots_of (slot ∷ []))) }
+        ensures ok { IfOk result (λ a. a ≡ node (type_of dtype) len (V.stands_for payload) (slots_of (slot ∷ []))) }
+        ensures err { IfErr result (λ e. e ≡ VortexError.OutOfMemory) }
+    {
+        let encoding = V::wrap(payload);
+        let slots = vec![in alloc; slot]?;
+        let node = Node {
+            dtype,
+            len,
+            encoding,
             slots,
         };
         Ok(Array {

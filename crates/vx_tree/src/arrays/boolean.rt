@@ -1,6 +1,6 @@
 //! Boolean columns.
 
-ghost use Rattle.std.specs.Prelude.{◌≡◌, ◌⊎◌, IfOk, IfErr, OnOk, Some, None, length, option_map, refl};
+ghost use Rattle.std.specs.Prelude.{◌≡◌, ◌⊎◌, IfOk, IfErr, OnOk, Some, None, length, refl};
 ghost use Rattle.vx_value.specs.View.{type_of};
 ghost use Rattle.vx_value.specs.Types as type;
 ghost use Rattle.vx_value.specs.declared.dtype.Nullability.TheVariants.{NonNullable};
@@ -8,11 +8,11 @@ ghost use Rattle.vx_value.specs.declared.id.Id.TheVariants as id;
 ghost use Rattle.vx_tree.specs.Tree as enc;
 ghost use Rattle.vx_tree.specs.Tree.{bool, is_bool, column};
 ghost use Rattle.vx_tree.specs.Validities.{child_of, flat_refusal};
-ghost use Rattle.vx_tree.specs.Columns.{canonical_tree, bool_column, empty_of};
+ghost use Rattle.vx_tree.specs.Columns.{canonical_tree, empty_of};
 
 use crate::array::{Array, ArrayId, ArrayParts, Encoded, Encoding, EncodingVariant, VTable};
 use crate::arrays::column::{FlatEncoding, check_column, flat_column};
-use crate::arrays::{into_payload, into_variant, payload, variant};
+use crate::arrays::{into_payload, payload};
 use crate::canonical::Canonical;
 use crate::validity::Validity;
 use std::alloc::{AllocError, Global};
@@ -72,15 +72,7 @@ impl BoolArray {
     {
         let of_type = DType::Bool(Nullability::NonNullable);
         let len = bits.len();
-        flat_column(
-            alloc,
-            Bool,
-            dtype,
-            &of_type,
-            len,
-            BoolData { bits },
-            validity,
-        )
+        flat_column(alloc, dtype, &of_type, len, BoolData { bits }, validity)
     }
 }
 
@@ -96,30 +88,16 @@ impl Canonical {
         let column = BoolArray::try_new(alloc, DType::Bool(nullability), bits, &validity)?;
         Ok(Canonical::Bool(column))
     }
-
-    /// Returns the column if it is a boolean column, else `None`.
-    pub fn as_bool(&self) -> Option<&BoolArray>
-        ensures { option_map (λ c. c.now) result ≡ bool_column self.now }
-    {
-        variant!(self, Canonical::Bool)
-    }
-
-    /// Returns the column by value if it is a boolean column, else `None`.
-    pub fn into_bool(self) -> Option<BoolArray>
-        ensures { result ≡ bool_column self }
-    {
-        into_variant!(self, Canonical::Bool)
-    }
 }
 
 impl FlatEncoding for Bool {
-    fn know_flat(_payload: &BoolData) {}
-
     fn slice_values(payload: &BoolData, range: Range<usize>) -> Result<BoolData, AllocError> {
         Ok(BoolData {
             bits: payload.bits.slice(range)?,
         })
     }
+
+    ghost flat = { λ d. refl };
 }
 
 impl Encoded for Bool {

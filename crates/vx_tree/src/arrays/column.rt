@@ -3,11 +3,11 @@
 ghost use Rattle.std.specs.Prelude.{◌≡◌, ◌⊎◌, ◌≤◌, true, ℕ, List, [], ◌∷◌, Option, MatchResult, IfOk, IfErr, OnOk, Some, None, option_map};
 ghost use Rattle.vx_value.specs.Types.{DataType, nullability_of};
 ghost use Rattle.vx_value.specs.View.{type_of};
-ghost use Rattle.vx_tree.specs.Tree.{column, slots, slots_of, len, is_flat, slice_of};
+ghost use Rattle.vx_tree.specs.Tree.{column, datum, slots, slots_of, len, is_flat, slice_of};
 ghost use Rattle.vx_tree.specs.Columns.{count_in, data_range};
 ghost use Rattle.vx_tree.specs.Parts.{column_range};
 ghost use Rattle.vx_tree.specs.Keeps.{KeepsExactly};
-ghost use Rattle.vx_tree.specs.Well.{Shape, shape_of, IsFlat, IsNode, shapes};
+ghost use Rattle.vx_tree.specs.Well.{Shape, shape_of, IsFlat, IsNode, IsWell, shapes};
 ghost use Rattle.vx_tree.specs.Refusals.{column_refusal, validity_type_refusal, validity_len_refusal};
 ghost use Rattle.vx_tree.specs.Validities.{child_of, flat_refusal};
 
@@ -122,7 +122,6 @@ pub(crate) fn check_flat_column(
 #[tactic(auto, using(crate::proofs::ValiditiesLemmas::flat_made))]
 pub(crate) fn flat_column<V: VTable>(
     alloc: Global,
-    vtable: V,
     dtype: DType,
     of_type: &DType,
     len: usize,
@@ -137,17 +136,11 @@ pub(crate) fn flat_column<V: VTable>(
 {
     check_flat_column(&dtype, of_type, len, validity)?;
     let child = validity_to_child(alloc, validity, len)?;
-    let slots = vec![in alloc; child]?;
-    let parts = ArrayParts::new(vtable, dtype, len, payload, slots);
-    Ok(Array::from_parts_unchecked(alloc, parts)?)
+    Array::over(alloc, dtype, len, payload, child)
 }
 
 /// Encodings of columns that hold the values of their rows themselves, and have one slot, for their validity. (own)
 pub trait FlatEncoding: VTable {
-    /// States that a node with this data is such a column.
-    fn know_flat(payload: &Self::TypedArrayData)
-        ensures { is_flat (Self.stands_for payload.now) ≡ true };
-
     /// Returns the values of the rows in `range`, which must be in order and in bounds. They share their storage with `payload`.
     fn slice_values(
         payload: &Self::TypedArrayData,
@@ -156,6 +149,9 @@ pub trait FlatEncoding: VTable {
         requires order { range.start ≤ range.end }
         requires bounds { range.end ≤ count_in (Self.stands_for payload.now) }
         ensures { IfOk result (λ part. Self.stands_for part ≡ data_range range.start range.end (Self.stands_for payload.now)) };
+
+    // a node with its data is such a column
+    ghost flat: { (d : Self.TypedArrayData) → is_flat (Self.stands_for d) ≡ true };
 }
 
 /// Returns the rows of `column` in `range`, which must be in order and in bounds, as a column that shares its storage. The only
@@ -170,23 +166,21 @@ pub(crate) fn flat_slice<V: FlatEncoding>(
     ensures range { IfOk result (λ a. a ≡ column_range range.start range.end column.now) }
     ensures err { IfErr result (λ e. e ≡ VortexError.OutOfMemory) }
 {
-    V::know_flat(column.data());
-    let array = column.as_array();
-    array.well();
     let validity = flat_validity(column);
     let (start, end) = (range.start, range.end);
+    let validity = slice_validity(alloc, validity, start..end)?;
+    let dtype = column.dtype().clone()?;
     let payload = V::slice_values(column.data(), range)?;
-    let dtype = array.dtype().clone()?;
-    let slots = vec![in alloc; slice_validity(alloc, validity, start..end)?]?;
-    let parts = ArrayParts::new(V::tag(&payload), dtype, end - start, payload, slots);
-    Ok(Array::from_parts_unchecked(alloc, parts)?)
+    Array::over(alloc, dtype, end - start, payload, validity)
 }
 
-/// Returns the slot of the validity of `column`.
+/// Returns the slot of the validity of `column`, and states that it is one of values and well formed.
 fn flat_validity<V: FlatEncoding>(column: &Array<V>) -> &Option<ArrayRef>
-    ensures { slots column.now ≡ slots_of (result.now ∷ []) }
+    ensures slot { slots column.now ≡ slots_of (result.now ∷ []) }
+    ensures flat { is_flat (datum column.now) ≡ true }
+    ensures formed { IsWell column.now }
 {
-    V::know_flat(column.data());
+    let _data = column.data();
     column.as_array().well();
     &column.slots()[0]
 }

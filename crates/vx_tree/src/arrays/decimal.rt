@@ -1,6 +1,6 @@
 //! Columns of decimals.
 
-ghost use Rattle.std.specs.Prelude.{◌≡◌, ◌⊎◌, IfOk, IfErr, OnOk, MatchResult, Some, None, length, option_map, refl};
+ghost use Rattle.std.specs.Prelude.{◌≡◌, ◌⊎◌, IfOk, IfErr, OnOk, MatchResult, Some, None, length, refl};
 ghost use Rattle.vx_value.specs.View.{type_of};
 ghost use Rattle.vx_value.specs.Types as type;
 ghost use Rattle.vx_value.specs.Types.{nullability_of};
@@ -12,11 +12,11 @@ ghost use Rattle.vx_tree.specs.ColumnTypes.{decimal_type, are_decimals_of};
 ghost use Rattle.vx_tree.specs.Tree.{decimals, is_decimals, column};
 ghost use Rattle.vx_tree.specs.Conditions.{unless};
 ghost use Rattle.vx_tree.specs.Validities.{child_of, decimal_refusal};
-ghost use Rattle.vx_tree.specs.Columns.{canonical_tree, decimal_column, empty_of};
+ghost use Rattle.vx_tree.specs.Columns.{canonical_tree, empty_of};
 
 use crate::array::{Array, ArrayId, ArrayParts, Encoded, Encoding, EncodingVariant, VTable};
 use crate::arrays::column::{FlatEncoding, check_column, check_flat_column, flat_column};
-use crate::arrays::{into_payload, into_variant, payload, variant};
+use crate::arrays::{into_payload, payload};
 use crate::canonical::Canonical;
 use crate::validity::Validity;
 use std::alloc::{AllocError, Global};
@@ -143,7 +143,6 @@ impl DecimalArray {
         let len = values.len();
         flat_column(
             alloc,
-            Decimal,
             dtype,
             &of_type,
             len,
@@ -170,30 +169,16 @@ impl Canonical {
         let column = DecimalArray::new_unchecked(alloc, dtype, values, &validity)?;
         Ok(Canonical::Decimal(column))
     }
-
-    /// Returns the column if it is one of decimals, else `None`.
-    pub fn as_decimal(&self) -> Option<&DecimalArray>
-        ensures { option_map (λ c. c.now) result ≡ decimal_column self.now }
-    {
-        variant!(self, Canonical::Decimal)
-    }
-
-    /// Returns the column by value if it is one of decimals, else `None`.
-    pub fn into_decimal(self) -> Option<DecimalArray>
-        ensures { result ≡ decimal_column self }
-    {
-        into_variant!(self, Canonical::Decimal)
-    }
 }
 
 impl FlatEncoding for Decimal {
-    fn know_flat(_payload: &DecimalData) {}
-
     fn slice_values(payload: &DecimalData, range: Range<usize>) -> Result<DecimalData, AllocError> {
         Ok(DecimalData {
             values: payload.values.slice(range)?,
         })
     }
+
+    ghost flat = { λ d. refl };
 }
 
 impl Encoded for Decimal {

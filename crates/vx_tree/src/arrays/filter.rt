@@ -123,15 +123,7 @@ impl FilterArray {
     {
         let dtype = child.dtype().clone()?;
         let len = mask.true_count();
-        let slots = vec![in alloc; Some(child)]?;
-        let parts = ArrayParts {
-            vtable: Filter,
-            dtype,
-            len,
-            payload: FilterData { mask },
-            slots,
-        };
-        Ok(Array::from_parts_unchecked(alloc, parts)?)
+        Array::over(alloc, dtype, len, FilterData { mask }, Some(child))
     }
 
     /// Makes the lazy filter of `child` by `mask`. `InvalidArgument` with `MaskLen` exactly if their lengths differ.

@@ -1,17 +1,15 @@
 //! Columns of nulls.
 
-ghost use Rattle.std.specs.Prelude.{◌≡◌, ◌≤◌, IfOk, IfErr, option_map, refl};
+ghost use Rattle.std.specs.Prelude.{◌≡◌, ◌≤◌, IfOk, IfErr, refl};
 ghost use Rattle.vx_value.specs.declared.id.Id.TheVariants as id;
 ghost use Rattle.vx_tree.specs.Tree.{len, nulls, nulls_of, slice_of, is_nulls};
 ghost use Rattle.vx_tree.specs.Parts.{column_range};
 ghost use Rattle.vx_tree.specs.Keeps.{KeepsExactly};
-ghost use Rattle.vx_tree.specs.Columns.{null_column};
 
 use crate::array::{Array, ArrayId, ArrayParts, Encoded, Encoding, EncodingVariant, VTable};
 use crate::arrays::scalar_fn_validity::EmptyArrayData;
 use crate::arrays::types::is_same_type;
-use crate::arrays::{into_payload, into_variant, payload, variant};
-use crate::canonical::Canonical;
+use crate::arrays::{into_payload, payload};
 use std::alloc::Global;
 use std::ops::Range;
 use vx_value::{ArgKind, DType, Id, VortexError, VortexResult};
@@ -67,22 +65,6 @@ impl NullArray {
         let _nulls = self.data();
         self.as_array().well();
         NullArray::new(alloc, range.end - range.start)
-    }
-}
-
-impl Canonical {
-    /// Returns the column if it is one of nulls, else `None`.
-    pub fn as_null(&self) -> Option<&NullArray>
-        ensures { option_map (λ c. c.now) result ≡ null_column self.now }
-    {
-        variant!(self, Canonical::Null)
-    }
-
-    /// Returns the column by value if it is one of nulls, else `None`.
-    pub fn into_null(self) -> Option<NullArray>
-        ensures { result ≡ null_column self }
-    {
-        into_variant!(self, Canonical::Null)
     }
 }
 

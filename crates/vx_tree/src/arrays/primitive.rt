@@ -1,6 +1,6 @@
 //! Integer columns.
 
-ghost use Rattle.std.specs.Prelude.{◌≡◌, ◌⊎◌, IfOk, IfErr, OnOk, Some, None, length, option_map, refl};
+ghost use Rattle.std.specs.Prelude.{◌≡◌, ◌⊎◌, IfOk, IfErr, OnOk, Some, None, length, refl};
 ghost use Rattle.vx_value.specs.View.{type_of};
 ghost use Rattle.vx_value.specs.Types as type;
 ghost use Rattle.vx_value.specs.declared.dtype.Nullability.TheVariants.{NonNullable};
@@ -8,11 +8,11 @@ ghost use Rattle.vx_native.specs.Natives.{values_of, ptype_of};
 ghost use Rattle.vx_value.specs.declared.id.Id.TheVariants as id;
 ghost use Rattle.vx_tree.specs.Tree.{primitive, is_primitive, column};
 ghost use Rattle.vx_tree.specs.Validities.{child_of, flat_refusal};
-ghost use Rattle.vx_tree.specs.Columns.{canonical_tree, primitive_column, empty_of};
+ghost use Rattle.vx_tree.specs.Columns.{canonical_tree, empty_of};
 
 use crate::array::{Array, ArrayId, ArrayParts, Encoded, Encoding, EncodingVariant, VTable};
 use crate::arrays::column::{FlatEncoding, check_column, flat_column};
-use crate::arrays::{into_payload, into_variant, payload, variant};
+use crate::arrays::{into_payload, payload};
 use crate::canonical::Canonical;
 use crate::validity::Validity;
 use std::alloc::{AllocError, Global};
@@ -73,7 +73,6 @@ impl PrimitiveArray {
         let len = values.len();
         flat_column(
             alloc,
-            Primitive,
             dtype,
             &of_type,
             len,
@@ -100,25 +99,9 @@ impl Canonical {
         let column = PrimitiveArray::try_new(alloc, dtype, values, &validity)?;
         Ok(Canonical::Primitive(column))
     }
-
-    /// Returns the column if it is an integer column, else `None`.
-    pub fn as_primitive(&self) -> Option<&PrimitiveArray>
-        ensures { option_map (λ c. c.now) result ≡ primitive_column self.now }
-    {
-        variant!(self, Canonical::Primitive)
-    }
-
-    /// Returns the column by value if it is an integer column, else `None`.
-    pub fn into_primitive(self) -> Option<PrimitiveArray>
-        ensures { result ≡ primitive_column self }
-    {
-        into_variant!(self, Canonical::Primitive)
-    }
 }
 
 impl FlatEncoding for Primitive {
-    fn know_flat(_payload: &PrimitiveData) {}
-
     fn slice_values(
         payload: &PrimitiveData,
         range: Range<usize>,
@@ -127,6 +110,8 @@ impl FlatEncoding for Primitive {
             values: payload.values.slice(range)?,
         })
     }
+
+    ghost flat = { λ d. refl };
 }
 
 impl Encoded for Primitive {

@@ -63,10 +63,8 @@ impl ScalarFnValidityArray {
         ensures err { IfErr result (λ e. e ≡ VortexError.OutOfMemory) }
     {
         let len = child.len();
-        let slots = vec![in alloc; Some(child)]?;
         let dtype = DType::Bool(Nullability::NonNullable);
-        let parts = ArrayParts::new(ScalarFnValidity, dtype, len, EmptyArrayData, slots);
-        Ok(Array::from_parts_unchecked(alloc, parts)?)
+        Array::over(alloc, dtype, len, EmptyArrayData, Some(child))
     }
 }
 

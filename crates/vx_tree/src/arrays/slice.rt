@@ -118,15 +118,7 @@ impl SliceArray {
     {
         let dtype = child.dtype().clone()?;
         let len = range.end - range.start;
-        let slots = vec![in alloc; Some(child)]?;
-        let parts = ArrayParts {
-            vtable: Slice,
-            dtype,
-            len,
-            payload: SliceData { range },
-            slots,
-        };
-        Ok(Array::from_parts_unchecked(alloc, parts)?)
+        Array::over(alloc, dtype, len, SliceData { range }, Some(child))
     }
 
     /// Makes the lazy slice of `child` at `range`. `OutOfBounds` exactly unless start <= end <= the child's length.

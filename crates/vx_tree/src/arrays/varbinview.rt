@@ -1,6 +1,6 @@
 //! Columns of text and of bytes.
 
-ghost use Rattle.std.specs.Prelude.{◌≡◌, ◌⊎◌, ◌∷◌, [], MatchResult, IfOk, IfErr, OnOk, Some, None, length, option_map, refl};
+ghost use Rattle.std.specs.Prelude.{◌≡◌, ◌⊎◌, ◌∷◌, [], MatchResult, IfOk, IfErr, OnOk, Some, None, length, refl};
 ghost use Rattle.vx_value.specs.View.{type_of};
 ghost use Rattle.vx_value.specs.Storage.{storage_of};
 ghost use Rattle.vx_value.specs.declared.id.Id.TheVariants as id;
@@ -8,11 +8,11 @@ ghost use Rattle.vx_tree.specs.ColumnTypes.{bytes_type, are_bytes_of};
 ghost use Rattle.vx_tree.specs.Tree.{views, is_views, column};
 ghost use Rattle.vx_tree.specs.Conditions.{unless};
 ghost use Rattle.vx_tree.specs.Validities.{child_of, bytes_refusal};
-ghost use Rattle.vx_tree.specs.Columns.{canonical_tree, varbinview_column, empty_of};
+ghost use Rattle.vx_tree.specs.Columns.{canonical_tree, empty_of};
 
 use crate::array::{Array, ArrayId, ArrayParts, Encoded, Encoding, EncodingVariant, VTable};
 use crate::arrays::column::{FlatEncoding, check_column, check_flat_column, flat_column};
-use crate::arrays::{into_payload, into_variant, payload, variant};
+use crate::arrays::{into_payload, payload};
 use crate::canonical::Canonical;
 use crate::validity::Validity;
 use std::alloc::{AllocError, Global};
@@ -126,7 +126,6 @@ impl VarBinViewArray {
         let len = rows.len();
         flat_column(
             alloc,
-            VarBinView,
             dtype,
             &of_type,
             len,
@@ -148,25 +147,9 @@ impl Canonical {
         let column = VarBinViewArray::new_unchecked(alloc, dtype.clone()?, rows, &validity)?;
         Ok(Canonical::VarBinView(column))
     }
-
-    /// Returns the column if it is one of text or bytes, else `None`.
-    pub fn as_varbinview(&self) -> Option<&VarBinViewArray>
-        ensures { option_map (λ c. c.now) result ≡ varbinview_column self.now }
-    {
-        variant!(self, Canonical::VarBinView)
-    }
-
-    /// Returns the column by value if it is one of text or bytes, else `None`.
-    pub fn into_varbinview(self) -> Option<VarBinViewArray>
-        ensures { result ≡ varbinview_column self }
-    {
-        into_variant!(self, Canonical::VarBinView)
-    }
 }
 
 impl FlatEncoding for VarBinView {
-    fn know_flat(_payload: &VarBinViewData) {}
-
     fn slice_values(
         payload: &VarBinViewData,
         range: Range<usize>,
@@ -175,6 +158,8 @@ impl FlatEncoding for VarBinView {
             rows: payload.rows.slice(range)?,
         })
     }
+
+    ghost flat = { λ d. refl };
 }
 
 impl Encoded for VarBinView {
