@@ -1,15 +1,18 @@
 -- Ranges of columns that hold their rows themselves.
-use Rattle.std.proofs.Common.{◌≡◌, ◌≤◌, ℕ, ◌-◌, List, [], ◌∷◌, length, slice_range, true, Option, refl, ap, ◌∙◌, subst}
+use Rattle.std.proofs.Common.{◌≡◌, ◌≢◌, None, ◌≤◌, ℕ, ◌-◌, List, [], ◌∷◌, length, slice_range, true, Option, refl, ap, ◌∙◌, subst}
+use Rattle.std.proofs.lemmas.Bool.{and_from}
 use Rattle.vx_value.specs.Types as type
 use Rattle.vx_value.specs.Types.{DataType}
 use Rattle.vx_value.specs.Storage.{storage_of}
 use Rattle.vx_value.specs.Values.{boolean, integer, decimal, bytes}
+use Rattle.vx_value.specs.Decimals.{smallest_width, same_width_Decides}
 use Rattle.vx_value.specs.declared.dtype.Nullability.TheVariants.{NonNullable}
+use Rattle.vx_value.specs.declared.dtype.Storage.TheVariants.{Nulls}
 use Rattle.vx_tree.specs.ColumnTypes.{decimal_type, scale_of, bytes_type}
 use Rattle.vx_tree.specs.Tree as enc
 use Rattle.vx_tree.specs.Tree.{Tree, Data, Slots, node, dtype, len, datum, slots, slots_of, column, slice_of, is_flat}
 use Rattle.vx_tree.specs.Well.{Shape, IsFlat, IsNode, IsNodeOf, IsWell, shapes}
-use Rattle.vx_tree.specs.Columns.{count_in, data_range}
+use Rattle.vx_tree.specs.Columns.{count_in, data_range, no_rows, empty_of}
 use Rattle.vx_tree.specs.Keeps.{KeepsExactly}
 use Rattle.vx_tree.specs.Validities.{HasRange, IsValidityPart}
 use Rattle.vx_tree.proofs.SlotsLemmas.{only_slot}
@@ -75,3 +78,15 @@ flat_slot t xs w h e =
     let shape = flat_shape t (well_node t w) h in
     let found = only_slot xs shape.0 (ap shapes e ∙ shape.1) in
     (found.0, found.1)
+
+-- the one without rows: a line for each type
+pub no_rows_node : (ty : DataType) → storage_of ty ≢ Nulls → IsNode ty 0 (no_rows (storage_of ty)) (None ∷ [])
+no_rows_node type.null h = absurd (h refl)
+no_rows_node (type.decimal p s m) h = ((None, refl, refl, refl, tt), and_from _ _ ((same_width_Decides (smallest_width p) (smallest_width p)).1 refl) refl)
+no_rows_node (type.utf8 m) h = ((None, refl, refl, refl, tt), refl)
+no_rows_node (type.binary m) h = ((None, refl, refl, refl, tt), refl)
+no_rows_node _ h = (None, refl, refl, refl, tt)
+
+pub no_rows_column : (ty : DataType) → storage_of ty ≢ Nulls → column ty 0 (no_rows (storage_of ty)) None ≡ empty_of ty
+no_rows_column type.null h = absurd (h refl)
+no_rows_column _ h = refl

@@ -27,7 +27,7 @@ use Rattle.vx_fn.proofs.ReturnTypesLemmas.{arity_of_row}
 use Rattle.vx_tree.specs.Tree as enc
 use Rattle.vx_tree.specs.Tree.{Tree, Data, id_of, slots_of, dtype, len}
 use Rattle.vx_tree.specs.Well.{Shape, shape, shape_of, shapes, IsValidity, IsFlat, IsNode}
-use Rattle.vx_tree.specs.Refusals.{tested_refusal, refusal, column_refusal, constant_refusal, of_child, slice_refusal, filter_refusal, validity_refusal, mask_refusal, masked_refusal, function_refusal, nulls_refusal}
+use Rattle.vx_tree.specs.Refusals.{tested_refusal, refusal, column_refusal, without_slots, constant_refusal, of_child, slice_refusal, filter_refusal, validity_refusal, mask_refusal, masked_refusal, function_refusal, nulls_refusal}
 use Rattle.vx_tree.specs.Refusals.{slots_refusal, types_refusal, lengths_refusal, result_refusal, arity_refusal}
 use Rattle.vx_tree.specs.Conditions.{unless, first_of_both}
 use Rattle.vx_tree.specs.Refusals.{validity_type_refusal, validity_len_refusal, all_present, all_long, types_in, type_in, is_present, is_long}
@@ -359,16 +359,10 @@ pub column_by_slot : (ty : DataType) (n : ℕ) (of_type : DataType) (k : ℕ) (x
     column_refusal ty n of_type k (shapes (slots_of xs)) ≡ column_refusal ty n of_type k (option_map shape_of v ∷ [])
 column_by_slot ty n of_type k xs v h = ap (column_refusal ty n of_type k) (ap (λ l. shapes (slots_of l)) h ∙ one_shape v)
 
-pub constant_slot_count : (ty : DataType) (v : Typed) (xs : List (Option Tree)) →
-    length xs ≢ 0 → constant_refusal ty v (shapes (slots_of xs)) ≡ Some (InvalidArgument SlotCount)
-constant_slot_count ty v [] h = absurd (h refl)
-constant_slot_count ty v (None ∷ xs) h = refl
-constant_slot_count ty v (Some t ∷ xs) h = refl
-
-pub nulls_slot_count : (ty : DataType) (xs : List (Option Tree)) → length xs ≢ 0 → nulls_refusal ty (shapes (slots_of xs)) ≡ Some (InvalidArgument SlotCount)
-nulls_slot_count ty [] h = absurd (h refl)
-nulls_slot_count ty (None ∷ xs) h = refl
-nulls_slot_count ty (Some t ∷ xs) h = refl
+pub some_slot : (later : Option VortexError) (xs : List (Option Tree)) → length xs ≢ 0 → without_slots later (shapes (slots_of xs)) ≡ Some (InvalidArgument SlotCount)
+some_slot later [] h = absurd (h refl)
+some_slot later (None ∷ xs) h = refl
+some_slot later (Some t ∷ xs) h = refl
 
 pub the_slot : (xs : List (Option Tree)) (s : Option Tree) → length xs ≡ 1 → s ≡ get_or xs 0 s → xs ≡ s ∷ []
 the_slot [] s h e = absurd (omega arith)

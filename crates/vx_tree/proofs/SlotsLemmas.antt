@@ -1,5 +1,5 @@
 -- Slots as a list and as a tree has them: taking one out, filling it, and what a node's conditions say of them.
-use Rattle.std.proofs.Common.{◌≡◌, ◌≢◌, ℕ, zero, suc, ◌<◌, List, [], ◌∷◌, ◌++◌, length, get_or, set, Option, Some, None, IfSome, refl, sym, ap, arith, subst, ◌∙◌}
+use Rattle.std.proofs.Common.{◌≡◌, ◌≢◌, ◌⊎◌, inl, inr, ℕ, zero, suc, ◌<◌, List, [], ◌∷◌, ◌++◌, length, get_or, set, Option, Some, None, IfSome, refl, sym, ap, arith, subst, ◌∙◌}
 use Rattle.std.specs.Prelude.{option_map}
 use Rattle.vx_value.specs.Types.{DataType}
 use Rattle.vx_tree.specs.Tree.{Tree, Data, Slots, node, no_slots, absent, slot, slots_of, dtype, len}
@@ -13,19 +13,18 @@ well_append (None ∷ xs) s h w = well_append xs s h w
 well_append (Some u ∷ xs) s h w = (h.0, well_append xs s h.1 w)
 
 -- a slot that is there, or empty, is among the slots
+slot_bound : (xs : List (Option Tree)) (i : ℕ) → IsPresentAt i (slots_of xs) ⊎ IsAbsentAt i (slots_of xs) → i < length xs
+slot_bound [] i (inl h) = absurd h
+slot_bound [] i (inr h) = absurd h
+slot_bound (x ∷ xs) zero h = omega arith
+slot_bound (None ∷ xs) (suc i) h = omega (arith, slot_bound xs i h)
+slot_bound (Some t ∷ xs) (suc i) h = omega (arith, slot_bound xs i h)
+
 pub present_bound : (xs : List (Option Tree)) (i : ℕ) → IsPresentAt i (slots_of xs) → i < length xs
-present_bound [] i h = absurd h
-present_bound (None ∷ xs) zero h = absurd h
-present_bound (None ∷ xs) (suc i) h = omega (arith, present_bound xs i h)
-present_bound (Some t ∷ xs) zero h = omega arith
-present_bound (Some t ∷ xs) (suc i) h = omega (arith, present_bound xs i h)
+present_bound xs i h = slot_bound xs i (inl h)
 
 pub hole_bound : (xs : List (Option Tree)) (i : ℕ) → IsAbsentAt i (slots_of xs) → i < length xs
-hole_bound [] i h = absurd h
-hole_bound (None ∷ xs) zero h = omega arith
-hole_bound (None ∷ xs) (suc i) h = omega (arith, hole_bound xs i h)
-hole_bound (Some t ∷ xs) zero h = absurd h
-hole_bound (Some t ∷ xs) (suc i) h = omega (arith, hole_bound xs i h)
+hole_bound xs i h = slot_bound xs i (inr h)
 
 pub present_some : (xs : List (Option Tree)) (i : ℕ) (d : Option Tree) → IsPresentAt i (slots_of xs) → get_or xs i d ≡ None → ⊥
 present_some [] i d h e = h

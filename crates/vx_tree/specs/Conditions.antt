@@ -1,5 +1,5 @@
 -- Conditions in turn: the refusal of the first that fails.
-use Rattle.std.specs.Prelude.{Bool, true, false, Option, Some, None}
+use Rattle.std.specs.Prelude.{◌≡◌, Bool, true, false, Option, Some, None, Result, MatchResult}
 use Rattle.vx_value.specs.declared.error.VortexError.{VortexError}
 
 -- the first of two refusals
@@ -11,3 +11,7 @@ first_of_both (Some e) later = Some e
 abbrev pub unless : Bool → VortexError → Option VortexError
 unless true e = None
 unless false e = Some e
+
+-- a check gives Ok if there is no refusal, else the refusal
+abbrev pub Checks : {T : Type 0} → Result T VortexError → Option VortexError → Type 0
+Checks r refused = MatchResult r (λ _. refused ≡ None) (λ e. refused ≡ Some e)

@@ -47,15 +47,17 @@ column_refusal ty n of_type k (s ∷ r ∷ ss) = Some (InvalidArgument SlotCount
 abbrev pub tested_refusal : DataType → ℕ → DataType → ℕ → Bool → List (Option Shape) → Option VortexError
 tested_refusal ty n of_type k pass ss = first_of_both (column_refusal ty n of_type k ss) (unless pass (InvalidArgument BadValue))
 
+-- of a node without slots
+abbrev pub without_slots : Option VortexError → List (Option Shape) → Option VortexError
+without_slots later [] = later
+without_slots later (s ∷ ss) = Some (InvalidArgument SlotCount)
+
 abbrev pub constant_refusal : DataType → Typed → List (Option Shape) → Option VortexError
-constant_refusal ty v [] =
-    first_of_both (unless (same_type ty v.of_type) (InvalidArgument NodeType))
-    (unless (is_of ty v.value) (InvalidArgument BadValue))
-constant_refusal ty v (s ∷ ss) = Some (InvalidArgument SlotCount)
+constant_refusal ty v ss =
+    without_slots (first_of_both (unless (same_type ty v.of_type) (InvalidArgument NodeType)) (unless (is_of ty v.value) (InvalidArgument BadValue))) ss
 
 abbrev pub nulls_refusal : DataType → List (Option Shape) → Option VortexError
-nulls_refusal ty [] = unless (same_type ty type.null) (InvalidArgument BadType)
-nulls_refusal ty (s ∷ ss) = Some (InvalidArgument SlotCount)
+nulls_refusal ty ss = without_slots (unless (same_type ty type.null) (InvalidArgument BadType)) ss
 
 -- of a node with one child, by the child's type and length
 abbrev pub of_child : (DataType → ℕ → Option VortexError) → List (Option Shape) → Option VortexError

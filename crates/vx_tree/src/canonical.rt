@@ -7,6 +7,7 @@ ghost use Rattle.vx_tree.specs.Columns.{canonical_tree, null_column, bool_column
 
 use crate::array::{Array, ArrayRef, Encoding, IntoArray};
 use crate::arrays::boolean::BoolArray;
+use crate::arrays::column::flat_empty;
 use crate::arrays::decimal::DecimalArray;
 use crate::arrays::null::NullArray;
 use crate::arrays::primitive::PrimitiveArray;
@@ -34,14 +35,12 @@ impl Canonical {
     {
         match dtype {
             DType::Null => Ok(Canonical::Null(NullArray::new(alloc, 0)?)),
-            DType::Bool(nullability) => Canonical::empty_bool(alloc, *nullability),
-            DType::Primitive(ptype, nullability) => {
-                Canonical::empty_primitive(alloc, *ptype, *nullability)
+            DType::Bool(_) => Ok(Canonical::Bool(flat_empty(alloc, dtype)?)),
+            DType::Primitive(_, _) => Ok(Canonical::Primitive(flat_empty(alloc, dtype)?)),
+            DType::Decimal(_, _) => Ok(Canonical::Decimal(flat_empty(alloc, dtype)?)),
+            DType::Utf8(_) | DType::Binary(_) => {
+                Ok(Canonical::VarBinView(flat_empty(alloc, dtype)?))
             }
-            DType::Decimal(decimal, nullability) => {
-                Canonical::empty_decimal(alloc, *decimal, *nullability)
-            }
-            DType::Utf8(_) | DType::Binary(_) => Canonical::empty_varbinview(alloc, dtype),
         }
     }
 

@@ -1,10 +1,11 @@
 //! Which rows of a column are null.
 
-ghost use Rattle.std.specs.Prelude.{◌≡◌, ℕ, IfOk, IfErr, MatchResult, Some, None, length, option_map};
+ghost use Rattle.std.specs.Prelude.{◌≡◌, ℕ, IfOk, IfErr, Some, None, length, option_map};
 ghost use Rattle.vx_value.specs.View.{type_of};
 ghost use Rattle.vx_mask.specs.Masks.{bits_in};
 ghost use Rattle.vx_tree.specs.Validities.{nullability_by, without_nulls, child_of, child_by, count_children, validity_of, array_refusal, HasRange};
 ghost use Rattle.vx_tree.specs.Parts.{part_of, choice_of, HasLen};
+ghost use Rattle.vx_tree.specs.Conditions.{Checks};
 
 use crate::array::{ArrayKind, ArrayRef, IntoArray};
 use crate::arrays::boolean::BoolArray;
@@ -127,7 +128,7 @@ pub fn validity_nchildren(validity: &Validity) -> usize
 
 /// Checks that `validity` is one of `len` rows.
 pub(crate) fn check_validity(validity: &Validity, len: usize) -> VortexResult<()>
-    ensures { MatchResult result (λ _. array_refusal len validity.now ≡ None) (λ e. array_refusal len validity.now ≡ Some e) }
+    ensures { Checks result (array_refusal len validity.now) }
 {
     let Validity::Array(array) = validity else {
         return Ok(());

@@ -8,12 +8,10 @@ ghost use Rattle.vx_value.specs.declared.id.Id.TheVariants as id;
 ghost use Rattle.vx_tree.specs.Tree as enc;
 ghost use Rattle.vx_tree.specs.Tree.{bool, is_bool, column};
 ghost use Rattle.vx_tree.specs.Validities.{child_of, flat_refusal};
-ghost use Rattle.vx_tree.specs.Columns.{canonical_tree, empty_of};
 
 use crate::array::{Array, ArrayId, ArrayParts, Encoded, Encoding, EncodingVariant, VTable};
 use crate::arrays::column::{FlatEncoding, check_column, flat_column};
 use crate::arrays::{into_payload, payload};
-use crate::canonical::Canonical;
 use crate::validity::Validity;
 use std::alloc::{AllocError, Global};
 use std::ops::Range;
@@ -76,21 +74,12 @@ impl BoolArray {
     }
 }
 
-impl Canonical {
-    /// Makes the boolean column without rows, of this nullability. The only error is `OutOfMemory`. (own)
-    #[tactic(auto, using(crate::proofs::ValiditiesLemmas::no_child, crate::proofs::ValiditiesLemmas::same_nullability))]
-    pub(crate) fn empty_bool(alloc: Global, nullability: Nullability) -> VortexResult<Canonical>
-        ensures ok { IfOk result (λ c. canonical_tree c ≡ empty_of (type.bool nullability)) }
-        ensures err { IfErr result (λ e. e ≡ VortexError.OutOfMemory) }
-    {
-        let bits = BitBuffer::repeat(alloc, false, 0)?;
-        let validity = Validity::from(nullability);
-        let column = BoolArray::try_new(alloc, DType::Bool(nullability), bits, &validity)?;
-        Ok(Canonical::Bool(column))
-    }
-}
-
 impl FlatEncoding for Bool {
+    fn no_values(alloc: Global, _dtype: &DType) -> Result<BoolData, AllocError> {
+        let bits = BitBuffer::repeat(alloc, false, 0)?;
+        Ok(BoolData { bits })
+    }
+
     fn slice_values(payload: &BoolData, range: Range<usize>) -> Result<BoolData, AllocError> {
         Ok(BoolData {
             bits: payload.bits.slice(range)?,

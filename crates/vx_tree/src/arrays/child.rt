@@ -1,11 +1,11 @@
-//! What the nodes with one child share.
+//! What the nodes with one child share, and those with none.
 
 ghost use Rattle.std.specs.Prelude.{◌≡◌, ℕ, [], ◌∷◌, MatchResult, IfOk, IfErr, Option, Some};
 ghost use Rattle.vx_value.specs.Types.{DataType};
 ghost use Rattle.vx_value.specs.declared.error.VortexError.{VortexError as VortexErrorOf};
 ghost use Rattle.vx_tree.specs.Tree.{slots_of};
 ghost use Rattle.vx_tree.specs.Well.{IsNode, shape_of, shapes};
-ghost use Rattle.vx_tree.specs.Refusals.{of_child};
+ghost use Rattle.vx_tree.specs.Refusals.{of_child, without_slots};
 
 use crate::array::ArrayRef;
 use std::alloc::{AllocError, Global};
@@ -25,5 +25,19 @@ pub(crate) fn only_child(slots: &[Option<ArrayRef>]) -> VortexResult<&ArrayRef>
     match &slots[0] {
         Some(child) => Ok(child),
         None => Err(VortexError::InvalidArgument(ArgKind::SlotMissing { slot: 0 })),
+    }
+}
+
+/// Checks that a node has no slots. `InvalidArgument` with `SlotCount` if there are slots.
+#[tactic(auto, using(crate::proofs::RefusalsLemmas::some_slot, std::proofs::lemmas::List::nil_from_length))]
+pub(crate) fn no_child(slots: &[Option<ArrayRef>]) -> VortexResult<()>
+    ensures { MatchResult result
+        (λ _. shapes (slots_of slots.now) ≡ [])
+        (λ e. (later : Option VortexErrorOf) → without_slots later (shapes (slots_of slots.now)) ≡ Some e) }
+{
+    if slots.len() == 0 {
+        Ok(())
+    } else {
+        Err(VortexError::InvalidArgument(ArgKind::SlotCount))
     }
 }

@@ -1,12 +1,15 @@
 //! What all flat columns share: a value in each row, and a slot for their validity.
 
-ghost use Rattle.std.specs.Prelude.{◌≡◌, ◌⊎◌, ◌≤◌, true, ℕ, List, [], ◌∷◌, Option, MatchResult, IfOk, IfErr, OnOk, Some, None, option_map};
+ghost use Rattle.std.specs.Prelude.{◌≡◌, ◌≢◌, ◌⊎◌, ◌≤◌, true, ℕ, List, [], ◌∷◌, Option, IfOk, IfErr, OnOk, Some, None, option_map};
 ghost use Rattle.vx_value.specs.Types.{DataType, nullability_of};
 ghost use Rattle.vx_value.specs.View.{type_of};
+ghost use Rattle.vx_value.specs.Storage.{storage_of};
+ghost use Rattle.vx_value.specs.declared.dtype.Storage.TheVariants.{Nulls};
 ghost use Rattle.vx_tree.specs.Tree.{column, datum, slots, slots_of, len, is_flat, slice_of};
-ghost use Rattle.vx_tree.specs.Columns.{count_in, data_range};
+ghost use Rattle.vx_tree.specs.Columns.{count_in, data_range, no_rows, empty_of};
 ghost use Rattle.vx_tree.specs.Parts.{column_range};
 ghost use Rattle.vx_tree.specs.Keeps.{KeepsExactly};
+ghost use Rattle.vx_tree.specs.Conditions.{Checks};
 ghost use Rattle.vx_tree.specs.Well.{Shape, shape_of, IsFlat, IsNode, IsWell, shapes};
 ghost use Rattle.vx_tree.specs.Refusals.{column_refusal, validity_type_refusal, validity_len_refusal};
 ghost use Rattle.vx_tree.specs.Validities.{child_of, flat_refusal};
@@ -25,9 +28,7 @@ pub(crate) fn check_column<V: Encoded>(
     of_type: &DType,
     values: usize,
 ) -> VortexResult<()>
-    ensures { MatchResult result
-        (λ _. column_refusal (type_of parts.now.dtype) parts.now.len (type_of of_type.now) values (shapes (slots_of parts.now.slots.items)) ≡ None)
-        (λ e. column_refusal (type_of parts.now.dtype) parts.now.len (type_of of_type.now) values (shapes (slots_of parts.now.slots.items)) ≡ Some e) }
+    ensures { Checks result (column_refusal (type_of parts.now.dtype) parts.now.len (type_of of_type.now) values (shapes (slots_of parts.now.slots.items))) }
 {
     if parts.slots.len() != 1 {
         return Err(VortexError::InvalidArgument(ArgKind::SlotCount));
@@ -45,9 +46,7 @@ fn check_flat(
     values: usize,
     validity: &Option<ArrayRef>,
 ) -> VortexResult<()>
-    ensures { MatchResult result
-        (λ _. column_refusal (type_of dtype.now) len (type_of of_type.now) values (option_map shape_of validity.now ∷ []) ≡ None)
-        (λ e. column_refusal (type_of dtype.now) len (type_of of_type.now) values (option_map shape_of validity.now ∷ []) ≡ Some e) }
+    ensures { Checks result (column_refusal (type_of dtype.now) len (type_of of_type.now) values (option_map shape_of validity.now ∷ [])) }
 {
     if !dtype.eq_ignore_nullability(of_type) {
         return Err(VortexError::InvalidArgument(ArgKind::BadType));
@@ -65,9 +64,7 @@ pub(crate) fn check_validity_type(
     validity: &Option<ArrayRef>,
     slot: usize,
 ) -> VortexResult<()>
-    ensures { MatchResult result
-        (λ _. validity_type_refusal slot nullability (option_map shape_of validity.now) ≡ None)
-        (λ e. validity_type_refusal slot nullability (option_map shape_of validity.now) ≡ Some e) }
+    ensures { Checks result (validity_type_refusal slot nullability (option_map shape_of validity.now)) }
 {
     let Some(child) = validity else {
         return Ok(());
@@ -84,9 +81,7 @@ pub(crate) fn check_validity_len(
     validity: &Option<ArrayRef>,
     slot: usize,
 ) -> VortexResult<()>
-    ensures { MatchResult result
-        (λ _. validity_len_refusal slot len (option_map shape_of validity.now) ≡ None)
-        (λ e. validity_len_refusal slot len (option_map shape_of validity.now) ≡ Some e) }
+    ensures { Checks result (validity_len_refusal slot len (option_map shape_of validity.now)) }
 {
     match validity {
         Some(child) if child.len() != len => {
@@ -141,6 +136,11 @@ pub(crate) fn flat_column<V: VTable>(
 
 /// Encodings of columns that hold the values of their rows themselves, and have one slot, for their validity. (own)
 pub trait FlatEncoding: VTable {
+    /// Returns no values of type `dtype`, whose canonical encoding must be this one.
+    fn no_values(alloc: Global, dtype: &DType) -> Result<Self::TypedArrayData, AllocError>
+        requires { Self.is_kind (no_rows (storage_of (type_of dtype.now))) ≡ true }
+        ensures { IfOk result (λ none. Self.stands_for none ≡ no_rows (storage_of (type_of dtype.now))) };
+
     /// Returns the values of the rows in `range`, which must be in order and in bounds. They share their storage with `payload`.
     fn slice_values(
         payload: &Self::TypedArrayData,
@@ -152,6 +152,17 @@ pub trait FlatEncoding: VTable {
 
     // a node with its data is such a column
     ghost flat: { (d : Self.TypedArrayData) → is_flat (Self.stands_for d) ≡ true };
+}
+
+/// Makes the column of type `dtype`, whose canonical encoding must be `V`'s, without rows. The only error is `OutOfMemory`.
+pub(crate) fn flat_empty<V: FlatEncoding>(alloc: Global, dtype: &DType) -> VortexResult<Array<V>>
+    requires stored { storage_of (type_of dtype.now) ≢ Nulls }
+    requires kind { V.is_kind (no_rows (storage_of (type_of dtype.now))) ≡ true }
+    ensures ok { IfOk result (λ a. a ≡ empty_of (type_of dtype.now)) }
+    ensures err { IfErr result (λ e. e ≡ VortexError.OutOfMemory) }
+{
+    let payload = V::no_values(alloc, dtype)?;
+    Array::over(alloc, dtype.clone()?, 0, payload, None)
 }
 
 /// Returns the rows of `column` in `range`, which must be in order and in bounds, as a column that shares its storage. The only

@@ -5,6 +5,7 @@ ghost use Rattle.vx_value.specs.declared.id.Id.TheVariants as id;
 ghost use Rattle.vx_tree.specs.Tree.{constant, constant_of, is_constant};
 
 use crate::array::{Array, ArrayId, ArrayParts, Encoded, Encoding, EncodingVariant, VTable};
+use crate::arrays::child::no_child;
 use crate::arrays::types::is_same_type;
 use crate::arrays::{into_payload, payload};
 use std::alloc::Global;
@@ -50,11 +51,8 @@ impl VTable for Constant {
         Constant
     }
 
-    #[tactic(auto, using(crate::proofs::RefusalsLemmas::constant_slot_count, std::proofs::lemmas::List::nil_from_length))]
     fn validate(_alloc: Global, parts: &ArrayParts<Constant>) -> VortexResult<()> {
-        if parts.slots.len() != 0 {
-            return Err(VortexError::InvalidArgument(ArgKind::SlotCount));
-        }
+        no_child(&parts.slots)?;
         if !is_same_type(&parts.dtype, parts.payload.scalar.dtype()) {
             return Err(VortexError::InvalidArgument(ArgKind::NodeType));
         }

@@ -1,6 +1,6 @@
 //! Columns of decimals.
 
-ghost use Rattle.std.specs.Prelude.{◌≡◌, ◌⊎◌, IfOk, IfErr, OnOk, MatchResult, Some, None, length, refl};
+ghost use Rattle.std.specs.Prelude.{◌≡◌, ◌⊎◌, IfOk, IfErr, OnOk, Some, None, length, refl};
 ghost use Rattle.vx_value.specs.View.{type_of};
 ghost use Rattle.vx_value.specs.Types as type;
 ghost use Rattle.vx_value.specs.Types.{nullability_of};
@@ -10,14 +10,12 @@ ghost use Rattle.vx_value.specs.declared.id.Id.TheVariants as id;
 ghost use Rattle.vx_native.specs.DecimalNumbers.{numbers_of, decimal_type_of};
 ghost use Rattle.vx_tree.specs.ColumnTypes.{decimal_type, are_decimals_of};
 ghost use Rattle.vx_tree.specs.Tree.{decimals, is_decimals, column};
-ghost use Rattle.vx_tree.specs.Conditions.{unless};
+ghost use Rattle.vx_tree.specs.Conditions.{Checks, unless};
 ghost use Rattle.vx_tree.specs.Validities.{child_of, decimal_refusal};
-ghost use Rattle.vx_tree.specs.Columns.{canonical_tree, empty_of};
 
 use crate::array::{Array, ArrayId, ArrayParts, Encoded, Encoding, EncodingVariant, VTable};
 use crate::arrays::column::{FlatEncoding, check_column, check_flat_column, flat_column};
 use crate::arrays::{into_payload, payload};
-use crate::canonical::Canonical;
 use crate::validity::Validity;
 use std::alloc::{AllocError, Global};
 use std::ops::Range;
@@ -75,11 +73,7 @@ pub fn decimal_type(dtype: &DType) -> DType
 
 /// Checks that `values` are numbers of type `dtype`: their width is its narrowest, and none has more digits.
 fn check_decimals(dtype: &DType, values: &DecimalValues) -> VortexResult<()>
-    ensures { MatchResult result
-        (λ _. unless (are_decimals_of (storage_of (type_of dtype.now)) (decimal_type_of values.now) (numbers_of values.now))
-        (VortexError.InvalidArgument ArgKind.BadValue) ≡ None)
-        (λ e. unless (are_decimals_of (storage_of (type_of dtype.now)) (decimal_type_of values.now) (numbers_of values.now))
-        (VortexError.InvalidArgument ArgKind.BadValue) ≡ Some e) }
+    ensures { Checks result (unless (are_decimals_of (storage_of (type_of dtype.now)) (decimal_type_of values.now) (numbers_of values.now)) (VortexError.InvalidArgument ArgKind.BadValue)) }
 {
     if are_decimals_of(dtype, values) {
         Ok(())
@@ -152,26 +146,16 @@ impl DecimalArray {
     }
 }
 
-impl Canonical {
-    /// Makes the column of decimals of type `decimal` without rows, of this nullability. The only error is `OutOfMemory`. (own)
-    pub(crate) fn empty_decimal(
-        alloc: Global,
-        decimal: DecimalDType,
-        nullability: Nullability,
-    ) -> VortexResult<Canonical>
-        ensures ok { IfOk result (λ c. canonical_tree c ≡ empty_of (type.decimal decimal.precision decimal.scale nullability)) }
-        ensures err { IfErr result (λ e. e ≡ VortexError.OutOfMemory) }
-    {
-        let width = DecimalType::smallest_decimal_value_type(&decimal);
-        let values = DecimalValues::repeat(alloc, width, 0, 0)?;
-        let validity = Validity::from(nullability);
-        let dtype = DType::Decimal(decimal, nullability);
-        let column = DecimalArray::new_unchecked(alloc, dtype, values, &validity)?;
-        Ok(Canonical::Decimal(column))
-    }
-}
-
 impl FlatEncoding for Decimal {
+    fn no_values(alloc: Global, dtype: &DType) -> Result<DecimalData, AllocError> {
+        let DType::Decimal(decimal, _) = dtype else {
+            unreachable!()
+        };
+        let width = DecimalType::smallest_decimal_value_type(decimal);
+        let values = DecimalValues::repeat(alloc, width, 0, 0)?;
+        Ok(DecimalData { values })
+    }
+
     fn slice_values(payload: &DecimalData, range: Range<usize>) -> Result<DecimalData, AllocError> {
         Ok(DecimalData {
             values: payload.values.slice(range)?,

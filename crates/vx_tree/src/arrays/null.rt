@@ -7,6 +7,7 @@ ghost use Rattle.vx_tree.specs.Parts.{column_range};
 ghost use Rattle.vx_tree.specs.Keeps.{KeepsExactly};
 
 use crate::array::{Array, ArrayId, ArrayParts, Encoded, Encoding, EncodingVariant, VTable};
+use crate::arrays::child::no_child;
 use crate::arrays::scalar_fn_validity::EmptyArrayData;
 use crate::arrays::types::is_same_type;
 use crate::arrays::{into_payload, payload};
@@ -32,11 +33,8 @@ impl VTable for Null {
         Null
     }
 
-    #[tactic(auto, using(crate::proofs::RefusalsLemmas::nulls_slot_count, std::proofs::lemmas::List::nil_from_length))]
     fn validate(_alloc: Global, parts: &ArrayParts<Null>) -> VortexResult<()> {
-        if parts.slots.len() != 0 {
-            return Err(VortexError::InvalidArgument(ArgKind::SlotCount));
-        }
+        no_child(&parts.slots)?;
         if is_same_type(&parts.dtype, &DType::Null) {
             Ok(())
         } else {

@@ -8,12 +8,10 @@ ghost use Rattle.vx_native.specs.Natives.{values_of, ptype_of};
 ghost use Rattle.vx_value.specs.declared.id.Id.TheVariants as id;
 ghost use Rattle.vx_tree.specs.Tree.{primitive, is_primitive, column};
 ghost use Rattle.vx_tree.specs.Validities.{child_of, flat_refusal};
-ghost use Rattle.vx_tree.specs.Columns.{canonical_tree, empty_of};
 
 use crate::array::{Array, ArrayId, ArrayParts, Encoded, Encoding, EncodingVariant, VTable};
 use crate::arrays::column::{FlatEncoding, check_column, flat_column};
 use crate::arrays::{into_payload, payload};
-use crate::canonical::Canonical;
 use crate::validity::Validity;
 use std::alloc::{AllocError, Global};
 use std::ops::Range;
@@ -82,26 +80,16 @@ impl PrimitiveArray {
     }
 }
 
-impl Canonical {
-    /// Makes the integer column of type `ptype` without rows, of this nullability. The only error is `OutOfMemory`. (own)
-    #[tactic(auto, using(vx_value::proofs::DefaultsLemmas::zero_in_range, crate::proofs::ValiditiesLemmas::no_child, crate::proofs::ValiditiesLemmas::same_nullability))]
-    pub(crate) fn empty_primitive(
-        alloc: Global,
-        ptype: PType,
-        nullability: Nullability,
-    ) -> VortexResult<Canonical>
-        ensures ok { IfOk result (λ c. canonical_tree c ≡ empty_of (type.primitive ptype nullability)) }
-        ensures err { IfErr result (λ e. e ≡ VortexError.OutOfMemory) }
-    {
-        let values = PrimitiveValues::repeat(alloc, ptype, 0, 0)?;
-        let validity = Validity::from(nullability);
-        let dtype = DType::Primitive(ptype, nullability);
-        let column = PrimitiveArray::try_new(alloc, dtype, values, &validity)?;
-        Ok(Canonical::Primitive(column))
-    }
-}
-
 impl FlatEncoding for Primitive {
+    #[tactic(auto, using(vx_value::proofs::DefaultsLemmas::zero_in_range))]
+    fn no_values(alloc: Global, dtype: &DType) -> Result<PrimitiveData, AllocError> {
+        let DType::Primitive(ptype, _) = dtype else {
+            unreachable!()
+        };
+        let values = PrimitiveValues::repeat(alloc, *ptype, 0, 0)?;
+        Ok(PrimitiveData { values })
+    }
+
     fn slice_values(
         payload: &PrimitiveData,
         range: Range<usize>,

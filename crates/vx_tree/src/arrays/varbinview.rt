@@ -1,19 +1,17 @@
 //! Columns of text and of bytes.
 
-ghost use Rattle.std.specs.Prelude.{◌≡◌, ◌⊎◌, ◌∷◌, [], MatchResult, IfOk, IfErr, OnOk, Some, None, length, refl};
+ghost use Rattle.std.specs.Prelude.{◌≡◌, ◌⊎◌, IfOk, IfErr, OnOk, Some, None, length, refl};
 ghost use Rattle.vx_value.specs.View.{type_of};
 ghost use Rattle.vx_value.specs.Storage.{storage_of};
 ghost use Rattle.vx_value.specs.declared.id.Id.TheVariants as id;
 ghost use Rattle.vx_tree.specs.ColumnTypes.{bytes_type, are_bytes_of};
 ghost use Rattle.vx_tree.specs.Tree.{views, is_views, column};
-ghost use Rattle.vx_tree.specs.Conditions.{unless};
+ghost use Rattle.vx_tree.specs.Conditions.{Checks, unless};
 ghost use Rattle.vx_tree.specs.Validities.{child_of, bytes_refusal};
-ghost use Rattle.vx_tree.specs.Columns.{canonical_tree, empty_of};
 
 use crate::array::{Array, ArrayId, ArrayParts, Encoded, Encoding, EncodingVariant, VTable};
 use crate::arrays::column::{FlatEncoding, check_column, check_flat_column, flat_column};
 use crate::arrays::{into_payload, payload};
-use crate::canonical::Canonical;
 use crate::validity::Validity;
 use std::alloc::{AllocError, Global};
 use std::ops::Range;
@@ -65,9 +63,7 @@ pub fn bytes_type(storage: Storage) -> DType
 
 /// Checks that `rows` are values that are stored so: that each is UTF-8 if they are text.
 fn check_bytes(storage: Storage, rows: &BinaryViews) -> VortexResult<()>
-    ensures { MatchResult result
-        (λ _. unless (are_bytes_of storage rows.now) (VortexError.InvalidArgument ArgKind.BadValue) ≡ None)
-        (λ e. unless (are_bytes_of storage rows.now) (VortexError.InvalidArgument ArgKind.BadValue) ≡ Some e) }
+    ensures { Checks result (unless (are_bytes_of storage rows.now) (VortexError.InvalidArgument ArgKind.BadValue)) }
 {
     if are_bytes_of(storage, rows) {
         Ok(())
@@ -135,21 +131,12 @@ impl VarBinViewArray {
     }
 }
 
-impl Canonical {
-    /// Makes the column of type `dtype`, one of text or bytes, without rows. The only error is `OutOfMemory`. (own)
-    pub(crate) fn empty_varbinview(alloc: Global, dtype: &DType) -> VortexResult<Canonical>
-        requires { (storage_of (type_of dtype.now) ≡ Storage.Text) ⊎ (storage_of (type_of dtype.now) ≡ Storage.Bytes) }
-        ensures ok { IfOk result (λ c. canonical_tree c ≡ empty_of (type_of dtype.now)) }
-        ensures err { IfErr result (λ e. e ≡ VortexError.OutOfMemory) }
-    {
-        let rows = BinaryViews::repeat(alloc, ByteBuffer::empty(), 0)?;
-        let validity = Validity::from(dtype.nullability());
-        let column = VarBinViewArray::new_unchecked(alloc, dtype.clone()?, rows, &validity)?;
-        Ok(Canonical::VarBinView(column))
-    }
-}
-
 impl FlatEncoding for VarBinView {
+    fn no_values(alloc: Global, _dtype: &DType) -> Result<VarBinViewData, AllocError> {
+        let rows = BinaryViews::repeat(alloc, ByteBuffer::empty(), 0)?;
+        Ok(VarBinViewData { rows })
+    }
+
     fn slice_values(
         payload: &VarBinViewData,
         range: Range<usize>,

@@ -6,19 +6,15 @@ use Rattle.vx_tree.specs.Keeps.{KeepsExactly}
 use Rattle.vx_tree.proofs.NullsLemmas.{nulls_part, nulls_range}
 use Rattle.vx_tree.proofs.arrays.null.NullArray.slice.Goals as goal
 
-pub returns-clause-ok : goal.returns-clause-ok
-returns-clause-ok c =
+pub returns : goal.returns
+returns c =
     let t = c.args.self.now in
     let a = c.args.range.start in
     let b = c.args.range.end in
     let well = subst IsWell c.as_array.ensures.of c.well.ensures.formed in
     let part = nulls_part t a b well c.data-nulls.ensures c.requires.0 c.requires.1 in
-    IfOk-weaker c.new.result _ _ (λ u made. subst (KeepsExactly (slice_of a b t)) (sym made) part) c.new.ensures.ok
-
-pub returns-clause-range : goal.returns-clause-range
-returns-clause-range c =
-    let t = c.args.self.now in
-    let a = c.args.range.start in
-    let b = c.args.range.end in
-    let well = subst IsWell c.as_array.ensures.of c.well.ensures.formed in
-    IfOk-weaker c.new.result _ _ (λ u made. made ∙ nulls_range t a b well c.data-nulls.ensures) c.new.ensures.ok
+    record {
+      ok = IfOk-weaker c.new.result _ _ (λ u made. subst (KeepsExactly (slice_of a b t)) (sym made) part) c.new.ensures.ok;
+      range = IfOk-weaker c.new.result _ _ (λ u made. made ∙ nulls_range t a b well c.data-nulls.ensures) c.new.ensures.ok;
+      err = c.new.ensures.err;
+    }
