@@ -43,10 +43,10 @@ impl ArrayRef {
             ArrayKind::ScalarFnValidity(_) => Ok(Validity::NonNullable),
             ArrayKind::ScalarFn(_, _) => test_lazily(alloc, self),
             ArrayKind::Null => Ok(Validity::AllInvalid),
-            ArrayKind::Bool(_, own) => slot_validity(own),
-            ArrayKind::Primitive(_, own) => slot_validity(own),
-            ArrayKind::Decimal(_, own) => slot_validity(own),
-            ArrayKind::VarBinView(_, own) => slot_validity(own),
+            ArrayKind::Bool(_, own)
+            | ArrayKind::Primitive(_, own)
+            | ArrayKind::Decimal(_, own)
+            | ArrayKind::VarBinView(_, own) => slot_validity(own),
         }
     }
 }

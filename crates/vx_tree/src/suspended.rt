@@ -16,7 +16,8 @@ pub struct Suspended {
 // by hand: see `ArrayRef`
 impl Drop for Suspended {
     fn drop(self) {
-        let Suspended { node: _node } = self;
+        let Suspended { node } = self;
+        drop(node);
     }
 }
 

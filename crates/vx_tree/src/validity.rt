@@ -3,20 +3,21 @@
 ghost use Rattle.std.specs.Prelude.{◌≡◌, ℕ, IfOk, IfErr, Some, None, length, option_map};
 ghost use Rattle.vx_value.specs.View.{type_of};
 ghost use Rattle.vx_mask.specs.Masks.{bits_in};
+ghost use Rattle.vx_tree.specs.Tree.{constant_of};
 ghost use Rattle.vx_tree.specs.Validities.{nullability_by, without_nulls, child_of, child_by, count_children, validity_of, array_refusal, HasRange};
 ghost use Rattle.vx_tree.specs.Parts.{part_of, choice_of, HasLen};
 ghost use Rattle.vx_tree.specs.Conditions.{Checks};
 
-use crate::array::{ArrayKind, ArrayRef, IntoArray};
-use crate::arrays::boolean::BoolArray;
+use crate::array::{Array, ArrayKind, ArrayRef, IntoArray};
+use crate::arrays::boolean::{BoolArray, BoolData};
 use crate::arrays::constant::ConstantArray;
 use crate::arrays::filter::FilterArray;
 use crate::arrays::slice::SliceArray;
-use crate::arrays::types::is_same_type;
+use crate::arrays::types::{BOOLEANS, is_same_type};
 use std::alloc::{AllocError, Global};
 use std::ops::Range;
 use vx_mask::{BitBuffer, Mask};
-use vx_value::{ArgKind, DType, Nullability, Scalar, VortexError, VortexResult};
+use vx_value::{ArgKind, Nullability, Scalar, VortexError, VortexResult};
 
 /// Which rows of a column are null.
 #[derive(Clone, Debug, Drop)]
@@ -55,9 +56,9 @@ impl Validity {
             Mask::AllTrue(_) => Ok(Validity::AllValid),
             Mask::AllFalse(_) => Ok(Validity::AllInvalid),
             Mask::Values(values) => {
-                let dtype = DType::Bool(Nullability::NonNullable);
                 let bits = values.bit_buffer().clone()?;
-                let array = BoolArray::try_new(alloc, dtype, bits, &Validity::NonNullable)?;
+                let len = bits.len();
+                let array: BoolArray = Array::over(alloc, BOOLEANS, len, BoolData { bits }, None)?;
                 Ok(Validity::Array(array.into_array()))
             }
         }
@@ -133,13 +134,21 @@ pub(crate) fn check_validity(validity: &Validity, len: usize) -> VortexResult<()
     let Validity::Array(array) = validity else {
         return Ok(());
     };
-    if !is_same_type(array.dtype(), &DType::Bool(Nullability::NonNullable)) {
+    if !is_same_type(array.dtype(), &BOOLEANS) {
         return Err(VortexError::InvalidArgument(ArgKind::SlotType { slot: 0 }));
     }
     if array.len() != len {
         return Err(VortexError::InvalidArgument(ArgKind::SlotLen { slot: 0 }));
     }
     Ok(())
+}
+
+/// Returns the slot of a validity that tells the same of each of `len` rows, as `scalar` says. The only error is `OutOfMemory`.
+fn repeated(alloc: Global, scalar: &Scalar, len: usize) -> VortexResult<Option<ArrayRef>>
+    ensures ok { IfOk result (λ w. w ≡ Some (constant_of scalar.now len)) }
+    ensures err { IfErr result (λ e. e ≡ VortexError.OutOfMemory) }
+{
+    Ok(Some(ConstantArray::new(alloc, scalar.clone()?, len)?.into_array()))
 }
 
 /// Returns the validity of the rows in `range`, which must be in order and in bounds, from the slot of their column's. A
@@ -157,8 +166,7 @@ pub fn slice_validity(
         return Ok(None);
     };
     if let ArrayKind::Constant(scalar) = child.kind() {
-        let len = range.end - range.start;
-        return Ok(Some(ConstantArray::new(alloc, scalar.clone()?, len)?.into_array()));
+        return repeated(alloc, scalar, range.end - range.start);
     }
     Ok(Some(SliceArray::new(alloc, child.clone()?, range)?.into_array()))
 }
@@ -178,8 +186,7 @@ pub fn choose_validity(
         return Ok(None);
     };
     if let ArrayKind::Constant(scalar) = child.kind() {
-        let len = mask.true_count();
-        return Ok(Some(ConstantArray::new(alloc, scalar.clone()?, len)?.into_array()));
+        return repeated(alloc, scalar, mask.true_count());
     }
     Ok(Some(FilterArray::new(alloc, child.clone()?, mask.clone()?)?.into_array()))
 }

@@ -130,12 +130,11 @@ impl<V: VTable> Array<V> {
         ensures ok { IfOk result (λ a. a ≡ node (type_of dtype) len (V.stands_for payload) (slots_of (slot ∷ []))) }
         ensures err { IfErr result (λ e. e ≡ VortexError.OutOfMemory) }
     {
-        let encoding = V::wrap(payload);
         let slots = vec![in alloc; slot]?;
         let node = Node {
             dtype,
             len,
-            encoding,
+            encoding: V::wrap(payload),
             slots,
         };
         Ok(Array {

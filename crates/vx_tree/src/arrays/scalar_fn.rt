@@ -175,7 +175,6 @@ fn push_type(types: &mut Vec<DType>, slot: &Option<ArrayRef>) -> Result<(), Allo
 }
 
 /// Checks that `tag` is the function's id, and that `function` gives `dtype` on arguments of the slots' types.
-#[tactic(auto, using(crate::proofs::ConditionsLemmas::in_turn))]
 fn check_types(
     alloc: Global,
     tag: ArrayId,
