@@ -117,8 +117,31 @@ impl<V: VTable> Array<V> {
         })
     }
 
-    /// Makes the node of these parts and this one slot, which must meet the conditions of the encoding. The only error is
-    /// `OutOfMemory`.
+    /// Makes the node of these parts, which must meet the conditions of the encoding. The only error is `OutOfMemory`.
+    pub(crate) fn of(
+        alloc: Global,
+        dtype: DType,
+        len: usize,
+        payload: V::TypedArrayData,
+        slots: Vec<Option<ArrayRef>>,
+    ) -> VortexResult<Array<V>>
+        requires { IsNode (type_of dtype) len (V.stands_for payload) (shapes (slots_of slots.items)) }
+        ensures ok { IfOk result (λ a. a ≡ node (type_of dtype) len (V.stands_for payload) (slots_of slots.items)) }
+        ensures err { IfErr result (λ e. e ≡ VortexError.OutOfMemory) }
+    {
+        let node = Node {
+            dtype,
+            len,
+            encoding: V::wrap(payload),
+            slots,
+        };
+        Ok(Array {
+            array: node.into_array(alloc)?,
+            tag: PhantomData,
+        })
+    }
+
+    /// Makes the node of these parts and one slot, as `of`.
     pub(crate) fn over(
         alloc: Global,
         dtype: DType,
@@ -131,16 +154,7 @@ impl<V: VTable> Array<V> {
         ensures err { IfErr result (λ e. e ≡ VortexError.OutOfMemory) }
     {
         let slots = vec![in alloc; slot]?;
-        let node = Node {
-            dtype,
-            len,
-            encoding: V::wrap(payload),
-            slots,
-        };
-        Ok(Array {
-            array: node.into_array(alloc)?,
-            tag: PhantomData,
-        })
+        Array::of(alloc, dtype, len, payload, slots)
     }
 
     /// Returns the handle of `array`'s node. Hands `array` back if it has another encoding.

@@ -67,14 +67,7 @@ impl ConstantArray {
         ensures err { IfErr result (λ e. e ≡ VortexError.OutOfMemory) }
     {
         let dtype = scalar.dtype().clone()?;
-        let parts = ArrayParts::new(
-            Constant,
-            dtype,
-            len,
-            ConstantData { scalar },
-            Vec::new(alloc),
-        );
-        Ok(Array::from_parts_unchecked(alloc, parts)?)
+        Array::of(alloc, dtype, len, ConstantData { scalar }, Vec::new(alloc))
     }
 }
 

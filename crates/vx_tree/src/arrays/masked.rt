@@ -89,8 +89,7 @@ impl MaskedArray {
         let len = child.len();
         let validity = validity_to_child(alloc, validity, len)?;
         let slots = vec![in alloc; Some(child), validity]?;
-        let parts = ArrayParts::new(Masked, dtype, len, MaskedData, slots);
-        Ok(Array::from_parts_unchecked(alloc, parts)?)
+        Array::of(alloc, dtype, len, MaskedData, slots)
     }
 }
 

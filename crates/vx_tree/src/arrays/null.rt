@@ -49,8 +49,7 @@ impl NullArray {
         ensures ok { IfOk result (λ a. a ≡ nulls_of len) }
         ensures err { IfErr result (λ e. e ≡ VortexError.OutOfMemory) }
     {
-        let parts = ArrayParts::new(Null, DType::Null, len, EmptyArrayData, Vec::new(alloc));
-        Ok(Array::from_parts_unchecked(alloc, parts)?)
+        Array::of(alloc, DType::Null, len, EmptyArrayData, Vec::new(alloc))
     }
 
     /// Returns the rows in `range`, which must be in order and in bounds. The only error is `OutOfMemory`. (own)

@@ -260,14 +260,7 @@ impl ScalarFnArray {
         check_lengths(len, slots.as_slice())?;
         let types = types_of(alloc, slots.as_slice())?;
         let dtype = scalar_fn.return_dtype(types.as_slice())?;
-        let parts = ArrayParts {
-            vtable: ScalarFn { id: scalar_fn.id() },
-            dtype,
-            len,
-            payload: ScalarFnData { scalar_fn },
-            slots,
-        };
-        Ok(Array::from_parts_unchecked(alloc, parts)?)
+        Array::of(alloc, dtype, len, ScalarFnData { scalar_fn }, slots)
     }
 }
 

@@ -7,11 +7,11 @@ use Rattle.vx_tree.specs.Validities.{child_of}
 use Rattle.vx_tree.proofs.ValiditiesLemmas.{masked_is_node}
 use Rattle.vx_tree.proofs.arrays.masked.MaskedArray.new_unchecked.Goals as goal
 
-pub from_parts_unchecked-requires : goal.from_parts_unchecked-requires
-from_parts_unchecked-requires c =
+pub of-requires : goal.of-requires
+of-requires c =
     let t = c.args.child in
     let v = c.args.validity.now in
     let slots_are : c.in_ok-slots.slots.items ≡ Some t ∷ child_of v (len t) ∷ [] =
     c.in_ok-slots.ensures.items ∙ ap (λ w. Some t ∷ w ∷ []) (c.in_ok-validity.ensures.ok ∙ ap (child_of v) c.len-len.ensures) in
     let typed : type_of c.in_ok-dtype.dtype ≡ with_nullability Nullable (dtype t) = search rules in
-    rw (c.new-parts.ensures, slots_are, typed, c.len-len.ensures) (masked_is_node t v c.requires.rows)
+    rw (slots_are, typed, c.len-len.ensures) (masked_is_node t v c.requires.rows)

@@ -1,4 +1,5 @@
 use Rattle.std.proofs.Common.{◌≡◌, rules, length, map, None, Some, Result, Ok, Err, IfErr, sym, ap, subst, ◌∙◌, inr}
+use Rattle.std.proofs.lemmas.Result.{IfOk-weaker}
 use Rattle.vx_value.specs.View.{type_of}
 use Rattle.vx_fn.specs.ReturnTypes.{return_type}
 use Rattle.std.specs.Prelude.{IsErrAnd}
@@ -29,8 +30,8 @@ returns-clause-ok c =
     let tys = map type_of c.in_ok-types.types.items in
     let typed : tys ≡ types_in (shapes ss) = search rules in
     let row : return_type c.args.scalar_fn tys ≡ Some (type_of c.in_ok-dtype.dtype) = search rules in
-    call_made c.args.scalar_fn c.args.children.items c.args.len ss c.in_ok-slots.ensures tys typed (type_of c.in_ok-dtype.dtype) row ∙
-    ap Some (sym c.in_ok-from_parts_unchecked.ensures)
+    let made = call_made c.args.scalar_fn c.args.children.items c.args.len ss c.in_ok-slots.ensures tys typed (type_of c.in_ok-dtype.dtype) row in
+    IfOk-weaker c.of.result _ _ (λ a is. made ∙ ap Some (sym is)) c.of.ensures.ok
 
 pub returns-clause-valid : goal.returns-clause-valid
 returns-clause-valid c =
@@ -40,10 +41,11 @@ returns-clause-valid c =
     let long : lengths_refusal c.args.len (shapes ss) ≡ None = search rules in
     let typed : tys ≡ types_in (shapes ss) = search rules in
     let row : return_type c.args.scalar_fn tys ≡ Some (type_of c.in_ok-dtype.dtype) = search rules in
-    call_taken c.args.scalar_fn c.args.children.items c.args.len ss c.in_ok-slots.ensures tys typed (type_of c.in_ok-dtype.dtype) count long row
+    let taken = call_taken c.args.scalar_fn c.args.children.items c.args.len ss c.in_ok-slots.ensures tys typed (type_of c.in_ok-dtype.dtype) count long row in
+    IfOk-weaker c.of.result _ _ (λ a is. taken) c.of.ensures.ok
 
-pub from_parts_unchecked-requires : goal.from_parts_unchecked-requires
-from_parts_unchecked-requires c =
+pub of-requires : goal.of-requires
+of-requires c =
     let ss = slots_of c.in_ok-slots.slots.items in
     let tys = map type_of c.in_ok-types.types.items in
     let long : lengths_refusal c.args.len (shapes ss) ≡ None = search rules in
