@@ -42,9 +42,7 @@ impl Validity {
             _ => Nullability::Nullable,
         }
     }
-}
 
-impl Validity {
     /// Returns the validity of a nullable column whose rows are null where `bits` is false, in its one form: `AllValid` if no row
     /// is, `AllInvalid` if there is a row and all are. The only error is `OutOfMemory`. (own)
     pub fn from_bits(alloc: Global, bits: BitBuffer) -> VortexResult<Validity>

@@ -9,7 +9,7 @@ use crate::array::{
 };
 use crate::arrays::child::only_child;
 use crate::arrays::types::{BOOLEANS, is_same_type};
-use crate::arrays::{into_payload, payload};
+use crate::arrays::{into_variant, variant};
 use std::alloc::Global;
 use std::fmt;
 use vx_value::{ArgKind, DType, Id, Nullability, VortexError, VortexResult};
@@ -82,11 +82,11 @@ impl EncodingVariant for ScalarFnValidity {
     ghost is_kind = { is_validity };
 
     fn project(encoding: &Encoding) -> Option<&EmptyArrayData> {
-        payload!(encoding, ScalarFnValidity)
+        variant!(encoding, Encoding::ScalarFnValidity)
     }
 
     fn into_data(encoding: Encoding) -> Option<EmptyArrayData> {
-        into_payload!(encoding, ScalarFnValidity)
+        into_variant!(encoding, Encoding::ScalarFnValidity)
     }
 
     ghost kind_of = { λ d. refl };
