@@ -48,8 +48,9 @@ abbrev pub IsCut : ℕ → ℕ → Tree → Option Tree → DataType → Data �
 IsCut a b t w ty d =
     IsNode ty (b - a) d (shapes (slots_of (w ∷ []))) × KeepsExactly (slice_of a b t) (column ty (b - a) d w) × (column ty (b - a) d w ≡ column_range a b t)
 
-pub flat_cut : (a b : ℕ) (t : Tree) (v w : Option Tree) (ty : DataType) (d : Data) → IsWell t → slots t ≡ slots_of (v ∷ []) → a ≤ b → b ≤ len t
-    → is_flat (datum t) ≡ true → w ≡ option_map (part_of a b) v → ty ≡ dtype t → d ≡ data_range a b (datum t) → IsCut a b t w ty d
-flat_cut a b t v w ty d well s h k flat e typed held =
-    let kept = flat_range_kept t v w a b well flat s k (slot_part a b v w t well s h k flat e) in
-    subst (λ x. x) (λ i. IsCut a b t w (sym typed i) (sym held i)) (kept.0, kept.1, flat_range_is a b v w t s e)
+pub flat_cut : (a b : ℕ) (t : Tree) (v w : Option Tree) (ty : DataType) (d e : Data) → IsWell t → slots t ≡ slots_of (v ∷ []) → a ≤ b → b ≤ len t
+    → is_flat (datum t) ≡ true → w ≡ option_map (part_of a b) v → ty ≡ dtype t → d ≡ data_range a b e → e ≡ datum t → IsCut a b t w ty d
+flat_cut a b t v w ty d e well s h k flat told typed part whole =
+    let held : d ≡ data_range a b (datum t) = part ∙ ap (data_range a b) whole in
+    let kept = flat_range_kept t v w a b well flat s k (slot_part a b v w t well s h k flat told) in
+    subst (λ x. x) (λ i. IsCut a b t w (sym typed i) (sym held i)) (kept.0, kept.1, flat_range_is a b v w t s told)

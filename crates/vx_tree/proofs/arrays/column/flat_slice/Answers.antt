@@ -2,7 +2,7 @@ use Rattle.std.proofs.Common.{◌≡◌, ◌≤◌, rules, ap, sym, subst, ◌�
 use Rattle.std.proofs.lemmas.Result.{IfOk-weaker}
 use Rattle.vx_value.specs.View.{type_of}
 use Rattle.vx_tree.specs.Tree.{dtype, slice_of}
-use Rattle.vx_tree.specs.Columns.{data_range, count_in}
+use Rattle.vx_tree.specs.Columns.{count_in}
 use Rattle.vx_tree.specs.Keeps.{KeepsExactly}
 use Rattle.vx_tree.proofs.FlatLemmas.{flat_has_range, flat_counted}
 use Rattle.vx_tree.proofs.PartsLemmas.{IsCut, flat_cut}
@@ -26,8 +26,8 @@ cut g c =
     let e = c.flat_validity-validity.ensures in
     let typed : type_of c.in_ok-dtype.dtype ≡ dtype c.args.column.now = search rules in
     flat_cut c.args.range.start c.args.range.end c.args.column.now c.flat_validity-validity.result.now c.in_ok-validity.validity (type_of c.in_ok-dtype.dtype)
-    (g.V.EncodingVariant.stands_for c.in_ok-payload.payload) e.formed e.slot c.requires.0 c.requires.1 e.flat c.in_ok-validity.ensures.ok typed
-    (c.in_ok-payload.ensures ∙ ap (data_range c.args.range.start c.args.range.end) c.data.ensures)
+    (g.V.EncodingVariant.stands_for c.in_ok-payload.payload) (g.V.EncodingVariant.stands_for c.data.result.now) e.formed e.slot c.requires.0 c.requires.1 e.flat
+    c.in_ok-validity.ensures.ok typed c.in_ok-payload.ensures c.data.ensures
 
 pub over-requires : goal.over-requires
 over-requires g c = (cut g c).0
