@@ -11,7 +11,7 @@ ghost use Rattle.vx_tree.specs.Validities.{child_of, flat_refusal};
 
 use crate::array::{Array, ArrayId, ArrayParts, Encoded, Encoding, EncodingVariant, VTable};
 use crate::arrays::column::{FlatEncoding, check_column, flat_column};
-use crate::arrays::{into_variant, variant};
+use crate::arrays::{into_payload, payload};
 use crate::validity::Validity;
 use std::alloc::{AllocError, Global};
 use std::ops::Range;
@@ -103,11 +103,11 @@ impl EncodingVariant for Bool {
     ghost is_kind = { is_bool };
 
     fn project(encoding: &Encoding) -> Option<&BoolData> {
-        variant!(encoding, Encoding::Bool)
+        payload!(encoding, Bool)
     }
 
     fn into_data(encoding: Encoding) -> Option<BoolData> {
-        into_variant!(encoding, Encoding::Bool)
+        into_payload!(encoding, Bool)
     }
 
     ghost kind_of = { λ d. refl };

@@ -7,7 +7,7 @@ ghost use Rattle.vx_tree.specs.Tree.{constant, constant_of, is_constant};
 use crate::array::{Array, ArrayId, ArrayParts, Encoded, Encoding, EncodingVariant, VTable};
 use crate::arrays::child::no_child;
 use crate::arrays::types::is_same_type;
-use crate::arrays::{into_variant, variant};
+use crate::arrays::{into_payload, payload};
 use std::alloc::Global;
 use vx_value::{ArgKind, Id, Scalar, VortexError, VortexResult};
 
@@ -85,11 +85,11 @@ impl EncodingVariant for Constant {
     ghost is_kind = { is_constant };
 
     fn project(encoding: &Encoding) -> Option<&ConstantData> {
-        variant!(encoding, Encoding::Constant)
+        payload!(encoding, Constant)
     }
 
     fn into_data(encoding: Encoding) -> Option<ConstantData> {
-        into_variant!(encoding, Encoding::Constant)
+        into_payload!(encoding, Constant)
     }
 
     ghost kind_of = { λ d. refl };

@@ -15,7 +15,7 @@ ghost use Rattle.vx_tree.specs.Validities.{child_of, decimal_refusal};
 
 use crate::array::{Array, ArrayId, ArrayParts, Encoded, Encoding, EncodingVariant, VTable};
 use crate::arrays::column::{FlatEncoding, check_column, check_flat_column, flat_column};
-use crate::arrays::{into_variant, variant};
+use crate::arrays::{into_payload, payload};
 use crate::validity::Validity;
 use std::alloc::{AllocError, Global};
 use std::ops::Range;
@@ -179,11 +179,11 @@ impl EncodingVariant for Decimal {
     ghost is_kind = { is_decimals };
 
     fn project(encoding: &Encoding) -> Option<&DecimalData> {
-        variant!(encoding, Encoding::Decimal)
+        payload!(encoding, Decimal)
     }
 
     fn into_data(encoding: Encoding) -> Option<DecimalData> {
-        into_variant!(encoding, Encoding::Decimal)
+        into_payload!(encoding, Decimal)
     }
 
     ghost kind_of = { λ d. refl };

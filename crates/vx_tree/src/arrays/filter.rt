@@ -11,7 +11,7 @@ use crate::array::{
 };
 use crate::arrays::child::only_child;
 use crate::arrays::types::is_same_type;
-use crate::arrays::{into_variant, variant};
+use crate::arrays::{into_payload, payload};
 use std::alloc::Global;
 use vx_mask::Mask;
 use vx_value::{ArgKind, Id, VortexError, VortexResult};
@@ -152,11 +152,11 @@ impl EncodingVariant for Filter {
     ghost is_kind = { is_filter };
 
     fn project(encoding: &Encoding) -> Option<&FilterData> {
-        variant!(encoding, Encoding::Filter)
+        payload!(encoding, Filter)
     }
 
     fn into_data(encoding: Encoding) -> Option<FilterData> {
-        into_variant!(encoding, Encoding::Filter)
+        into_payload!(encoding, Filter)
     }
 
     ghost kind_of = { λ d. refl };

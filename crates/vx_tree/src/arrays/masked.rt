@@ -14,7 +14,7 @@ use crate::array::{
 };
 use crate::arrays::column::{check_validity_len, check_validity_type};
 use crate::arrays::types::is_same_type;
-use crate::arrays::{into_variant, variant};
+use crate::arrays::{into_payload, payload};
 use crate::validity::{Validity, validity_to_child};
 use std::alloc::Global;
 use vx_value::{ArgKind, Id, Nullability, VortexError, VortexResult};
@@ -107,11 +107,11 @@ impl EncodingVariant for Masked {
     ghost is_kind = { is_masked };
 
     fn project(encoding: &Encoding) -> Option<&MaskedData> {
-        variant!(encoding, Encoding::Masked)
+        payload!(encoding, Masked)
     }
 
     fn into_data(encoding: Encoding) -> Option<MaskedData> {
-        into_variant!(encoding, Encoding::Masked)
+        into_payload!(encoding, Masked)
     }
 
     ghost kind_of = { λ d. refl };

@@ -38,5 +38,21 @@ macro_rules! into_variant {
     };
 }
 
+/// Evaluates to the data of a borrowed `Encoding` of this variant, as `variant!`.
+macro_rules! payload {
+    ($encoding:expr, $variant:ident) => {
+        $crate::arrays::variant!($encoding, Encoding::$variant)
+    };
+}
+
+/// Evaluates to the data of an owned `Encoding` of this variant, as `into_variant!`.
+macro_rules! into_payload {
+    ($encoding:expr, $variant:ident) => {
+        $crate::arrays::into_variant!($encoding, Encoding::$variant)
+    };
+}
+
+pub(crate) use into_payload;
 pub(crate) use into_variant;
+pub(crate) use payload;
 pub(crate) use variant;

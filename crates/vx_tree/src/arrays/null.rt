@@ -10,7 +10,7 @@ use crate::array::{Array, ArrayId, ArrayParts, Encoded, Encoding, EncodingVarian
 use crate::arrays::child::no_child;
 use crate::arrays::scalar_fn_validity::EmptyArrayData;
 use crate::arrays::types::is_same_type;
-use crate::arrays::{into_variant, variant};
+use crate::arrays::{into_payload, payload};
 use std::alloc::Global;
 use std::ops::Range;
 use vx_value::{ArgKind, DType, Id, VortexError, VortexResult};
@@ -79,11 +79,11 @@ impl EncodingVariant for Null {
     ghost is_kind = { is_nulls };
 
     fn project(encoding: &Encoding) -> Option<&EmptyArrayData> {
-        variant!(encoding, Encoding::Null)
+        payload!(encoding, Null)
     }
 
     fn into_data(encoding: Encoding) -> Option<EmptyArrayData> {
-        into_variant!(encoding, Encoding::Null)
+        into_payload!(encoding, Null)
     }
 
     ghost kind_of = { λ d. refl };

@@ -11,7 +11,7 @@ ghost use Rattle.vx_tree.specs.Validities.{child_of, flat_refusal};
 
 use crate::array::{Array, ArrayId, ArrayParts, Encoded, Encoding, EncodingVariant, VTable};
 use crate::arrays::column::{FlatEncoding, check_column, flat_column};
-use crate::arrays::{into_variant, variant};
+use crate::arrays::{into_payload, payload};
 use crate::validity::Validity;
 use std::alloc::{AllocError, Global};
 use std::ops::Range;
@@ -116,11 +116,11 @@ impl EncodingVariant for Primitive {
     ghost is_kind = { is_primitive };
 
     fn project(encoding: &Encoding) -> Option<&PrimitiveData> {
-        variant!(encoding, Encoding::Primitive)
+        payload!(encoding, Primitive)
     }
 
     fn into_data(encoding: Encoding) -> Option<PrimitiveData> {
-        into_variant!(encoding, Encoding::Primitive)
+        into_payload!(encoding, Primitive)
     }
 
     ghost kind_of = { λ d. refl };

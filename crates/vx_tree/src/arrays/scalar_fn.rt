@@ -13,7 +13,7 @@ use crate::array::{
     Array, ArrayId, ArrayParts, ArrayRef, Encoded, Encoding, EncodingVariant, VTable,
 };
 use crate::arrays::types::is_same_type;
-use crate::arrays::{into_variant, variant};
+use crate::arrays::{into_payload, payload};
 use std::alloc::{AllocError, Global};
 use vx_fn::{Arity, ScalarFnRef};
 use vx_value::{ArgKind, DType, VortexError, VortexResult};
@@ -278,11 +278,11 @@ impl EncodingVariant for ScalarFn {
     ghost is_kind = { is_function };
 
     fn project(encoding: &Encoding) -> Option<&ScalarFnData> {
-        variant!(encoding, Encoding::ScalarFn)
+        payload!(encoding, ScalarFn)
     }
 
     fn into_data(encoding: Encoding) -> Option<ScalarFnData> {
-        into_variant!(encoding, Encoding::ScalarFn)
+        into_payload!(encoding, ScalarFn)
     }
 
     ghost kind_of = { λ d. refl };

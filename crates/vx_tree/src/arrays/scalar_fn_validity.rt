@@ -9,7 +9,7 @@ use crate::array::{
 };
 use crate::arrays::child::only_child;
 use crate::arrays::types::{BOOLEANS, is_same_type};
-use crate::arrays::{into_variant, variant};
+use crate::arrays::{into_payload, payload};
 use std::alloc::Global;
 use std::fmt;
 use vx_value::{ArgKind, DType, Id, Nullability, VortexError, VortexResult};
@@ -82,11 +82,11 @@ impl EncodingVariant for ScalarFnValidity {
     ghost is_kind = { is_validity };
 
     fn project(encoding: &Encoding) -> Option<&EmptyArrayData> {
-        variant!(encoding, Encoding::ScalarFnValidity)
+        payload!(encoding, ScalarFnValidity)
     }
 
     fn into_data(encoding: Encoding) -> Option<EmptyArrayData> {
-        into_variant!(encoding, Encoding::ScalarFnValidity)
+        into_payload!(encoding, ScalarFnValidity)
     }
 
     ghost kind_of = { λ d. refl };

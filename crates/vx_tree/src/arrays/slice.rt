@@ -9,7 +9,7 @@ use crate::array::{
 };
 use crate::arrays::child::only_child;
 use crate::arrays::types::is_same_type;
-use crate::arrays::{into_variant, variant};
+use crate::arrays::{into_payload, payload};
 use std::alloc::Global;
 use std::ops::Range;
 use vx_value::{ArgKind, DType, Id, VortexError, VortexResult};
@@ -147,11 +147,11 @@ impl EncodingVariant for Slice {
     ghost is_kind = { is_slice };
 
     fn project(encoding: &Encoding) -> Option<&SliceData> {
-        variant!(encoding, Encoding::Slice)
+        payload!(encoding, Slice)
     }
 
     fn into_data(encoding: Encoding) -> Option<SliceData> {
-        into_variant!(encoding, Encoding::Slice)
+        into_payload!(encoding, Slice)
     }
 
     ghost kind_of = { λ d. refl };

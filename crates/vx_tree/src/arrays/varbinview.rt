@@ -11,7 +11,7 @@ ghost use Rattle.vx_tree.specs.Validities.{child_of, bytes_refusal};
 
 use crate::array::{Array, ArrayId, ArrayParts, Encoded, Encoding, EncodingVariant, VTable};
 use crate::arrays::column::{FlatEncoding, check_column, check_flat_column, flat_column};
-use crate::arrays::{into_variant, variant};
+use crate::arrays::{into_payload, payload};
 use crate::validity::Validity;
 use std::alloc::{AllocError, Global};
 use std::ops::Range;
@@ -163,11 +163,11 @@ impl EncodingVariant for VarBinView {
     ghost is_kind = { is_views };
 
     fn project(encoding: &Encoding) -> Option<&VarBinViewData> {
-        variant!(encoding, Encoding::VarBinView)
+        payload!(encoding, VarBinView)
     }
 
     fn into_data(encoding: Encoding) -> Option<VarBinViewData> {
-        into_variant!(encoding, Encoding::VarBinView)
+        into_payload!(encoding, VarBinView)
     }
 
     ghost kind_of = { λ d. refl };
