@@ -1,11 +1,11 @@
 -- Each row of the table, up to equations.
-use Rattle.std.proofs.Common.{◌≡◌, ℕ, ◌+◌, ◌-◌, ◌<◌, ◌≤◌, List, [], ◌∷◌, length, Option, Some, None, Result, Ok, Err, IfOk, Bool, true, false, refl, sym, subst, ap, ◌∙◌, arith}
+use Rattle.std.proofs.Common.{◌≡◌, ℕ, ◌+◌, ◌-◌, ◌<◌, ◌≤◌, List, [], ◌∷◌, length, Option, Some, None, Result, Ok, Err, Bool, true, false, refl, sym, subst, ap, ◌∙◌, arith}
 use Rattle.std.specs.Prelude.{option_map}
 use Rattle.vx_value.specs.Types.{DataType, nullability_of}
-use Rattle.vx_value.specs.Typed.{Typed}
 use Rattle.vx_value.specs.View.{type_of}
 use Rattle.vx_value.specs.declared.dtype.DType.{DType}
 use Rattle.vx_value.specs.declared.dtype.Nullability.TheVariants.{NonNullable}
+use Rattle.vx_value.specs.declared.error.VortexError.{VortexError}
 use Rattle.vx_mask.specs.Masks.{is_all_true}
 use Rattle.vx_mask.specs.Places.{true_count, combined, IsRun}
 use Rattle.vx_mask.proofs.ChosenLemmas.{run_within}
@@ -19,6 +19,9 @@ use Rattle.vx_tree.specs.Columns.{empty_of}
 use Rattle.vx_tree.specs.Validities.{truths}
 use Rattle.vx_tree.specs.NodeValidities.{both_of}
 use Rattle.vx_rule.specs.declared.raw_node.RawNode.{RawNode}
+use Rattle.vx_rule.specs.Answers.{Answers, IsRaw}
+use Rattle.vx_rule.specs.Calls.{null_test}
+use Rattle.vx_rule.specs.Constants.{IsConstantLike}
 use Rattle.vx_rule.specs.Rules.{Row, IsPart, lets_slice, told, F1, F2, F3, C1, N1_null, N1_valid, S_whole, S_empty, S1, S2, S3, S4, S5, F5, F6, F7, F8, M1}
 
 -- a row, up to equations
@@ -30,10 +33,11 @@ row_for : (w : Option ℕ) (t u v : Tree) (os ps : List ℕ) → Row w t u os �
 row_for w t u v os ps h f g = row_by w t t u v os ps h refl (sym f) (sym g)
 
 -- an answer all of whose slots are to be optimized
-pub raw_row : {E : Type 0} (r : Result RawNode E) (t : Tree) (P : RawNode → Type 0) → IfOk r (λ x. x.tree ≡ t) → IfOk r (λ x. x.optimize.items ≡ present_from 0 (slots t))
-    → ((x : RawNode) → x.tree ≡ t → x.optimize.items ≡ present_from 0 (slots x.tree) → P x) → IfOk r P
-raw_row (Ok x) t P e g h = h x e (g ∙ ap (λ y. present_from 0 (slots y)) (sym e))
-raw_row (Err x) t P e g h = tt
+pub raw_row : (w : Option ℕ) (t u : Tree) (r : Result (Option RawNode) VortexError) → IsRaw u r
+    → ((x : Tree) (os : List ℕ) → x ≡ u → os ≡ present_from 0 (slots x) → Row w t x os) → Answers w t r
+raw_row w t u (Ok None) h k = absurd h
+raw_row w t u (Ok (Some x)) h k = k x.tree x.optimize.items h.0 (h.1 ∙ ap (λ y. present_from 0 (slots y)) (sym h.0))
+raw_row w t u (Err e) h k = h
 
 -- ---- of a filter by its mask alone
 
@@ -58,14 +62,11 @@ pub fit_C1 : (ty : DataType) (n : ℕ) (target : DType) (t c u : Tree) (os : Lis
 fit_C1 ty n target t c u os e d f g =
     row_by None (node ty n (enc.function (fn_of.Cast target)) (slot c no_slots)) t c u [] os (C1 ty n target c d) (sym e) (sym f) (sym g)
 
-pub fit_N1_null : (ty : DataType) (n : ℕ) (t c u : Tree) (os : List ℕ) → t ≡ node ty n (enc.function fn_of.IsNull) (slot c no_slots)
-    → nullability_of (dtype c) ≡ NonNullable → u ≡ truths false n → os ≡ [] → Row None t u os
-fit_N1_null ty n t c u os e d f g =
+pub fit_N1 : (value : Bool) (ty : DataType) (n : ℕ) (t c u : Tree) (os : List ℕ) → t ≡ node ty n (enc.function (null_test value)) (slot c no_slots)
+    → nullability_of (dtype c) ≡ NonNullable → u ≡ truths value n → os ≡ [] → Row None t u os
+fit_N1 false ty n t c u os e d f g =
     row_by None (node ty n (enc.function fn_of.IsNull) (slot c no_slots)) t (truths false n) u [] os (N1_null ty n c d) (sym e) (sym f) (sym g)
-
-pub fit_N1_valid : (ty : DataType) (n : ℕ) (t c u : Tree) (os : List ℕ) → t ≡ node ty n (enc.function fn_of.IsNotNull) (slot c no_slots)
-    → nullability_of (dtype c) ≡ NonNullable → u ≡ truths true n → os ≡ [] → Row None t u os
-fit_N1_valid ty n t c u os e d f g =
+fit_N1 true ty n t c u os e d f g =
     row_by None (node ty n (enc.function fn_of.IsNotNull) (slot c no_slots)) t (truths true n) u [] os (N1_valid ty n c d) (sym e) (sym f) (sym g)
 
 -- ---- of a child for a slice
@@ -83,11 +84,11 @@ fit_S1 a b s t x c u os e p f g =
     row_by (Some 0) (slice_of a b (slice_of s t c)) (slice_of a b x) (slice_of (s + a) (s + b) c) u [] os
     (S1 (dtype c) (dtype c) (b - a) a b (t - s) s t c (subst (λ y. IsPart a b (len y)) e p)) (ap (slice_of a b) (sym e)) (sym f) (sym g)
 
-pub fit_S2 : (a b k : ℕ) (v : Typed) (x u : Tree) (os : List ℕ) → x ≡ constant_of v k → IsPart a b (len x) → u ≡ constant_of v (b - a) → os ≡ []
-    → Row (Some 0) (slice_of a b x) u os
-fit_S2 a b k v x u os e p f g =
-    row_by (Some 0) (slice_of a b (constant_of v k)) (slice_of a b x) (constant_of v (b - a)) u [] os
-    (S2 v.of_type v.of_type (b - a) a b k v (subst (λ y. IsPart a b (len y)) e p)) (ap (slice_of a b) (sym e)) (sym f) (sym g)
+pub fit_S2 : (a b : ℕ) (x c u : Tree) (os : List ℕ) → IsConstantLike x (b - a) c → IsPart a b (len x) → u ≡ c → os ≡ [] → Row (Some 0) (slice_of a b x) u os
+fit_S2 a b x c u os like p f g =
+    let v = like.0 in
+    row_by (Some 0) (slice_of a b (constant_of v (len x))) (slice_of a b x) (constant_of v (b - a)) u [] os
+    (S2 v.of_type v.of_type (b - a) a b (len x) v p) (ap (slice_of a b) (sym like.1)) (sym (f ∙ like.2)) (sym g)
 
 in_root : (t : Tree) → present_in t ≡ present_from 0 (slots t)
 in_root (node ty n d ss) = refl
@@ -133,11 +134,11 @@ fit_F5 outer inner x c u os e f g =
     row_by (Some 0) (filter_of inner (filter_of outer c)) (filter_of inner x) (filter_of (combined outer inner) c) u [] os
     (F5 (dtype c) (dtype c) (true_count inner) (true_count outer) outer inner c) (ap (filter_of inner) (sym e)) (sym f) (sym g)
 
-pub fit_F6 : (k : ℕ) (bits : List Bool) (v : Typed) (x u : Tree) (os : List ℕ) → x ≡ constant_of v k → u ≡ constant_of v (true_count bits) → os ≡ []
-    → Row (Some 0) (filter_of bits x) u os
-fit_F6 k bits v x u os e f g =
-    row_by (Some 0) (filter_of bits (constant_of v k)) (filter_of bits x) (constant_of v (true_count bits)) u [] os
-    (F6 v.of_type v.of_type (true_count bits) k bits v) (ap (filter_of bits) (sym e)) (sym f) (sym g)
+pub fit_F6 : (bits : List Bool) (x c u : Tree) (os : List ℕ) → IsConstantLike x (true_count bits) c → u ≡ c → os ≡ [] → Row (Some 0) (filter_of bits x) u os
+fit_F6 bits x c u os like f g =
+    let v = like.0 in
+    row_by (Some 0) (filter_of bits (constant_of v (len x))) (filter_of bits x) (constant_of v (true_count bits)) u [] os
+    (F6 v.of_type v.of_type (true_count bits) (len x) bits v) (ap (filter_of bits) (sym like.1)) (sym (f ∙ like.2)) (sym g)
 
 pub fit_F7 : (k : ℕ) (bits : List Bool) (ty : DataType) (f : ScalarFnRef) (ss us : Slots) (x u : Tree) (os : List ℕ) → x ≡ node ty k (enc.function f) ss
     → us ≡ map_slots (choice_of bits) ss → u ≡ node ty (true_count bits) (enc.function f) us → os ≡ present_from 0 (slots u) → Row (Some 0) (filter_of bits x) u os

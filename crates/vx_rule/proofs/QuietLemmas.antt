@@ -11,6 +11,7 @@ use Rattle.vx_fn.specs.declared.function.ScalarFnRef.{ScalarFnRef}
 use Rattle.vx_fn.specs.declared.function.ScalarFnRef.TheVariants as fn_of
 use Rattle.vx_tree.specs.Tree as enc
 use Rattle.vx_tree.specs.Tree.{Tree, Data, Slots, node, no_slots, slot, dtype, datum, slice_of, filter_of, is_filter, is_constant, is_function, is_masked, is_slice}
+use Rattle.vx_rule.specs.Calls.{null_test}
 use Rattle.vx_rule.specs.Rules.{IsQuiet, F1, F2, F3, C1, N1_null, N1_valid, S_whole, S_empty, S1, S2, S3, S4, S5, F5, F6, F7, F8, M1, K1, K2, K3, K4}
 
 -- ---- the node itself
@@ -39,19 +40,14 @@ pub cast_quiet : (ty : DataType) (n : ℕ) (target : DType) (t c : Tree) → t �
     → (dtype c ≡ type_of target → ⊥) → IsQuiet None t
 cast_quiet ty n target t c is other = subst (IsQuiet None) (sym is) (cast_by ty n target c other)
 
-null_test_by : (ty : DataType) (n : ℕ) (c : Tree) → (nullability_of (dtype c) ≡ NonNullable → ⊥) → IsQuiet None (node ty n (enc.function fn_of.IsNull) (slot c no_slots))
-null_test_by ty n c other u os (N1_null ty' n' c' e) = other e
+null_test_by : (value : Bool) (ty : DataType) (n : ℕ) (c : Tree) → (nullability_of (dtype c) ≡ NonNullable → ⊥)
+    → IsQuiet None (node ty n (enc.function (null_test value)) (slot c no_slots))
+null_test_by false ty n c other u os (N1_null ty' n' c' e) = other e
+null_test_by true ty n c other u os (N1_valid ty' n' c' e) = other e
 
-pub null_test_quiet : (ty : DataType) (n : ℕ) (t c : Tree) → t ≡ node ty n (enc.function fn_of.IsNull) (slot c no_slots)
+pub null_test_quiet : (value : Bool) (ty : DataType) (n : ℕ) (t c : Tree) → t ≡ node ty n (enc.function (null_test value)) (slot c no_slots)
     → (nullability_of (dtype c) ≡ NonNullable → ⊥) → IsQuiet None t
-null_test_quiet ty n t c is other = subst (IsQuiet None) (sym is) (null_test_by ty n c other)
-
-value_test_by : (ty : DataType) (n : ℕ) (c : Tree) → (nullability_of (dtype c) ≡ NonNullable → ⊥) → IsQuiet None (node ty n (enc.function fn_of.IsNotNull) (slot c no_slots))
-value_test_by ty n c other u os (N1_valid ty' n' c' e) = other e
-
-pub value_test_quiet : (ty : DataType) (n : ℕ) (t c : Tree) → t ≡ node ty n (enc.function fn_of.IsNotNull) (slot c no_slots)
-    → (nullability_of (dtype c) ≡ NonNullable → ⊥) → IsQuiet None t
-value_test_quiet ty n t c is other = subst (IsQuiet None) (sym is) (value_test_by ty n c other)
+null_test_quiet value ty n t c is other = subst (IsQuiet None) (sym is) (null_test_by value ty n c other)
 
 -- the encodings that have a row of their own
 pub own_quiet : (t : Tree) → is_filter (datum t) ≡ false → is_function (datum t) ≡ false → IsQuiet None t

@@ -1,6 +1,9 @@
 -- What a rule answers.
-use Rattle.std.specs.Prelude.{ℕ, Option, Some, None}
-use Rattle.vx_tree.specs.Tree.{Tree}
+use Rattle.std.specs.Prelude.{◌≡◌, ℕ, Option, Some, None, Result, Ok, Err}
+use Rattle.vx_value.specs.declared.error.VortexError.{VortexError}
+use Rattle.vx_value.specs.declared.error.VortexError.TheVariants.{OutOfMemory}
+use Rattle.vx_tree.specs.Tree.{Tree, slots}
+use Rattle.vx_tree.specs.Slots.{present_from}
 use Rattle.vx_rule.specs.Rules.{Row, IsQuiet}
 use Rattle.vx_rule.specs.declared.raw_node.RawNode.{RawNode}
 
@@ -8,3 +11,14 @@ use Rattle.vx_rule.specs.declared.raw_node.RawNode.{RawNode}
 abbrev pub IsAnswer : Option ℕ → Tree → Option RawNode → Type 0
 IsAnswer w t None = IsQuiet w t
 IsAnswer w t (Some r) = Row w t r.tree r.optimize.items
+
+-- such an answer, and no error but out of memory
+abbrev pub Answers : Option ℕ → Tree → Result (Option RawNode) VortexError → Type 0
+Answers w t (Ok o) = IsAnswer w t o
+Answers w t (Err e) = e ≡ OutOfMemory
+
+-- an answer that is the tree u, all of whose slots are to be optimized, and no error but out of memory
+abbrev pub IsRaw : Tree → Result (Option RawNode) VortexError → Type 0
+IsRaw u (Ok None) = ⊥
+IsRaw u (Ok (Some r)) = (r.tree ≡ u) × (r.optimize.items ≡ present_from 0 (slots u))
+IsRaw u (Err e) = e ≡ OutOfMemory

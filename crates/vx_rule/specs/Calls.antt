@@ -32,6 +32,11 @@ is_null_test fn_of.IsNull = true
 is_null_test fn_of.IsNotNull = true
 is_null_test _ = false
 
+-- the test for null that is this of a row without one
+abbrev pub null_test : Bool → ScalarFnRef
+null_test false = fn_of.IsNull
+null_test true = fn_of.IsNotNull
+
 -- a node applies such a function
 abbrev pub applies : (ScalarFnRef → Bool) → Data → Bool
 applies p (enc.function f) = p f

@@ -7,7 +7,7 @@ use Rattle.vx_value.specs.Cell.{value, fault}
 use Rattle.vx_fn.specs.Apply.{apply}
 use Rattle.vx_fn.specs.declared.function.ScalarFnRef.{ScalarFnRef}
 use Rattle.vx_fn.specs.declared.function.ScalarFnRef.TheVariants.{Between, Not, FillNull, Cast}
-use Rattle.vx_tree.specs.Tree.{Tree, Data, Slots, constant, no_slots, absent, slot, datum}
+use Rattle.vx_tree.specs.Tree.{Tree, Data, Slots, constant, no_slots, absent, slot, datum, len, constant_of}
 use Rattle.vx_rule.specs.Rules.{constants}
 
 -- the functions that are folded
@@ -44,3 +44,7 @@ abbrev pub IsFolded : ScalarFnRef → DataType → ℕ → Slots → Option Tree
 IsFolded f ty n ss None = (vs : List Typed) → constant_values ss ≡ Some vs → apply f ty (map (λ v. value v.value) vs) ≡ fault
 IsFolded f ty n ss (Some u) =
     (vs : List Typed) × (w : Value) × (constant_values ss ≡ Some vs) × (apply f ty (map (λ v. value v.value) vs) ≡ value w) × (u ≡ constants ty w n)
+
+-- u is n rows of the constant t's value
+abbrev pub IsConstantLike : Tree → ℕ → Tree → Type 0
+IsConstantLike t n u = (v : Typed) × (t ≡ constant_of v (len t)) × (u ≡ constant_of v n)

@@ -1,5 +1,5 @@
 -- The table of rewrite rules, a constructor for each row. A row's name is the one that its users see.
-use Rattle.std.specs.Prelude.{◌≡◌, ℕ, ◌+◌, ◌-◌, ◌<◌, List, [], ◌∷◌, Option, Some, None, Bool, true, false, not, ◌||◌}
+use Rattle.std.specs.Prelude.{◌≡◌, ℕ, ◌+◌, ◌-◌, ◌<◌, ◌≤◌, List, [], ◌∷◌, Option, Some, None, Bool, true, false, not, ◌||◌}
 use Rattle.vx_value.specs.Types.{DataType, nullability_of}
 use Rattle.vx_value.specs.Typed.{Typed}
 use Rattle.vx_value.specs.Cell.{value}
@@ -29,6 +29,10 @@ lets_slice d = not (is_filter d || is_validity d)
 pub record IsPart (a b k : ℕ) : Type 0 where
   pub some_rows : a < b
   pub not_all : b - a < k
+
+-- such a range of t's rows
+abbrev pub IsPartOf : ℕ → ℕ → Tree → Type 0
+IsPartOf a b t = IsPart a b (len t) × (b ≤ len t)
 
 -- n rows of one value
 abbrev pub constants : DataType → Value → ℕ → Tree

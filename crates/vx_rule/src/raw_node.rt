@@ -2,8 +2,9 @@
 
 ghost use Rattle.std.specs.Prelude.{◌≡◌, [], IfOk, IfErr};
 ghost use Rattle.vx_value.specs.declared.error.VortexError.TheVariants.{OutOfMemory};
-ghost use Rattle.vx_tree.specs.Tree.{slots, slots_of};
+ghost use Rattle.vx_tree.specs.Tree.{slots_of};
 ghost use Rattle.vx_tree.specs.Slots.{present_from};
+ghost use Rattle.vx_rule.specs.Answers.{IsRaw};
 
 use std::alloc::Global;
 use vx_tree::ArrayRef;
@@ -30,13 +31,11 @@ impl RawNode {
     }
 
     /// Returns `tree` as an answer all of whose slots are to be optimized. The only error is `OutOfMemory`.
-    pub(crate) fn raw(alloc: Global, tree: ArrayRef) -> VortexResult<RawNode>
-        ensures tree { IfOk result (λ r. r.tree ≡ tree) }
-        ensures optimize { IfOk result (λ r. r.optimize.items ≡ present_from 0 (slots tree)) }
-        ensures err { IfErr result (λ e. e ≡ OutOfMemory) }
+    pub(crate) fn raw(alloc: Global, tree: ArrayRef) -> VortexResult<Option<RawNode>>
+        ensures { IsRaw tree result }
     {
         let optimize = present_slots(alloc, tree.slots())?;
-        Ok(RawNode { tree, optimize })
+        Ok(Some(RawNode { tree, optimize }))
     }
 }
 

@@ -4,7 +4,7 @@ ghost use Rattle.std.specs.Prelude.{◌≡◌, Bool, IfOk, IfErr, Some, None, tr
 ghost use Rattle.vx_value.specs.declared.error.VortexError.TheVariants.{OutOfMemory};
 ghost use Rattle.vx_tree.specs.Tree.{Tree, datum};
 ghost use Rattle.vx_tree.specs.Slots.{HasSlot};
-ghost use Rattle.vx_rule.specs.Answers.{IsAnswer};
+ghost use Rattle.vx_rule.specs.Answers.{Answers};
 
 use crate::raw_node::RawNode;
 use std::alloc::Global;
@@ -21,7 +21,7 @@ pub trait ArrayReduceRule<V: VTable> {
     /// error is `OutOfMemory`.
     fn reduce(&self, alloc: Global, array: &ArrayView<'_, V>) -> VortexResult<Option<RawNode>>
         requires payload { V.stands_for array.now.payload.now ≡ datum array.now.array.now }
-        ensures answer { covers array.now.array.now ≡ true → IfOk result (λ o. IsAnswer None array.now.array.now o) }
+        ensures answer { covers array.now.array.now ≡ true → Answers None array.now.array.now result }
         ensures other { covers array.now.array.now ≡ false → IfOk result (λ o. o ≡ None) }
         ensures err { IfErr result (λ e. e ≡ OutOfMemory) };
 }
@@ -42,8 +42,7 @@ pub trait ArrayParentReduceRule<V: VTable> {
         requires payload { V.stands_for child.now.payload.now ≡ datum child.now.array.now }
         requires fits { Self.Parent.fits parent.now ≡ true }
         requires slot { HasSlot slot child.now.array.now parent.now }
-        ensures answer { IfOk result (λ o. IsAnswer (Some slot) parent.now o) }
-        ensures err { IfErr result (λ e. e ≡ OutOfMemory) };
+        ensures { Answers (Some slot) parent.now result };
 }
 
 /// Rules of a child for any parent, with the test whether they cover it.
@@ -65,7 +64,7 @@ pub trait DynArrayParentReduceRule<V: VTable> {
     ) -> VortexResult<Option<RawNode>>
         requires payload { V.stands_for child.now.payload.now ≡ datum child.now.array.now }
         requires slot { HasSlot slot child.now.array.now parent.now }
-        ensures answer { covers parent.now ≡ true → IfOk result (λ o. IsAnswer (Some slot) parent.now o) }
+        ensures answer { covers parent.now ≡ true → Answers (Some slot) parent.now result }
         ensures other { covers parent.now ≡ false → IfOk result (λ o. o ≡ None) }
         ensures err { IfErr result (λ e. e ≡ OutOfMemory) };
 }

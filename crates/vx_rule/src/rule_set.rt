@@ -1,10 +1,9 @@
 //! The rules of each encoding, as sets.
 
-ghost use Rattle.std.specs.Prelude.{◌≡◌, IfOk, IfErr, Some, None};
-ghost use Rattle.vx_value.specs.declared.error.VortexError.TheVariants.{OutOfMemory};
+ghost use Rattle.std.specs.Prelude.{◌≡◌, Some, None};
 ghost use Rattle.vx_tree.specs.Tree.{datum};
 ghost use Rattle.vx_tree.specs.Slots.{HasSlot};
-ghost use Rattle.vx_rule.specs.Answers.{IsAnswer};
+ghost use Rattle.vx_rule.specs.Answers.{Answers};
 
 use crate::raw_node::RawNode;
 use std::alloc::Global;
@@ -17,8 +16,7 @@ pub trait ReduceVTable: VTable {
     /// Returns the answer of `array` itself: `None` exactly if no row fits. The only error is `OutOfMemory`. (own)
     fn reduce(alloc: Global, array: &ArrayView<'_, Self>) -> VortexResult<Option<RawNode>>
         requires payload { Self.stands_for array.now.payload.now ≡ datum array.now.array.now }
-        ensures answer { IfOk result (λ o. IsAnswer None array.now.array.now o) }
-        ensures err { IfErr result (λ e. e ≡ OutOfMemory) };
+        ensures { Answers None array.now.array.now result };
 
     /// Returns the answer of `child`, which stands in `slot` of `parent`: `None` exactly if no row fits there. The only error is
     /// `OutOfMemory`. (own)
@@ -30,8 +28,7 @@ pub trait ReduceVTable: VTable {
     ) -> VortexResult<Option<RawNode>>
         requires payload { Self.stands_for child.now.payload.now ≡ datum child.now.array.now }
         requires slot { HasSlot slot child.now.array.now parent.now }
-        ensures answer { IfOk result (λ o. IsAnswer (Some slot) parent.now o) }
-        ensures err { IfErr result (λ e. e ≡ OutOfMemory) };
+        ensures { Answers (Some slot) parent.now result };
 }
 
 /// The rules of an encoding's node itself.
@@ -51,8 +48,7 @@ impl<V: ReduceVTable> ReduceRuleSet<V> {
     /// Returns the answer of `array` itself: `None` exactly if no row fits. The only error is `OutOfMemory`.
     pub fn evaluate(&self, alloc: Global, array: &ArrayView<'_, V>) -> VortexResult<Option<RawNode>>
         requires payload { V.stands_for array.now.payload.now ≡ datum array.now.array.now }
-        ensures answer { IfOk result (λ o. IsAnswer None array.now.array.now o) }
-        ensures err { IfErr result (λ e. e ≡ OutOfMemory) }
+        ensures { Answers None array.now.array.now result }
     {
         V::reduce(alloc, array)
     }
@@ -83,8 +79,7 @@ impl<V: ReduceVTable> ParentRuleSet<V> {
     ) -> VortexResult<Option<RawNode>>
         requires payload { V.stands_for child.now.payload.now ≡ datum child.now.array.now }
         requires slot { HasSlot slot child.now.array.now parent.now }
-        ensures answer { IfOk result (λ o. IsAnswer (Some slot) parent.now o) }
-        ensures err { IfErr result (λ e. e ≡ OutOfMemory) }
+        ensures { Answers (Some slot) parent.now result }
     {
         V::reduce_parent(alloc, child, parent, slot)
     }

@@ -3,12 +3,13 @@
 ghost use Rattle.std.specs.Prelude.{◌≡◌, ◌≤◌, ◌-◌, [], ◌∷◌, length, Option, Some, None, option_map, IfOk, IfErr, IfSome, true};
 ghost use Rattle.vx_value.specs.declared.error.VortexError.TheVariants.{OutOfMemory};
 ghost use Rattle.vx_mask.specs.Masks.{bits_in};
-ghost use Rattle.vx_tree.specs.Tree.{Tree, dtype, len, node, function, masked, slots_of, slice_of};
-ghost use Rattle.vx_tree.specs.Well.{IsNode, shapes};
+ghost use Rattle.vx_tree.specs.Tree.{Tree, dtype, len, datum, node, function, masked, slots_of, slice_of, masked_of, is_function, is_masked, is_constant};
+ghost use Rattle.vx_tree.specs.Well.{IsNode, IsWell, shapes};
 ghost use Rattle.vx_tree.specs.Slots.{map_slots};
 ghost use Rattle.vx_tree.specs.Parts.{choice_of};
 ghost use Rattle.vx_tree.specs.Refusals.{all_long};
 ghost use Rattle.vx_tree.specs.Validities.{truths};
+ghost use Rattle.vx_rule.specs.Constants.{IsConstantLike};
 
 use std::alloc::Global;
 use std::ops::Range;
@@ -129,11 +130,63 @@ pub(crate) fn masked_node(
     ensures err { IfErr result (λ e. e ≡ OutOfMemory) }
 {
     let len = child.len();
-    let mut slots = Vec::with_capacity(alloc, 2)?;
-    slots.push(Some(child))?;
-    slots.push(validity)?;
+    let slots = two_slots(alloc, child, validity)?;
     let parts = ArrayParts::new(Masked, like.dtype().clone()?, len, MaskedData, slots);
     Ok(Array::from_parts_unchecked(alloc, parts)?.into_array())
+}
+
+/// Makes a vector of two slots. The only error is `OutOfMemory`.
+pub(crate) fn two_slots(
+    alloc: Global,
+    first: ArrayRef,
+    second: Option<ArrayRef>,
+) -> VortexResult<Vec<Option<ArrayRef>>>
+    ensures ok { IfOk result (λ v. v.items ≡ Some first ∷ second ∷ []) }
+    ensures err { IfErr result (λ e. e ≡ OutOfMemory) }
+{
+    let mut slots = Vec::with_capacity(alloc, 2)?;
+    slots.push(Some(first))?;
+    slots.push(second)?;
+    Ok(slots)
+}
+
+/// Returns the function of `array`, which must apply one, and the slots of its arguments.
+pub(crate) fn function_parts(array: &ArrayRef) -> (&ScalarFnRef, &[Option<ArrayRef>])
+    requires { is_function (datum array.now) ≡ true }
+    ensures shape { array.now ≡ node (dtype array.now) (len array.now) (function result.0.now) (slots_of result.1.now) }
+    ensures node { IsNode (dtype array.now) (len array.now) (function result.0.now) (shapes (slots_of result.1.now)) }
+    ensures well { IsWell array.now }
+{
+    array.well();
+    let ArrayKind::ScalarFn(scalar_fn, slots) = array.kind() else {
+        unreachable!()
+    };
+    (scalar_fn, slots)
+}
+
+/// Returns the child of `array`, which must be masked, and the slot of its validity.
+pub(crate) fn masked_parts(array: &ArrayRef) -> (&ArrayRef, &Option<ArrayRef>)
+    requires { is_masked (datum array.now) ≡ true }
+    ensures shape { array.now ≡ masked_of result.0.now result.1.now }
+    ensures well { IsWell array.now }
+{
+    array.well();
+    let ArrayKind::Masked(child, validity) = array.kind() else {
+        unreachable!()
+    };
+    (child, validity)
+}
+
+/// Returns the constant of `len` rows that has the value of `array`, which must be one. The only error is `OutOfMemory`.
+pub(crate) fn constant_like(alloc: Global, array: &ArrayRef, len: usize) -> VortexResult<ArrayRef>
+    requires { is_constant (datum array.now) ≡ true }
+    ensures ok { IfOk result (λ t. IsConstantLike array.now len t) }
+    ensures err { IfErr result (λ e. e ≡ OutOfMemory) }
+{
+    let ArrayKind::Constant(scalar) = array.kind() else {
+        unreachable!()
+    };
+    Ok(ConstantArray::new(alloc, scalar.clone()?, len)?.into_array())
 }
 
 /// Returns the tree in the only slot.
@@ -141,9 +194,7 @@ pub(crate) fn only_argument(slots: &[Option<ArrayRef>]) -> &ArrayRef
     requires { (c : Tree) × (slots.now ≡ Some c ∷ []) }
     ensures { slots.now ≡ Some result.now ∷ [] }
 {
-    let Some(child) = &slots[0] else {
-        unreachable!()
-    };
+    let [Some(child)] = slots else { unreachable!() };
     child
 }
 
@@ -152,10 +203,7 @@ pub(crate) fn two_arguments(slots: &[Option<ArrayRef>]) -> (&ArrayRef, &ArrayRef
     requires { (c : Tree) × (d : Tree) × (slots.now ≡ Some c ∷ Some d ∷ []) }
     ensures { slots.now ≡ Some result.0.now ∷ Some result.1.now ∷ [] }
 {
-    let Some(first) = &slots[0] else {
-        unreachable!()
-    };
-    let Some(second) = &slots[1] else {
+    let [Some(first), Some(second)] = slots else {
         unreachable!()
     };
     (first, second)
@@ -166,13 +214,7 @@ pub(crate) fn three_arguments(slots: &[Option<ArrayRef>]) -> (&ArrayRef, &ArrayR
     requires { (c : Tree) × (d : Tree) × (e : Tree) × (slots.now ≡ Some c ∷ Some d ∷ Some e ∷ []) }
     ensures { slots.now ≡ Some result.0.now ∷ Some result.1.now ∷ Some result.2.now ∷ [] }
 {
-    let Some(first) = &slots[0] else {
-        unreachable!()
-    };
-    let Some(second) = &slots[1] else {
-        unreachable!()
-    };
-    let Some(third) = &slots[2] else {
+    let [Some(first), Some(second), Some(third)] = slots else {
         unreachable!()
     };
     (first, second, third)

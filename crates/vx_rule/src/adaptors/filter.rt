@@ -1,10 +1,9 @@
 //! Filters of a child: the rows F5 to F8.
 
-ghost use Rattle.std.specs.Prelude.{◌≡◌, Some, IfOk, IfErr, length};
-ghost use Rattle.vx_value.specs.declared.error.VortexError.TheVariants.{OutOfMemory};
+ghost use Rattle.std.specs.Prelude.{◌≡◌, Some, length};
 ghost use Rattle.vx_mask.specs.Masks.{bits_in};
 ghost use Rattle.vx_tree.specs.Tree.{len, datum, filter_of};
-ghost use Rattle.vx_rule.specs.Answers.{IsAnswer};
+ghost use Rattle.vx_rule.specs.Answers.{Answers};
 
 use crate::raw_node::RawNode;
 use crate::rule::ArrayParentReduceRule;
@@ -24,8 +23,7 @@ pub trait FilterReduce: VTable {
     ) -> VortexResult<Option<RawNode>>
         requires payload { Self.stands_for array.now.payload.now ≡ datum array.now.array.now }
         requires long { length (bits_in mask.now) ≡ len array.now.array.now }
-        ensures answer { IfOk result (λ o. IsAnswer (Some 0) (filter_of (bits_in mask.now) array.now.array.now) o) }
-        ensures err { IfErr result (λ e. e ≡ OutOfMemory) };
+        ensures { Answers (Some 0) (filter_of (bits_in mask.now) array.now.array.now) result };
 }
 
 /// The rule of `V` for a filter of it.

@@ -1,17 +1,12 @@
 //! What an encoding answers for parents of one kind, a trait for each, and the rules that ask it.
 
-mod between;
-mod cast;
-mod fill_null;
+mod call;
 mod filter;
-mod mask;
-mod not;
 mod slice;
 
-pub use between::{BetweenReduce, BetweenReduceAdaptor};
-pub use cast::{CastReduce, CastReduceAdaptor};
-pub use fill_null::{FillNullReduce, FillNullReduceAdaptor};
+pub use call::{
+    BetweenReduce, BetweenReduceAdaptor, CastReduce, CastReduceAdaptor, FillNullReduce,
+    FillNullReduceAdaptor, MaskReduce, MaskReduceAdaptor, NotReduce, NotReduceAdaptor,
+};
 pub use filter::{FilterReduce, FilterReduceAdaptor};
-pub use mask::{MaskReduce, MaskReduceAdaptor};
-pub use not::{NotReduce, NotReduceAdaptor};
 pub use slice::{SliceReduce, SliceReduceAdaptor};

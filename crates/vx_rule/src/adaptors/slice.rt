@@ -1,10 +1,9 @@
 //! Slices of a child: the rows S1 to S5.
 
-ghost use Rattle.std.specs.Prelude.{◌≡◌, ◌≤◌, ◌<◌, Some, IfOk, IfErr, true};
-ghost use Rattle.vx_value.specs.declared.error.VortexError.TheVariants.{OutOfMemory};
+ghost use Rattle.std.specs.Prelude.{◌≡◌, ◌≤◌, ◌<◌, Some, true};
 ghost use Rattle.vx_tree.specs.Tree.{Data, len, datum, slice_of};
-ghost use Rattle.vx_rule.specs.Rules.{Row, IsPart, lets_slice};
-ghost use Rattle.vx_rule.specs.Answers.{IsAnswer};
+ghost use Rattle.vx_rule.specs.Rules.{IsPartOf, lets_slice};
+ghost use Rattle.vx_rule.specs.Answers.{Answers};
 
 use crate::raw_node::RawNode;
 use crate::rule::ArrayParentReduceRule;
@@ -23,10 +22,8 @@ pub trait SliceReduce: VTable {
         range: Range<usize>,
     ) -> VortexResult<Option<RawNode>>
         requires payload { Self.stands_for array.now.payload.now ≡ datum array.now.array.now }
-        requires part { IsPart range.start range.end (len array.now.array.now) }
-        requires bounds { range.end ≤ len array.now.array.now }
-        ensures answer { IfOk result (λ o. IsAnswer (Some 0) (slice_of range.start range.end array.now.array.now) o) }
-        ensures err { IfErr result (λ e. e ≡ OutOfMemory) };
+        requires part { IsPartOf range.start range.end array.now.array.now }
+        ensures { Answers (Some 0) (slice_of range.start range.end array.now.array.now) result };
 
     // a slice passes through the encoding
     ghost lets: { (d : Data) → Self.is_kind d ≡ true → lets_slice d ≡ true };
@@ -62,37 +59,34 @@ fn slice_of_child<V: SliceReduce>(
 ) -> VortexResult<Option<RawNode>>
     requires payload { V.stands_for child.now.payload.now ≡ datum child.now.array.now }
     requires within { (range.start ≤ range.end) × (range.end ≤ len child.now.array.now) }
-    ensures answer { IfOk result (λ o. IsAnswer (Some 0) (slice_of range.start range.end child.now.array.now) o) }
-    ensures err { IfErr result (λ e. e ≡ OutOfMemory) }
+    ensures { Answers (Some 0) (slice_of range.start range.end child.now.array.now) result }
 {
     if range.start == 0 && range.end == child.len() {
-        return Ok(Some(whole(alloc, child.array(), range)?));
+        return whole(alloc, child.array(), range);
     }
     if range.start == range.end {
-        return Ok(Some(empty(alloc, child.array(), range)?));
+        return empty(alloc, child.array(), range);
     }
     V::slice(alloc, child, range)
 }
 
 /// The head of each row: a slice of all rows is the child.
 #[tactic(auto, using(crate::proofs::FitsLemmas::fit_S_whole))]
-fn whole(alloc: Global, child: &ArrayRef, range: Range<usize>) -> VortexResult<RawNode>
+fn whole(alloc: Global, child: &ArrayRef, range: Range<usize>) -> VortexResult<Option<RawNode>>
     requires lets { lets_slice (datum child.now) ≡ true }
     requires all { (range.start ≡ 0) × (range.end ≡ len child.now) }
-    ensures row { IfOk result (λ r. Row (Some 0) (slice_of range.start range.end child.now) r.tree r.optimize.items) }
-    ensures err { IfErr result (λ e. e ≡ OutOfMemory) }
+    ensures { Answers (Some 0) (slice_of range.start range.end child.now) result }
 {
-    Ok(RawNode::done(alloc, child.clone()?))
+    Ok(Some(RawNode::done(alloc, child.clone()?)))
 }
 
 /// The head of each row: a slice without rows is the empty column.
 #[tactic(auto, using(crate::proofs::FitsLemmas::fit_S_empty))]
-fn empty(alloc: Global, child: &ArrayRef, range: Range<usize>) -> VortexResult<RawNode>
+fn empty(alloc: Global, child: &ArrayRef, range: Range<usize>) -> VortexResult<Option<RawNode>>
     requires lets { lets_slice (datum child.now) ≡ true }
     requires none { (range.start ≡ range.end) × (0 < len child.now) }
-    ensures row { IfOk result (λ r. Row (Some 0) (slice_of range.start range.end child.now) r.tree r.optimize.items) }
-    ensures err { IfErr result (λ e. e ≡ OutOfMemory) }
+    ensures { Answers (Some 0) (slice_of range.start range.end child.now) result }
 {
     let empty = Canonical::empty(alloc, child.dtype())?;
-    Ok(RawNode::done(alloc, empty.into_array()))
+    Ok(Some(RawNode::done(alloc, empty.into_array())))
 }

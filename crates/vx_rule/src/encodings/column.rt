@@ -1,9 +1,9 @@
 //! The rules of canonical columns, which are the same for all of them.
 
-ghost use Rattle.std.specs.Prelude.{◌≡◌, ◌≤◌, Some, None, IfOk, IfErr, true};
-ghost use Rattle.vx_value.specs.declared.error.VortexError.TheVariants.{OutOfMemory};
-ghost use Rattle.vx_tree.specs.Tree.{Data, len, datum, slice_of, is_canonical};
-ghost use Rattle.vx_rule.specs.Rules.{Row, IsPart};
+ghost use Rattle.std.specs.Prelude.{◌≡◌, Some, None, true};
+ghost use Rattle.vx_tree.specs.Tree.{Data, datum, slice_of, is_canonical};
+ghost use Rattle.vx_rule.specs.Rules.{IsPartOf};
+ghost use Rattle.vx_rule.specs.Answers.{Answers};
 ghost use Rattle.vx_rule.specs.SliceLaws.{column_lets, nulls_canonical, bool_canonical, primitive_canonical, decimals_canonical, views_canonical};
 
 use crate::adaptors::{SliceReduce, SliceReduceAdaptor};
@@ -67,19 +67,17 @@ impl<V: CanonicalEncoding> SliceReduce for V {
         array: &ArrayView<'_, V>,
         range: Range<usize>,
     ) -> VortexResult<Option<RawNode>> {
-        Ok(Some(s3(alloc, array.array(), range)?))
+        s3(alloc, array.array(), range)
     }
 
     ghost lets = { λ d k. column_lets d (V.canonical d k) };
 }
 
 /// Row S3: a slice of a canonical column is one of its range, which shares its buffers.
-fn s3(alloc: Global, array: &ArrayRef, range: Range<usize>) -> VortexResult<RawNode>
+fn s3(alloc: Global, array: &ArrayRef, range: Range<usize>) -> VortexResult<Option<RawNode>>
     requires canonical { is_canonical (datum array.now) ≡ true }
-    requires part { IsPart range.start range.end (len array.now) }
-    requires bounds { range.end ≤ len array.now }
-    ensures row { IfOk result (λ r. Row (Some 0) (slice_of range.start range.end array.now) r.tree r.optimize.items) }
-    ensures err { IfErr result (λ e. e ≡ OutOfMemory) }
+    requires part { IsPartOf range.start range.end array.now }
+    ensures { Answers (Some 0) (slice_of range.start range.end array.now) result }
 {
     let Ok(column) = Canonical::try_from_array_ref(array.clone()?) else {
         unreachable!()

@@ -3,13 +3,11 @@
 ghost use Rattle.std.specs.Prelude.{◌≡◌, Some, None, IfOk, IfErr, IfSome, IfNone, true};
 ghost use Rattle.vx_value.specs.declared.error.VortexError.TheVariants.{OutOfMemory};
 ghost use Rattle.vx_mask.specs.Masks.{bits_in};
-ghost use Rattle.vx_mask.specs.Places.{true_count};
-ghost use Rattle.vx_tree.specs.Tree.{dtype, len, datum, node, constant, function, slots_of, constant_of, slice_of, filter_of};
-ghost use Rattle.vx_tree.specs.Well.{IsNode, shapes};
-ghost use Rattle.vx_rule.specs.Rules.{Row, IsPart};
+ghost use Rattle.vx_tree.specs.Tree.{datum, slots_of, slice_of, filter_of, is_constant};
+ghost use Rattle.vx_rule.specs.Rules.{IsPartOf};
 ghost use Rattle.vx_rule.specs.Calls.{applies, is_cast, is_not, is_between, is_fill_null};
-ghost use Rattle.vx_rule.specs.Constants.{folds, slot_value, constant_values, IsFolded};
-ghost use Rattle.vx_rule.specs.Answers.{IsAnswer};
+ghost use Rattle.vx_rule.specs.Constants.{folds, slot_value, constant_values};
+ghost use Rattle.vx_rule.specs.Answers.{Answers};
 ghost use Rattle.vx_rule.specs.SliceLaws.{constant_lets};
 
 use crate::adaptors::{
@@ -21,9 +19,10 @@ use crate::encodings::parent_rules;
 use crate::raw_node::RawNode;
 use crate::rule::DynArrayParentReduceRule;
 use crate::rule_set::ReduceVTable;
+use crate::slots::{constant_like, function_parts};
 use std::alloc::Global;
 use std::ops::Range;
-use vx_fn::{BetweenOptions, ScalarFnRef, apply_row};
+use vx_fn::{BetweenOptions, apply_row};
 use vx_mask::Mask;
 use vx_tree::{ArrayKind, ArrayRef, ArrayView, Constant, ConstantArray, IntoArray, VTable};
 use vx_value::{DType, Scalar, VortexError, VortexResult};
@@ -51,10 +50,7 @@ impl SliceReduce for Constant {
         array: &ArrayView<'_, Constant>,
         range: Range<usize>,
     ) -> VortexResult<Option<RawNode>> {
-        let ArrayKind::Constant(scalar) = array.array().kind() else {
-            unreachable!()
-        };
-        Ok(Some(s2(alloc, array.array(), scalar, range)?))
+        s2(alloc, array.array(), range)
     }
 
     ghost lets = { constant_lets };
@@ -66,10 +62,7 @@ impl FilterReduce for Constant {
         array: &ArrayView<'_, Constant>,
         mask: &Mask,
     ) -> VortexResult<Option<RawNode>> {
-        let ArrayKind::Constant(scalar) = array.array().kind() else {
-            unreachable!()
-        };
-        Ok(Some(f6(alloc, array.array(), scalar, mask)?))
+        f6(alloc, array.array(), mask)
     }
 }
 
@@ -120,37 +113,29 @@ impl FillNullReduce for Constant {
 
 /// Row S2: a slice of a constant is a shorter one.
 #[tactic(auto, using(crate::proofs::FitsLemmas::fit_S2))]
-fn s2(
-    alloc: Global,
-    child: &ArrayRef,
-    scalar: &Scalar,
-    range: Range<usize>,
-) -> VortexResult<RawNode>
-    requires shape { child.now ≡ constant_of scalar.now (len child.now) }
-    requires part { IsPart range.start range.end (len child.now) }
-    ensures row { IfOk result (λ r. Row (Some 0) (slice_of range.start range.end child.now) r.tree r.optimize.items) }
-    ensures err { IfErr result (λ e. e ≡ OutOfMemory) }
+fn s2(alloc: Global, child: &ArrayRef, range: Range<usize>) -> VortexResult<Option<RawNode>>
+    requires constant { is_constant (datum child.now) ≡ true }
+    requires part { IsPartOf range.start range.end child.now }
+    ensures { Answers (Some 0) (slice_of range.start range.end child.now) result }
 {
-    let constant = ConstantArray::new(alloc, scalar.clone()?, range.end - range.start)?;
-    Ok(RawNode::done(alloc, constant.into_array()))
+    let constant = constant_like(alloc, child, range.end - range.start)?;
+    Ok(Some(RawNode::done(alloc, constant)))
 }
 
 /// Row F6: a filter of a constant is a shorter one.
 #[tactic(auto, using(crate::proofs::FitsLemmas::fit_F6))]
-fn f6(alloc: Global, child: &ArrayRef, scalar: &Scalar, mask: &Mask) -> VortexResult<RawNode>
-    requires shape { child.now ≡ constant_of scalar.now (len child.now) }
-    ensures row { IfOk result (λ r. Row (Some 0) (filter_of (bits_in mask.now) child.now) r.tree r.optimize.items) }
-    ensures err { IfErr result (λ e. e ≡ OutOfMemory) }
+fn f6(alloc: Global, child: &ArrayRef, mask: &Mask) -> VortexResult<Option<RawNode>>
+    requires { is_constant (datum child.now) ≡ true }
+    ensures { Answers (Some 0) (filter_of (bits_in mask.now) child.now) result }
 {
-    let constant = ConstantArray::new(alloc, scalar.clone()?, mask.true_count())?;
-    Ok(RawNode::done(alloc, constant.into_array()))
+    let constant = constant_like(alloc, child, mask.true_count())?;
+    Ok(Some(RawNode::done(alloc, constant)))
 }
 
 /// Row K1: a cast of a constant is a constant, if the cast has a value.
 fn k1(alloc: Global, parent: &ArrayRef) -> VortexResult<Option<RawNode>>
     requires { applies is_cast (datum parent.now) ≡ true }
-    ensures answer { IfOk result (λ o. IsAnswer (Some 0) parent.now o) }
-    ensures err { IfErr result (λ e. e ≡ OutOfMemory) }
+    ensures { Answers (Some 0) parent.now result }
 {
     fold_row(alloc, parent)
 }
@@ -158,8 +143,7 @@ fn k1(alloc: Global, parent: &ArrayRef) -> VortexResult<Option<RawNode>>
 /// Row K2: a negation of a constant is a constant.
 fn k2(alloc: Global, parent: &ArrayRef) -> VortexResult<Option<RawNode>>
     requires { applies is_not (datum parent.now) ≡ true }
-    ensures answer { IfOk result (λ o. IsAnswer (Some 0) parent.now o) }
-    ensures err { IfErr result (λ e. e ≡ OutOfMemory) }
+    ensures { Answers (Some 0) parent.now result }
 {
     fold_row(alloc, parent)
 }
@@ -167,8 +151,7 @@ fn k2(alloc: Global, parent: &ArrayRef) -> VortexResult<Option<RawNode>>
 /// Row K3: bounds of a constant by two constants are a constant.
 fn k3(alloc: Global, parent: &ArrayRef) -> VortexResult<Option<RawNode>>
     requires { applies is_between (datum parent.now) ≡ true }
-    ensures answer { IfOk result (λ o. IsAnswer (Some 0) parent.now o) }
-    ensures err { IfErr result (λ e. e ≡ OutOfMemory) }
+    ensures { Answers (Some 0) parent.now result }
 {
     fold_row(alloc, parent)
 }
@@ -176,51 +159,25 @@ fn k3(alloc: Global, parent: &ArrayRef) -> VortexResult<Option<RawNode>>
 /// Row K4: a constant whose nulls a constant fills is a constant.
 fn k4(alloc: Global, parent: &ArrayRef) -> VortexResult<Option<RawNode>>
     requires { applies is_fill_null (datum parent.now) ≡ true }
-    ensures answer { IfOk result (λ o. IsAnswer (Some 0) parent.now o) }
-    ensures err { IfErr result (λ e. e ≡ OutOfMemory) }
+    ensures { Answers (Some 0) parent.now result }
 {
     fold_row(alloc, parent)
 }
 
 /// Returns what stands for `parent`, which applies one of the functions that are folded: `None` exactly if a slot holds no constant, or if
 /// the row has no value. The only error is `OutOfMemory`.
-#[tactic(auto, using(crate::proofs::ConstantsLemmas::folded_quiet))]
 fn fold_row(alloc: Global, parent: &ArrayRef) -> VortexResult<Option<RawNode>>
     requires { applies folds (datum parent.now) ≡ true }
-    ensures answer { IfOk result (λ o. IsAnswer (Some 0) parent.now o) }
-    ensures err { IfErr result (λ e. e ≡ OutOfMemory) }
+    ensures { Answers (Some 0) parent.now result }
 {
-    parent.well();
-    let ArrayKind::ScalarFn(scalar_fn, slots) = parent.kind() else {
-        unreachable!()
-    };
-    match fold(alloc, parent, scalar_fn, slots)? {
-        Some(constant) => Ok(Some(RawNode::done(alloc, constant))),
-        None => Ok(None),
-    }
-}
-
-/// Returns the constant of `scalar_fn`'s value on the constants in `slots`: `None` exactly if one holds no constant, or if there is no
-/// value.
-fn fold(
-    alloc: Global,
-    parent: &ArrayRef,
-    scalar_fn: &ScalarFnRef,
-    slots: &[Option<ArrayRef>],
-) -> VortexResult<Option<ArrayRef>>
-    requires shape { parent.now ≡ node (dtype parent.now) (len parent.now) (function scalar_fn.now) (slots_of slots.now) }
-    requires well { IsNode (dtype parent.now) (len parent.now) (function scalar_fn.now) (shapes (slots_of slots.now)) }
-    ensures ok { IfOk result (λ o. IsFolded scalar_fn.now (dtype parent.now) (len parent.now) (slots_of slots.now) o) }
-    ensures err { IfErr result (λ e. e ≡ OutOfMemory) }
-{
-    parent.well();
+    let (scalar_fn, slots) = function_parts(parent);
     let Some(scalars) = constants(alloc, slots)? else {
         return Ok(None);
     };
     match apply_row(scalar_fn, scalars.as_slice()) {
         Ok(scalar) => {
             let constant = ConstantArray::new(alloc, scalar, parent.len())?;
-            Ok(Some(constant.into_array()))
+            Ok(Some(RawNode::done(alloc, constant.into_array())))
         }
         Err(VortexError::Fault) => Ok(None),
         Err(e) => Err(e),

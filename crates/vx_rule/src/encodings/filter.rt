@@ -4,8 +4,8 @@ ghost use Rattle.std.specs.Prelude.{◌≡◌, Some, None, IfOk, IfErr, length, 
 ghost use Rattle.vx_value.specs.declared.error.VortexError.TheVariants.{OutOfMemory};
 ghost use Rattle.vx_mask.specs.Masks.{bits_in, is_all_true};
 ghost use Rattle.vx_mask.specs.Places.{true_count, combined, IsRun};
-ghost use Rattle.vx_tree.specs.Tree.{len, datum, filter, filter_of, is_filter};
-ghost use Rattle.vx_rule.specs.Rules.{Row};
+ghost use Rattle.vx_tree.specs.Tree.{len, datum, filter_of, is_filter};
+ghost use Rattle.vx_rule.specs.Answers.{Answers};
 
 use crate::adaptors::{FilterReduce, FilterReduceAdaptor};
 use crate::encodings::{own_rules, parent_rules};
@@ -42,10 +42,7 @@ impl FilterReduce for Filter {
         array: &ArrayView<'_, Filter>,
         mask: &Mask,
     ) -> VortexResult<Option<RawNode>> {
-        let ArrayKind::Filter(inner, outer) = array.array().kind() else {
-            unreachable!()
-        };
-        Ok(Some(f5(alloc, array.array(), inner, outer, mask)?))
+        f5(alloc, array.array(), mask)
     }
 }
 
@@ -66,13 +63,13 @@ impl ArrayReduceRule<Filter> for TrivialFilterRule {
             unreachable!()
         };
         if mask.all_true() {
-            return Ok(Some(f1(alloc, child, mask)?));
+            return f1(alloc, child, mask);
         }
         if mask.true_count() == 0 {
-            return Ok(Some(f2(alloc, child, mask)?));
+            return f2(alloc, child, mask);
         }
         match mask.contiguous_range() {
-            Some(range) => Ok(Some(f3(alloc, child, mask, range)?)),
+            Some(range) => f3(alloc, child, mask, range),
             None => Ok(None),
         }
     }
@@ -80,22 +77,17 @@ impl ArrayReduceRule<Filter> for TrivialFilterRule {
 
 /// Row F5: a filter of a filter is the filter by the combined mask.
 #[tactic(auto, using(crate::proofs::FitsLemmas::fit_F5))]
-fn f5(
-    alloc: Global,
-    child: &ArrayRef,
-    inner: &ArrayRef,
-    outer: &Mask,
-    mask: &Mask,
-) -> VortexResult<RawNode>
-    requires shape { child.now ≡ filter_of (bits_in outer.now) inner.now }
-    requires within { length (bits_in outer.now) ≡ len inner.now }
+fn f5(alloc: Global, child: &ArrayRef, mask: &Mask) -> VortexResult<Option<RawNode>>
+    requires filter { is_filter (datum child.now) ≡ true }
     requires long { length (bits_in mask.now) ≡ len child.now }
-    ensures row { IfOk result (λ r. Row (Some 0) (filter_of (bits_in mask.now) child.now) r.tree r.optimize.items) }
-    ensures err { IfErr result (λ e. e ≡ OutOfMemory) }
+    ensures { Answers (Some 0) (filter_of (bits_in mask.now) child.now) result }
 {
+    let ArrayKind::Filter(inner, outer) = child.kind() else {
+        unreachable!()
+    };
     let both = combine(alloc, outer, mask)?;
     let filter = FilterArray::new(alloc, inner.clone()?, both)?;
-    Ok(RawNode::done(alloc, filter.into_array()))
+    Ok(Some(RawNode::done(alloc, filter.into_array())))
 }
 
 /// Returns the mask of the rows that `inner`, which must have as many rows as `outer` chooses, chooses among those. The only error is
@@ -113,35 +105,37 @@ fn combine(alloc: Global, outer: &Mask, inner: &Mask) -> VortexResult<Mask>
 
 /// Row F1: a filter that chooses all rows is its child.
 #[tactic(auto, using(crate::proofs::FitsLemmas::fit_F1))]
-fn f1(alloc: Global, child: &ArrayRef, mask: &Mask) -> VortexResult<RawNode>
+fn f1(alloc: Global, child: &ArrayRef, mask: &Mask) -> VortexResult<Option<RawNode>>
     requires { is_all_true (bits_in mask.now) ≡ true }
-    ensures row { IfOk result (λ r. Row None (filter_of (bits_in mask.now) child.now) r.tree r.optimize.items) }
-    ensures err { IfErr result (λ e. e ≡ OutOfMemory) }
+    ensures { Answers None (filter_of (bits_in mask.now) child.now) result }
 {
-    Ok(RawNode::done(alloc, child.clone()?))
+    Ok(Some(RawNode::done(alloc, child.clone()?)))
 }
 
 /// Row F2: a filter that chooses no row is the empty column.
 #[tactic(auto, using(crate::proofs::FitsLemmas::fit_F2))]
-fn f2(alloc: Global, child: &ArrayRef, mask: &Mask) -> VortexResult<RawNode>
+fn f2(alloc: Global, child: &ArrayRef, mask: &Mask) -> VortexResult<Option<RawNode>>
     requires some { is_all_true (bits_in mask.now) ≡ false }
     requires none { true_count (bits_in mask.now) ≡ 0 }
-    ensures row { IfOk result (λ r. Row None (filter_of (bits_in mask.now) child.now) r.tree r.optimize.items) }
-    ensures err { IfErr result (λ e. e ≡ OutOfMemory) }
+    ensures { Answers None (filter_of (bits_in mask.now) child.now) result }
 {
     let empty = Canonical::empty(alloc, child.dtype())?;
-    Ok(RawNode::done(alloc, empty.into_array()))
+    Ok(Some(RawNode::done(alloc, empty.into_array())))
 }
 
 /// Row F3: a filter of consecutive rows is a slice.
 #[tactic(auto, using(crate::proofs::FitsLemmas::fit_F3, crate::proofs::FitsLemmas::run_range))]
-fn f3(alloc: Global, child: &ArrayRef, mask: &Mask, range: Range<usize>) -> VortexResult<RawNode>
+fn f3(
+    alloc: Global,
+    child: &ArrayRef,
+    mask: &Mask,
+    range: Range<usize>,
+) -> VortexResult<Option<RawNode>>
     requires long { length (bits_in mask.now) ≡ len child.now }
     requires some { is_all_true (bits_in mask.now) ≡ false }
     requires run { IsRun (bits_in mask.now) range.start range.end }
-    ensures row { IfOk result (λ r. Row None (filter_of (bits_in mask.now) child.now) r.tree r.optimize.items) }
-    ensures err { IfErr result (λ e. e ≡ OutOfMemory) }
+    ensures { Answers None (filter_of (bits_in mask.now) child.now) result }
 {
     let slice = SliceArray::new(alloc, child.clone()?, range)?;
-    Ok(RawNode::done(alloc, slice.into_array()))
+    Ok(Some(RawNode::done(alloc, slice.into_array())))
 }

@@ -1,12 +1,13 @@
 //! The rules of masked arrays.
 
-ghost use Rattle.std.specs.Prelude.{◌≡◌, ◌≤◌, Some, None, IfOk, IfErr, ◌∷◌, [], length};
+ghost use Rattle.std.specs.Prelude.{◌≡◌, Some, None, IfOk, IfErr, ◌∷◌, [], length, true};
 ghost use Rattle.vx_value.specs.declared.error.VortexError.TheVariants.{OutOfMemory};
 ghost use Rattle.vx_mask.specs.Masks.{bits_in};
 ghost use Rattle.vx_fn.specs.declared.function.ScalarFnRef.TheVariants as fn_of;
-ghost use Rattle.vx_tree.specs.Tree.{dtype, len, node, function, masked, slots_of, slice_of, filter_of, masked_of};
-ghost use Rattle.vx_tree.specs.Well.{IsNode, IsNodeOf, shapes};
-ghost use Rattle.vx_rule.specs.Rules.{Row, IsPart, told};
+ghost use Rattle.vx_tree.specs.Tree.{len, datum, slots_of, slice_of, filter_of, is_masked};
+ghost use Rattle.vx_rule.specs.Rules.{IsPartOf, told};
+ghost use Rattle.vx_rule.specs.Calls.{IsCallOf};
+ghost use Rattle.vx_rule.specs.Answers.{Answers};
 ghost use Rattle.vx_rule.specs.SliceLaws.{masked_lets};
 
 use crate::adaptors::{
@@ -17,13 +18,13 @@ use crate::encodings::parent_rules;
 use crate::raw_node::RawNode;
 use crate::rule::DynArrayParentReduceRule;
 use crate::rule_set::ReduceVTable;
-use crate::slots::{function_node, masked_node, truths};
+use crate::slots::{function_node, masked_node, masked_parts, truths, two_slots};
 use std::alloc::Global;
 use std::ops::Range;
 use vx_fn::ScalarFnRef;
 use vx_mask::Mask;
 use vx_tree::{
-    ArrayKind, ArrayRef, ArrayView, FilterArray, IntoArray, Masked, SliceArray, VTable, and_lazily,
+    ArrayRef, ArrayView, FilterArray, IntoArray, Masked, SliceArray, VTable, and_lazily,
     choose_validity, slice_validity,
 };
 use vx_value::VortexResult;
@@ -51,10 +52,7 @@ impl SliceReduce for Masked {
         array: &ArrayView<'_, Masked>,
         range: Range<usize>,
     ) -> VortexResult<Option<RawNode>> {
-        let ArrayKind::Masked(inner, validity) = array.array().kind() else {
-            unreachable!()
-        };
-        Ok(Some(s5(alloc, array.array(), inner, validity, range)?))
+        s5(alloc, array.array(), range)
     }
 
     ghost lets = { masked_lets };
@@ -66,10 +64,7 @@ impl FilterReduce for Masked {
         array: &ArrayView<'_, Masked>,
         mask: &Mask,
     ) -> VortexResult<Option<RawNode>> {
-        let ArrayKind::Masked(inner, validity) = array.array().kind() else {
-            unreachable!()
-        };
-        Ok(Some(f8(alloc, array.array(), inner, validity, mask)?))
+        f8(alloc, array.array(), mask)
     }
 }
 
@@ -80,29 +75,17 @@ impl MaskReduce for Masked {
         parent: &ArrayRef,
         mask: &ArrayRef,
     ) -> VortexResult<Option<RawNode>> {
-        let ArrayKind::Masked(child, validity) = array.array().kind() else {
-            unreachable!()
-        };
-        Ok(Some(m1(alloc, parent, array.array(), child, validity, mask)?))
+        m1(alloc, parent, array.array(), mask)
     }
 }
 
 /// Row S5: a slice of a masked array is a masked slice.
-fn s5(
-    alloc: Global,
-    child: &ArrayRef,
-    inner: &ArrayRef,
-    validity: &Option<ArrayRef>,
-    range: Range<usize>,
-) -> VortexResult<RawNode>
-    requires shape { child.now ≡ masked_of inner.now validity.now }
-    requires well { IsNodeOf child.now }
-    requires part { IsPart range.start range.end (len child.now) }
-    requires bounds { range.end ≤ len child.now }
-    ensures row { IfOk result (λ r. Row (Some 0) (slice_of range.start range.end child.now) r.tree r.optimize.items) }
-    ensures err { IfErr result (λ e. e ≡ OutOfMemory) }
+fn s5(alloc: Global, child: &ArrayRef, range: Range<usize>) -> VortexResult<Option<RawNode>>
+    requires masked { is_masked (datum child.now) ≡ true }
+    requires part { IsPartOf range.start range.end child.now }
+    ensures { Answers (Some 0) (slice_of range.start range.end child.now) result }
 {
-    child.well();
+    let (inner, validity) = masked_parts(child);
     let (start, end) = (range.start, range.end);
     let slice = SliceArray::new(alloc, inner.clone()?, start..end)?;
     let validity = slice_validity(alloc, validity, start..end)?;
@@ -111,20 +94,12 @@ fn s5(
 }
 
 /// Row F8: a filter of a masked array is a masked filter.
-fn f8(
-    alloc: Global,
-    child: &ArrayRef,
-    inner: &ArrayRef,
-    validity: &Option<ArrayRef>,
-    mask: &Mask,
-) -> VortexResult<RawNode>
-    requires shape { child.now ≡ masked_of inner.now validity.now }
-    requires well { IsNodeOf child.now }
+fn f8(alloc: Global, child: &ArrayRef, mask: &Mask) -> VortexResult<Option<RawNode>>
+    requires masked { is_masked (datum child.now) ≡ true }
     requires long { length (bits_in mask.now) ≡ len child.now }
-    ensures row { IfOk result (λ r. Row (Some 0) (filter_of (bits_in mask.now) child.now) r.tree r.optimize.items) }
-    ensures err { IfErr result (λ e. e ≡ OutOfMemory) }
+    ensures { Answers (Some 0) (filter_of (bits_in mask.now) child.now) result }
 {
-    child.well();
+    let (inner, validity) = masked_parts(child);
     let filter = FilterArray::new(alloc, inner.clone()?, mask.clone()?)?;
     let validity = choose_validity(alloc, validity, mask)?;
     let masked = masked_node(alloc, child, filter.into_array(), validity)?;
@@ -136,25 +111,19 @@ fn m1(
     alloc: Global,
     parent: &ArrayRef,
     input: &ArrayRef,
-    child: &ArrayRef,
-    validity: &Option<ArrayRef>,
     mask: &ArrayRef,
-) -> VortexResult<RawNode>
-    requires shape { parent.now ≡ node (dtype parent.now) (len parent.now) (function fn_of.Mask) (slots_of (Some input.now ∷ Some mask.now ∷ [])) }
-    requires well { IsNode (dtype parent.now) (len parent.now) (function fn_of.Mask) (shapes (slots_of (Some input.now ∷ Some mask.now ∷ []))) }
-    requires masked { input.now ≡ masked_of child.now validity.now }
-    requires child { IsNodeOf input.now }
-    ensures row { IfOk result (λ r. Row (Some 0) parent.now r.tree r.optimize.items) }
-    ensures err { IfErr result (λ e. e ≡ OutOfMemory) }
+) -> VortexResult<Option<RawNode>>
+    requires masked { is_masked (datum input.now) ≡ true }
+    requires call { IsCallOf fn_of.Mask (input.now ∷ mask.now ∷ []) parent.now }
+    ensures { Answers (Some 0) parent.now result }
 {
     parent.well();
+    let (child, validity) = masked_parts(input);
     let validity = told(alloc, validity, parent.len())?;
     let both = and_lazily(alloc, mask.clone()?, validity, parent.len())?;
-    let mut slots = Vec::with_capacity(alloc, 2)?;
-    slots.push(Some(child.clone()?))?;
-    slots.push(Some(both))?;
+    let slots = two_slots(alloc, child.clone()?, Some(both))?;
     let call = function_node(alloc, parent, &ScalarFnRef::Mask, parent.len(), slots)?;
-    Ok(RawNode::done(alloc, call))
+    Ok(Some(RawNode::done(alloc, call)))
 }
 
 /// Returns the validity in a masked array's slot as an array of `len` booleans. The only error is `OutOfMemory`.

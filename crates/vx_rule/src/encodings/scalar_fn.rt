@@ -1,16 +1,14 @@
 //! The rules of functions.
 
-ghost use Rattle.std.specs.Prelude.{◌≡◌, ◌≤◌, Some, None, IfOk, IfErr, length, true, false};
+ghost use Rattle.std.specs.Prelude.{◌≡◌, Some, None, length, true, false};
 ghost use Rattle.vx_value.specs.Types.{same_type};
 ghost use Rattle.vx_value.specs.View.{type_of};
-ghost use Rattle.vx_value.specs.declared.error.VortexError.TheVariants.{OutOfMemory};
 ghost use Rattle.vx_mask.specs.Masks.{bits_in};
 ghost use Rattle.vx_fn.specs.declared.function.ScalarFnRef.TheVariants as fn_of;
-ghost use Rattle.vx_tree.specs.Tree.{dtype, len, datum, node, function, slot, no_slots, slots_of, slice_of, filter_of};
-ghost use Rattle.vx_tree.specs.Well.{IsNode, shapes};
-ghost use Rattle.vx_rule.specs.Rules.{Row, IsPart};
-ghost use Rattle.vx_rule.specs.Calls.{applies, is_cast, is_null_test};
-ghost use Rattle.vx_rule.specs.Answers.{IsAnswer};
+ghost use Rattle.vx_tree.specs.Tree.{dtype, len, datum, node, function, slot, no_slots, slice_of, filter_of, is_function};
+ghost use Rattle.vx_rule.specs.Rules.{IsPartOf};
+ghost use Rattle.vx_rule.specs.Calls.{applies, is_cast, is_null_test, null_test};
+ghost use Rattle.vx_rule.specs.Answers.{Answers};
 ghost use Rattle.vx_rule.specs.SliceLaws.{function_lets};
 
 use crate::adaptors::{FilterReduce, FilterReduceAdaptor, SliceReduce, SliceReduceAdaptor};
@@ -18,7 +16,9 @@ use crate::encodings::{own_rules, parent_rules};
 use crate::raw_node::RawNode;
 use crate::rule::{ArrayReduceRule, DynArrayParentReduceRule};
 use crate::rule_set::ReduceVTable;
-use crate::slots::{choose_slots, function_node, only_argument, slice_slots, truths};
+use crate::slots::{
+    choose_slots, function_node, function_parts, only_argument, slice_slots, truths,
+};
 use std::alloc::Global;
 use std::ops::Range;
 use vx_fn::ScalarFnRef;
@@ -49,10 +49,7 @@ impl SliceReduce for ScalarFn {
         array: &ArrayView<'_, ScalarFn>,
         range: Range<usize>,
     ) -> VortexResult<Option<RawNode>> {
-        let ArrayKind::ScalarFn(scalar_fn, slots) = array.array().kind() else {
-            unreachable!()
-        };
-        Ok(Some(s4(alloc, array.array(), scalar_fn, slots, range)?))
+        s4(alloc, array.array(), range)
     }
 
     ghost lets = { function_lets };
@@ -64,10 +61,7 @@ impl FilterReduce for ScalarFn {
         array: &ArrayView<'_, ScalarFn>,
         mask: &Mask,
     ) -> VortexResult<Option<RawNode>> {
-        let ArrayKind::ScalarFn(scalar_fn, slots) = array.array().kind() else {
-            unreachable!()
-        };
-        Ok(Some(f7(alloc, array.array(), scalar_fn, slots, mask)?))
+        f7(alloc, array.array(), mask)
     }
 }
 
@@ -106,10 +100,10 @@ impl ArrayReduceRule<ScalarFn> for TrivialNullTestRule {
     ) -> VortexResult<Option<RawNode>> {
         match array.array().kind() {
             ArrayKind::ScalarFn(ScalarFnRef::IsNull, slots) => {
-                n1_null(alloc, array.array(), only_argument(slots))
+                n1(alloc, array.array(), only_argument(slots), false)
             }
             ArrayKind::ScalarFn(ScalarFnRef::IsNotNull, slots) => {
-                n1_valid(alloc, array.array(), only_argument(slots))
+                n1(alloc, array.array(), only_argument(slots), true)
             }
             _ => Ok(None),
         }
@@ -117,21 +111,12 @@ impl ArrayReduceRule<ScalarFn> for TrivialNullTestRule {
 }
 
 /// Row S4: a slice of a function is the function of slices.
-fn s4(
-    alloc: Global,
-    child: &ArrayRef,
-    scalar_fn: &ScalarFnRef,
-    slots: &[Option<ArrayRef>],
-    range: Range<usize>,
-) -> VortexResult<RawNode>
-    requires shape { child.now ≡ node (dtype child.now) (len child.now) (function scalar_fn.now) (slots_of slots.now) }
-    requires well { IsNode (dtype child.now) (len child.now) (function scalar_fn.now) (shapes (slots_of slots.now)) }
-    requires part { IsPart range.start range.end (len child.now) }
-    requires bounds { range.end ≤ len child.now }
-    ensures row { IfOk result (λ r. Row (Some 0) (slice_of range.start range.end child.now) r.tree r.optimize.items) }
-    ensures err { IfErr result (λ e. e ≡ OutOfMemory) }
+fn s4(alloc: Global, child: &ArrayRef, range: Range<usize>) -> VortexResult<Option<RawNode>>
+    requires function { is_function (datum child.now) ≡ true }
+    requires part { IsPartOf range.start range.end child.now }
+    ensures { Answers (Some 0) (slice_of range.start range.end child.now) result }
 {
-    child.well();
+    let (scalar_fn, slots) = function_parts(child);
     let len = range.end - range.start;
     let slices = slice_slots(alloc, slots, child.len(), range)?;
     let call = function_node(alloc, child, scalar_fn, len, slices)?;
@@ -139,20 +124,12 @@ fn s4(
 }
 
 /// Row F7: a filter of a function is the function of filters.
-fn f7(
-    alloc: Global,
-    child: &ArrayRef,
-    scalar_fn: &ScalarFnRef,
-    slots: &[Option<ArrayRef>],
-    mask: &Mask,
-) -> VortexResult<RawNode>
-    requires shape { child.now ≡ node (dtype child.now) (len child.now) (function scalar_fn.now) (slots_of slots.now) }
-    requires well { IsNode (dtype child.now) (len child.now) (function scalar_fn.now) (shapes (slots_of slots.now)) }
+fn f7(alloc: Global, child: &ArrayRef, mask: &Mask) -> VortexResult<Option<RawNode>>
+    requires function { is_function (datum child.now) ≡ true }
     requires long { length (bits_in mask.now) ≡ len child.now }
-    ensures row { IfOk result (λ r. Row (Some 0) (filter_of (bits_in mask.now) child.now) r.tree r.optimize.items) }
-    ensures err { IfErr result (λ e. e ≡ OutOfMemory) }
+    ensures { Answers (Some 0) (filter_of (bits_in mask.now) child.now) result }
 {
-    child.well();
+    let (scalar_fn, slots) = function_parts(child);
     let choices = choose_slots(alloc, slots, mask)?;
     let call = function_node(alloc, child, scalar_fn, mask.true_count(), choices)?;
     RawNode::raw(alloc, call)
@@ -167,8 +144,7 @@ fn c1(
     child: &ArrayRef,
 ) -> VortexResult<Option<RawNode>>
     requires { array.now ≡ node (dtype array.now) (len array.now) (function (fn_of.Cast target.now)) (slot child.now no_slots) }
-    ensures answer { IfOk result (λ o. IsAnswer None array.now o) }
-    ensures err { IfErr result (λ e. e ≡ OutOfMemory) }
+    ensures { Answers None array.now result }
 {
     if !is_same_type(child.dtype(), target) {
         return Ok(None);
@@ -183,28 +159,19 @@ fn is_same_type(dtype: &DType, other: &DType) -> bool
     *dtype == *other
 }
 
-/// Row N1, for `IsNull`: of a non-nullable argument it is the constant false.
-#[tactic(auto, using(crate::proofs::FitsLemmas::fit_N1_null, crate::proofs::QuietLemmas::null_test_quiet))]
-fn n1_null(alloc: Global, array: &ArrayRef, child: &ArrayRef) -> VortexResult<Option<RawNode>>
-    requires { array.now ≡ node (dtype array.now) (len array.now) (function fn_of.IsNull) (slot child.now no_slots) }
-    ensures answer { IfOk result (λ o. IsAnswer None array.now o) }
-    ensures err { IfErr result (λ e. e ≡ OutOfMemory) }
+/// Row N1: a test for null of a non-nullable argument is the constant `value`, which is false for `IsNull` and true for `IsNotNull`.
+#[tactic(auto, using(crate::proofs::FitsLemmas::fit_N1, crate::proofs::QuietLemmas::null_test_quiet))]
+fn n1(
+    alloc: Global,
+    array: &ArrayRef,
+    child: &ArrayRef,
+    value: bool,
+) -> VortexResult<Option<RawNode>>
+    requires { array.now ≡ node (dtype array.now) (len array.now) (function (null_test value)) (slot child.now no_slots) }
+    ensures { Answers None array.now result }
 {
     if child.dtype().is_nullable() {
         return Ok(None);
     }
-    Ok(Some(RawNode::done(alloc, truths(alloc, false, array.len())?)))
-}
-
-/// Row N1, for `IsNotNull`: of a non-nullable argument it is the constant true.
-#[tactic(auto, using(crate::proofs::FitsLemmas::fit_N1_valid, crate::proofs::QuietLemmas::value_test_quiet))]
-fn n1_valid(alloc: Global, array: &ArrayRef, child: &ArrayRef) -> VortexResult<Option<RawNode>>
-    requires { array.now ≡ node (dtype array.now) (len array.now) (function fn_of.IsNotNull) (slot child.now no_slots) }
-    ensures answer { IfOk result (λ o. IsAnswer None array.now o) }
-    ensures err { IfErr result (λ e. e ≡ OutOfMemory) }
-{
-    if child.dtype().is_nullable() {
-        return Ok(None);
-    }
-    Ok(Some(RawNode::done(alloc, truths(alloc, true, array.len())?)))
+    Ok(Some(RawNode::done(alloc, truths(alloc, value, array.len())?)))
 }

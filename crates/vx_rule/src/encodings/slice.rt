@@ -1,9 +1,9 @@
 //! The rules of slices.
 
-ghost use Rattle.std.specs.Prelude.{◌≡◌, ◌≤◌, ℕ, Some, None, IfOk, IfErr};
-ghost use Rattle.vx_value.specs.declared.error.VortexError.TheVariants.{OutOfMemory};
-ghost use Rattle.vx_tree.specs.Tree.{len, slice, slice_of};
-ghost use Rattle.vx_rule.specs.Rules.{Row, IsPart};
+ghost use Rattle.std.specs.Prelude.{◌≡◌, Some, None, true};
+ghost use Rattle.vx_tree.specs.Tree.{datum, slice_of, is_slice};
+ghost use Rattle.vx_rule.specs.Rules.{IsPartOf};
+ghost use Rattle.vx_rule.specs.Answers.{Answers};
 ghost use Rattle.vx_rule.specs.SliceLaws.{slice_lets};
 
 use crate::adaptors::{SliceReduce, SliceReduceAdaptor};
@@ -39,10 +39,7 @@ impl SliceReduce for Slice {
         array: &ArrayView<'_, Slice>,
         range: Range<usize>,
     ) -> VortexResult<Option<RawNode>> {
-        let ArrayKind::Slice(inner, start, _) = array.array().kind() else {
-            unreachable!()
-        };
-        Ok(Some(s1(alloc, array.array(), inner, start, range)?))
+        s1(alloc, array.array(), range)
     }
 
     ghost lets = { slice_lets };
@@ -50,21 +47,16 @@ impl SliceReduce for Slice {
 
 /// Row S1: a slice of a slice is one slice.
 #[tactic(auto, using(crate::proofs::FitsLemmas::fit_S1))]
-fn s1(
-    alloc: Global,
-    child: &ArrayRef,
-    inner: &ArrayRef,
-    start: usize,
-    range: Range<usize>,
-) -> VortexResult<RawNode>
-    requires shape { (stop : ℕ) × (child.now ≡ slice_of start stop inner.now) × (start ≤ stop) × (stop ≤ len inner.now) }
-    requires part { IsPart range.start range.end (len child.now) }
-    requires bounds { range.end ≤ len child.now }
-    ensures row { IfOk result (λ r. Row (Some 0) (slice_of range.start range.end child.now) r.tree r.optimize.items) }
-    ensures err { IfErr result (λ e. e ≡ OutOfMemory) }
+fn s1(alloc: Global, child: &ArrayRef, range: Range<usize>) -> VortexResult<Option<RawNode>>
+    requires slice { is_slice (datum child.now) ≡ true }
+    requires part { IsPartOf range.start range.end child.now }
+    ensures { Answers (Some 0) (slice_of range.start range.end child.now) result }
 {
+    let ArrayKind::Slice(inner, start, _) = child.kind() else {
+        unreachable!()
+    };
     let _bound = inner.len();
     let range = start + range.start..start + range.end;
     let slice = SliceArray::new(alloc, inner.clone()?, range)?;
-    Ok(RawNode::done(alloc, slice.into_array()))
+    Ok(Some(RawNode::done(alloc, slice.into_array())))
 }

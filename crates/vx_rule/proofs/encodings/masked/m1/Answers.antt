@@ -11,27 +11,29 @@ use Rattle.vx_rule.proofs.encodings.masked.m1.Goals as goal
 pub and_lazily-requires-clause-second : goal.and_lazily-requires-clause-second
 and_lazily-requires-clause-second c =
     let t = c.args.parent.now in
-    let is : c.in_ok-validity.validity ≡ told (len t) (slots_of (c.args.validity.now ∷ [])) = search rules in
-    rw c.len-2.ensures (told_has_rows (dtype t) (len t) t c.args.input.now c.args.mask.now c.args.child.now c.args.validity.now c.well.ensures.formed
-    c.requires.shape c.requires.well c.requires.masked c.in_ok-validity.validity is)
+    let p = c.masked_parts in
+    rw c.len-2.ensures (told_has_rows (dtype t) (len t) t c.args.input.now c.args.mask.now p.result.0.now p.result.1.now c.well.ensures.formed
+    c.requires.call.0 c.requires.call.1 p.ensures.shape c.in_ok-validity.validity (c.in_ok-validity.ensures.ok ∙ (λ i. told (c.len.ensures i) (slots_of (p.result.1.now ∷ [])))))
 
 pub function_node-requires : goal.function_node-requires
 function_node-requires c =
     let t = c.args.parent.now in
+    let p = c.masked_parts in
     let both : c.in_ok-both.both ≡ both_of (len t) c.in_ok-clone.field-0 c.in_ok-validity.validity = search rules in
-    let items : c.push-2.new.self.items ≡ Some c.args.child.now ∷ Some c.in_ok-both.both ∷ [] = search rules in
-    let made = both_node (dtype t) (len t) t c.args.input.now c.args.mask.now c.args.child.now c.args.validity.now c.well.ensures.formed
-    c.requires.shape c.requires.well c.requires.masked c.in_ok-clone.field-0 c.in_ok-validity.validity c.in_ok-both.both both in
+    let items : c.in_ok-slots.slots.items ≡ Some p.result.0.now ∷ Some c.in_ok-both.both ∷ [] = search rules in
+    let made = both_node (dtype t) (len t) t c.args.input.now c.args.mask.now p.result.0.now p.result.1.now c.well.ensures.formed
+    c.requires.call.0 c.requires.call.1 p.ensures.shape c.in_ok-clone.field-0 c.in_ok-validity.validity c.in_ok-both.both both in
     subst (λ x. x) (λ i. IsNode (dtype t) (sym c.len-3.ensures i) (function fn_of.Mask) (shapes (slots_of (sym items i)))) made
 
-pub returns-clause-row : goal.returns-clause-row
-returns-clause-row c =
+pub returns : goal.returns
+returns c =
     let t = c.args.parent.now in
-    let is : c.in_ok-validity.validity ≡ told (len t) (slots_of (c.args.validity.now ∷ [])) = search rules in
+    let p = c.masked_parts in
+    let is : c.in_ok-validity.validity ≡ told (len t) (slots_of (p.result.1.now ∷ [])) = search rules in
     let same : c.in_ok-clone.field-0 ≡ c.args.mask.now = search rules in
     let both : c.in_ok-both.both ≡ both_of (len t) c.in_ok-clone.field-0 c.in_ok-validity.validity = search rules in
-    let items : c.push-2.new.self.items ≡ Some c.args.child.now ∷ Some c.in_ok-both.both ∷ [] = search rules in
+    let items : c.in_ok-slots.slots.items ≡ Some p.result.0.now ∷ Some c.in_ok-both.both ∷ [] = search rules in
     let made = c.done.ensures.tree ∙ c.in_ok-call.ensures.ok ∙ (λ i. node (dtype t) (c.len-3.ensures i) (function fn_of.Mask) (slots_of (items i))) in
-    fit_M1 (dtype t) (len t) t c.args.input.now c.args.child.now c.args.mask.now c.in_ok-validity.validity c.in_ok-both.both c.done.result.tree
-    c.args.validity.now c.done.result.optimize.items c.requires.shape c.requires.masked is (both ∙ (λ i. both_of (len t) (same i) c.in_ok-validity.validity))
+    fit_M1 (dtype t) (len t) t c.args.input.now p.result.0.now c.args.mask.now c.in_ok-validity.validity c.in_ok-both.both c.done.result.tree
+    p.result.1.now c.done.result.optimize.items c.requires.call.0 p.ensures.shape is (both ∙ (λ i. both_of (len t) (same i) c.in_ok-validity.validity))
     made c.done.ensures.optimize

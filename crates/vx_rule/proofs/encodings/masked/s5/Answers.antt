@@ -1,4 +1,4 @@
-use Rattle.std.proofs.Common.{rules, ◌≡◌, ap, arith, ◌∙◌}
+use Rattle.std.proofs.Common.{rules, ◌≡◌, Some, ap, arith, ◌∙◌}
 use Rattle.vx_tree.specs.Tree.{slice_of, len}
 use Rattle.vx_rule.proofs.SlotsLemmas.{told_range, sliced_masked}
 use Rattle.vx_rule.proofs.FitsLemmas.{fit_S5, raw_row}
@@ -6,29 +6,37 @@ use Rattle.vx_rule.proofs.encodings.masked.s5.Goals as goal
 
 pub new-requires : goal.new-requires
 new-requires c =
-    let child : c.in_ok-clone.field-0 ≡ c.args.inner.now = search rules in
-    let long : len c.args.child.now ≡ len c.args.inner.now = ap len c.requires.shape in
-    let same : len c.in_ok-clone.field-0 ≡ len c.args.inner.now = ap len child in
-    (omega (arith, c.requires.part.some_rows), omega (arith, c.requires.bounds, long, same))
+    let inner = c.masked_parts.result.0.now in
+    let child : c.in_ok-clone.field-0 ≡ inner = search rules in
+    let long : len c.args.child.now ≡ len inner = ap len c.masked_parts.ensures.shape in
+    let same : len c.in_ok-clone.field-0 ≡ len inner = ap len child in
+    (omega (arith, c.requires.part.0.some_rows), omega (arith, c.requires.part.1, long, same))
 
 pub slice_validity-requires : goal.slice_validity-requires
 slice_validity-requires c =
-    told_range c.args.child.now c.args.inner.now c.args.child.now c.args.validity.now c.args.validity.now c.well.ensures.formed c.requires.shape
-    c.args.range.start c.args.range.end (omega (arith, c.requires.part.some_rows)) c.requires.bounds
+    let x = c.args.child.now in
+    let v = c.masked_parts.result.1.now in
+    told_range x c.masked_parts.result.0.now x v v c.masked_parts.ensures.well c.masked_parts.ensures.shape c.args.range.start c.args.range.end
+    (omega (arith, c.requires.part.0.some_rows)) c.requires.part.1
 
 pub masked_node-requires : goal.masked_node-requires
 masked_node-requires c =
-    let child : c.in_ok-clone.field-0 ≡ c.args.inner.now = search rules in
-    let made : c.into_array.result ≡ slice_of c.args.range.start c.args.range.end c.args.inner.now =
-    c.into_array.ensures ∙ c.in_ok-slice.ensures.ok ∙ ap (slice_of c.args.range.start c.args.range.end) child in
-    sliced_masked c.args.child.now c.args.inner.now c.into_array.result c.args.validity.now c.in_ok-validity.validity c.well.ensures.formed c.requires.shape
-    c.args.range.start c.args.range.end made c.in_ok-validity.ensures.ok
+    let a = c.args.range.start in
+    let b = c.args.range.end in
+    let inner = c.masked_parts.result.0.now in
+    let child : c.in_ok-clone.field-0 ≡ inner = search rules in
+    let made : c.into_array.result ≡ slice_of a b inner = c.into_array.ensures ∙ c.in_ok-slice.ensures.ok ∙ ap (slice_of a b) child in
+    sliced_masked c.args.child.now inner c.into_array.result c.masked_parts.result.1.now c.in_ok-validity.validity c.masked_parts.ensures.well
+    c.masked_parts.ensures.shape a b made c.in_ok-validity.ensures.ok
 
-pub returns-clause-row : goal.returns-clause-row
-returns-clause-row c =
-    let child : c.in_ok-clone.field-0 ≡ c.args.inner.now = search rules in
-    let made : c.into_array.result ≡ slice_of c.args.range.start c.args.range.end c.args.inner.now =
-    c.into_array.ensures ∙ c.in_ok-slice.ensures.ok ∙ ap (slice_of c.args.range.start c.args.range.end) child in
-    raw_row c.raw.result c.in_ok-masked.masked _ c.raw.ensures.tree c.raw.ensures.optimize
-    (λ r e g. fit_S5 c.args.range.start c.args.range.end c.args.child.now c.args.inner.now c.into_array.result r.tree c.args.validity.now c.in_ok-validity.validity
-    r.optimize.items c.requires.shape c.requires.part made c.in_ok-validity.ensures.ok (e ∙ c.in_ok-masked.ensures.ok) g)
+pub returns : goal.returns
+returns c =
+    let a = c.args.range.start in
+    let b = c.args.range.end in
+    let x = c.args.child.now in
+    let inner = c.masked_parts.result.0.now in
+    let child : c.in_ok-clone.field-0 ≡ inner = search rules in
+    let made : c.into_array.result ≡ slice_of a b inner = c.into_array.ensures ∙ c.in_ok-slice.ensures.ok ∙ ap (slice_of a b) child in
+    raw_row (Some 0) (slice_of a b x) c.in_ok-masked.masked c.raw.result c.raw.ensures
+    (λ u os e g. fit_S5 a b x inner c.into_array.result u c.masked_parts.result.1.now c.in_ok-validity.validity os c.masked_parts.ensures.shape c.requires.part.0 made
+    c.in_ok-validity.ensures.ok (e ∙ c.in_ok-masked.ensures.ok) g)

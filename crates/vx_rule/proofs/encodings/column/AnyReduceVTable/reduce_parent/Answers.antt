@@ -3,8 +3,8 @@ use Rattle.vx_tree.specs.Tree.{datum, is_slice}
 use Rattle.vx_rule.proofs.ChildrenLemmas.{column_quiet}
 use Rattle.vx_rule.proofs.encodings.column.AnyReduceVTable.reduce_parent.Goals as goal
 
-pub returns-clause-answer : goal.returns-clause-answer
-returns-clause-answer g c =
+pub returns : goal.returns
+returns g c =
     let x = c.args.child.now.array.now in
     let kind = subst (λ d. g.V.EncodingVariant.is_kind d ≡ true) c.requires.payload (g.met.V.EncodingVariant.kind_of c.args.child.now.payload.now) in
     let other : is_slice (datum c.args.parent.now) ≡ false = search rules in

@@ -2,7 +2,7 @@ use Rattle.std.proofs.Common.{ap}
 use Rattle.vx_fn.specs.Functions.{arity}
 use Rattle.vx_tree.specs.Tree.{dtype, len}
 use Rattle.vx_rule.proofs.SlotsLemmas.{three_arguments}
-use Rattle.vx_rule.proofs.adaptors.between.BetweenReduceAdaptorArrayParentReduceRule.reduce_parent.Goals as goal
+use Rattle.vx_rule.proofs.adaptors.call.BetweenReduceAdaptorArrayParentReduceRule.reduce_parent.Goals as goal
 
 pub three_arguments-requires : goal.three_arguments-requires
 three_arguments-requires g c =
