@@ -24,6 +24,7 @@ use Rattle.vx_tree.proofs.KeepsLemmas.{exactly_refl, exactly_trans, exactly_of_r
 use Rattle.vx_tree.proofs.PartsLemmas.{part_exact}
 use Rattle.vx_tree.proofs.KindsLemmas.{type_in, len_in}
 use Rattle.vx_tree.proofs.SlotsLemmas.{one_shape}
+use Rattle.vx_rule.specs.Constants.{IsConstantLike}
 use Rattle.vx_rule.specs.Pushes.{IsPushed}
 use Rattle.vx_rule.proofs.FitsLemmas.{masked_mapped}
 use Rattle.vx_rule.proofs.PicksLemmas.{IsSecond, masked_slots}
@@ -72,11 +73,12 @@ module _ (a b : ℕ) (c : Tree) (well : IsWell c) (order : a ≤ b) (bounds : b 
 
 -- rows from a to b of x, which is such a tree
 module _ (a b : ℕ) (x : Tree) (well : IsWell x) (order : a ≤ b) (bounds : b ≤ len x) where
-  pub constant_pushed : (v : Typed) (k : ℕ) (u : Tree) → x ≡ constant_of v k → u ≡ constant_of v (b - a) → IsPushed a b x u
-  constant_pushed v k u shown e =
-      let child = constant_of v k in
-      subst (λ y. IsPushed a b y u) (sym shown) (subst (IsPushed a b child) (sym e) (record {
-        exactly = S2_keeps v.of_type v.of_type (b - a) a b k v (subst (λ y. IsWell (slice_of a b y)) shown (sliced a b x well order bounds));
+  pub constant_pushed : (u : Tree) → IsConstantLike x (b - a) u → IsPushed a b x u
+  constant_pushed u like =
+      let v = like.0 in
+      let child = constant_of v (len x) in
+      subst (λ y. IsPushed a b y u) (sym like.1) (subst (IsPushed a b child) (sym like.2) (record {
+        exactly = S2_keeps v.of_type v.of_type (b - a) a b (len x) v (subst (λ y. IsWell (slice_of a b y)) like.1 (sliced a b x well order bounds));
         bounded = omega arith;
         canonical = λ h. absurd (cc (h));
       }))
@@ -97,18 +99,6 @@ module _ (a b : ℕ) (x : Tree) (well : IsWell x) (order : a ≤ b) (bounds : b 
 abbrev pub IsSlotPushed : ℕ → ℕ → Option Tree → Option Tree → Type 0
 IsSlotPushed a b (Some t) (Some u) = IsPushed a b t u
 IsSlotPushed a b _ _ = ⊥
-
--- two lists that match, each with one more
-zipped_push : {A B : Type 0} (R : A → B → Type 0) (xs : List A) (ys : List B) (x : A) (y : B) → AllZip R xs ys → R x y → AllZip R (xs ++ x ∷ []) (ys ++ y ∷ [])
-zipped_push R [] [] x y h r = (r, tt)
-zipped_push R [] (b ∷ ys) x y h r = absurd h
-zipped_push R (a ∷ xs) [] x y h r = absurd h
-zipped_push R (a ∷ xs) (b ∷ ys) x y h r = (h.0, zipped_push R xs ys x y h.1 r)
-
-pub zipped_more : {A B : Type 0} (R : A → B → Type 0) (xs : List A) (ys : List B) (i : ℕ) (x : A) (y : B) →
-    i < length xs → x ≡ get_or xs i x → AllZip R (take i xs) ys → R x y → AllZip R (take (i + 1) xs) (ys ++ y ∷ [])
-zipped_more R xs ys i x y lt e h r =
-    subst (λ zs. AllZip R zs (ys ++ y ∷ [])) (sym (take_more xs i x lt)) (zipped_push R (take i xs) ys (get_or xs i x) y h (subst (λ z. R z y) e r))
 
 -- a slot holds a tree of n rows that isn't higher than h
 abbrev pub IsBelow : ℕ → ℕ → Option Tree → Type 0

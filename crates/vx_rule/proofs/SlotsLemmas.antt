@@ -92,7 +92,7 @@ pub within : (b n : ℕ) (s : Option Tree) → b ≤ n → IfSome s (λ c. len c
 within b n None h k = tt
 within b n (Some t) h k = omega (arith, h, k)
 
-pub just : (n : ℕ) (s : Option Tree) → IfSome s (λ c. len c ≡ n) → IfSome s (λ c. n ≡ len c)
+pub just : (n : ℕ) (s : Option Tree) → IfSome s (λ c. len c ≡ n) → HasLen n s
 just n None k = tt
 just n (Some t) k = sym k
 
@@ -105,55 +105,47 @@ called_long ty n f xs w = ap (all_long n) w.1 ∙ all_long_of n w.0
 
 -- ---- the arguments of a function
 
-shaped_one : (n : ℕ) (xs : List (Option Tree)) (tys : List DataType) → shapes (slots_of xs) ≡ map (λ s. Some (shape s n)) tys → length tys ≡ 1 → (c : Tree) × (xs ≡ Some c ∷ [])
-shaped_one n [] [] e k = absurd (omega (arith, k))
-shaped_one n [] (ty ∷ tys) e k = absurd (cc (e))
-shaped_one n (None ∷ xs) [] e k = absurd (omega (arith, k))
-shaped_one n (None ∷ xs) (ty ∷ tys) e k = absurd (cc (e))
-shaped_one n (Some t ∷ xs) [] e k = absurd (omega (arith, k))
-shaped_one n (Some t ∷ []) (ty ∷ tys) e k = (t, refl)
-shaped_one n (Some t ∷ None ∷ xs) (ty ∷ []) e k = absurd (cc (e))
-shaped_one n (Some t ∷ Some u ∷ xs) (ty ∷ []) e k = absurd (cc (e))
-shaped_one n (Some t ∷ x ∷ xs) (ty ∷ tz ∷ tys) e k = absurd (omega (arith, k))
-
-shaped_two : (n : ℕ) (xs : List (Option Tree)) (tys : List DataType) → shapes (slots_of xs) ≡ map (λ s. Some (shape s n)) tys → length tys ≡ 2
-    → (c : Tree) × (d : Tree) × (xs ≡ Some c ∷ Some d ∷ [])
-shaped_two n [] [] e k = absurd (omega (arith, k))
-shaped_two n [] (ty ∷ tys) e k = absurd (cc (e))
-shaped_two n (None ∷ xs) [] e k = absurd (omega (arith, k))
-shaped_two n (None ∷ xs) (ty ∷ tys) e k = absurd (cc (e))
-shaped_two n (Some t ∷ xs) [] e k = absurd (omega (arith, k))
-shaped_two n (Some t ∷ xs) (ty ∷ tys) e k =
+-- slots of such shapes hold as many trees
+shaped : (n : ℕ) (xs : List (Option Tree)) (tys : List DataType) → shapes (slots_of xs) ≡ map (λ s. Some (shape s n)) tys
+    → (ts : List Tree) × (xs ≡ map Some ts) × (length ts ≡ length tys)
+shaped n [] [] e = ([], refl, refl)
+shaped n (Some t ∷ xs) (ty ∷ tys) e =
     let rest : shapes (slots_of xs) ≡ map (λ s. Some (shape s n)) tys = cc (e) in
-    let r = shaped_one n xs tys rest (omega (arith, k)) in
-    (t, r.0, ap (λ ys. Some t ∷ ys) r.1)
+    let r = shaped n xs tys rest in
+    (t ∷ r.0, ap (λ ys. Some t ∷ ys) r.1, ap suc r.2)
+shaped n [] (ty ∷ tys) e = absurd (cc (e))
+shaped n (None ∷ xs) [] e = absurd (cc (e))
+shaped n (None ∷ xs) (ty ∷ tys) e = absurd (cc (e))
+shaped n (Some t ∷ xs) [] e = absurd (cc (e))
 
-one_more : (t : Tree) (xs ys : List (Option Tree)) → xs ≡ ys → Some t ∷ xs ≡ Some t ∷ ys
-one_more t xs ys e = ap (λ zs. Some t ∷ zs) e
+-- the arguments of f, which takes so many
+arguments : (ty : DataType) (n : ℕ) (f : ScalarFnRef) (xs : List (Option Tree)) → IsNode ty n (enc.function f) (shapes (slots_of xs))
+    → (ts : List Tree) × (xs ≡ map Some ts) × (length ts ≡ arity f)
+arguments ty n f xs w = let r = shaped n xs w.0 w.1 in (r.0, r.1, r.2 ∙ (meaning f).taken w.0 ty w.2)
 
-shaped_three : (n : ℕ) (xs : List (Option Tree)) (tys : List DataType) → shapes (slots_of xs) ≡ map (λ s. Some (shape s n)) tys → length tys ≡ 3
-    → (c : Tree) × (d : Tree) × (e : Tree) × (xs ≡ Some c ∷ Some d ∷ Some e ∷ [])
-shaped_three n [] [] e k = absurd (omega (arith, k))
-shaped_three n [] (ty ∷ tys) e k = absurd (cc (e))
-shaped_three n (None ∷ xs) [] e k = absurd (omega (arith, k))
-shaped_three n (None ∷ xs) (ty ∷ tys) e k = absurd (cc (e))
-shaped_three n (Some t ∷ xs) [] e k = absurd (omega (arith, k))
-shaped_three n (Some t ∷ xs) (ty ∷ tys) e k =
-    let rest : shapes (slots_of xs) ≡ map (λ s. Some (shape s n)) tys = cc (e) in
-    let r = shaped_two n xs tys rest (omega (arith, k)) in
-    (t, r.0, r.1, one_more t xs (Some r.0 ∷ Some r.1 ∷ []) r.2)
+only_one : (ts : List Tree) → length ts ≡ 1 → (c : Tree) × (ts ≡ c ∷ [])
+only_one [] k = absurd (omega (arith, k))
+only_one (c ∷ []) k = (c, refl)
+only_one (c ∷ d ∷ ts) k = absurd (omega (arith, k))
+
+only_two : (ts : List Tree) → length ts ≡ 2 → (c : Tree) × (d : Tree) × (ts ≡ c ∷ d ∷ [])
+only_two [] k = absurd (omega (arith, k))
+only_two (c ∷ ts) k = let r = only_one ts (omega (arith, k)) in (c, r.0, ap (λ us. c ∷ us) r.1)
+
+only_three : (ts : List Tree) → length ts ≡ 3 → (c : Tree) × (d : Tree) × (e : Tree) × (ts ≡ c ∷ d ∷ e ∷ [])
+only_three [] k = absurd (omega (arith, k))
+only_three (c ∷ ts) k = let r = only_two ts (omega (arith, k)) in (c, r.0, r.1, ap (λ us. c ∷ us) r.2)
 
 -- of one that takes one, two and three
-pub one_argument : (ty : DataType) (n : ℕ) (f : ScalarFnRef) (xs : List (Option Tree)) → IsNode ty n (enc.function f) (shapes (slots_of xs)) → arity f ≡ 1 → (c : Tree) × (xs ≡ Some c ∷ [])
-one_argument ty n f xs w k = shaped_one n xs w.0 w.1 ((meaning f).taken w.0 ty w.2 ∙ k)
+module _ (ty : DataType) (n : ℕ) (f : ScalarFnRef) (xs : List (Option Tree)) (w : IsNode ty n (enc.function f) (shapes (slots_of xs))) where
+  pub one_argument : arity f ≡ 1 → (c : Tree) × (xs ≡ Some c ∷ [])
+  one_argument k = let a = arguments ty n f xs w in let r = only_one a.0 (a.2 ∙ k) in (r.0, a.1 ∙ ap (map Some) r.1)
 
-pub two_arguments : (ty : DataType) (n : ℕ) (f : ScalarFnRef) (xs : List (Option Tree)) → IsNode ty n (enc.function f) (shapes (slots_of xs)) → arity f ≡ 2
-    → (c : Tree) × (d : Tree) × (xs ≡ Some c ∷ Some d ∷ [])
-two_arguments ty n f xs w k = shaped_two n xs w.0 w.1 ((meaning f).taken w.0 ty w.2 ∙ k)
+  pub two_arguments : arity f ≡ 2 → (c : Tree) × (d : Tree) × (xs ≡ Some c ∷ Some d ∷ [])
+  two_arguments k = let a = arguments ty n f xs w in let r = only_two a.0 (a.2 ∙ k) in (r.0, r.1, a.1 ∙ ap (map Some) r.2)
 
-pub three_arguments : (ty : DataType) (n : ℕ) (f : ScalarFnRef) (xs : List (Option Tree)) → IsNode ty n (enc.function f) (shapes (slots_of xs)) → arity f ≡ 3
-    → (c : Tree) × (d : Tree) × (e : Tree) × (xs ≡ Some c ∷ Some d ∷ Some e ∷ [])
-three_arguments ty n f xs w k = shaped_three n xs w.0 w.1 ((meaning f).taken w.0 ty w.2 ∙ k)
+  pub three_arguments : arity f ≡ 3 → (c : Tree) × (d : Tree) × (e : Tree) × (xs ≡ Some c ∷ Some d ∷ Some e ∷ [])
+  three_arguments k = let a = arguments ty n f xs w in let r = only_three a.0 (a.2 ∙ k) in (r.0, r.1, r.2, a.1 ∙ ap (map Some) r.3)
 
 -- ---- the nodes over mapped slots
 

@@ -1,29 +1,29 @@
 -- A slice passes through the encodings that say so.
-use Rattle.std.proofs.Common.{◌≡◌, true, refl}
+use Rattle.std.proofs.Common.{◌≡◌, Bool, true, false, List, refl}
 use Rattle.vx_tree.specs.Tree as enc
 use Rattle.vx_tree.specs.Tree.{Data, is_slice, is_constant, is_function, is_masked, is_nulls, is_bool, is_primitive, is_decimals, is_views, is_canonical}
 use Rattle.vx_rule.specs.Rules.{lets_slice}
 
+-- an encoding whose test says no of filters and of tests for null
+lets_by : (p : Data → Bool) → ((bits : List Bool) → p (enc.filter bits) ≡ false) → p enc.is_valid ≡ false → (d : Data) → p d ≡ true → lets_slice d ≡ true
+lets_by p f v (enc.filter bits) h = absurd (cc (h, f bits))
+lets_by p f v enc.is_valid h = absurd (cc (h, v))
+lets_by p f v _ h = refl
+
 pub slice_lets : (d : Data) → is_slice d ≡ true → lets_slice d ≡ true
-slice_lets (enc.slice a b) h = refl
-slice_lets _ h = absurd (cc (h))
+slice_lets = lets_by is_slice (λ _. refl) refl
 
 pub constant_lets : (d : Data) → is_constant d ≡ true → lets_slice d ≡ true
-constant_lets (enc.constant v) h = refl
-constant_lets _ h = absurd (cc (h))
+constant_lets = lets_by is_constant (λ _. refl) refl
 
 pub function_lets : (d : Data) → is_function d ≡ true → lets_slice d ≡ true
-function_lets (enc.function f) h = refl
-function_lets _ h = absurd (cc (h))
+function_lets = lets_by is_function (λ _. refl) refl
 
 pub masked_lets : (d : Data) → is_masked d ≡ true → lets_slice d ≡ true
-masked_lets enc.masked h = refl
-masked_lets _ h = absurd (cc (h))
+masked_lets = lets_by is_masked (λ _. refl) refl
 
 pub column_lets : (d : Data) → is_canonical d ≡ true → lets_slice d ≡ true
-column_lets (enc.filter bits) h = absurd (cc (h))
-column_lets enc.is_valid h = absurd (cc (h))
-column_lets _ h = refl
+column_lets = lets_by is_canonical (λ _. refl) refl
 
 -- ---- the canonical encodings
 

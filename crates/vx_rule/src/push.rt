@@ -2,21 +2,18 @@
 
 ghost use Rattle.std.specs.Prelude.{◌≡◌, ◌≤◌, ◌*◌, ◌+◌, IfOk, IfErr, true, false};
 ghost use Rattle.vx_value.specs.declared.error.VortexError.TheVariants.{OutOfMemory};
-ghost use Rattle.vx_tree.specs.Tree.{dtype, len, datum, node, function, constant_of, masked_of, slots_of, slice_of, is_canonical};
-ghost use Rattle.vx_tree.specs.Well.{IsNode, shapes};
+ghost use Rattle.vx_tree.specs.Tree.{len, datum, masked_of, slice_of, is_canonical, is_constant, is_function};
 ghost use Rattle.vx_tree.specs.Keeps.{KeepsExactly};
 ghost use Rattle.vx_tree.specs.Cost.{cost, reach};
 ghost use Rattle.vx_rule.specs.Pushes.{IsPushed};
 
-use crate::slots::{function_node, masked_node};
+use crate::slots::{constant_like, function_node, function_parts, masked_node};
 use std::alloc::Global;
 use std::ops::Range;
-use vx_fn::ScalarFnRef;
 use vx_tree::{
-    ArrayKind, ArrayRef, Canonical, ConstantArray, IntoArray, SliceArray, slice_canonical,
-    slice_validity,
+    ArrayKind, ArrayRef, Canonical, IntoArray, SliceArray, slice_canonical, slice_validity,
 };
-use vx_value::{Scalar, VortexResult};
+use vx_value::VortexResult;
 
 /// Returns the rows of `array` in `range`, which must be in order and in bounds, with the slice pushed down as far as the rows S1 to S5
 /// reach: all rows are the tree itself, none is the empty column, and a filter or a test for null is sliced lazily. No buffer of values
@@ -48,11 +45,9 @@ fn push(alloc: Global, array: &ArrayRef, range: Range<usize>) -> VortexResult<Ar
     }
     let (start, end) = (range.start, range.end);
     match array.kind() {
-        ArrayKind::Constant(scalar) => shorter(alloc, array, scalar, range),
+        ArrayKind::Constant(_) => shorter(alloc, array, range),
         ArrayKind::Slice(child, from, _) => push(alloc, child, from + start..from + end),
-        ArrayKind::ScalarFn(scalar_fn, slots) => {
-            push_function(alloc, array, scalar_fn, slots, range)
-        }
+        ArrayKind::ScalarFn(_, _) => push_function(alloc, array, range),
         ArrayKind::Masked(child, validity) => match push(alloc, child, start..end) {
             Ok(part) => masked_part(alloc, array, child, validity, part, range),
             Err(e) => Err(e),
@@ -62,23 +57,15 @@ fn push(alloc: Global, array: &ArrayRef, range: Range<usize>) -> VortexResult<Ar
     }
 }
 
-/// Returns the rows of `array`, which applies `scalar_fn` to `slots`, in `range`: the function of each slot's rows. The only error is
-/// `OutOfMemory`.
+/// Returns the rows of `array`, which must apply a function, in `range`: the function of each slot's rows. The only error is `OutOfMemory`.
 #[cycle(push)]
-fn push_function(
-    alloc: Global,
-    array: &ArrayRef,
-    scalar_fn: &ScalarFnRef,
-    slots: &[Option<ArrayRef>],
-    range: Range<usize>,
-) -> VortexResult<ArrayRef>
-    requires shape { array.now ≡ node (dtype array.now) (len array.now) (function scalar_fn.now) (slots_of slots.now) }
-    requires well { IsNode (dtype array.now) (len array.now) (function scalar_fn.now) (shapes (slots_of slots.now)) }
+fn push_function(alloc: Global, array: &ArrayRef, range: Range<usize>) -> VortexResult<ArrayRef>
+    requires function { is_function (datum array.now) ≡ true }
     requires within { (range.start ≤ range.end) × (range.end ≤ len array.now) }
     ensures ok { IfOk result (λ t. IsPushed range.start range.end array.now t) }
     ensures err { IfErr result (λ e. e ≡ OutOfMemory) }
 {
-    array.well();
+    let (scalar_fn, slots) = function_parts(array);
     let (start, end) = (range.start, range.end);
     let mut parts = Vec::with_capacity(alloc, slots.len())?;
     for slot in slots {
@@ -104,21 +91,14 @@ fn empty(alloc: Global, array: &ArrayRef, range: Range<usize>) -> VortexResult<A
 }
 
 /// Returns the rows of `array`, a constant, in `range`. The only error is `OutOfMemory`.
-#[tactic(auto, using(crate::proofs::PushLemmas::constant_pushed))]
-fn shorter(
-    alloc: Global,
-    array: &ArrayRef,
-    scalar: &Scalar,
-    range: Range<usize>,
-) -> VortexResult<ArrayRef>
-    requires shape { array.now ≡ constant_of scalar.now (len array.now) }
+fn shorter(alloc: Global, array: &ArrayRef, range: Range<usize>) -> VortexResult<ArrayRef>
+    requires constant { is_constant (datum array.now) ≡ true }
     requires within { (range.start ≤ range.end) × (range.end ≤ len array.now) }
     ensures ok { IfOk result (λ t. IsPushed range.start range.end array.now t) }
     ensures err { IfErr result (λ e. e ≡ OutOfMemory) }
 {
     array.well();
-    let constant = ConstantArray::new(alloc, scalar.clone()?, range.end - range.start)?;
-    Ok(constant.into_array())
+    constant_like(alloc, array, range.end - range.start)
 }
 
 /// Returns a lazy slice of `array`, which isn't canonical. The only error is `OutOfMemory`.

@@ -16,8 +16,8 @@ use std::ops::Range;
 use vx_fn::ScalarFnRef;
 use vx_mask::Mask;
 use vx_tree::{
-    Array, ArrayKind, ArrayParts, ArrayRef, ConstantArray, FilterArray, IntoArray, Masked,
-    MaskedData, ScalarFn, ScalarFnData, SliceArray,
+    Array, ArrayKind, ArrayParts, ArrayRef, ConstantArray, IntoArray, Masked, MaskedData, ScalarFn,
+    ScalarFnData, SliceArray, choose_validity,
 };
 use vx_value::{Nullability, Scalar, VortexResult};
 
@@ -60,27 +60,6 @@ pub(crate) fn slice_slots(
     Ok(slices)
 }
 
-/// Returns a lazy filter of the tree in `slot`, if it has one, by `mask`, which must have as many rows; a shorter constant if that is a
-/// constant. The only error is `OutOfMemory`.
-fn choose_slot(
-    alloc: Global,
-    slot: &Option<ArrayRef>,
-    mask: &Mask,
-) -> VortexResult<Option<ArrayRef>>
-    requires { IfSome slot.now (λ c. length (bits_in mask.now) ≡ len c) }
-    ensures ok { IfOk result (λ s. s ≡ option_map (choice_of (bits_in mask.now)) slot.now) }
-    ensures err { IfErr result (λ e. e ≡ OutOfMemory) }
-{
-    let Some(child) = slot else {
-        return Ok(None);
-    };
-    if let ArrayKind::Constant(scalar) = child.kind() {
-        let constant = ConstantArray::new(alloc, scalar.clone()?, mask.true_count())?;
-        return Ok(Some(constant.into_array()));
-    }
-    Ok(Some(FilterArray::new(alloc, child.clone()?, mask.clone()?)?.into_array()))
-}
-
 /// Returns lazy filters of the trees in `slots`, which must have as many rows as `mask` each; of constants, shorter ones. The only
 /// error is `OutOfMemory`.
 pub(crate) fn choose_slots(
@@ -94,7 +73,7 @@ pub(crate) fn choose_slots(
 {
     let mut choices = Vec::with_capacity(alloc, slots.len())?;
     for index in 0..slots.len() {
-        choices.push(choose_slot(alloc, &slots[index], mask)?)?;
+        choices.push(choose_validity(alloc, &slots[index], mask)?)?;
     }
     Ok(choices)
 }

@@ -24,13 +24,11 @@ macro_rules! own_rules {
 
 /// Evaluates to `Ok(None)`; returns from the function with the answer of the first of `$rule` that covers `$parent`.
 macro_rules! parent_rules {
-    ($encoding:ty, $alloc:expr, $child:expr, $parent:expr, $slot:expr; $($rule:path),+) => {{
+    ($encoding:ident, $alloc:expr, $child:expr, $parent:expr, $slot:expr; $($rule:ident),+) => {{
         $(
-            let rule = $crate::rule::ParentReduceRuleAdapter::<$encoding, _>::new(
-                $rule(<$encoding>::tag($child.data())),
-            );
-            if rule.matches($parent) {
-                return rule.reduce_parent($alloc, $child, $parent, $slot);
+            if <<$rule<$encoding> as $crate::rule::ArrayParentReduceRule<$encoding>>::Parent as vx_tree::Matcher>::matches($parent) {
+                let rule = $rule(<$encoding>::tag($child.data()));
+                return $crate::rule::ParentReduceRuleAdapter::new(rule).reduce_parent($alloc, $child, $parent, $slot);
             }
         )+
         Ok(None)

@@ -5,8 +5,8 @@ use Rattle.vx_tree.specs.Parts.{choice_of}
 use Rattle.vx_rule.proofs.SlotsLemmas.{mapped_more, long_here, just}
 use Rattle.vx_rule.proofs.slots.choose_slots.Goals as goal
 
-pub choose_slot-requires : goal.choose_slot-requires
-choose_slot-requires c =
+pub choose_validity-requires : goal.choose_validity-requires
+choose_validity-requires c =
     let s = c.index-slots-index.result in
     let n = length (bits_in c.args.mask.now) in
     just n s (long_here n c.args.slots.now c.loop-index.index s c.requires c.loop-index-test.true c.index-slots-index.is)
@@ -15,5 +15,5 @@ pub loop-index-preserved : goal.loop-index-preserved
 loop-index-preserved c =
     let s = c.index-slots-index.result in
     rw (take_more c.args.slots.now c.loop-index.index s c.loop-index-test.true, ← c.index-slots-index.is, c.in_ok-push.ensures.items)
-    (mapped_more (choice_of (bits_in c.args.mask.now)) (take c.loop-index.index c.args.slots.now) c.loop-index.choices.items s c.in_ok-choose_slot.field-0 c.loop-index.invariant
-    c.in_ok-choose_slot.ensures.ok)
+    (mapped_more (choice_of (bits_in c.args.mask.now)) (take c.loop-index.index c.args.slots.now) c.loop-index.choices.items s c.in_ok-choose_validity.field-0 c.loop-index.invariant
+    c.in_ok-choose_validity.ensures.ok)
