@@ -59,32 +59,38 @@ choice_of_clean bits t c = filter_clean bits t c
 
 -- ---- all rows, none, and consecutive ones
 
-all_count : (bits : List Bool) → is_all_true bits ≡ true → true_count bits ≡ length bits
-all_count bits all = (unsigned_Decides (true_count bits) (length bits)).0 (all_true_is bits (true_count bits) (length bits) refl refl ∙ all)
+-- of c, which has as many rows as there are bits
+module _ (bits : List Bool) (c : Tree) (counted_bits : length bits ≡ len c) (counted_rows : length (rows c) ≡ len c) where
+  pub whole_exactly : is_all_true bits ≡ true → KeepsExactly (filter_of bits c) c
+  whole_exactly all =
+      let count : true_count bits ≡ length bits = (unsigned_Decides (true_count bits) (length bits)).0 (all_true_is bits (true_count bits) (length bits) refl refl ∙ all) in
+      exactly_by (filter_of bits c) c refl (count ∙ counted_bits)
+      (chosen-all bits (rows c) count ∙ take_all (length bits) (rows c) (omega (arith, counted_bits, counted_rows))) (λ d. d.1.0)
 
-pub F1_keeps : (ty : DataType) (n : ℕ) (bits : List Bool) (c : Tree) → IsWell (node ty n (enc.filter bits) (slot c no_slots)) → is_all_true bits ≡ true
-    → KeepsExactly (node ty n (enc.filter bits) (slot c no_slots)) c
-F1_keeps ty n bits c w all = of_filter ty n bits c c w (λ long.
-    let count = all_count bits all in
-    exactly_by (filter_of bits c) c refl (count ∙ long)
-    (chosen-all bits (rows c) count ∙ take_all (length bits) (rows c) (omega (arith, long, rows_counted c w.1.0))) (λ d. d.1.0))
+  pub nothing_exactly : true_count bits ≡ 0 → KeepsExactly (filter_of bits c) (empty_of (dtype c))
+  nothing_exactly none =
+      let known = empty_known (dtype c) in
+      exactly_by (filter_of bits c) (empty_of (dtype c)) (sym known.0) (none ∙ sym known.1) (chosen-none bits (rows c) none ∙ sym known.2) (λ d. known.3)
 
-pub F2_keeps : (ty : DataType) (n : ℕ) (bits : List Bool) (c : Tree) → IsWell (node ty n (enc.filter bits) (slot c no_slots)) → true_count bits ≡ 0
-    → KeepsExactly (node ty n (enc.filter bits) (slot c no_slots)) (empty_of (dtype c))
-F2_keeps ty n bits c w none = of_filter ty n bits c (empty_of (dtype c)) w (λ long.
-    let known = empty_known (dtype c) in
-    exactly_by (filter_of bits c) (empty_of (dtype c)) (sym known.0) (none ∙ sym known.1) (chosen-none bits (rows c) none ∙ sym known.2) (λ d. known.3))
+  pub run_exactly : (a b : ℕ) → IsRun bits a b → KeepsExactly (filter_of bits c) (slice_of a b c)
+  run_exactly a b run =
+      let within : b ≤ length bits = run_within bits a b run in
+      let shown : rows (filter_of bits c) ≡ rows (slice_of a b c) = run_chosen bits (rows c) a b run in
+      let count : true_count bits ≡ b - a =
+      sym (length-chosen bits (rows c) (omega (arith, counted_bits, counted_rows))) ∙ ap length shown
+      ∙ length-take-le (b - a) (drop a (rows c)) (omega (arith, length-drop a (rows c), counted_bits, counted_rows, within)) in
+      exactly_by (filter_of bits c) (slice_of a b c) refl count shown (λ d. (subst HasNoFault shown d.0, d.1))
 
-pub F3_keeps : (ty : DataType) (n : ℕ) (bits : List Bool) (c : Tree) (a b : ℕ) → IsWell (node ty n (enc.filter bits) (slot c no_slots)) → IsRun bits a b
-    → KeepsExactly (node ty n (enc.filter bits) (slot c no_slots)) (slice_of a b c)
-F3_keeps ty n bits c a b w run = of_filter ty n bits c (slice_of a b c) w (λ long.
-    let counted = rows_counted c w.1.0 in
-    let within : b ≤ length bits = run_within bits a b run in
-    let shown : rows (filter_of bits c) ≡ rows (slice_of a b c) = run_chosen bits (rows c) a b run in
-    let count : true_count bits ≡ b - a =
-    sym (length-chosen bits (rows c) (omega (arith, long, counted))) ∙ ap length shown
-    ∙ length-take-le (b - a) (drop a (rows c)) (omega (arith, length-drop a (rows c), long, counted, within)) in
-    exactly_by (filter_of bits c) (slice_of a b c) refl count shown (λ d. (subst HasNoFault shown d.0, d.1)))
+-- of a well-formed filter of c
+module _ (ty : DataType) (n : ℕ) (bits : List Bool) (c : Tree) (w : IsWell (node ty n (enc.filter bits) (slot c no_slots))) where
+  pub F1_keeps : is_all_true bits ≡ true → KeepsExactly (node ty n (enc.filter bits) (slot c no_slots)) c
+  F1_keeps all = of_filter ty n bits c c w (λ long. whole_exactly bits c long (rows_counted c w.1.0) all)
+
+  pub F2_keeps : true_count bits ≡ 0 → KeepsExactly (node ty n (enc.filter bits) (slot c no_slots)) (empty_of (dtype c))
+  F2_keeps none = of_filter ty n bits c (empty_of (dtype c)) w (λ long. nothing_exactly bits c long (rows_counted c w.1.0) none)
+
+  pub F3_keeps : (a b : ℕ) → IsRun bits a b → KeepsExactly (node ty n (enc.filter bits) (slot c no_slots)) (slice_of a b c)
+  F3_keeps a b run = of_filter ty n bits c (slice_of a b c) w (λ long. run_exactly bits c long (rows_counted c w.1.0) a b run)
 
 -- ---- of a filter, and of a constant
 

@@ -35,7 +35,7 @@ child_exactly i t u os g (K4 ty s r n j k x y v e) = K4_keeps ty s r n j k x y v
 own_keeps : (t u : Tree) (os : List ℕ) → IsWell t → Row None t u os → Keeps t u
 own_keeps t u os g (F1 ty n bits c e) = (F1_keeps ty n bits c g e).keeps
 own_keeps t u os g (F2 ty n bits c e z) = (F2_keeps ty n bits c g z).keeps
-own_keeps t u os g (F3 ty n bits c a b e r) = (F3_keeps ty n bits c a b g r).keeps
+own_keeps t u os g (F3 ty n bits c a b e r) = (F3_keeps ty n bits c g a b r).keeps
 own_keeps t u os g (C1 ty n target c e) = C1_keeps ty n target c g e
 own_keeps t u os g (N1_null ty n c e) = N1_null_keeps ty n c g e
 own_keeps t u os g (N1_valid ty n c e) = N1_valid_keeps ty n c g e

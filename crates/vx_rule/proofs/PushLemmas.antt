@@ -1,11 +1,10 @@
 -- Slices that are pushed down, by encoding.
-use Rattle.std.proofs.Common.{◌≡◌, ℕ, zero, suc, ◌+◌, ◌-◌, ◌*◌, ◌<◌, ◌≤◌, List, [], ◌∷◌, ◌++◌, length, map, take, get_or, Option, Some, None, true, false, refl, sym, ap, subst, ◌∙◌, arith}
+use Rattle.std.proofs.Common.{◌≡◌, ℕ, zero, suc, ◌+◌, ◌-◌, ◌*◌, ◌<◌, ◌≤◌, List, [], ◌∷◌, length, map, take, get_or, Option, Some, None, true, false, refl, sym, ap, subst, ◌∙◌, arith}
 use Rattle.std.specs.Prelude.{option_map}
 use Rattle.std.specs.List.{AllZip}
-use Rattle.std.proofs.lemmas.List.{take_more, take_all}
+use Rattle.std.proofs.lemmas.List.{take_all}
 use Rattle.vx_value.specs.Types as type
 use Rattle.vx_value.specs.Types.{DataType, null}
-use Rattle.vx_value.specs.Typed.{Typed}
 use Rattle.vx_value.specs.Nullabilities.{with_nullability}
 use Rattle.vx_value.specs.declared.dtype.Nullability.TheVariants.{NonNullable, Nullable}
 use Rattle.vx_fn.specs.declared.function.ScalarFnRef.{ScalarFnRef}
@@ -100,13 +99,13 @@ abbrev pub IsSlotPushed : ℕ → ℕ → Option Tree → Option Tree → Type 0
 IsSlotPushed a b (Some t) (Some u) = IsPushed a b t u
 IsSlotPushed a b _ _ = ⊥
 
--- a slot holds a tree of n rows that isn't higher than h
+-- a slot holds a tree of n rows, lower than h
 abbrev pub IsBelow : ℕ → ℕ → Option Tree → Type 0
 IsBelow n h None = ⊥
-IsBelow n h (Some t) = (len t ≡ n) × (height t ≤ h)
+IsBelow n h (Some t) = (len t ≡ n) × (height t < h)
 
 slot_below : (n : ℕ) (xs : List (Option Tree)) (tys : List DataType) (k : ℕ) (d : Option Tree) (h : ℕ) →
-    shapes (slots_of xs) ≡ map (λ s. Some (shape s n)) tys → slots_height (slots_of xs) ≤ h → k < length xs → IsBelow n h (get_or xs k d)
+    shapes (slots_of xs) ≡ map (λ s. Some (shape s n)) tys → slots_height (slots_of xs) < h → k < length xs → IsBelow n h (get_or xs k d)
 slot_below n [] tys k d h e l lt = absurd (omega arith)
 slot_below n (None ∷ xs) [] k d h e l lt = absurd (cc)
 slot_below n (None ∷ xs) (ty ∷ tys) k d h e l lt = absurd (cc)
@@ -114,14 +113,6 @@ slot_below n (Some t ∷ xs) [] k d h e l lt = absurd (cc)
 slot_below n (Some t ∷ xs) (ty ∷ tys) zero d h e l lt = let same : len t ≡ n = cc in (same, omega arith)
 slot_below n (Some t ∷ xs) (ty ∷ tys) (suc k) d h e l lt =
     let rest : shapes (slots_of xs) ≡ map (λ s. Some (shape s n)) tys = cc in slot_below n xs tys k d h rest (omega arith) (omega arith)
-
-pub child_below : (n : ℕ) (ty : DataType) (f : ScalarFnRef) (xs : List (Option Tree)) (k : ℕ) (d : Option Tree)
-    → IsNode ty n (enc.function f) (shapes (slots_of xs)) → k < length xs → IsBelow n (slots_height (slots_of xs)) (get_or xs k d)
-child_below n ty f xs k d w lt = slot_below n xs w.0 k d (slots_height (slots_of xs)) w.1 (omega arith) lt
-
--- a loop over all slots
-pub all_pushed : (a b k : ℕ) (xs ys : List (Option Tree)) → length xs ≤ k → AllZip (IsSlotPushed a b) (take k xs) ys → AllZip (IsSlotPushed a b) xs ys
-all_pushed a b k xs ys le h = subst (λ zs. AllZip (IsSlotPushed a b) zs ys) (take_all k xs le) h
 
 module _ (a b : ℕ) where
   slots_shown : (xs ys : List (Option Tree)) → AllZip (IsSlotPushed a b) xs ys → slots_rows (map_slots (slice_of a b) (slots_of xs)) ≡ slots_rows (slots_of ys)
@@ -164,31 +155,41 @@ module _ (a b : ℕ) where
   slots_bounded f (Some t ∷ xs) (None ∷ ys) h = absurd h.0
   slots_bounded f (Some t ∷ xs) (Some u ∷ ys) h = omega (arith, h.0.bounded, slots_bounded f xs ys h.1)
 
--- a function of such slots
-module _ (a b : ℕ) (x : Tree) (f : ScalarFnRef) (xs ys : List (Option Tree)) (shown : x ≡ node (dtype x) (len x) (enc.function f) (slots_of xs)) where
-  pub function_sized : IsNode (dtype x) (len x) (enc.function f) (shapes (slots_of xs)) → AllZip (IsSlotPushed a b) xs ys
-      → IsNode (dtype x) (b - a) (enc.function f) (shapes (slots_of ys))
-  function_sized w h = (w.0, slots_sized a b (len x) w.0 xs ys h w.1, w.2)
+-- x is the function's node over xs
+module _ (x : Tree) (f : ScalarFnRef) (xs : List (Option Tree)) (shown : x ≡ node (dtype x) (len x) (enc.function f) (slots_of xs))
+    (ok : IsNode (dtype x) (len x) (enc.function f) (shapes (slots_of xs))) where
+  -- its slot k is s
+  pub child_below : (k : ℕ) (s u : Option Tree) → k < length xs → s ≡ get_or xs k s → s ≡ u → IsBelow (len x) (height x) u
+  child_below k s u lt at is =
+      let high : height x ≡ slots_height (slots_of xs) + 1 = ap height shown in
+      subst (IsBelow (len x) (height x)) (sym at ∙ is) (slot_below (len x) xs ok.0 k s (height x) ok.1 (omega (arith, high)) lt)
 
-  pub function_pushed : (u : Tree) → IsWell x → a ≤ b → b ≤ len x → AllZip (IsSlotPushed a b) xs ys
-      → u ≡ node (dtype x) (b - a) (enc.function f) (slots_of ys) → IsPushed a b x u
-  function_pushed u well order bounds h e =
-      let ty = dtype x in
-      let k = len x in
-      let ss = slots_of xs in
-      let child = node ty k (enc.function f) ss in
-      let lazily = node ty (b - a) (enc.function f) (map_slots (slice_of a b) ss) in
-      let pushed = node ty (b - a) (enc.function f) (slots_of ys) in
-      let kept : KeepsExactly (slice_of a b child) lazily =
-      S4_keeps ty ty (b - a) a b k f ss (subst (λ y. IsWell (slice_of a b y)) shown (sliced a b x well order bounds)) in
-      let swapped : KeepsExactly lazily pushed =
-      exactly_of_rows ty (b - a) (enc.function f) (enc.function f) (map_slots (slice_of a b) ss) (slots_of ys)
-      (ap (node_cells ty (b - a) (enc.function f)) (slots_shown a b xs ys h)) (slots_clean a b xs ys h) in
-      subst (λ y. IsPushed a b y u) (sym shown) (subst (IsPushed a b child) (sym e) (record {
-        exactly = exactly_trans (slice_of a b child) lazily pushed kept swapped;
-        bounded = omega (arith, slots_bounded a b f xs ys h);
-        canonical = λ h. absurd (cc (h));
-      }))
+  -- a loop over all slots pushed each
+  module _ (a b k : ℕ) (ys : List (Option Tree)) (all_done : length xs ≤ k) (each : AllZip (IsSlotPushed a b) (take k xs) ys) where
+    pushed_slots : AllZip (IsSlotPushed a b) xs ys
+    pushed_slots = subst (λ zs. AllZip (IsSlotPushed a b) zs ys) (take_all k xs all_done) each
+
+    pub function_sized : IsNode (dtype x) (b - a) (enc.function f) (shapes (slots_of ys))
+    function_sized = (ok.0, slots_sized a b (len x) ok.0 xs ys pushed_slots ok.1, ok.2)
+
+    pub function_pushed : IsWell x → a ≤ b → b ≤ len x → (u : Tree) → u ≡ node (dtype x) (b - a) (enc.function f) (slots_of ys) → IsPushed a b x u
+    function_pushed well order bounds u e =
+        let ty = dtype x in
+        let n = len x in
+        let ss = slots_of xs in
+        let child = node ty n (enc.function f) ss in
+        let lazily = node ty (b - a) (enc.function f) (map_slots (slice_of a b) ss) in
+        let pushed = node ty (b - a) (enc.function f) (slots_of ys) in
+        let kept : KeepsExactly (slice_of a b child) lazily =
+        S4_keeps ty ty (b - a) a b n f ss (subst (λ y. IsWell (slice_of a b y)) shown (sliced a b x well order bounds)) in
+        let swapped : KeepsExactly lazily pushed =
+        exactly_of_rows ty (b - a) (enc.function f) (enc.function f) (map_slots (slice_of a b) ss) (slots_of ys)
+        (ap (node_cells ty (b - a) (enc.function f)) (slots_shown a b xs ys pushed_slots)) (slots_clean a b xs ys pushed_slots) in
+        subst (λ y. IsPushed a b y u) (sym shown) (subst (IsPushed a b child) (sym e) (record {
+          exactly = exactly_trans (slice_of a b child) lazily pushed kept swapped;
+          bounded = omega (arith, slots_bounded a b f xs ys pushed_slots);
+          canonical = λ h. absurd (cc (h));
+        }))
 
 -- ---- a masked array
 

@@ -1,6 +1,7 @@
 -- Slices that are pushed down.
 use Rattle.std.specs.Prelude.{◌≡◌, ◌≤◌, ℕ, ◌+◌, ◌*◌, true}
 use Rattle.vx_tree.specs.Tree.{Tree, datum, slice_of, is_canonical}
+use Rattle.vx_tree.specs.Parts.{column_range}
 use Rattle.vx_tree.specs.Cost.{cost, reach}
 use Rattle.vx_tree.specs.Keeps.{KeepsExactly}
 
@@ -9,3 +10,9 @@ pub record IsPushed (a b : ℕ) (t u : Tree) : Type 0 where
   pub exactly : KeepsExactly (slice_of a b t) u
   pub bounded : cost u ≤ cost t + 3 * reach t
   pub canonical : is_canonical (datum t) ≡ true → is_canonical (datum u) ≡ true
+
+-- u is the column of the rows of the canonical t from a to b
+pub record IsColumnSlice (a b : ℕ) (t u : Tree) : Type 0 where
+  pub range : u ≡ column_range a b t
+  pub exactly : KeepsExactly (slice_of a b t) u
+  pub column : is_canonical (datum u) ≡ true

@@ -2,17 +2,17 @@
 
 ghost use Rattle.std.specs.Prelude.{◌≡◌, ◌≤◌, ◌*◌, ◌+◌, IfOk, IfErr, true, false};
 ghost use Rattle.vx_value.specs.declared.error.VortexError.TheVariants.{OutOfMemory};
-ghost use Rattle.vx_tree.specs.Tree.{len, datum, masked_of, slice_of, is_canonical, is_constant, is_function};
+ghost use Rattle.vx_tree.specs.Tree.{len, datum, masked_of, slice_of, is_canonical, is_function};
 ghost use Rattle.vx_tree.specs.Keeps.{KeepsExactly};
 ghost use Rattle.vx_tree.specs.Cost.{cost, reach};
 ghost use Rattle.vx_rule.specs.Pushes.{IsPushed};
 
-use crate::slots::{constant_like, function_node, function_parts, masked_node};
+use crate::slots::{
+    column_slice, constant_like, empty_column, function_node, function_parts, masked_node,
+};
 use std::alloc::Global;
 use std::ops::Range;
-use vx_tree::{
-    ArrayKind, ArrayRef, Canonical, IntoArray, SliceArray, slice_canonical, slice_validity,
-};
+use vx_tree::{ArrayKind, ArrayRef, IntoArray, SliceArray, slice_validity};
 use vx_value::VortexResult;
 
 /// Returns the rows of `array` in `range`, which must be in order and in bounds, with the slice pushed down as far as the rows S1 to S5
@@ -41,11 +41,11 @@ fn push(alloc: Global, array: &ArrayRef, range: Range<usize>) -> VortexResult<Ar
         return Ok(array.clone()?);
     }
     if range.start == range.end {
-        return empty(alloc, array, range);
+        return empty_column(alloc, array.dtype());
     }
     let (start, end) = (range.start, range.end);
     match array.kind() {
-        ArrayKind::Constant(_) => shorter(alloc, array, range),
+        ArrayKind::Constant(_) => constant_like(alloc, array, end - start),
         ArrayKind::Slice(child, from, _) => push(alloc, child, from + start..from + end),
         ArrayKind::ScalarFn(_, _) => push_function(alloc, array, range),
         ArrayKind::Masked(child, validity) => match push(alloc, child, start..end) {
@@ -53,7 +53,7 @@ fn push(alloc: Global, array: &ArrayRef, range: Range<usize>) -> VortexResult<Ar
             Err(e) => Err(e),
         },
         ArrayKind::Filter(_, _) | ArrayKind::ScalarFnValidity(_) => lazily(alloc, array, range),
-        _ => column_part(alloc, array, range),
+        _ => column_slice(alloc, array, range),
     }
 }
 
@@ -78,29 +78,6 @@ fn push_function(alloc: Global, array: &ArrayRef, range: Range<usize>) -> Vortex
     function_node(alloc, array, scalar_fn, end - start, parts)
 }
 
-/// Returns no rows of `array`, as a column. The only error is `OutOfMemory`.
-#[tactic(auto, using(crate::proofs::PushLemmas::empty_pushed))]
-fn empty(alloc: Global, array: &ArrayRef, range: Range<usize>) -> VortexResult<ArrayRef>
-    requires none { range.start ≡ range.end }
-    requires bounds { range.end ≤ len array.now }
-    ensures ok { IfOk result (λ t. IsPushed range.start range.end array.now t) }
-    ensures err { IfErr result (λ e. e ≡ OutOfMemory) }
-{
-    array.well();
-    Ok(Canonical::empty(alloc, array.dtype())?.into_array())
-}
-
-/// Returns the rows of `array`, a constant, in `range`. The only error is `OutOfMemory`.
-fn shorter(alloc: Global, array: &ArrayRef, range: Range<usize>) -> VortexResult<ArrayRef>
-    requires constant { is_constant (datum array.now) ≡ true }
-    requires within { (range.start ≤ range.end) × (range.end ≤ len array.now) }
-    ensures ok { IfOk result (λ t. IsPushed range.start range.end array.now t) }
-    ensures err { IfErr result (λ e. e ≡ OutOfMemory) }
-{
-    array.well();
-    constant_like(alloc, array, range.end - range.start)
-}
-
 /// Returns a lazy slice of `array`, which isn't canonical. The only error is `OutOfMemory`.
 #[tactic(auto, using(crate::proofs::PushLemmas::slice_pushed))]
 fn lazily(alloc: Global, array: &ArrayRef, range: Range<usize>) -> VortexResult<ArrayRef>
@@ -110,22 +87,6 @@ fn lazily(alloc: Global, array: &ArrayRef, range: Range<usize>) -> VortexResult<
     ensures err { IfErr result (λ e. e ≡ OutOfMemory) }
 {
     Ok(SliceArray::new(alloc, array.clone()?, range)?.into_array())
-}
-
-/// Returns the rows of `array`, a canonical column, in `range`, as a column that shares its buffers. The only error is `OutOfMemory`.
-#[tactic(auto, using(crate::proofs::PushLemmas::column_pushed))]
-fn column_part(alloc: Global, array: &ArrayRef, range: Range<usize>) -> VortexResult<ArrayRef>
-    requires canonical { is_canonical (datum array.now) ≡ true }
-    requires within { (range.start ≤ range.end) × (range.end ≤ len array.now) }
-    ensures ok { IfOk result (λ t. IsPushed range.start range.end array.now t) }
-    ensures err { IfErr result (λ e. e ≡ OutOfMemory) }
-{
-    let Ok(column) = Canonical::try_from_array_ref(array.clone()?) else {
-        unreachable!()
-    };
-    let part = slice_canonical(alloc, &column, range)?;
-    let _canonical = part.as_array();
-    Ok(part.into_array())
 }
 
 /// Returns the rows of `array`, which masks `child` by `validity`, in `range`; `part` has those of `child`. The only error is

@@ -1,25 +1,28 @@
-//! The children of answers.
+//! Trees taken apart, and the slots and trees that answers are made of.
 
 ghost use Rattle.std.specs.Prelude.{◌≡◌, ◌≤◌, ◌-◌, [], ◌∷◌, length, Option, Some, None, option_map, IfOk, IfErr, IfSome, true};
 ghost use Rattle.vx_value.specs.declared.error.VortexError.TheVariants.{OutOfMemory};
+ghost use Rattle.vx_value.specs.View.{type_of};
 ghost use Rattle.vx_mask.specs.Masks.{bits_in};
-ghost use Rattle.vx_tree.specs.Tree.{Tree, dtype, len, datum, node, function, masked, slots_of, slice_of, masked_of, is_function, is_masked, is_constant};
+ghost use Rattle.vx_tree.specs.Tree.{Tree, dtype, len, datum, node, function, masked, slots_of, slice_of, masked_of, is_function, is_masked, is_constant, is_canonical};
 ghost use Rattle.vx_tree.specs.Well.{IsNode, IsWell, shapes};
 ghost use Rattle.vx_tree.specs.Slots.{map_slots};
 ghost use Rattle.vx_tree.specs.Parts.{choice_of};
+ghost use Rattle.vx_tree.specs.Columns.{empty_of};
 ghost use Rattle.vx_tree.specs.Refusals.{all_long};
 ghost use Rattle.vx_tree.specs.Validities.{truths};
 ghost use Rattle.vx_rule.specs.Constants.{IsConstantLike};
+ghost use Rattle.vx_rule.specs.Pushes.{IsColumnSlice};
 
 use std::alloc::Global;
 use std::ops::Range;
 use vx_fn::ScalarFnRef;
 use vx_mask::Mask;
 use vx_tree::{
-    Array, ArrayKind, ArrayParts, ArrayRef, ConstantArray, IntoArray, Masked, MaskedData, ScalarFn,
-    ScalarFnData, SliceArray, choose_validity,
+    Array, ArrayKind, ArrayParts, ArrayRef, Canonical, ConstantArray, IntoArray, Masked,
+    MaskedData, ScalarFn, ScalarFnData, SliceArray, choose_validity, slice_canonical,
 };
-use vx_value::{Nullability, Scalar, VortexResult};
+use vx_value::{DType, Nullability, Scalar, VortexResult};
 
 /// Returns a lazy slice of the tree in `slot`, if it has one, which must have the rows in `range`. The only error is `OutOfMemory`.
 fn slice_slot(
@@ -166,6 +169,33 @@ pub(crate) fn constant_like(alloc: Global, array: &ArrayRef, len: usize) -> Vort
         unreachable!()
     };
     Ok(ConstantArray::new(alloc, scalar.clone()?, len)?.into_array())
+}
+
+/// Returns the column of type `dtype` without rows. The only error is `OutOfMemory`.
+pub(crate) fn empty_column(alloc: Global, dtype: &DType) -> VortexResult<ArrayRef>
+    ensures ok { IfOk result (λ t. t ≡ empty_of (type_of dtype.now)) }
+    ensures err { IfErr result (λ e. e ≡ OutOfMemory) }
+{
+    Ok(Canonical::empty(alloc, dtype)?.into_array())
+}
+
+/// Returns the rows of `array`, which must be canonical, in `range`, as a column that shares its buffers. The only error is `OutOfMemory`.
+pub(crate) fn column_slice(
+    alloc: Global,
+    array: &ArrayRef,
+    range: Range<usize>,
+) -> VortexResult<ArrayRef>
+    requires canonical { is_canonical (datum array.now) ≡ true }
+    requires within { (range.start ≤ range.end) × (range.end ≤ len array.now) }
+    ensures ok { IfOk result (λ t. IsColumnSlice range.start range.end array.now t) }
+    ensures err { IfErr result (λ e. e ≡ OutOfMemory) }
+{
+    let Ok(column) = Canonical::try_from_array_ref(array.clone()?) else {
+        unreachable!()
+    };
+    let part = slice_canonical(alloc, &column, range)?;
+    let _canonical = part.as_array();
+    Ok(part.into_array())
 }
 
 /// Returns the tree in the only slot.

@@ -7,9 +7,10 @@ ghost use Rattle.vx_rule.specs.Answers.{Answers};
 
 use crate::raw_node::RawNode;
 use crate::rule::ArrayParentReduceRule;
+use crate::slots::empty_column;
 use std::alloc::Global;
 use std::ops::Range;
-use vx_tree::{ArrayKind, ArrayRef, ArrayView, Canonical, IntoArray, Slice, VTable};
+use vx_tree::{ArrayKind, ArrayRef, ArrayView, Slice, VTable};
 use vx_value::VortexResult;
 
 /// Encodings through which a slice passes.
@@ -87,6 +88,6 @@ fn empty(alloc: Global, child: &ArrayRef, range: Range<usize>) -> VortexResult<O
     requires none { (range.start ≡ range.end) × (0 < len child.now) }
     ensures { Answers (Some 0) (slice_of range.start range.end child.now) result }
 {
-    let empty = Canonical::empty(alloc, child.dtype())?;
-    Ok(Some(RawNode::done(alloc, empty.into_array())))
+    let empty = empty_column(alloc, child.dtype())?;
+    Ok(Some(RawNode::done(alloc, empty)))
 }

@@ -11,12 +11,10 @@ use crate::encodings::parent_rules;
 use crate::raw_node::RawNode;
 use crate::rule::DynArrayParentReduceRule;
 use crate::rule_set::ReduceVTable;
+use crate::slots::column_slice;
 use std::alloc::Global;
 use std::ops::Range;
-use vx_tree::{
-    ArrayRef, ArrayView, Bool, Canonical, Decimal, IntoArray, Null, Primitive, VTable, VarBinView,
-    slice_canonical,
-};
+use vx_tree::{ArrayRef, ArrayView, Bool, Decimal, Null, Primitive, VTable, VarBinView};
 use vx_value::VortexResult;
 
 /// Canonical encodings. (own)
@@ -79,10 +77,5 @@ fn s3(alloc: Global, array: &ArrayRef, range: Range<usize>) -> VortexResult<Opti
     requires part { IsPartOf range.start range.end array.now }
     ensures { Answers (Some 0) (slice_of range.start range.end array.now) result }
 {
-    let Ok(column) = Canonical::try_from_array_ref(array.clone()?) else {
-        unreachable!()
-    };
-    column.as_array().well();
-    let part = slice_canonical(alloc, &column, range)?;
-    RawNode::raw(alloc, part.into_array())
+    RawNode::raw(alloc, column_slice(alloc, array, range)?)
 }

@@ -12,12 +12,11 @@ use crate::encodings::{own_rules, parent_rules};
 use crate::raw_node::RawNode;
 use crate::rule::{ArrayReduceRule, DynArrayParentReduceRule};
 use crate::rule_set::ReduceVTable;
+use crate::slots::empty_column;
 use std::alloc::Global;
 use std::ops::Range;
 use vx_mask::Mask;
-use vx_tree::{
-    ArrayKind, ArrayRef, ArrayView, Canonical, Filter, FilterArray, IntoArray, SliceArray, VTable,
-};
+use vx_tree::{ArrayKind, ArrayRef, ArrayView, Filter, FilterArray, IntoArray, SliceArray, VTable};
 use vx_value::VortexResult;
 
 impl ReduceVTable for Filter {
@@ -119,8 +118,8 @@ fn f2(alloc: Global, child: &ArrayRef, mask: &Mask) -> VortexResult<Option<RawNo
     requires none { true_count (bits_in mask.now) ≡ 0 }
     ensures { Answers None (filter_of (bits_in mask.now) child.now) result }
 {
-    let empty = Canonical::empty(alloc, child.dtype())?;
-    Ok(Some(RawNode::done(alloc, empty.into_array())))
+    let empty = empty_column(alloc, child.dtype())?;
+    Ok(Some(RawNode::done(alloc, empty)))
 }
 
 /// Row F3: a filter of consecutive rows is a slice.

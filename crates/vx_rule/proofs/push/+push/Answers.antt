@@ -1,9 +1,10 @@
-use Rattle.std.proofs.Common.{◌≡◌, ◌+◌, arith, Some, sym, ap, subst, ◌∙◌}
+use Rattle.std.proofs.Common.{◌≡◌, arith, Some, None, sym, ap, subst, ◌∙◌}
 use Rattle.std.proofs.lemmas.Grind.{common_steps}
 use Rattle.std.proofs.lemmas.List.Elements.{all_zip_more}
 use Rattle.std.proofs.lemmas.Result.{IfOk-weaker}
-use Rattle.vx_tree.specs.Tree.{slots_of, height, slots_height, dtype, len}
-use Rattle.vx_rule.proofs.PushLemmas.{IsSlotPushed, IsBelow, whole_pushed, inner_pushed, child_below, all_pushed, function_sized, function_pushed}
+use Rattle.vx_tree.specs.Tree.{len}
+use Rattle.vx_tree.specs.Columns.{empty_of}
+use Rattle.vx_rule.proofs.PushLemmas.{IsSlotPushed, whole_pushed, empty_pushed, column_pushed, constant_pushed, inner_pushed, child_below, function_sized, function_pushed}
 use Rattle.vx_rule.proofs.push.+push.Goals as goal
 
 pub push-returns-then-range-len-clause-ok : goal.push-returns-then-range-len-clause-ok
@@ -15,6 +16,23 @@ push-returns-then-range-len-clause-ok t c =
     let last : b ≡ len x = grind (arith, common_steps) in
     whole_pushed a b x c.well.ensures.formed c.requires.0 c.requires.1 c.in_ok-clone.field-0 first last c.in_ok-clone.ensures.cases
 
+pub push-returns-then-range-clause-ok : goal.push-returns-then-range-clause-ok
+push-returns-then-range-clause-ok t c =
+    let a = c.args.range.start in
+    let b = c.args.range.end in
+    let none : a ≡ b = grind (arith, common_steps) in
+    IfOk-weaker c.empty_column.result _ _
+    (λ u e. empty_pushed a b c.args.array.now c.well.ensures.formed c.requires.0 c.requires.1 u none (e ∙ ap empty_of c.dtype.ensures)) c.empty_column.ensures.ok
+
+pub push-returns-in-Constant-clause-ok : goal.push-returns-in-Constant-clause-ok
+push-returns-in-Constant-clause-ok t c =
+    IfOk-weaker c.constant_like.result _ _
+    (constant_pushed c.args.range.start c.args.range.end c.args.array.now c.well.ensures.formed c.requires.0 c.requires.1) c.constant_like.ensures.ok
+
+pub push-returns-in_default-clause-ok : goal.push-returns-in_default-clause-ok
+push-returns-in_default-clause-ok t c =
+    IfOk-weaker c.column_slice.result _ _ (λ u h. column_pushed c.args.range.start c.args.range.end c.args.array.now u h.exactly h.column) c.column_slice.ensures.ok
+
 pub push-returns-in-Slice-clause-ok : goal.push-returns-in-Slice-clause-ok
 push-returns-in-Slice-clause-ok t c =
     IfOk-weaker c.push.result _ _
@@ -24,22 +42,17 @@ push-returns-in-Slice-clause-ok t c =
 
 pub push_function-unreachable-requires : goal.push_function-unreachable-requires
 push_function-unreachable-requires t c =
-    let x = c.args.array.now in
     let p = c.function_parts in
-    let xs = p.result.1.now in
-    let known = child_below (len x) (dtype x) p.result.0.now xs c.loop-slot.slot-index c.slot-item.result p.ensures.node c.loop-slot-test.true in
-    subst (IsBelow (len x) (slots_height (slots_of xs))) (sym c.slot-item.is ∙ c.in_default.is) known
+    child_below c.args.array.now p.result.0.now p.result.1.now p.ensures.shape p.ensures.node c.loop-slot.slot-index c.slot-item.result None c.loop-slot-test.true
+    c.slot-item.is c.in_default.is
 
 pub push_function-push-requires : goal.push_function-push-requires
 push_function-push-requires t c =
-    let x = c.args.array.now in
     let p = c.function_parts in
-    let xs = p.result.1.now in
-    let known = child_below (len x) (dtype x) p.result.0.now xs c.loop-slot.slot-index c.slot-item.result p.ensures.node c.loop-slot-test.true in
-    let below = subst (IsBelow (len x) (slots_height (slots_of xs))) (sym c.slot-item.is ∙ c.in-Some.is) known in
-    let high : height x ≡ slots_height (slots_of xs) + 1 = ap height p.ensures.shape in
+    let below = child_below c.args.array.now p.result.0.now p.result.1.now p.ensures.shape p.ensures.node c.loop-slot.slot-index c.slot-item.result
+    (Some c.in-Some.child) c.loop-slot-test.true c.slot-item.is c.in-Some.is in
     let d = c.decreases in
-    (omega (arith, below.1, high), (c.requires.within.0, omega (arith, below.0, c.requires.within.1)))
+    (omega (arith, below.1), (c.requires.within.0, omega (arith, below.0, c.requires.within.1)))
 
 pub push_function-loop-slot-preserved : goal.push_function-loop-slot-preserved
 push_function-loop-slot-preserved t c =
@@ -51,22 +64,14 @@ push_function-loop-slot-preserved t c =
 
 pub push_function-function_node-requires : goal.push_function-function_node-requires
 push_function-function_node-requires t c =
-    let a = c.args.range.start in
-    let b = c.args.range.end in
     let p = c.function_parts in
-    let xs = p.result.1.now in
-    let ys = c.loop-slot.parts.items in
-    let pushed = all_pushed a b c.loop-slot.slot-index xs ys c.loop-slot-test.false c.loop-slot.invariant in
-    function_sized a b c.args.array.now p.result.0.now xs ys p.ensures.shape p.ensures.node pushed
+    function_sized c.args.array.now p.result.0.now p.result.1.now p.ensures.shape p.ensures.node c.args.range.start c.args.range.end c.loop-slot.slot-index
+    c.loop-slot.parts.items c.loop-slot-test.false c.loop-slot.invariant
 
 pub push_function-returns-clause-ok : goal.push_function-returns-clause-ok
 push_function-returns-clause-ok t c =
-    let a = c.args.range.start in
-    let b = c.args.range.end in
     let p = c.function_parts in
-    let xs = p.result.1.now in
-    let ys = c.loop-slot.parts.items in
-    let pushed = all_pushed a b c.loop-slot.slot-index xs ys c.loop-slot-test.false c.loop-slot.invariant in
     IfOk-weaker c.function_node.result _ _
-    (λ u e. function_pushed a b c.args.array.now p.result.0.now xs ys p.ensures.shape u p.ensures.well c.requires.within.0 c.requires.within.1 pushed e)
+    (function_pushed c.args.array.now p.result.0.now p.result.1.now p.ensures.shape p.ensures.node c.args.range.start c.args.range.end c.loop-slot.slot-index
+    c.loop-slot.parts.items c.loop-slot-test.false c.loop-slot.invariant p.ensures.well c.requires.within.0 c.requires.within.1)
     c.function_node.ensures.ok

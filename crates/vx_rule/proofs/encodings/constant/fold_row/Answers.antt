@@ -1,4 +1,4 @@
-use Rattle.std.proofs.Common.{rules, ◌≡◌, Some, ap, inl, inr, true, refl, subst}
+use Rattle.std.proofs.Common.{rules, ◌≡◌, Some, ap, inl, inr, true, subst}
 use Rattle.std.specs.Prelude.{is_some}
 use Rattle.vx_tree.specs.Tree.{dtype, len, datum, slots_of}
 use Rattle.vx_rule.specs.Calls.{applies}
