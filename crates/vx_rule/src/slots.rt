@@ -76,7 +76,8 @@ pub(crate) fn choose_slots(
 {
     let mut choices = Vec::with_capacity(alloc, slots.len())?;
     for index in 0..slots.len() {
-        choices.push(choose_validity(alloc, &slots[index], mask)?)?;
+        let choice = choose_validity(alloc, &slots[index], mask)?;
+        choices.push(choice)?;
     }
     Ok(choices)
 }
