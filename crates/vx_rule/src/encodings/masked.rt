@@ -119,10 +119,11 @@ fn m1(
 {
     parent.well();
     let (child, validity) = masked_parts(input);
-    let validity = told(alloc, validity, parent.len())?;
-    let both = and_lazily(alloc, mask.clone()?, validity, parent.len())?;
+    let len = parent.len();
+    let validity = told(alloc, validity, len)?;
+    let both = and_lazily(alloc, mask.clone()?, validity, len)?;
     let slots = two_slots(alloc, child.clone()?, Some(both))?;
-    let call = function_node(alloc, parent, &ScalarFnRef::Mask, parent.len(), slots)?;
+    let call = function_node(alloc, parent, &ScalarFnRef::Mask, len, slots)?;
     Ok(Some(RawNode::done(alloc, call)))
 }
 

@@ -1,4 +1,4 @@
-use Rattle.std.proofs.Common.{rules, ◌≡◌, ap, sym, ◌∙◌}
+use Rattle.std.proofs.Common.{◌≡◌, ap, sym, ◌∙◌}
 use Rattle.vx_mask.specs.Masks.{bits_in}
 use Rattle.vx_tree.specs.Tree.{len}
 use Rattle.vx_rule.proofs.FitsLemmas.{run_range}
@@ -6,5 +6,5 @@ use Rattle.vx_rule.proofs.encodings.filter.f3.Goals as goal
 
 pub new-requires : goal.new-requires
 new-requires c =
-    let same : c.in_ok-clone.field-0 ≡ c.args.child.now = search rules in
+    let same : c.in_ok-clone.field-0 ≡ c.args.child.now = c.in_ok-clone.ensures.cases in
     run_range (bits_in c.args.mask.now) c.args.range.start c.args.range.end (len c.in_ok-clone.field-0) c.requires.run (c.requires.long ∙ ap len (sym same))

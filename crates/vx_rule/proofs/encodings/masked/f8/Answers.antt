@@ -1,4 +1,4 @@
-use Rattle.std.proofs.Common.{rules, ◌≡◌, Some, ◌∙◌}
+use Rattle.std.proofs.Common.{◌≡◌, Some, ◌∙◌}
 use Rattle.vx_mask.specs.Masks.{bits_in}
 use Rattle.vx_tree.specs.Tree.{filter_of}
 use Rattle.vx_rule.proofs.SlotsLemmas.{told_len, chosen_masked}
@@ -14,8 +14,8 @@ choose_validity-requires c =
 pub masked_node-requires : goal.masked_node-requires
 masked_node-requires c =
     let inner = c.masked_parts.result.0.now in
-    let child : c.in_ok-clone.field-0 ≡ inner = search rules in
-    let mask : c.in_ok-clone-2.field-0 ≡ c.args.mask.now = search rules in
+    let child : c.in_ok-clone.field-0 ≡ inner = c.in_ok-clone.ensures.cases in
+    let mask : c.in_ok-clone-2.field-0 ≡ c.args.mask.now = c.in_ok-clone-2.ensures.cases in
     let made : c.into_array.result ≡ filter_of (bits_in c.args.mask.now) inner =
     c.into_array.ensures ∙ c.in_ok-filter.ensures.ok ∙ (λ i. filter_of (bits_in (mask i)) (child i)) in
     chosen_masked c.args.child.now inner c.into_array.result c.masked_parts.result.1.now c.in_ok-validity.validity c.masked_parts.ensures.well
@@ -26,8 +26,8 @@ returns c =
     let x = c.args.child.now in
     let bits = bits_in c.args.mask.now in
     let inner = c.masked_parts.result.0.now in
-    let child : c.in_ok-clone.field-0 ≡ inner = search rules in
-    let mask : c.in_ok-clone-2.field-0 ≡ c.args.mask.now = search rules in
+    let child : c.in_ok-clone.field-0 ≡ inner = c.in_ok-clone.ensures.cases in
+    let mask : c.in_ok-clone-2.field-0 ≡ c.args.mask.now = c.in_ok-clone-2.ensures.cases in
     let made : c.into_array.result ≡ filter_of bits inner =
     c.into_array.ensures ∙ c.in_ok-filter.ensures.ok ∙ (λ i. filter_of (bits_in (mask i)) (child i)) in
     raw_row (Some 0) (filter_of bits x) c.in_ok-masked.masked c.raw.result c.raw.ensures
