@@ -63,7 +63,8 @@ choice_of_clean bits t c = filter_clean bits t c
 module _ (bits : List Bool) (c : Tree) (counted_bits : length bits ≡ len c) (counted_rows : length (rows c) ≡ len c) where
   pub whole_exactly : is_all_true bits ≡ true → KeepsExactly (filter_of bits c) c
   whole_exactly all =
-      let count : true_count bits ≡ length bits = (unsigned_Decides (true_count bits) (length bits)).0 (all_true_is bits (true_count bits) (length bits) refl refl ∙ all) in
+      let count : true_count bits ≡ length bits =
+      (unsigned_Decides (true_count bits) (length bits)).0 (all_true_is bits (true_count bits) (length bits) refl refl ∙ all) in
       exactly_by (filter_of bits c) c refl (count ∙ counted_bits)
       (chosen-all bits (rows c) count ∙ take_all (length bits) (rows c) (omega (arith, counted_bits, counted_rows))) (λ d. d.1.0)
 

@@ -4,7 +4,8 @@ ghost use Rattle.std.specs.Prelude.{◌≡◌, ◌≤◌, ◌-◌, [], ◌∷◌
 ghost use Rattle.vx_value.specs.declared.error.VortexError.TheVariants.{OutOfMemory};
 ghost use Rattle.vx_value.specs.View.{type_of};
 ghost use Rattle.vx_mask.specs.Masks.{bits_in};
-ghost use Rattle.vx_tree.specs.Tree.{Tree, dtype, len, datum, node, function, masked, slots_of, slice_of, masked_of, is_function, is_masked, is_constant, is_canonical};
+ghost use Rattle.vx_tree.specs.Tree.{Tree, dtype, len, datum, node, function, masked, slots_of, slice_of, masked_of};
+ghost use Rattle.vx_tree.specs.Tree.{is_function, is_masked, is_constant, is_canonical};
 ghost use Rattle.vx_tree.specs.Well.{IsNode, IsWell, shapes};
 ghost use Rattle.vx_tree.specs.Slots.{map_slots};
 ghost use Rattle.vx_tree.specs.Parts.{choice_of};

@@ -40,7 +40,8 @@ impl ReduceVTable for Constant {
         parent: &ArrayRef,
         slot: usize,
     ) -> VortexResult<Option<RawNode>> {
-        parent_rules!(Constant, alloc, child, parent, slot; BetweenReduceAdaptor, CastReduceAdaptor, FillNullReduceAdaptor, FilterReduceAdaptor, NotReduceAdaptor, SliceReduceAdaptor)
+        parent_rules!(Constant, alloc, child, parent, slot; BetweenReduceAdaptor, CastReduceAdaptor, FillNullReduceAdaptor,
+            FilterReduceAdaptor, NotReduceAdaptor, SliceReduceAdaptor)
     }
 }
 

@@ -4,7 +4,8 @@ use Rattle.std.proofs.lemmas.List.Elements.{all_zip_more}
 use Rattle.std.proofs.lemmas.Result.{IfOk-weaker}
 use Rattle.vx_tree.specs.Tree.{len}
 use Rattle.vx_tree.specs.Columns.{empty_of}
-use Rattle.vx_rule.proofs.PushLemmas.{IsSlotPushed, whole_pushed, empty_pushed, column_pushed, constant_pushed, inner_pushed, child_below, function_sized, function_pushed}
+use Rattle.vx_rule.proofs.PushLemmas.{IsSlotPushed, whole_pushed, empty_pushed, column_pushed, constant_pushed, inner_pushed}
+use Rattle.vx_rule.proofs.PushLemmas.{child_below, function_sized, function_pushed}
 use Rattle.vx_rule.proofs.push.+push.Goals as goal
 
 pub push-returns-then-range-len-clause-ok : goal.push-returns-then-range-len-clause-ok
@@ -22,7 +23,8 @@ push-returns-then-range-clause-ok t c =
     let b = c.args.range.end in
     let none : a ≡ b = grind (arith, common_steps) in
     IfOk-weaker c.empty_column.result _ _
-    (λ u e. empty_pushed a b c.args.array.now c.well.ensures.formed c.requires.0 c.requires.1 u none (e ∙ ap empty_of c.dtype.ensures)) c.empty_column.ensures.ok
+    (λ u e. empty_pushed a b c.args.array.now c.well.ensures.formed c.requires.0 c.requires.1 u none (e ∙ ap empty_of c.dtype.ensures))
+    c.empty_column.ensures.ok
 
 pub push-returns-in-Constant-clause-ok : goal.push-returns-in-Constant-clause-ok
 push-returns-in-Constant-clause-ok t c =
@@ -31,7 +33,8 @@ push-returns-in-Constant-clause-ok t c =
 
 pub push-returns-in_default-clause-ok : goal.push-returns-in_default-clause-ok
 push-returns-in_default-clause-ok t c =
-    IfOk-weaker c.column_slice.result _ _ (λ u h. column_pushed c.args.range.start c.args.range.end c.args.array.now u h.exactly h.column) c.column_slice.ensures.ok
+    IfOk-weaker c.column_slice.result _ _ (λ u h. column_pushed c.args.range.start c.args.range.end c.args.array.now u h.exactly h.column)
+    c.column_slice.ensures.ok
 
 pub push-returns-in-Slice-clause-ok : goal.push-returns-in-Slice-clause-ok
 push-returns-in-Slice-clause-ok t c =
@@ -43,8 +46,8 @@ push-returns-in-Slice-clause-ok t c =
 pub push_function-unreachable-requires : goal.push_function-unreachable-requires
 push_function-unreachable-requires t c =
     let p = c.function_parts in
-    child_below c.args.array.now p.result.0.now p.result.1.now p.ensures.shape p.ensures.node c.loop-slot.slot-index c.slot-item.result None c.loop-slot-test.true
-    c.slot-item.is c.in_default.is
+    child_below c.args.array.now p.result.0.now p.result.1.now p.ensures.shape p.ensures.node c.loop-slot.slot-index c.slot-item.result None
+    c.loop-slot-test.true c.slot-item.is c.in_default.is
 
 pub push_function-push-requires : goal.push_function-push-requires
 push_function-push-requires t c =

@@ -13,7 +13,8 @@ and_lazily-requires-clause-second c =
     let t = c.args.parent.now in
     let p = c.masked_parts in
     let y = c.in_ok-validity.validity in
-    let is : y ≡ told (len t) (slots_of (p.result.1.now ∷ [])) = c.in_ok-validity.ensures.ok ∙ (λ i. told (c.len-len.ensures i) (slots_of (p.result.1.now ∷ []))) in
+    let is : y ≡ told (len t) (slots_of (p.result.1.now ∷ [])) =
+    c.in_ok-validity.ensures.ok ∙ (λ i. told (c.len-len.ensures i) (slots_of (p.result.1.now ∷ []))) in
     rw c.len-len.ensures (told_has_rows (dtype t) (len t) t c.args.input.now c.args.mask.now p.result.0.now p.result.1.now c.well.ensures.formed
     c.requires.call.0 c.requires.call.1 p.ensures.shape y is)
 
@@ -35,7 +36,8 @@ returns c =
     let p = c.masked_parts in
     let m = c.in_ok-clone.field-0 in
     let y = c.in_ok-validity.validity in
-    let is : y ≡ told (len t) (slots_of (p.result.1.now ∷ [])) = c.in_ok-validity.ensures.ok ∙ (λ i. told (c.len-len.ensures i) (slots_of (p.result.1.now ∷ []))) in
+    let is : y ≡ told (len t) (slots_of (p.result.1.now ∷ [])) =
+    c.in_ok-validity.ensures.ok ∙ (λ i. told (c.len-len.ensures i) (slots_of (p.result.1.now ∷ []))) in
     let both : c.in_ok-both.both ≡ both_of (len t) c.args.mask.now y =
     c.in_ok-both.ensures.ok ∙ (λ i. both_of (c.len-len.ensures i) (c.in_ok-clone.ensures.cases i) y) in
     let items = c.in_ok-slots.ensures.ok ∙ (λ i. Some (c.in_ok-clone-2.ensures.cases i) ∷ Some c.in_ok-both.both ∷ []) in

@@ -38,5 +38,5 @@ returns c =
     let child : c.in_ok-clone.field-0 ≡ inner = c.in_ok-clone.ensures.cases in
     let made : c.into_array.result ≡ slice_of a b inner = c.into_array.ensures ∙ c.in_ok-slice.ensures.ok ∙ ap (slice_of a b) child in
     raw_row (Some 0) (slice_of a b x) c.in_ok-masked.masked c.raw.result c.raw.ensures
-    (λ u os e g. fit_S5 a b x inner c.into_array.result u c.masked_parts.result.1.now c.in_ok-validity.validity os c.masked_parts.ensures.shape c.requires.part.0 made
-    c.in_ok-validity.ensures.ok (e ∙ c.in_ok-masked.ensures.ok) g)
+    (λ u os e g. fit_S5 a b x inner c.into_array.result u c.masked_parts.result.1.now c.in_ok-validity.validity os c.masked_parts.ensures.shape
+    c.requires.part.0 made c.in_ok-validity.ensures.ok (e ∙ c.in_ok-masked.ensures.ok) g)

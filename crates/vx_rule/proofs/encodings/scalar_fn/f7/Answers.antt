@@ -11,7 +11,8 @@ pub choose_slots-requires : goal.choose_slots-requires
 choose_slots-requires c =
     let x = c.args.child.now in
     let p = c.function_parts in
-    subst (λ n. all_long n (shapes (slots_of p.result.1.now)) ≡ true) (sym c.requires.long) (called_long (dtype x) (len x) p.result.0.now p.result.1.now p.ensures.node)
+    subst (λ n. all_long n (shapes (slots_of p.result.1.now)) ≡ true) (sym c.requires.long)
+    (called_long (dtype x) (len x) p.result.0.now p.result.1.now p.ensures.node)
 
 pub function_node-requires : goal.function_node-requires
 function_node-requires c =
