@@ -22,9 +22,6 @@ use Rattle.vx_json.specs.SpelledTypes.{is_decimal, is_decimal_Decides, type_at}
 abbrev pub without_options : ScalarFnRef → Data → Option ScalarFnRef
 without_options f d = keyed 3 d (Some f)
 
-abbrev pub binary : Operator → Data → Option ScalarFnRef
-binary o = without_options (function.Binary o)
-
 -- `between` has two more: true for `<`, and false for `<=`
 abbrev pub strictness : Bool → StrictComparison
 strictness true = Strict
@@ -62,22 +59,30 @@ declared (type.binary m) = Some (dtype.Binary m)
 abbrev pub cast : Data → Option ScalarFnRef
 cast d = keyed 4 d (option_map function.Cast (option_and_then declared (type_at d)))
 
--- the names of functions, and how an object of each spells it, with its options: a line for each function
+-- the names of binary operators: a line for each
+abbrev pub named_operators : List (List ℕ × Operator)
+named_operators =
+    (codes "add", operator.Add)
+    ∷ (codes "sub", operator.Sub)
+    ∷ (codes "mul", operator.Mul)
+    ∷ (codes "div", operator.Div)
+    ∷ (codes "eq", operator.Eq)
+    ∷ (codes "not_eq", operator.NotEq)
+    ∷ (codes "lt", operator.Lt)
+    ∷ (codes "lte", operator.Lte)
+    ∷ (codes "gt", operator.Gt)
+    ∷ (codes "gte", operator.Gte)
+    ∷ (codes "and", operator.And)
+    ∷ (codes "or", operator.Or)
+    ∷ []
+
+abbrev pub operator_named : List ℕ → Option Operator
+operator_named name = lookup (bytes_eq name) named_operators
+
+-- the names of the other functions, and how an object of each spells it, with its options: a line for each function
 abbrev pub named_functions : List (List ℕ × (Data → Option ScalarFnRef))
 named_functions =
-    (codes "add", binary operator.Add)
-    ∷ (codes "sub", binary operator.Sub)
-    ∷ (codes "mul", binary operator.Mul)
-    ∷ (codes "div", binary operator.Div)
-    ∷ (codes "eq", binary operator.Eq)
-    ∷ (codes "not_eq", binary operator.NotEq)
-    ∷ (codes "lt", binary operator.Lt)
-    ∷ (codes "lte", binary operator.Lte)
-    ∷ (codes "gt", binary operator.Gt)
-    ∷ (codes "gte", binary operator.Gte)
-    ∷ (codes "and", binary operator.And)
-    ∷ (codes "or", binary operator.Or)
-    ∷ (codes "between", between)
+    (codes "between", between)
     ∷ (codes "not", without_options function.Not)
     ∷ (codes "mask", without_options function.Mask)
     ∷ (codes "zip", without_options function.Zip)
@@ -87,8 +92,16 @@ named_functions =
     ∷ (codes "cast", cast)
     ∷ []
 
+abbrev pub other_named : Data → List ℕ → Option ScalarFnRef
+other_named d name = option_and_then (λ read. read d) (lookup (bytes_eq name) named_functions)
+
+-- a binary operator has no options
+abbrev pub function_by : Data → List ℕ → Option Operator → Option ScalarFnRef
+function_by d name (Some o) = without_options (function.Binary o) d
+function_by d name None = other_named d name
+
 abbrev pub function_named : Data → List ℕ → Option ScalarFnRef
-function_named d name = option_and_then (λ read. read d) (lookup (bytes_eq name) named_functions)
+function_named d name = function_by d name (operator_named name)
 
 -- the one named under `fn`, if the object has exactly its keys
 abbrev pub function_at : Data → Option ScalarFnRef

@@ -17,12 +17,14 @@ use Rattle.vx_json.specs.SpelledValues.{value_spelled, all_read}
 use Rattle.vx_json.specs.declared.nulls.Nulls.{Nulls}
 
 -- `{"enc":"constant","type":T,"value":v,"len":n}`: n rows of the value v
-abbrev pub scalar_at : DataType → Data → Option Typed
-scalar_at ty d = option_map (λ v. record { of_type = ty; value = v }) (option_and_then (value_spelled ty) (get (codes "value") d))
+abbrev pub scalar_of : Data → DataType → Option Typed
+scalar_of d ty = option_map (λ v. record { of_type = ty; value = v }) (value_spelled ty d)
+
+abbrev pub scalar_spelled : Data → Option Typed
+scalar_spelled d = option_and_then (λ v. option_and_then (scalar_of v) (type_at d)) (get (codes "value") d)
 
 abbrev pub constant_spelled : Data → Option Tree
-constant_spelled d =
-    keyed 4 d (option_and_then (λ ty. option_and_then (λ s. option_map (constant_of s) (number_at (codes "len") d)) (scalar_at ty d)) (type_at d))
+constant_spelled d = keyed 4 d (option_and_then (λ n. option_map (λ s. constant_of s n) (scalar_spelled d)) (number_at (codes "len") d))
 
 -- `{"enc":"null","len":n}`: n rows of type null
 abbrev pub null_spelled : Data → Option Tree

@@ -14,7 +14,7 @@ use crate::BAD_VALUE;
 use serde_json::Value;
 use std::alloc::Global;
 use vx_mask::{BitBuffer, BitBuilder};
-use vx_value::{Nullability, Storage, VortexResult};
+use vx_value::{ByteBuffer, Nullability, Storage, VortexResult};
 use vx_views::{BinaryBuilder, BinaryViews};
 
 /// Checks whether there is a capital letter among `digits`.
@@ -49,7 +49,7 @@ fn decode(digits: &str, decoded: &mut Vec<u8>) -> VortexResult<()>
 /// Reads the bytes of a value that is stored so: those of a string, or those of its digits, which are put into `decoded`.
 /// `InvalidArgument(BadValue)` if it isn't one.
 #[tactic(auto, using(vx_value::proofs::BytesLemmas::is_text))]
-pub(crate) fn bytes<'v>(
+fn bytes<'v>(
     storage: Storage,
     value: &'v Value,
     decoded: &'v mut Vec<u8>,
@@ -67,6 +67,21 @@ pub(crate) fn bytes<'v>(
         }
         _ => Err(BAD_VALUE),
     }
+}
+
+/// Reads the bytes of a value that is stored so, as `bytes` does, into a buffer of their own.
+pub(crate) fn byte_buffer(
+    alloc: Global,
+    storage: Storage,
+    value: &Value,
+) -> VortexResult<ByteBuffer>
+    ensures ok { IfOk result (λ bytes. bytes_spelled storage (view value.now) ≡ Some bytes) }
+    ensures typed { IfOk result (λ bytes. are_bytes_of storage (bytes ∷ []) ≡ true) }
+    ensures err { IfErr result (IsRefused (bytes_spelled storage (view value.now) ≡ None)) }
+{
+    let mut decoded = Vec::new(alloc);
+    let bytes = bytes(storage, value, &mut decoded)?;
+    Ok(ByteBuffer::copy_from(alloc, bytes)?)
 }
 
 /// Reads a list of values that are stored so. `InvalidArgument(BadValue)` if an item isn't one.

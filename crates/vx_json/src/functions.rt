@@ -3,7 +3,7 @@
 ghost use Rattle.std.specs.Prelude.{◌≡◌, Some};
 ghost use Rattle.serde_json.specs.View.{view};
 ghost use Rattle.vx_json.specs.Fields.{keyed};
-ghost use Rattle.vx_json.specs.SpelledFunctions.{without_options, binary, strictness_at, between_options, between, cast, function_named, function_at};
+ghost use Rattle.vx_json.specs.SpelledFunctions.{without_options, operator_named, strictness_at, between_options, between, cast, other_named, function_named, function_at};
 
 use crate::fields::{boolean, count, text};
 use crate::types::type_at;
@@ -28,11 +28,25 @@ fn without_options(value: &Value, function: ScalarFnRef) -> Option<ScalarFnRef>
     with_keys(value, 3, function)
 }
 
-/// Returns the function of a binary operator, which has no options.
-fn binary(value: &Value, operator: Operator) -> Option<ScalarFnRef>
-    ensures { result ≡ binary operator (view value.now) }
+/// Returns the binary operator named `name`.
+fn operator_named(name: &str) -> Option<Operator>
+    ensures { result ≡ operator_named name.now }
 {
-    without_options(value, ScalarFnRef::Binary(operator))
+    match name {
+        "add" => Some(Operator::Add),
+        "sub" => Some(Operator::Sub),
+        "mul" => Some(Operator::Mul),
+        "div" => Some(Operator::Div),
+        "eq" => Some(Operator::Eq),
+        "not_eq" => Some(Operator::NotEq),
+        "lt" => Some(Operator::Lt),
+        "lte" => Some(Operator::Lte),
+        "gt" => Some(Operator::Gt),
+        "gte" => Some(Operator::Gte),
+        "and" => Some(Operator::And),
+        "or" => Some(Operator::Or),
+        _ => None,
+    }
 }
 
 /// Returns how a bound is compared: `true` under `key` for `<`, `false` for `<=`.
@@ -70,23 +84,11 @@ fn cast(value: &Value) -> Option<ScalarFnRef>
     with_keys(value, 4, ScalarFnRef::Cast(type_at(value)?))
 }
 
-/// Returns the function named `name`, with the options that the object has for it.
-fn function_named(value: &Value, name: &str) -> Option<ScalarFnRef>
-    ensures { result ≡ function_named (view value.now) name.now }
+/// Returns the function named `name`, which isn't a binary operator, with the options that the object has for it.
+fn other_named(value: &Value, name: &str) -> Option<ScalarFnRef>
+    ensures { result ≡ other_named (view value.now) name.now }
 {
     match name {
-        "add" => binary(value, Operator::Add),
-        "sub" => binary(value, Operator::Sub),
-        "mul" => binary(value, Operator::Mul),
-        "div" => binary(value, Operator::Div),
-        "eq" => binary(value, Operator::Eq),
-        "not_eq" => binary(value, Operator::NotEq),
-        "lt" => binary(value, Operator::Lt),
-        "lte" => binary(value, Operator::Lte),
-        "gt" => binary(value, Operator::Gt),
-        "gte" => binary(value, Operator::Gte),
-        "and" => binary(value, Operator::And),
-        "or" => binary(value, Operator::Or),
         "between" => between(value),
         "not" => without_options(value, ScalarFnRef::Not),
         "mask" => without_options(value, ScalarFnRef::Mask),
@@ -96,6 +98,16 @@ fn function_named(value: &Value, name: &str) -> Option<ScalarFnRef>
         "is_not_null" => without_options(value, ScalarFnRef::IsNotNull),
         "cast" => cast(value),
         _ => None,
+    }
+}
+
+/// Returns the function named `name`, with the options that the object has for it.
+fn function_named(value: &Value, name: &str) -> Option<ScalarFnRef>
+    ensures { result ≡ function_named (view value.now) name.now }
+{
+    match operator_named(name) {
+        Some(operator) => without_options(value, ScalarFnRef::Binary(operator)),
+        None => other_named(value, name),
     }
 }
 

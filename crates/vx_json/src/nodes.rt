@@ -6,7 +6,7 @@ ghost use Rattle.vx_mask.specs.Masks.{bits_in};
 ghost use Rattle.vx_tree.specs.Tree.{len, slice_of, filter_of, masked_of};
 ghost use Rattle.vx_tree.specs.Validities.{HasRows, child_of, nullability_by};
 ghost use Rattle.vx_json.specs.Refused.{IsRefused};
-ghost use Rattle.vx_json.specs.SpelledNodes.{constant_spelled, null_spelled, slice_spelled, filter_spelled, masked_spelled, is_valid_spelled, call_spelled};
+ghost use Rattle.vx_json.specs.SpelledNodes.{scalar_spelled, constant_spelled, null_spelled, slice_spelled, filter_spelled, masked_spelled, is_valid_spelled, call_spelled};
 
 use crate::BAD_VALUE;
 use crate::fields::{check_keys, items, number};
@@ -22,7 +22,17 @@ use vx_tree::{
     ArrayRef, ConstantArray, FilterArray, IntoArray, MaskedArray, NullArray, ScalarFnArray,
     ScalarFnValidityArray, SliceArray, Validity,
 };
-use vx_value::{Nullability, VortexError, VortexResult};
+use vx_value::{Nullability, Scalar, VortexError, VortexResult};
+
+/// Reads the value of a constant, which is of its type.
+fn constant_value(alloc: Global, value: &Value) -> VortexResult<Scalar>
+    ensures ok { IfOk result (λ s. scalar_spelled (view value.now) ≡ Some s) }
+    ensures err { IfErr result (IsRefused (scalar_spelled (view value.now) ≡ None)) }
+{
+    let spelled = value.get("value").ok_or(BAD_VALUE)?;
+    let dtype = type_at(value).ok_or(BAD_VALUE)?;
+    scalar(alloc, dtype, spelled)
+}
 
 /// Reads a constant: `len` rows of one value.
 pub(crate) fn constant(alloc: Global, value: &Value) -> VortexResult<ArrayRef>
@@ -30,10 +40,8 @@ pub(crate) fn constant(alloc: Global, value: &Value) -> VortexResult<ArrayRef>
     ensures err { IfErr result (IsRefused (constant_spelled (view value.now) ≡ None)) }
 {
     check_keys(value, 4)?;
-    let dtype = type_at(value).ok_or(BAD_VALUE)?;
-    let spelled = value.get("value").ok_or(BAD_VALUE)?;
-    let scalar = scalar(alloc, dtype, spelled)?;
     let len = number(value, "len").ok_or(BAD_VALUE)?;
+    let scalar = constant_value(alloc, value)?;
     Ok(ConstantArray::new(alloc, scalar, len as usize)?.into_array())
 }
 

@@ -11,14 +11,14 @@ ghost use Rattle.vx_json.specs.Refused.{IsRefused};
 ghost use Rattle.vx_json.specs.SpelledValues.{integer_spelled, is_null, value_spelled, or_null, all_read, all_or_null, values_read, valid_read};
 
 use crate::BAD_VALUE;
-use crate::bytes::bytes;
+use crate::bytes::byte_buffer;
 use crate::decimals::decimal_value;
 use crate::numbers::{NumberReader, nullable_numbers, numbers};
 use serde_json::Value;
 use std::alloc::Global;
 use vx_mask::{BitBuffer, BitBuilder, Buffer};
 use vx_native::{NativeInteger, PrimitiveValues, by_type, native_of};
-use vx_value::{ByteBuffer, DType, Nullability, PType, Scalar, ScalarValue, VortexResult};
+use vx_value::{DType, Nullability, PType, Scalar, ScalarValue, VortexResult};
 
 /// Checks whether each item of `list` is null.
 pub(crate) fn are_nulls(list: &Vec<Value>) -> bool
@@ -164,11 +164,7 @@ pub(crate) fn scalar(alloc: Global, dtype: DType, value: &Value) -> VortexResult
         DType::Bool(_) => ScalarValue::Bool(value.as_bool().ok_or(BAD_VALUE)?),
         DType::Primitive(_, _) => ScalarValue::Integer(integer(value).ok_or(BAD_VALUE)?),
         DType::Decimal(decimal, _) => ScalarValue::Decimal(decimal_value(decimal, value)?),
-        _ => {
-            let mut decoded = Vec::new(alloc);
-            let bytes = bytes(dtype.storage(), value, &mut decoded)?;
-            ScalarValue::Bytes(ByteBuffer::copy_from(alloc, bytes)?)
-        }
+        _ => ScalarValue::Bytes(byte_buffer(alloc, dtype.storage(), value)?),
     };
     Scalar::try_new(dtype, Some(value))
 }
