@@ -10,7 +10,9 @@ use Rattle.serde_json.specs.Data.{Data, array, object, Items, Members, no_member
 use Rattle.serde_json.specs.Find.{get, get_member, as_object, as_array}
 use Rattle.serde_json.specs.View.{view, members_view, items_view}
 use Rattle.vx_tree.specs.Tree.{Tree}
-use Rattle.vx_json.specs.Fields.{member_count, members_count, text_at, items_at}
+use Rattle.vx_json.specs.Encodings.{encoding_at}
+use Rattle.vx_json.specs.Fields.{member_count, members_count, items_at}
+use Rattle.vx_json.specs.declared.encoding.Encoding.{Encoding}
 use Rattle.vx_json.specs.Spelled.{tree_spelled, trees_spelled, trees_listed, tree_under, trees_under, tree_by, node_of}
 
 -- a map's length counts its members
@@ -82,12 +84,12 @@ trees_under-get : (k : List ℕ) (ms : Members) → trees_under k ms ≡ option_
 trees_under-get k no_members = refl
 trees_under-get k (member l d ms) = trees_by (slice_cmp nat_cmp k l) d (trees_under k ms) (get_member k ms) (trees_under-get k ms)
 
-node_by : (ms : Members) (enc : Option (List ℕ)) → option_and_then (node_of (object ms) (λ k. tree_under k ms) (λ k. trees_under k ms)) enc ≡ tree_by
-    (object ms) enc
+node_by : (ms : Members) (e : Option Encoding) →
+    option_and_then (node_of (object ms) (λ k. tree_under k ms) (λ k. trees_under k ms)) e ≡ tree_by (object ms) e
 node_by ms None = refl
-node_by ms (Some enc) = λ i. node_of (object ms) (λ k. tree_under-get k ms i) (λ k. trees_under-get k ms i) enc
+node_by ms (Some e) = λ i. node_of (object ms) (λ k. tree_under-get k ms i) (λ k. trees_under-get k ms i) e
 
--- what a value spells, by its `enc` and what stands under its keys
-pub spelled_by : (d : Data) → tree_spelled d ≡ tree_by d (text_at (codes "enc") d)
-spelled_by (object ms) = node_by ms (text_at (codes "enc") (object ms))
+-- what a value spells, by its encoding and what stands under its keys
+pub spelled_by : (d : Data) → tree_spelled d ≡ tree_by d (encoding_at d)
+spelled_by (object ms) = node_by ms (encoding_at (object ms))
 spelled_by _ = refl

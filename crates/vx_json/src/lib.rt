@@ -4,6 +4,7 @@
 mod bytes;
 mod columns;
 mod decimals;
+mod encoding;
 mod fields;
 mod functions;
 mod key;

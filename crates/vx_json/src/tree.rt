@@ -23,7 +23,8 @@ ghost use Rattle.vx_json.specs.Spelled.{tree_spelled, trees_spelled, tree_at, tr
 
 use crate::BAD_VALUE;
 use crate::columns::{col, flat};
-use crate::fields::{items, text};
+use crate::encoding::{Encoding, encoding_at};
+use crate::fields::items;
 use crate::key::Key;
 use crate::nodes::{call, constant, filter, is_valid, masked, null, slice};
 use crate::nulls::Nulls;
@@ -84,26 +85,25 @@ fn nulls(alloc: Global, value: &Value) -> VortexResult<Nulls>
     Ok(Nulls::Told(tree_of(alloc, spelled)?))
 }
 
-/// Reads the tree of the encoding `enc`.
+/// Reads the tree of this encoding.
 #[cycle(tree_of)]
-fn node(alloc: Global, value: &Value, enc: &str) -> VortexResult<ArrayRef>
-    ensures ok { IfOk result (λ t. tree_by (view value.now) (Some enc.now) ≡ Some t) }
-    ensures err { IfErr result (IsRefused (tree_by (view value.now) (Some enc.now) ≡ None)) }
+fn node(alloc: Global, value: &Value, encoding: Encoding) -> VortexResult<ArrayRef>
+    ensures ok { IfOk result (λ t. tree_by (view value.now) (Some encoding) ≡ Some t) }
+    ensures err { IfErr result (IsRefused (tree_by (view value.now) (Some encoding) ≡ None)) }
 {
-    match enc {
-        "col" => col(alloc, value),
-        "flat" => flat(alloc, value, &nulls(alloc, value)?),
-        "constant" => constant(alloc, value),
-        "null" => null(alloc, value),
-        "slice" => slice(alloc, value, child(alloc, value, Key::Child)?),
-        "filter" => filter(alloc, value, child(alloc, value, Key::Child)?),
-        "masked" => {
+    match encoding {
+        Encoding::Column => col(alloc, value),
+        Encoding::Flat => flat(alloc, value, &nulls(alloc, value)?),
+        Encoding::Constant => constant(alloc, value),
+        Encoding::Null => null(alloc, value),
+        Encoding::Slice => slice(alloc, value, child(alloc, value, Key::Child)?),
+        Encoding::Filter => filter(alloc, value, child(alloc, value, Key::Child)?),
+        Encoding::Masked => {
             let child = child(alloc, value, Key::Child)?;
             masked(alloc, value, child, &nulls(alloc, value)?)
         }
-        "is_valid" => is_valid(alloc, value, child(alloc, value, Key::Child)?),
-        "fn" => call(alloc, value, children(alloc, value, Key::Args)?),
-        _ => Err(BAD_VALUE),
+        Encoding::IsValid => is_valid(alloc, value, child(alloc, value, Key::Child)?),
+        Encoding::Function => call(alloc, value, children(alloc, value, Key::Args)?),
     }
 }
 
@@ -120,8 +120,8 @@ pub fn tree_of(alloc: Global, value: &Value) -> VortexResult<ArrayRef>
         ⊎ ((e ≡ VortexError.InvalidArgument ArgKind.BadValue)
         × (tree_spelled (view value.now) ≡ None))) }
 {
-    match text(value, "enc") {
-        Some(enc) => node(alloc, value, enc),
+    match encoding_at(value) {
+        Some(encoding) => node(alloc, value, encoding),
         None => Err(BAD_VALUE),
     }
 }
