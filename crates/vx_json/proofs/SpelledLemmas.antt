@@ -6,14 +6,15 @@ use Rattle.std.specs.declared.cmp.Ordering.TheVariants.{Less, Equal, Greater}
 use Rattle.std.specs.Ordering.{nat_cmp, match_ordering}
 use Rattle.std.specs.Cmp.Lexicographic.{slice_cmp}
 use Rattle.serde_json.specs.declared.value.Value.{Value}
-use Rattle.serde_json.specs.Data.{Data, array, object, Items, Members, no_members, member, depth, members_depth, items_depth}
+use Rattle.serde_json.specs.Data.{Data, array, object, Items, no_items, item, Members, no_members, member, depth, members_depth, items_depth}
 use Rattle.serde_json.specs.Find.{get, get_member, as_object, as_array}
 use Rattle.serde_json.specs.View.{view, members_view, items_view}
 use Rattle.vx_tree.specs.Tree.{Tree}
 use Rattle.vx_json.specs.Encodings.{encoding_at}
 use Rattle.vx_json.specs.Fields.{member_count, members_count, items_at}
 use Rattle.vx_json.specs.declared.encoding.Encoding.{Encoding}
-use Rattle.vx_json.specs.Spelled.{tree_spelled, trees_spelled, trees_listed, tree_under, trees_under, tree_by, node_of}
+use Rattle.vx_json.specs.Spelled.{tree_spelled, trees_spelled, tree_first, trees_listed, tree_under, trees_under, tree_by, node_of}
+use Rattle.vx_json.specs.SpelledValues.{all_read}
 
 -- a map's length counts its members
 count_view : (es : List (String Global × Value)) → members_count (members_view es) ≡ length es
@@ -57,6 +58,11 @@ pub item_less : (vs : List Value) (i : ℕ) (v : Value) → i < length vs → v 
 item_less [] i v h p = absurd (omega arith)
 item_less (w ∷ vs) zero v h p = let same : v ≡ w = p in omega (arith, ap (λ u. depth (view u)) same)
 item_less (w ∷ vs) (suc i) v h p = omega (arith, item_less vs i v (omega arith) p)
+
+-- the trees of a list are those that its items spell
+pub trees_read : (ds : Items) → trees_spelled ds ≡ all_read tree_spelled ds
+trees_read no_items = refl
+trees_read (item d ds) = ap (tree_first (tree_spelled d)) (trees_read ds)
 
 -- the tree under a key is the one that the value under it spells
 under_by : (o : Ordering) (d : Data) (t : Option Tree) (found : Option Data) → t ≡ option_and_then tree_spelled found

@@ -41,7 +41,7 @@ fn trees_of(alloc: Global, list: &Vec<Value>) -> VortexResult<Vec<ArrayRef>>
 {
     let mut trees = Vec::with_capacity(alloc, list.len())?;
     for value in list {
-        trees.push(tree_of(alloc, value)?)?;
+        trees.push_reserved(tree_of(alloc, value)?);
     }
     Ok(trees)
 }
