@@ -1,8 +1,7 @@
 -- Columns of rows: those of rows that are all there, and those by values and a validity. `d` stands under a null.
-use Rattle.std.proofs.Common.{◌≡◌, List, [], ◌∷◌, length, map, Bool, true, false, Option, Some, None, refl, sym, ap, ◌∙◌}
+use Rattle.std.proofs.Common.{◌≡◌, List, [], ◌∷◌, length, map, true, false, Option, Some, None, refl, ap}
 use Rattle.std.proofs.lemmas.List.{length-map}
-use Rattle.std.proofs.lemmas.Option.{same_Some}
-use Rattle.std.specs.Prelude.{option_map, is_some, if◌then◌else◌}
+use Rattle.std.specs.Prelude.{is_some, if◌then◌else◌}
 use Rattle.vx_value.specs.Types.{DataType}
 use Rattle.vx_mask.specs.Masks.{is_all_true, is_all_false}
 use Rattle.vx_tree.specs.Tree.{Tree, Data, column, booleans}
@@ -10,7 +9,7 @@ use Rattle.vx_tree.specs.Rows.{item_or}
 use Rattle.vx_tree.specs.Validities.{child_by, truths}
 
 -- of rows that are all there
-items_there : {A : Type 0} (d : A) (xs : List A) → map (item_or d) (map Some xs) ≡ xs
+pub items_there : {A : Type 0} (d : A) (xs : List A) → map (item_or d) (map Some xs) ≡ xs
 items_there d [] = refl
 items_there d (x ∷ xs) = ap (λ l. x ∷ l) (items_there d xs)
 
@@ -29,10 +28,3 @@ column_of d ty of_items rows = column ty (length rows) (of_items (map (item_or d
 pub column_there : {A : Type 0} (d : A) (ty : DataType) (of_items : List A → Data) (xs : List A) →
     column_of d ty of_items (map Some xs) ≡ column ty (length xs) (of_items xs) None
 column_there d ty of_items xs = λ i. column ty (length-map xs Some i) (of_items (items_there d xs i)) (no_child xs i)
-
--- what rows hold and whether each is there are as long
-pub both_long : {A : Type 0} (d : A) (read : Option (List (Option A))) (xs : List A) (valid : List Bool) →
-    option_map (map (item_or d)) read ≡ Some xs → option_map (map is_some) read ≡ Some valid → length valid ≡ length xs
-both_long d None xs valid e h = absurd (cc)
-both_long d (Some rows) xs valid e h =
-    sym (ap length (same_Some _ _ h)) ∙ length-map rows is_some ∙ sym (length-map rows (item_or d)) ∙ ap length (same_Some _ _ e)

@@ -1,5 +1,5 @@
 -- The validities that are spelled are those of their columns.
-use Rattle.std.proofs.Common.{◌≡◌, ℕ, suc, pos, List, [], ◌∷◌, length, map, Bool, true, false, ◌&&◌, Option, Some, None, refl, sym, ap, subst, ◌∙◌}
+use Rattle.std.proofs.Common.{◌≡◌, ◌≢◌, ℕ, suc, pos, List, [], ◌∷◌, length, map, Bool, true, false, ◌&&◌, Option, Some, None, refl, sym, ap, subst, ◌∙◌}
 use Rattle.std.proofs.lemmas.Bool.{and_from}
 use Rattle.std.proofs.lemmas.List.{length-map}
 use Rattle.std.proofs.lemmas.Option.{same_Some}
@@ -17,23 +17,42 @@ use Rattle.vx_value.specs.declared.decimal.DecimalType.{DecimalType}
 use Rattle.vx_value.specs.Nullabilities.{with_nullability}
 use Rattle.vx_value.specs.declared.dtype.Nullability.{Nullability}
 use Rattle.vx_value.specs.declared.dtype.Nullability.TheVariants.{NonNullable, Nullable}
-use Rattle.vx_value.specs.declared.dtype.Storage.{Storage}
+use Rattle.vx_value.specs.Storage.{storage_of}
+use Rattle.vx_value.specs.View.{type_of}
+use Rattle.vx_value.specs.declared.dtype.DType.{DType}
+use Rattle.vx_value.specs.declared.dtype.DType.TheVariants as dtype_of
 use Rattle.vx_value.specs.declared.dtype.Storage.TheVariants.{Text, Bytes}
+use Rattle.vx_native.specs.Natives.{values_of, ptype_of}
+use Rattle.vx_native.specs.DecimalNumbers.{numbers_of, decimal_type_of}
 use Rattle.vx_mask.specs.Masks.{is_all_true, is_all_false}
-use Rattle.vx_tree.specs.ColumnTypes.{bytes_type}
 use Rattle.vx_tree.specs.Tree.{Tree, Data, dtype, len, column, nulls_of, bool, primitive, decimals, views, booleans}
-use Rattle.vx_tree.specs.Rows.{item_or, bytes_rows}
+use Rattle.vx_tree.specs.Rows.{item_or}
 use Rattle.vx_tree.specs.Validities.{HasRows, nullability_by, child_of, child_by, truths, array_refusal, flat_refusal, decimal_refusal}
 use Rattle.vx_tree.specs.declared.validity.Validity.{Validity}
 use Rattle.vx_tree.specs.declared.validity.Validity.TheVariants as validity
 use Rattle.vx_tree.proofs.ConditionsLemmas.{none_refused, none_unless}
-use Rattle.vx_json.specs.SpelledValues.{integer_spelled, decimal_spelled, bytes_spelled, is_null, all_read}
+use Rattle.vx_json.specs.SpelledValues.{integer_spelled, decimal_spelled, bytes_spelled, is_null, or_null, all_read}
 use Rattle.vx_json.specs.SpelledColumns.{column_of_rows, column_of_values, flat_of}
 use Rattle.vx_json.specs.SpelledNulls.{validity_spelled}
 use Rattle.vx_json.specs.declared.nulls.Nulls.{Nulls}
 use Rattle.vx_json.specs.declared.nulls.Nulls.TheVariants.{Absent}
-use Rattle.vx_json.proofs.RowsLemmas.{column_of, column_there, both_long}
-use Rattle.vx_json.proofs.SpelledValuesLemmas.{mapped_read}
+use Rattle.vx_json.specs.ColumnValues.{data_of, count_of, values_refusal, AreStored, AreUnread}
+use Rattle.vx_json.specs.ReadRows.{AreRead}
+use Rattle.vx_json.specs.declared.column_values.ColumnValues.{ColumnValues}
+use Rattle.vx_json.specs.declared.column_values.ColumnValues.TheVariants.{Bits, Integers, Decimals, Views}
+use Rattle.vx_json.proofs.ReadRowsLemmas.{none_null, none_null_unread}
+use Rattle.vx_json.proofs.RowsLemmas.{column_of, column_there}
+use Rattle.vx_json.proofs.SpelledDecimalsLemmas.{rows_digits}
+use Rattle.vx_json.proofs.SpelledValuesLemmas.{mapped_read, all_count}
+
+-- whether each row is there is told of as many as there are values
+told_long : {A : Type 0} (zero : A) (read : Json → Option A) (ds : Items) (xs : List A) (valid : List Bool) → AreRead Nullable zero read ds xs valid → length valid ≡ length xs
+told_long zero read ds xs valid h = ap length h.are_told ∙ length-map h.rows is_some ∙ sym (length-map h.rows (item_or zero)) ∙ sym (ap length h.held)
+
+-- and these are as many as there are items
+rows_counted : {A : Type 0} {m : Nullability} {valid : List Bool} (zero : A) (read : Json → Option A) (vs : List Value) (xs : List A) →
+    AreRead m zero read (items_view vs) xs valid → length xs ≡ length vs
+rows_counted zero read vs xs h = ap length h.held ∙ length-map h.rows (item_or zero) ∙ all_count _ vs h.rows h.are_read
 
 -- a validity of the nullability and the rows of a column isn't refused
 not_refused : (s : DataType) (m : Nullability) (n : ℕ) (v : Validity) → nullability_by v ≡ m → array_refusal n v ≡ None → flat_refusal s (with_nullability m s) n v ≡ None
@@ -42,7 +61,7 @@ not_refused s m n v e h = none_refused _ _ (none_unless _ _ ((same_type_Decides 
 tree_kept : (t : Tree) (n : ℕ) → dtype t ≡ type.bool NonNullable → len t ≡ n → array_refusal n (validity.Array t) ≡ None
 tree_kept t n typed counted = none_refused _ _ (none_unless _ _ ((same_type_Decides _ _).1 typed)) (none_unless _ _ ((unsigned_Decides _ _).1 counted))
 
-rows_kept : (n : ℕ) (v : Validity) → HasRows v n → array_refusal n v ≡ None
+pub rows_kept : (n : ℕ) (v : Validity) → HasRows v n → array_refusal n v ≡ None
 rows_kept n (validity.Array t) h = tree_kept t n h.1 h.2
 rows_kept n _ h = refl
 
@@ -62,43 +81,146 @@ bits_kept bits (validity.Array t) e = by_tests (is_all_true bits) (is_all_false 
     by_tests false false e = long (booleans bits) refl refl e
 bits_kept bits _ e = refl
 
--- so no column is refused for it
-pub rows_fit : (s : DataType) (m : Nullability) (n : ℕ) (v : Validity) → nullability_by v ≡ m → HasRows v n → flat_refusal s (with_nullability m s) n v ≡ None
-rows_fit s m n v e h = not_refused s m n v e (rows_kept n v h)
-
-pub bits_fit : (s : DataType) (bits : List Bool) (n : ℕ) (v : Validity) → child_of v (length bits) ≡ child_by bits → nullability_by v ≡ Nullable → length bits ≡ n →
-    flat_refusal s (with_nullability Nullable s) n v ≡ None
-bits_fit s bits n v h nullable long = not_refused s Nullable n v nullable (subst (λ k. array_refusal k v ≡ None) long (bits_kept bits v h))
-
--- nor is one of decimals for its numbers, if each has at most as many digits
-pub decimals_fit : (p s : ℕ) (m : Nullability) (w : DecimalType) (zs : List ℤ) (v : Validity) → w ≡ smallest_width p → list_all (has_digits p) zs ≡ true →
+-- nor is a column of decimals for its numbers, if each has at most as many digits
+decimals_fit : (p s : ℕ) (m : Nullability) (w : DecimalType) (zs : List ℤ) (v : Validity) → w ≡ smallest_width p → list_all (has_digits p) zs ≡ true →
     flat_refusal (type.decimal p s NonNullable) (type.decimal p s m) (length zs) v ≡ None → decimal_refusal (type.decimal p s m) w zs v ≡ None
 decimals_fit p s m w zs v narrow digits flat =
     none_refused _ _ flat (none_unless _ _ (and_from _ _ ((same_width_Decides w (smallest_width p)).1 narrow) digits))
 
--- a type of text or bytes has the nullability that it is given
-bytes_nullability : (s : Storage) (m : Nullability) → nullability_of (with_nullability m (bytes_type s)) ≡ m
-bytes_nullability Text m = refl
-bytes_nullability _ m = refl
+-- so no column of values that are read is refused, if the validity is one of the nullability and of the rows: a line for each type
+pub values_fit : (m : Nullability) (ty : DataType) (ds : Items) (v : ColumnValues) (valid : List Bool) (w : Validity) → AreStored m (storage_of ty) ds v valid →
+    nullability_by w ≡ nullability_of ty → array_refusal (count_of v) w ≡ None → values_refusal ty v w ≡ None
+values_fit m (type.bool k) ds (Bits bits) valid w h e kept = not_refused (type.bool NonNullable) k (length bits) w e kept
+values_fit m (type.primitive p k) ds (Integers v) valid w h e kept =
+    subst (λ q. flat_refusal (type.primitive (ptype_of v) NonNullable) (type.primitive q k) (length (values_of v)) w ≡ None) h.0
+    (not_refused (type.primitive (ptype_of v) NonNullable) k (length (values_of v)) w e kept)
+values_fit m (type.decimal p s k) ds (Decimals v) valid w h e kept =
+    decimals_fit p s k (decimal_type_of v) (numbers_of v) w h.0 (rows_digits m p ds (numbers_of v) valid h.1)
+    (not_refused (type.decimal p s NonNullable) k (length (numbers_of v)) w e kept)
+values_fit m (type.utf8 k) ds (Views rows) valid w h e kept = none_refused _ _ (not_refused (type.utf8 NonNullable) k (length rows) w e kept) (none_unless _ _ h.0)
+values_fit m (type.binary k) ds (Views rows) valid w h e kept = none_refused _ _ (not_refused (type.binary NonNullable) k (length rows) w e kept) refl
+values_fit m ty ds v valid w h e kept = absurd h
 
-pub bytes_flat : (s : Storage) (m : Nullability) (rs : List (List ℕ)) (nulls : Nulls) (v : Validity) → validity_spelled m (length rs) nulls ≡ Some v →
-    flat_of (with_nullability m (bytes_type s)) (length rs) (views rs) nulls
-    ≡ Some (column (with_nullability m (bytes_type s)) (length rs) (views rs) (child_of v (length rs)))
-bytes_flat s m rs nulls v h =
-    let told : Validity → Tree = λ w. column (with_nullability m (bytes_type s)) (length rs) (views rs) (child_of w (length rs)) in
-    ap (λ k. option_map told (validity_spelled k (length rs) nulls)) (bytes_nullability s m) ∙ ap (option_map told) h
+-- values that are never null are those of a column: a line for each type
+pub values_by : (ty : DataType) (ds : Items) (v : ColumnValues) (valid : List Bool) (nulls : Nulls) → AreStored NonNullable (storage_of ty) ds v valid →
+    column_of_values nulls ty ds ≡ flat_of ty (count_of v) (data_of v) nulls
+values_by (type.bool k) ds (Bits bits) valid nulls h =
+    ap (option_and_then (λ bs. flat_of (type.bool k) (length bs) (bool bs) nulls)) (none_null false as_bool ds bits valid h)
+values_by (type.primitive p k) ds (Integers v) valid nulls h =
+    ap (option_and_then (λ zs. flat_of (type.primitive p k) (length zs) (primitive p zs) nulls)) (none_null (pos 0) (integer_spelled p) ds (values_of v) valid h.1)
+    ∙ ap (λ q. flat_of (type.primitive p k) (length (values_of v)) (primitive q (values_of v)) nulls) (sym h.0)
+values_by (type.decimal p s k) ds (Decimals v) valid nulls h =
+    ap (option_and_then (λ zs. flat_of (type.decimal p s k) (length zs) (decimals (smallest_width p) zs) nulls))
+    (none_null (pos 0) (decimal_spelled p) ds (numbers_of v) valid h.1)
+    ∙ ap (λ q. flat_of (type.decimal p s k) (length (numbers_of v)) (decimals q (numbers_of v)) nulls) (sym h.0)
+values_by (type.utf8 k) ds (Views rows) valid nulls h =
+    ap (option_and_then (λ rs. flat_of (type.utf8 k) (length rs) (views rs) nulls)) (none_null [] (bytes_spelled Text) ds rows valid h.1)
+values_by (type.binary k) ds (Views rows) valid nulls h =
+    ap (option_and_then (λ rs. flat_of (type.binary k) (length rs) (views rs) nulls)) (none_null [] (bytes_spelled Bytes) ds rows valid h)
+values_by ty ds v valid nulls h = absurd h
 
--- rows of bytes are the column of what they hold and of a validity that tells whether each is there
-pub bytes_column_by : (ty : DataType) (read : Option (List (Option (List ℕ)))) (rs : List (List ℕ)) (valid : List Bool) (v : Validity) →
-    option_map (map (item_or [])) read ≡ Some rs → option_map (map is_some) read ≡ Some valid → child_of v (length valid) ≡ child_by valid →
-    option_map (bytes_rows ty) read ≡ Some (column ty (length rs) (views rs) (child_of v (length rs)))
-bytes_column_by ty None rs valid v e h told = absurd (cc)
-bytes_column_by ty (Some rows) rs valid v e h told =
-    let held = same_Some _ _ e in
-    let long = both_long [] (Some rows) rs valid e h in
-    let child : child_by (map is_some rows) ≡ child_of v (length rs) = ap child_by (same_Some _ _ h) ∙ sym told ∙ ap (child_of v) long in
-    let counted : length rows ≡ length rs = sym (length-map rows (item_or [])) ∙ ap length held in
-    ap Some (λ i. column ty (counted i) (views (held i)) (child i))
+pub values_unread : (ty : DataType) (ds : Items) (nulls : Nulls) → AreUnread NonNullable (storage_of ty) ds → column_of_values nulls ty ds ≡ None
+values_unread type.null ds nulls h = refl
+values_unread (type.bool k) ds nulls h = ap (option_and_then _) (none_null_unread as_bool ds h)
+values_unread (type.primitive p k) ds nulls h = ap (option_and_then _) (none_null_unread (integer_spelled p) ds h)
+values_unread (type.decimal p s k) ds nulls h = ap (option_and_then _) (none_null_unread (decimal_spelled p) ds h)
+values_unread (type.utf8 k) ds nulls h = ap (option_and_then _) (none_null_unread (bytes_spelled Text) ds h)
+values_unread (type.binary k) ds nulls h = ap (option_and_then _) (none_null_unread (bytes_spelled Bytes) ds h)
+
+-- they are as many as there are items
+values_counted : (m : Nullability) (ty : DataType) (vs : List Value) (v : ColumnValues) (valid : List Bool) → AreStored m (storage_of ty) (items_view vs) v valid →
+    count_of v ≡ length vs
+values_counted m (type.bool k) vs (Bits bits) valid h = rows_counted false as_bool vs bits h
+values_counted m (type.primitive p k) vs (Integers v) valid h = rows_counted (pos 0) (integer_spelled p) vs (values_of v) h.1
+values_counted m (type.decimal p s k) vs (Decimals v) valid h = rows_counted (pos 0) (decimal_spelled p) vs (numbers_of v) h.1
+values_counted m (type.utf8 k) vs (Views rows) valid h = rows_counted [] (bytes_spelled Text) vs rows h.1
+values_counted m (type.binary k) vs (Views rows) valid h = rows_counted [] (bytes_spelled Bytes) vs rows h
+values_counted m ty vs v valid h = absurd h
+
+-- a column of them, if the validity is one of the nullability and of the items
+module _ (ty : DataType) (vs : List Value) (v : ColumnValues) (valid : List Bool) (nulls : Nulls) (w : Validity) (h : AreStored NonNullable (storage_of ty) (items_view vs) v valid) where
+  pub flat_made : validity_spelled (nullability_of ty) (length vs) nulls ≡ Some w →
+      column_of_values nulls ty (items_view vs) ≡ Some (column ty (count_of v) (data_of v) (child_of w (count_of v)))
+  flat_made e =
+      values_by ty (items_view vs) v valid nulls h ∙ ap (option_map (λ (u : Validity). column ty (count_of v) (data_of v) (child_of u (count_of v))))
+      (ap (λ n. validity_spelled (nullability_of ty) n nulls) (values_counted NonNullable ty vs v valid h) ∙ e)
+
+  pub flat_fits : nullability_by w ≡ nullability_of ty → HasRows w (length vs) → values_refusal ty v w ≡ None
+  flat_fits e rows =
+      values_fit NonNullable ty (items_view vs) v valid w h e
+      (rows_kept (count_of v) w (subst (HasRows w) (sym (values_counted NonNullable ty vs v valid h)) rows))
+
+-- and there is none if there is no such validity
+unspelled_by : {A : Type 0} (ty : DataType) (of_items : List A → Data) (read : Json → Option A) (vs : List Value) (nulls : Nulls) →
+    validity_spelled (nullability_of ty) (length vs) nulls ≡ None →
+    option_and_then (λ xs. flat_of ty (length xs) (of_items xs) nulls) (all_read read (items_view vs)) ≡ None
+unspelled_by ty of_items read vs nulls h = by_read (all_read read (items_view vs)) refl
+  where
+    by_read : (o : Option (List _)) → all_read read (items_view vs) ≡ o → option_and_then (λ xs. flat_of ty (length xs) (of_items xs) nulls) o ≡ None
+    by_read None is = refl
+    by_read (Some xs) is =
+        ap (option_map (λ (u : Validity). column ty (length xs) (of_items xs) (child_of u (length xs))))
+        (ap (λ n. validity_spelled (nullability_of ty) n nulls) (all_count read vs xs is) ∙ h)
+
+pub flat_unspelled : (ty : DataType) (vs : List Value) (nulls : Nulls) → validity_spelled (nullability_of ty) (length vs) nulls ≡ None →
+    column_of_values nulls ty (items_view vs) ≡ None
+flat_unspelled type.null vs nulls h = refl
+flat_unspelled (type.bool k) vs nulls h = unspelled_by (type.bool k) bool as_bool vs nulls h
+flat_unspelled (type.primitive p k) vs nulls h = unspelled_by (type.primitive p k) (primitive p) (integer_spelled p) vs nulls h
+flat_unspelled (type.decimal p s k) vs nulls h = unspelled_by (type.decimal p s k) (decimals (smallest_width p)) (decimal_spelled p) vs nulls h
+flat_unspelled (type.utf8 k) vs nulls h = unspelled_by (type.utf8 k) views (bytes_spelled Text) vs nulls h
+flat_unspelled (type.binary k) vs nulls h = unspelled_by (type.binary k) views (bytes_spelled Bytes) vs nulls h
+
+-- rows, null among them, are the column of what they hold and of a validity that tells whether each is there
+rows_column : {A : Type 0} (zero : A) (ty : DataType) (of_items : List A → Data) (read : Json → Option A) (ds : Items) (xs : List A) (valid : List Bool) (w : Validity) →
+    AreRead Nullable zero read ds xs valid → child_of w (length valid) ≡ child_by valid →
+    option_map (column_of zero ty of_items) (all_read (or_null Nullable read) ds) ≡ Some (column ty (length xs) (of_items xs) (child_of w (length xs)))
+rows_column zero ty of_items read ds xs valid w h tells =
+    let child : child_by (map is_some h.rows) ≡ child_of w (length xs) = ap child_by (sym h.are_told) ∙ sym tells ∙ ap (child_of w) (told_long zero read ds xs valid h) in
+    let counted : length h.rows ≡ length xs = sym (length-map h.rows (item_or zero)) ∙ ap length (sym h.held) in
+    ap (option_map (column_of zero ty of_items)) h.are_read ∙ ap Some (λ i. column ty (counted i) (of_items (sym h.held i)) (child i))
+
+pub rows_by : (ty : DataType) (ds : Items) (v : ColumnValues) (valid : List Bool) (w : Validity) → nullability_of ty ≡ Nullable →
+    AreStored Nullable (storage_of ty) ds v valid → child_of w (length valid) ≡ child_by valid →
+    column_of_rows ty ds ≡ Some (column ty (count_of v) (data_of v) (child_of w (count_of v)))
+rows_by (type.bool Nullable) ds (Bits bits) valid w n h tells = rows_column false (type.bool Nullable) bool as_bool ds bits valid w h tells
+rows_by (type.primitive p Nullable) ds (Integers v) valid w n h tells =
+    rows_column (pos 0) (type.primitive p Nullable) (primitive p) (integer_spelled p) ds (values_of v) valid w h.1 tells
+    ∙ ap (λ q. Some (column (type.primitive p Nullable) (length (values_of v)) (primitive q (values_of v)) (child_of w (length (values_of v))))) (sym h.0)
+rows_by (type.decimal p s Nullable) ds (Decimals v) valid w n h tells =
+    rows_column (pos 0) (type.decimal p s Nullable) (decimals (smallest_width p)) (decimal_spelled p) ds (numbers_of v) valid w h.1 tells
+    ∙ ap (λ q. Some (column (type.decimal p s Nullable) (length (numbers_of v)) (decimals q (numbers_of v)) (child_of w (length (numbers_of v))))) (sym h.0)
+rows_by (type.utf8 Nullable) ds (Views rows) valid w n h tells = rows_column [] (type.utf8 Nullable) views (bytes_spelled Text) ds rows valid w h.1 tells
+rows_by (type.binary Nullable) ds (Views rows) valid w n h tells = rows_column [] (type.binary Nullable) views (bytes_spelled Bytes) ds rows valid w h tells
+rows_by (type.bool NonNullable) ds v valid w n h tells = absurd (cc n)
+rows_by (type.primitive p NonNullable) ds v valid w n h tells = absurd (cc n)
+rows_by (type.decimal p s NonNullable) ds v valid w n h tells = absurd (cc n)
+rows_by (type.utf8 NonNullable) ds v valid w n h tells = absurd (cc n)
+rows_by (type.binary NonNullable) ds v valid w n h tells = absurd (cc n)
+rows_by ty ds v valid w n h tells = absurd h
+
+-- their validity isn't refused
+pub bits_fit : (ty : DataType) (ds : Items) (v : ColumnValues) (valid : List Bool) (w : Validity) → AreStored Nullable (storage_of ty) ds v valid →
+    child_of w (length valid) ≡ child_by valid → array_refusal (count_of v) w ≡ None
+bits_fit ty ds v valid w h tells = subst (λ n. array_refusal n w ≡ None) (long ty v h) (bits_kept valid w tells)
+  where
+    long : (t : DataType) (u : ColumnValues) → AreStored Nullable (storage_of t) ds u valid → length valid ≡ count_of u
+    long (type.bool k) (Bits bits) r = told_long false as_bool ds bits valid r
+    long (type.primitive p k) (Integers zs) r = told_long (pos 0) (integer_spelled p) ds (values_of zs) valid r.1
+    long (type.decimal p s k) (Decimals zs) r = told_long (pos 0) (decimal_spelled p) ds (numbers_of zs) valid r.1
+    long (type.utf8 k) (Views rows) r = told_long [] (bytes_spelled Text) ds rows valid r.1
+    long (type.binary k) (Views rows) r = told_long [] (bytes_spelled Bytes) ds rows valid r
+    long t u r = absurd r
+
+pub rows_unread : (d : DType) (ds : Items) → d ≢ dtype_of.Null → nullability_of (type_of d) ≡ Nullable → AreUnread Nullable (storage_of (type_of d)) ds →
+    column_of_rows (type_of d) ds ≡ None
+rows_unread dtype_of.Null ds other n h = absurd (other refl)
+rows_unread (dtype_of.Bool Nullable) ds other n h = ap (option_map _) h
+rows_unread (dtype_of.Primitive p Nullable) ds other n h = ap (option_map _) h
+rows_unread (dtype_of.Decimal d Nullable) ds other n h = ap (option_map _) h
+rows_unread (dtype_of.Utf8 Nullable) ds other n h = ap (option_map _) h
+rows_unread (dtype_of.Binary Nullable) ds other n h = ap (option_map _) h
+rows_unread _ ds other n h = absurd (cc n)
 
 -- rows that are all there are the column of what they hold without nulls
 values_there : {A : Type 0} (d : A) (ty : DataType) (of_items : List A → Data) (read : Json → Option A) (ds : Items) →

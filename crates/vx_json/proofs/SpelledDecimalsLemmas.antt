@@ -14,10 +14,12 @@ use Rattle.std.specs.Str.Parse.{IsNumeral, digits_value, signed_digits_value, wi
 use Rattle.serde_json.specs.Data.{Data, Items}
 use Rattle.serde_json.specs.Find.{as_str}
 use Rattle.vx_value.specs.Decimals.{has_digits}
-use Rattle.vx_value.specs.declared.dtype.Nullability.TheVariants.{Nullable}
+use Rattle.vx_value.specs.Types.{is_nullable}
+use Rattle.vx_value.specs.declared.dtype.Nullability.{Nullability}
 use Rattle.vx_tree.specs.Rows.{item_or}
 use Rattle.vx_value.proofs.DecimalsLemmas.{ten_to}
-use Rattle.vx_json.specs.SpelledValues.{written_so, decimal_in, decimal_spelled, is_null, or_null, all_read}
+use Rattle.vx_json.specs.ReadRows.{AreRead}
+use Rattle.vx_json.specs.SpelledValues.{written_so, decimal_in, decimal_spelled, is_null, or_null}
 use Rattle.vx_json.proofs.SpelledValuesLemmas.{all_pass, mapped_read}
 
 -- a text of digits begins with no sign
@@ -96,8 +98,9 @@ digits_of p d z h = by_text (as_str d) h
 zero_digits : (p : ℕ) → has_digits p (pos 0) ≡ true
 zero_digits p = let some : 10 ^ 0 ≤ 10 ^ p = ten_to {p = 0} {q = p} (omega arith) in lt-ltb 0 (10 ^ p) (omega arith)
 
-row_digits : (p : ℕ) (d : Data) (z : ℤ) → option_map (item_or (pos 0)) (or_null Nullable (decimal_spelled p) d) ≡ Some z → has_digits p z ≡ true
-row_digits p d z h = by_test (is_null d) (decimal_spelled p d) refl h
+-- a row's number too, 0 for null
+row_digits : (m : Nullability) (p : ℕ) (d : Data) (z : ℤ) → option_map (item_or (pos 0)) (or_null m (decimal_spelled p) d) ≡ Some z → has_digits p z ≡ true
+row_digits m p d z h = by_test (is_nullable m && is_null d) (decimal_spelled p d) refl h
   where
     by_test : (null : Bool) (o : Option ℤ) → decimal_spelled p d ≡ o →
         option_map (item_or (pos 0)) (if null then Some None else option_map Some o) ≡ Some z → has_digits p z ≡ true
@@ -105,11 +108,9 @@ row_digits p d z h = by_test (is_null d) (decimal_spelled p d) refl h
     by_test false None read e = absurd (cc)
     by_test false (Some y) read e = digits_of p d z (read ∙ e)
 
-pub values_digits : (p : ℕ) (ds : Items) (zs : List ℤ) → all_read (decimal_spelled p) ds ≡ Some zs → list_all (has_digits p) zs ≡ true
-values_digits p = all_pass (has_digits p) (decimal_spelled p) (digits_of p)
-
-pub rows_digits : (p : ℕ) (ds : Items) (zs : List ℤ) → option_map (map (item_or (pos 0))) (all_read (or_null Nullable (decimal_spelled p)) ds) ≡ Some zs →
+pub rows_digits : (m : Nullability) (p : ℕ) (ds : Items) (zs : List ℤ) (valid : List Bool) → AreRead m (pos 0) (decimal_spelled p) ds zs valid →
     list_all (has_digits p) zs ≡ true
-rows_digits p ds zs h =
-    let read : Data → Option ℤ = λ d. option_map (item_or (pos 0)) (or_null Nullable (decimal_spelled p) d) in
-    all_pass (has_digits p) read (row_digits p) ds zs (mapped_read (item_or (pos 0)) (or_null Nullable (decimal_spelled p)) ds ∙ h)
+rows_digits m p ds zs valid h =
+    let row : Data → Option (Option ℤ) = or_null m (decimal_spelled p) in
+    all_pass (has_digits p) (λ d. option_map (item_or (pos 0)) (row d)) (row_digits m p) ds zs
+    (mapped_read (item_or (pos 0)) row ds ∙ ap (option_map (map (item_or (pos 0)))) h.are_read ∙ ap Some (sym h.held))

@@ -10,6 +10,8 @@ pub mod Refused
 pub mod SpelledFunctions
 pub mod SpelledTypes
 pub mod SpelledValues
+pub mod ReadRows
+pub mod ColumnValues
 pub mod SpelledNulls
 pub mod SpelledColumns
 pub mod SpelledNodes

@@ -1,5 +1,5 @@
 -- The value that JSON spells, by type, and the values that a list spells.
-use Rattle.std.specs.Prelude.{ℕ, ℤ, List, [], ◌∷◌, Bool, ◌&&◌, if◌then◌else◌, Option, Some, None, is_some, map, option_map, option_and_then, bytes_eq}
+use Rattle.std.specs.Prelude.{ℕ, ℤ, List, [], ◌∷◌, Bool, ◌&&◌, if◌then◌else◌, Option, Some, None, is_some, option_map, option_and_then, bytes_eq}
 use Rattle.std.specs.Char.{is_ascii_uppercase}
 use Rattle.std.specs.Fmt.{signed_decimal}
 use Rattle.std.specs.List.{list_any}
@@ -9,7 +9,6 @@ use Rattle.hex.specs.Hex.{decode_of}
 use Rattle.serde_json.specs.Data.{Data, Items, no_items, item}
 use Rattle.serde_json.specs.Find.{as_null, as_bool, as_number, as_integer, as_str}
 use Rattle.vx_value.specs.Types.{DataType, nullability_of, is_nullable}
-use Rattle.vx_value.specs.declared.dtype.Nullability.TheVariants.{Nullable}
 use Rattle.vx_value.specs.Values.{Value, null, boolean, integer, decimal, bytes}
 use Rattle.vx_value.specs.Decimals.{has_digits}
 use Rattle.vx_value.specs.Storage.{storage_of}
@@ -75,15 +74,3 @@ value_spelled t d = option_map (item_or null) (or_null (nullability_of t) (value
 abbrev pub all_read : {A : Type 0} → (Data → Option A) → Items → Option (List A)
 all_read read no_items = Some []
 all_read read (item d ds) = option_and_then (λ a. option_map (λ rest. a ∷ rest) (all_read read ds)) (read d)
-
--- all items of a list, null as None
-abbrev pub all_or_null : {A : Type 0} → (Data → Option A) → Items → Option (List (Option A))
-all_or_null read = all_read (or_null Nullable read)
-
--- the values of these, `zero` for null
-abbrev pub values_read : {A : Type 0} → A → (Data → Option A) → Items → Option (List A)
-values_read zero read ds = option_map (map (item_or zero)) (all_or_null read ds)
-
--- whether each of these isn't null
-abbrev pub valid_read : {A : Type 0} → (Data → Option A) → Items → Option (List Bool)
-valid_read read ds = option_map (map is_some) (all_or_null read ds)

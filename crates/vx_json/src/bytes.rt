@@ -1,20 +1,20 @@
 //! Values of text and of bytes, and lists of them.
 
-ghost use Rattle.std.specs.Prelude.{◌≡◌, ◌≢◌, ℕ, List, ◌∷◌, [], true, Some, None, option_map, IfOk, IfErr, OnOk};
+ghost use Rattle.std.specs.Prelude.{◌≡◌, ◌≢◌, ℕ, List, ◌∷◌, [], true, Some, None, IfOk, IfErr, OnOk};
 ghost use Rattle.std.specs.List.{list_any};
 ghost use Rattle.std.specs.Char.{is_ascii_uppercase};
 ghost use Rattle.hex.specs.Hex.{IsBytes, encode_lower};
 ghost use Rattle.serde_json.specs.View.{view, items_view};
 ghost use Rattle.vx_tree.specs.ColumnTypes.{are_bytes_of};
-ghost use Rattle.vx_tree.specs.Rows.{item_or};
+ghost use Rattle.vx_json.specs.ReadRows.{read_unless, AreRead};
 ghost use Rattle.vx_json.specs.Refused.{IsRefused};
-ghost use Rattle.vx_json.specs.SpelledValues.{hex_bytes, bytes_spelled, or_null, all_read, all_or_null, values_read, valid_read};
+ghost use Rattle.vx_json.specs.SpelledValues.{hex_bytes, bytes_spelled, or_null, all_read};
 
 use crate::BAD_VALUE;
+use crate::row_nulls::RowNulls;
 use serde_json::Value;
 use std::alloc::Global;
-use vx_mask::{BitBuffer, BitBuilder};
-use vx_value::{ByteBuffer, Nullability, Storage, VortexResult};
+use vx_value::{ByteBuffer, Storage, VortexResult};
 use vx_views::{BinaryBuilder, BinaryViews};
 
 /// Checks whether there is a capital letter among `digits`.
@@ -49,11 +49,7 @@ fn decode(digits: &str, decoded: &mut Vec<u8>) -> VortexResult<()>
 /// Reads the bytes of a value that is stored so: those of a string, or those of its digits, which are put into `decoded`.
 /// `InvalidArgument(BadValue)` if it isn't one.
 #[tactic(auto, using(vx_value::proofs::BytesLemmas::is_text))]
-fn bytes<'v>(
-    storage: Storage,
-    value: &'v Value,
-    decoded: &'v mut Vec<u8>,
-) -> VortexResult<&'v [u8]>
+fn bytes<'v>(storage: Storage, value: &'v Value, decoded: &'v mut Vec<u8>) -> VortexResult<&'v [u8]>
     ensures ok { IfOk result (λ bytes. bytes_spelled storage (view value.now) ≡ Some bytes.now) }
     ensures typed { IfOk result (λ bytes. are_bytes_of storage (bytes.now ∷ []) ≡ true) }
     ensures err { IfErr result (IsRefused (bytes_spelled storage (view value.now) ≡ None)) }
@@ -84,62 +80,44 @@ pub(crate) fn byte_buffer(
     Ok(ByteBuffer::copy_from(alloc, bytes)?)
 }
 
-/// Reads a list of values that are stored so. `InvalidArgument(BadValue)` if an item isn't one.
-#[tactic(auto, using(crate::proofs::SpelledBytesLemmas::typed_more))]
-pub(crate) fn byte_rows(
-    alloc: Global,
-    storage: Storage,
-    list: &Vec<Value>,
-) -> VortexResult<BinaryViews>
-    ensures ok { IfOk result (λ rows. all_read (bytes_spelled storage) (items_view list.now.items) ≡ Some rows) }
-    ensures typed { IfOk result (λ rows. are_bytes_of storage rows ≡ true) }
-    ensures err { IfErr result (IsRefused (all_read (bytes_spelled storage) (items_view list.now.items) ≡ None)) }
-{
-    let mut rows = BinaryBuilder::with_capacity(alloc, list.len())?;
-    let mut decoded = Vec::new(alloc);
-    for value in list {
-        rows.push(bytes(storage, value, &mut decoded)?)?;
-    }
-    Ok(rows.finish(alloc)?)
-}
-
-/// Reads the bytes of a value that is stored so, as `bytes` does. Null is read as no bytes.
+/// Reads the bytes of a value that is stored so, as `bytes` does, or returns none for a null row.
 #[tactic(auto, using(crate::proofs::SpelledBytesLemmas::typed_none))]
 fn bytes_or_none<'v>(
+    null: bool,
     storage: Storage,
     value: &'v Value,
     decoded: &'v mut Vec<u8>,
 ) -> VortexResult<&'v [u8]>
-    ensures ok { IfOk result (λ bytes. option_map (item_or []) (or_null Nullability.Nullable (bytes_spelled storage) (view value.now)) ≡ Some bytes.now) }
+    ensures ok { IfOk result (λ bytes. read_unless null [] (bytes_spelled storage (view value.now)) ≡ Some bytes.now) }
     ensures typed { IfOk result (λ bytes. are_bytes_of storage (bytes.now ∷ []) ≡ true) }
-    ensures err { IfErr result (IsRefused (or_null Nullability.Nullable (bytes_spelled storage) (view value.now) ≡ None)) }
+    ensures err { IfErr result (IsRefused (read_unless null [] (bytes_spelled storage (view value.now)) ≡ None)) }
 {
-    if value.is_null() {
+    if null {
         Ok(&[])
     } else {
         bytes(storage, value, decoded)
     }
 }
 
-/// Reads a list of values that are stored so, null among them. Returns their bytes, none for null, and whether each isn't null.
+/// Reads a list of values that are stored so, and tells `nulls` which rows aren't null. Returns their bytes, none for null.
 /// `InvalidArgument(BadValue)` if an item is neither.
-#[tactic(auto, using(crate::proofs::SpelledBytesLemmas::typed_more))]
-pub(crate) fn nullable_byte_rows(
+pub(crate) fn byte_rows<N: RowNulls>(
     alloc: Global,
     storage: Storage,
+    nulls: &mut N,
     list: &Vec<Value>,
-) -> VortexResult<(BinaryViews, BitBuffer)>
-    ensures values { IfOk result (λ rows. values_read [] (bytes_spelled storage) (items_view list.now.items) ≡ Some rows.0) }
-    ensures valid { IfOk result (λ rows. valid_read (bytes_spelled storage) (items_view list.now.items) ≡ Some rows.1) }
-    ensures typed { IfOk result (λ rows. are_bytes_of storage rows.0 ≡ true) }
-    ensures err { IfErr result (IsRefused (all_or_null (bytes_spelled storage) (items_view list.now.items) ≡ None)) }
+) -> VortexResult<BinaryViews>
+    requires { N.told nulls.old ≡ [] }
+    ensures ok { IfOk result (λ rows. AreRead N.mode [] (bytes_spelled storage) (items_view list.now.items) rows (N.told nulls.new)) }
+    ensures typed { IfOk result (λ rows. are_bytes_of storage rows ≡ true) }
+    ensures err { IfErr result (IsRefused (all_read (or_null N.mode (bytes_spelled storage)) (items_view list.now.items) ≡ None)) }
 {
     let mut rows = BinaryBuilder::with_capacity(alloc, list.len())?;
-    let mut valid = BitBuilder::with_capacity(alloc, list.len())?;
     let mut decoded = Vec::new(alloc);
     for value in list {
-        rows.push(bytes_or_none(storage, value, &mut decoded)?)?;
-        valid.push(!value.is_null())?;
+        let null = N::is_null_row(value);
+        rows.push(bytes_or_none(null, storage, value, &mut decoded)?)?;
+        nulls.tell(!null)?;
     }
-    Ok((rows.finish(alloc)?, valid.finish(alloc)?))
+    Ok(rows.finish(alloc)?)
 }

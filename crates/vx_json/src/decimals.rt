@@ -1,21 +1,22 @@
 //! Values of decimals, and lists of them.
 
-ghost use Rattle.std.specs.Prelude.{◌≡◌, ◌≢◌, ℤ, pos, true, Some, None, IfSome, IfNone, IfOk, IfErr};
+ghost use Rattle.std.specs.Prelude.{◌≡◌, ◌≢◌, ℤ, pos, true, [], Some, None, IfSome, IfNone, IfOk, IfErr};
 ghost use Rattle.std.specs.Fmt.{signed_decimal};
 ghost use Rattle.serde_json.specs.View.{view, items_view};
 ghost use Rattle.vx_value.specs.Decimals.{has_digits, smallest_width};
 ghost use Rattle.vx_native.specs.DecimalNumbers.{numbers_of, decimal_type_of};
+ghost use Rattle.vx_json.specs.ReadRows.{AreRead};
 ghost use Rattle.vx_json.specs.Refused.{IsRefused};
-ghost use Rattle.vx_json.specs.SpelledValues.{decimal_in, decimal_spelled, all_read, all_or_null, values_read, valid_read};
+ghost use Rattle.vx_json.specs.SpelledValues.{decimal_in, decimal_spelled, or_null, all_read};
 
 use crate::BAD_VALUE;
-use crate::numbers::{NumberReader, nullable_numbers, numbers};
+use crate::numbers::{NumberReader, numbers};
+use crate::row_nulls::RowNulls;
 use itoa::Buffer as TextBuffer;
 use serde_json::Value;
 use std::alloc::Global;
-use vx_mask::{BitBuffer, Buffer};
-use vx_native::{DecimalValues, NativeDecimalType, by_decimal_type, narrowed};
-use vx_value::{DecimalDType, DecimalType, DecimalValue, Digits, Nullability, VortexResult};
+use vx_native::{DecimalValues, NativeDecimalType, narrowed};
+use vx_value::{DecimalDType, DecimalType, DecimalValue, Digits, VortexResult};
 
 /// Reads the number that `text` is the decimal form of: without `+`, without a leading zero and not `-0`. It must be one of
 /// `digits`.
@@ -64,69 +65,42 @@ impl<T: NativeDecimalType> NumberReader<T> for Digits {
     }
 }
 
-/// Reads a list of numbers without their points, which must be among `digits`, in the narrowest integers that hold all of these.
-/// `InvalidArgument(BadValue)` if an item isn't one.
-fn native_decimals<T: NativeDecimalType>(
+/// Reads a list of numbers without their points, which must be among `digits`, in the narrowest integers that hold all of these, and
+/// tells `nulls` which rows aren't null. Returns the numbers, 0 for null. `InvalidArgument(BadValue)` if an item is neither.
+fn native_decimals<T: NativeDecimalType, N: RowNulls>(
     alloc: Global,
     digits: Digits,
+    nulls: &mut N,
     list: &Vec<Value>,
 ) -> VortexResult<DecimalValues>
-    requires { T.kind ≡ smallest_width digits.precision }
+    requires width { T.kind ≡ smallest_width digits.precision }
+    requires untold { N.told nulls.old ≡ [] }
     ensures kind { IfOk result (λ v. decimal_type_of v ≡ T.kind) }
-    ensures ok { IfOk result (λ v. all_read (decimal_spelled digits.precision) (items_view list.now.items) ≡ Some (numbers_of v)) }
-    ensures err { IfErr result (IsRefused (all_read (decimal_spelled digits.precision) (items_view list.now.items) ≡ None)) }
-{
-    let values: Vec<T> = numbers(alloc, &digits, list)?;
-    Ok(T::wrap_decimals(Buffer::from_vec(alloc, values)?))
-}
-
-/// Reads a list of numbers of type `decimal`, without their points. `InvalidArgument(BadValue)` if an item isn't one.
-pub(crate) fn decimals(
-    alloc: Global,
-    decimal: &DecimalDType,
-    list: &Vec<Value>,
-) -> VortexResult<DecimalValues>
-    ensures kind { IfOk result (λ v. decimal_type_of v ≡ smallest_width decimal.now.precision) }
-    ensures ok { IfOk result (λ v. all_read (decimal_spelled decimal.now.precision) (items_view list.now.items) ≡ Some (numbers_of v)) }
-    ensures err { IfErr result (IsRefused (all_read (decimal_spelled decimal.now.precision) (items_view list.now.items) ≡ None)) }
-{
-    let width = DecimalType::smallest_decimal_value_type(decimal);
-    let digits = decimal.digits();
-    by_decimal_type!(width, native_decimals(alloc, digits, list))
-}
-
-/// Reads a list of numbers as `native_decimals` does, null among them. Returns their values, 0 for null, and whether each isn't
-/// null. `InvalidArgument(BadValue)` if an item is neither.
-fn nullable_native_decimals<T: NativeDecimalType>(
-    alloc: Global,
-    digits: Digits,
-    list: &Vec<Value>,
-) -> VortexResult<(DecimalValues, BitBuffer)>
-    requires { T.kind ≡ smallest_width digits.precision }
-    ensures kind { IfOk result (λ v. decimal_type_of v.0 ≡ T.kind) }
-    ensures values { IfOk result (λ v. values_read (pos 0) (decimal_spelled digits.precision) (items_view list.now.items) ≡ Some (numbers_of v.0)) }
-    ensures valid { IfOk result (λ v. valid_read (decimal_spelled digits.precision) (items_view list.now.items) ≡ Some v.1) }
-    ensures err { IfErr result (IsRefused (all_or_null (decimal_spelled digits.precision) (items_view list.now.items) ≡ None)) }
+    ensures ok { IfOk result (λ v. AreRead N.mode (pos 0) (decimal_spelled digits.precision) (items_view list.now.items) (numbers_of v) (N.told nulls.new)) }
+    ensures err { IfErr result (IsRefused (all_read (or_null N.mode (decimal_spelled digits.precision)) (items_view list.now.items) ≡ None)) }
 {
     let zero: T = narrowed(0);
-    let (values, valid) = nullable_numbers(alloc, zero, &digits, list)?;
-    let values = T::wrap_decimals(Buffer::from_vec(alloc, values)?);
-    Ok((values, valid))
+    Ok(T::wrap_decimals(numbers(alloc, zero, &digits, nulls, list)?))
 }
 
-/// Reads a list of numbers of type `decimal`, without their points, null among them. Returns their values, 0 for null, and whether
-/// each isn't null. `InvalidArgument(BadValue)` if an item is neither.
-pub(crate) fn nullable_decimals(
+/// Reads a list of numbers of type `decimal`, without their points, as `native_decimals` does.
+pub(crate) fn decimals<N: RowNulls>(
     alloc: Global,
     decimal: &DecimalDType,
+    nulls: &mut N,
     list: &Vec<Value>,
-) -> VortexResult<(DecimalValues, BitBuffer)>
-    ensures kind { IfOk result (λ v. decimal_type_of v.0 ≡ smallest_width decimal.now.precision) }
-    ensures values { IfOk result (λ v. values_read (pos 0) (decimal_spelled decimal.now.precision) (items_view list.now.items) ≡ Some (numbers_of v.0)) }
-    ensures valid { IfOk result (λ v. valid_read (decimal_spelled decimal.now.precision) (items_view list.now.items) ≡ Some v.1) }
-    ensures err { IfErr result (IsRefused (all_or_null (decimal_spelled decimal.now.precision) (items_view list.now.items) ≡ None)) }
+) -> VortexResult<DecimalValues>
+    requires { N.told nulls.old ≡ [] }
+    ensures kind { IfOk result (λ v. decimal_type_of v ≡ smallest_width decimal.now.precision) }
+    ensures ok { IfOk result (λ v. AreRead N.mode (pos 0) (decimal_spelled decimal.now.precision) (items_view list.now.items) (numbers_of v) (N.told nulls.new)) }
+    ensures err { IfErr result (IsRefused (all_read (or_null N.mode (decimal_spelled decimal.now.precision)) (items_view list.now.items) ≡ None)) }
 {
-    let width = DecimalType::smallest_decimal_value_type(decimal);
     let digits = decimal.digits();
-    by_decimal_type!(width, nullable_native_decimals(alloc, digits, list))
+    match DecimalType::smallest_decimal_value_type(decimal) {
+        DecimalType::I8 => native_decimals::<i8, N>(alloc, digits, nulls, list),
+        DecimalType::I16 => native_decimals::<i16, N>(alloc, digits, nulls, list),
+        DecimalType::I32 => native_decimals::<i32, N>(alloc, digits, nulls, list),
+        DecimalType::I64 => native_decimals::<i64, N>(alloc, digits, nulls, list),
+        DecimalType::I128 => native_decimals::<i128, N>(alloc, digits, nulls, list),
+    }
 }

@@ -2,6 +2,7 @@
 #![tactic(auto)]
 
 mod bytes;
+mod column_values;
 mod columns;
 mod decimals;
 mod encoding;
@@ -12,6 +13,7 @@ mod nodes;
 mod nulls;
 mod numbers;
 mod printed;
+mod row_nulls;
 mod rows;
 mod tree;
 mod types;

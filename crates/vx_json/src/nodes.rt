@@ -12,6 +12,7 @@ use crate::BAD_VALUE;
 use crate::fields::{check_keys, items, number};
 use crate::functions::function_at;
 use crate::nulls::Nulls;
+use crate::row_nulls::NoNulls;
 use crate::types::type_at;
 use crate::values::{booleans, scalar};
 use serde_json::Value;
@@ -88,7 +89,7 @@ fn filter_mask(alloc: Global, value: &Value, child: &ArrayRef) -> VortexResult<M
 {
     check_keys(value, 3)?;
     let list = items(value, "mask").ok_or(BAD_VALUE)?;
-    let mask = Mask::from_bits(booleans(alloc, list)?);
+    let mask = Mask::from_bits(booleans(alloc, &mut NoNulls, list)?);
     if mask.len() != child.len() {
         return Err(BAD_VALUE);
     }

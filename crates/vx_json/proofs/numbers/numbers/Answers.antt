@@ -1,17 +1,24 @@
-use Rattle.std.proofs.Common.{◌+◌, ◌∙◌, ap, sym, refl, None, inr, map, arith}
+use Rattle.std.proofs.Common.{◌+◌, ◌∙◌, ap, sym, refl, inr, map, arith, rules}
 use Rattle.std.proofs.lemmas.List.{map-append}
 use Rattle.serde_json.specs.View.{view}
-use Rattle.vx_json.proofs.SpelledValuesLemmas.{read_one, read_none, read_all}
+use Rattle.vx_json.specs.ReadRows.{read_unless}
+use Rattle.vx_json.proofs.ReadRowsLemmas.{none_yet, one_more, not_read, past_all}
 use Rattle.vx_json.proofs.numbers.numbers.Goals as goal
 
-pub returns-in-None-clause-err : goal.returns-in-None-clause-err
-returns-in-None-clause-err g c =
-    let spelled = g.R.NumberReader.spelled c.args.reader.now in
-    let value = c.value-item.result in
+pub loop-value-init : goal.loop-value-init
+loop-value-init g c = record {
+  counted = search rules;
+  room = search rules;
+  read = none_yet _ _ _ _ _ _ (ap (map g.T.Number.value) c.in_ok-numbers.ensures.items) c.requires.untold;
+}
+
+pub returns-in_default-clause-err : goal.returns-in_default-clause-err
+returns-in_default-clause-err g c =
     let within = rw c.deref-value-items.ensures.value at c.loop-value-test.true in
     let item = rw c.deref-value-items.ensures.value at c.value-item.is in
-    let none = sym {a = None} {b = spelled (view value)} c.in-None.ensures in
-    inr (refl, read_none spelled c.args.list.now.items c.loop-value.value-index _ c.loop-value.invariant.read value within item none)
+    let spelled = g.R.NumberReader.spelled c.args.reader.now (view c.value-item.result) in
+    let none = sym {b = read_unless c.is_null_row-null.result (g.T.Number.value c.args.zero) spelled} c.in_default.ensures in
+    inr (refl, not_read _ _ _ _ _ _ _ c.loop-value.invariant.read c.value-item.result c.is_null_row-null.result within item c.is_null_row-null.ensures none)
 
 pub loop-value-preserved : goal.loop-value-preserved
 loop-value-preserved g c =
@@ -23,10 +30,11 @@ loop-value-preserved g c =
     record {
       counted = push.len ∙ ap (λ n. n + 1) before.counted;
       room = omega (arith, push.capacity, before.room);
-      read = read_one _ c.args.list.now.items c.loop-value.value-index _ before.read c.value-item.result _ _ within item (sym c.in-Some.ensures) pushed;
+      read = one_more _ _ _ _ _ _ _ before.read c.value-item.result c.is_null_row-null.result _ _ _ within item c.is_null_row-null.ensures c.in-Some.ensures pushed
+          c.in_ok-tell.ensures;
     }
 
 pub returns-clause-ok : goal.returns-clause-ok
 returns-clause-ok g c =
     let past = rw c.deref-value-items.ensures.value at c.loop-value-test.false in
-    read_all _ c.args.list.now.items c.loop-value.value-index _ c.loop-value.invariant.read past
+    past_all _ _ _ _ _ _ _ c.loop-value.invariant.read past _ (ap (map g.T.Number.value) c.in_ok-from_vec.ensures)

@@ -1,4 +1,4 @@
-use Rattle.std.proofs.Common.{◌≡◌, ◌+◌, ◌∙◌, None, ap, refl, sym, arith, rules}
+use Rattle.std.proofs.Common.{◌≡◌, ◌+◌, ◌∙◌, None, ap, sym, arith, rules}
 use Rattle.serde_json.specs.View.{view, items_view}
 use Rattle.vx_json.specs.Spelled.{tree_spelled, trees_spelled}
 use Rattle.vx_json.proofs.SpelledLemmas.{get_less, list_less, item_less, trees_read}

@@ -1,0 +1,29 @@
+use Rattle.std.proofs.Common.{◌∙◌, sym, rules}
+use Rattle.serde_json.specs.View.{items_view}
+use Rattle.vx_value.specs.View.{type_of}
+use Rattle.vx_value.specs.declared.dtype.Nullability.TheVariants.{Nullable}
+use Rattle.vx_json.proofs.SpelledColumnsLemmas.{values_fit, bits_fit, rows_by, rows_unread}
+use Rattle.vx_json.proofs.columns.nullable_column.Goals as goal
+
+pub returns-in_err-values-clause-err : goal.returns-in_err-values-clause-err
+returns-in_err-values-clause-err c =
+    let none = rows_unread c.args.dtype (items_view c.args.list.now.items) c.in_default.not-Null c.requires in
+    search (rules, none)
+
+pub column-requires : goal.column-requires
+column-requires c =
+    let ty = type_of c.args.dtype in
+    let ds = items_view c.args.list.now.items in
+    let values = c.in_ok-values.values in
+    let valid = c.column_values.new.nulls in
+    let validity = c.in_ok-validity.validity in
+    let stored = c.in_ok-values.ensures.ok in
+    values_fit Nullable ty ds values valid validity stored (c.in_ok-validity.ensures.nullable ∙ sym c.requires)
+    (bits_fit ty ds values valid validity stored c.in_ok-validity.ensures.ok)
+
+pub returns-clause-ok : goal.returns-clause-ok
+returns-clause-ok c =
+    let made =
+    rows_by (type_of c.args.dtype) (items_view c.args.list.now.items) c.in_ok-values.values c.column_values.new.nulls c.in_ok-validity.validity c.requires
+    c.in_ok-values.ensures.ok c.in_ok-validity.ensures.ok in
+    search (rules, made)

@@ -1,0 +1,28 @@
+-- The rows that a list spells: the value of each, and whether it isn't null.
+use Rattle.std.specs.Prelude.{◌≡◌, List, [], ◌∷◌, ◌++◌, map, Bool, if◌then◌else◌, Option, Some, is_some}
+use Rattle.serde_json.specs.Data.{Data, Items}
+use Rattle.vx_value.specs.declared.dtype.Nullability.{Nullability}
+use Rattle.vx_value.specs.declared.dtype.Nullability.TheVariants.{NonNullable, Nullable}
+use Rattle.vx_tree.specs.Rows.{item_or}
+use Rattle.vx_json.specs.SpelledValues.{or_null, all_read}
+
+-- whether each of these rows isn't null, if rows may be
+abbrev pub told : {A : Type 0} → Nullability → List (Option A) → List Bool
+told NonNullable rows = []
+told Nullable rows = map is_some rows
+
+-- with one row more
+abbrev pub told_more : Nullability → List Bool → Bool → List Bool
+told_more NonNullable valid there = valid
+told_more Nullable valid there = valid ++ there ∷ []
+
+-- `zero` for null, and else what is read
+abbrev pub read_unless : {A : Type 0} → Bool → A → Option A → Option A
+read_unless null zero o = if null then Some zero else o
+
+-- the list spells rows of these values, `zero` for null, and this tells whether each isn't null, if rows may be
+pub record AreRead {A : Type 0} (m : Nullability) (zero : A) (read : Data → Option A) (ds : Items) (values : List A) (valid : List Bool) : Type 0 where
+  pub rows : List (Option A)
+  pub are_read : all_read (or_null m read) ds ≡ Some rows
+  pub held : values ≡ map (item_or zero) rows
+  pub are_told : valid ≡ told m rows
