@@ -58,8 +58,13 @@ fn nullable_column(alloc: Global, dtype: DType, list: &Vec<Value>) -> VortexResu
     }
     let mut bits = BitBuilder::with_capacity(alloc, list.len())?;
     let values = column_values(alloc, &dtype, &mut bits, list)?;
-    let validity = bits_validity(alloc, bits)?;
-    column(alloc, dtype, values, &validity)
+    match bits_validity(alloc, bits) {
+        Ok(validity) => column(alloc, dtype, values, &validity),
+        Err(e) => {
+            drop(values);
+            Err(e)
+        }
+    }
 }
 
 /// Makes the validity of rows that aren't null where `bits` is true. The only error is `OutOfMemory`.

@@ -81,7 +81,6 @@ pub(crate) fn slice(alloc: Global, value: &Value, child: ArrayRef) -> VortexResu
 }
 
 /// Reads the mask of a lazy filter of `child`, a list of as many booleans as `child` has rows.
-#[tactic(auto, using(vx_mask::proofs::MasksLemmas::bits_in_mask_of))]
 fn filter_mask(alloc: Global, value: &Value, child: &ArrayRef) -> VortexResult<Mask>
     ensures ok { IfOk result (λ mask. filter_spelled (view value.now) child.now ≡ Some (filter_of (bits_in mask) child.now)) }
     ensures rows { IfOk result (λ mask. length (bits_in mask) ≡ len child.now) }
@@ -89,11 +88,11 @@ fn filter_mask(alloc: Global, value: &Value, child: &ArrayRef) -> VortexResult<M
 {
     check_keys(value, 3)?;
     let list = items(value, "mask").ok_or(BAD_VALUE)?;
-    let mask = Mask::from_bits(booleans(alloc, &mut NoNulls, list)?);
-    if mask.len() != child.len() {
+    let bits = booleans(alloc, &mut NoNulls, list)?;
+    if bits.len() != child.len() {
         return Err(BAD_VALUE);
     }
-    Ok(mask)
+    Ok(Mask::from_bits(bits))
 }
 
 /// Reads a lazy filter of `child`, whose mask is a list of booleans.

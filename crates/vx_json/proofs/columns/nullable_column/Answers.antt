@@ -16,14 +16,14 @@ column-requires c =
     let ds = items_view c.args.list.now.items in
     let values = c.in_ok-values.values in
     let valid = c.column_values.new.nulls in
-    let validity = c.in_ok-validity.validity in
+    let validity = c.in-Ok.validity in
     let stored = c.in_ok-values.ensures.ok in
-    values_fit Nullable ty ds values valid validity stored (c.in_ok-validity.ensures.nullable ∙ sym c.requires)
-    (bits_fit ty ds values valid validity stored c.in_ok-validity.ensures.ok)
+    values_fit Nullable ty ds values valid validity stored (c.in-Ok.ensures.nullable ∙ sym c.requires)
+    (bits_fit ty ds values valid validity stored c.in-Ok.ensures.ok)
 
-pub returns-clause-ok : goal.returns-clause-ok
-returns-clause-ok c =
+pub returns-in-Ok-clause-ok : goal.returns-in-Ok-clause-ok
+returns-in-Ok-clause-ok c =
     let made =
-    rows_by (type_of c.args.dtype) (items_view c.args.list.now.items) c.in_ok-values.values c.column_values.new.nulls c.in_ok-validity.validity c.requires
-    c.in_ok-values.ensures.ok c.in_ok-validity.ensures.ok in
+    rows_by (type_of c.args.dtype) (items_view c.args.list.now.items) c.in_ok-values.values c.column_values.new.nulls c.in-Ok.validity c.requires
+    c.in_ok-values.ensures.ok c.in-Ok.ensures.ok in
     search (rules, made)
