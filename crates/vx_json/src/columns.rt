@@ -36,7 +36,6 @@ pub(crate) fn col(alloc: Global, value: &Value) -> VortexResult<ArrayRef>
 }
 
 /// Reads a column of `dtype` with the rows in `list`, null among them if the type is nullable.
-#[tactic(auto, using(crate::proofs::SpelledColumnsLemmas::rows_are_values))]
 fn column_of_rows(alloc: Global, dtype: DType, list: &Vec<Value>) -> VortexResult<ArrayRef>
     ensures ok { IfOk result (λ t. column_of_rows (type_of dtype) (items_view list.now.items) ≡ Some t) }
     ensures err { IfErr result (IsRefused (column_of_rows (type_of dtype) (items_view list.now.items) ≡ None)) }
