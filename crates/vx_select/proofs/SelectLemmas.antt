@@ -1,5 +1,6 @@
 -- Rows chosen between two arguments, and the functions that choose.
-use Rattle.std.proofs.Common.{◌≡◌, ◌<◌, ℕ, Bool, true, false, if◌then◌else◌, List, [], ◌∷◌, map, get_or, Some, None, refl, sym, ap, ◌∙◌}
+use Rattle.std.proofs.Common.{◌≡◌, ◌<◌, ℕ, Bool, true, false, if◌then◌else◌, List, [], ◌∷◌, map, get_or, Some, None, Result, IfOk, refl, sym, ap, ◌∙◌}
+use Rattle.std.proofs.lemmas.Result.{IfOk-weaker}
 use Rattle.std.specs.Prelude.{◌&&◌, ◌||◌, is_some}
 use Rattle.std.specs.Ordering.{bool_cmp, is_lt}
 use Rattle.std.specs.List.{range_with_len}
@@ -19,12 +20,16 @@ use Rattle.vx_fn.specs.declared.function.ScalarFnRef.{ScalarFnRef}
 use Rattle.vx_fn.specs.declared.function.ScalarFnRef.TheVariants.{Zip, FillNull}
 use Rattle.vx_fn.proofs.ZipLemmas.{zip_taken}
 use Rattle.vx_fn.proofs.FillNullLemmas.{fill_taken}
+use Rattle.vx_tree.specs.Columns.{canonical_tree}
 use Rattle.vx_tree.specs.Tree.{Tree, dtype}
+use Rattle.vx_tree.specs.declared.canonical.Canonical.{Canonical}
+use Rattle.vx_value.specs.declared.error.VortexError.{VortexError}
 use Rattle.vx_rows.specs.Arguments.{IsSized, types_of, row_of, cell_at, value_at, plain_type, type_of_argument}
 use Rattle.vx_kernel.specs.Computed.{IsTaken, IsMade, IsComputed}
-use Rattle.vx_select.specs.Selected.{selected, IsSelected}
+use Rattle.vx_select.specs.Selected.{selected, selected_by, selected_rows, IsSelected}
 use Rattle.vx_rows.specs.ValidRows.{is_valid, nullability_in, null_unless}
 use Rattle.vx_rows.specs.declared.argument.Argument.{Argument}
+use Rattle.vx_rows.specs.declared.argument.ArgumentRows.{ArgumentRows}
 use Rattle.vx_rows.specs.declared.argument.ArgumentRows.TheVariants.{Bits}
 use Rattle.vx_rows.specs.declared.valid.ValidRows.{ValidRows}
 use Rattle.vx_rows.specs.declared.valid.ValidRows.TheVariants as rows_valid
@@ -57,18 +62,28 @@ chosen_in : {A B : Type 0} (f : A → B) (c : Bool) (a b : A) → f (if c then a
 chosen_in f true a b = refl
 chosen_in f false a b = refl
 
-pub made_selected : {X : Type 0} (read : X → Value) (d : X) (choice : BitOperand) (x y : ℕ → X) (l r : ℕ → Value)
-    (valid : ValidRows) (n : ℕ) (xs : List X) (u : Tree) → l ≡ (λ j. read (x j)) → r ≡ (λ j. read (y j)) → xs ≡ map (selected choice x y) (range_with_len 0 n)
-    → IsMade valid (λ i. value (read (get_or xs i d))) n u → IsMade valid (λ i. value (selected choice l r i)) n u
-made_selected read d choice x y l r valid n xs u left right are h =
-    made_stored read d (selected choice x y) (selected choice l r) valid n xs u are
-    (λ i. chosen_in read (bit_in choice i) (x i) (y i) ∙ (λ j. if bit_in choice i then sym left j i else sym right j i)) h
+-- of values that are read of what both sides store
+pub column_selected : {X : Type 0} (read : X → Value) (d : X) (bits : List Bool) (l r p q : ArgumentRows) (x y : ℕ → X) (valid : ValidRows) (n : ℕ)
+    (xs : List X) (t : DataType) (found : Result Canonical VortexError) → l ≡ p → r ≡ q
+    → value_at p ≡ (λ j. read (x j)) → value_at q ≡ (λ j. read (y j)) → t ≡ with_nullability (nullability_in valid) (plain_type p)
+    → xs ≡ selected_rows bits x y n
+    → IfOk found (λ c. (dtype (canonical_tree c) ≡ t) × IsMade valid (λ i. value (read (get_or xs i d))) n (canonical_tree c))
+    → IfOk found (λ c. (dtype (canonical_tree c) ≡ with_nullability (nullability_in valid) (plain_type l))
+    × IsMade valid (λ i. value (selected_by bits (value_at l) (value_at r) i)) n (canonical_tree c))
+column_selected read d bits l r p q x y valid n xs t found first second left right typed are =
+    IfOk-weaker found _ _
+    (λ c h. (
+      h.0 ∙ typed ∙ ap (λ a. with_nullability (nullability_in valid) (plain_type a)) (sym first),
+      made_stored read d (selected_by bits x y) (selected_by bits (value_at l) (value_at r)) valid n xs (canonical_tree c) are
+          (λ i. chosen_in read (bit_row bits i) (x i) (y i)
+          ∙ (λ j. if bit_row bits i then (sym left ∙ ap value_at (sym first)) j i else (sym right ∙ ap value_at (sym second)) j i)) h.1,
+    ))
 
 -- of two that store the same
-pub made_either : (choice : BitOperand) (l r : ℕ → Value) (valid : ValidRows) (n : ℕ) (u : Tree) → l ≡ r → IsMade valid (λ i. value (l i)) n u
-    → IsMade valid (λ i. value (selected choice l r i)) n u
-made_either choice l r valid n u same =
-    made_by valid _ _ n u (λ i lt here. ap value (sym (either (bit_in choice i) (l i)) ∙ (λ j. if bit_in choice i then l i else same j i)))
+pub made_either : (bits : List Bool) (l r : ℕ → Value) (valid : ValidRows) (n : ℕ) (u : Tree) → l ≡ r → IsMade valid (λ i. value (l i)) n u
+    → IsMade valid (λ i. value (selected_by bits l r i)) n u
+made_either bits l r valid n u same =
+    made_by valid _ _ n u (λ i lt here. ap value (sym (either (bit_row bits i) (l i)) ∙ (λ j. if bit_row bits i then l i else same j i)))
   where
     either : (c : Bool) (v : Value) → (if c then v else v) ≡ v
     either true v = refl
@@ -79,20 +94,25 @@ cell_selected : (c v w : Bool) (p q : Value)
 cell_selected true v w p q = refl
 cell_selected false v w p q = refl
 
-pub is_selected : (choice : BitOperand) (x y : Argument) (valid : ValidRows) (n : ℕ) (u : Tree)
+-- `k` is what is known of the choice
+pub is_selected : (choice k : BitOperand) (x y : Argument) (t : DataType) (valid : ValidRows) (n : ℕ) (found : Result Canonical VortexError)
+    → choice ≡ k → t ≡ plain_type x.rows
     → ((i : ℕ) → i < n → is_valid valid i ≡ selected choice (is_valid x.valid) (is_valid y.valid) i)
     → nullability_in valid ≡ union (nullability_in x.valid) (nullability_in y.valid)
-    → dtype u ≡ with_nullability (nullability_in valid) (plain_type x.rows)
-    → IsMade valid (λ i. value (selected choice (value_at x.rows) (value_at y.rows) i)) n u → IsSelected choice x y n u
-is_selected choice x y valid n u rows nullability typed h = record {
-  typed = typed ∙ ap (λ m. with_nullability m (plain_type x.rows)) nullability;
-  counted = h.counted;
-  shown = h.shown ∙ same_below n _ _
-      (λ i lt. ap (λ b. null_unless b (value (selected choice (value_at x.rows) (value_at y.rows) i))) (rows i lt)
-      ∙ cell_selected (bit_in choice i) (is_valid x.valid i) (is_valid y.valid i) (value_at x.rows i) (value_at y.rows i));
-  clean = h.clean;
-  canonical = h.canonical;
-}
+    → IfOk found (λ c. (dtype (canonical_tree c) ≡ with_nullability (nullability_in valid) t)
+    × IsMade valid (λ i. value (selected k (value_at x.rows) (value_at y.rows) i)) n (canonical_tree c))
+    → IfOk found (λ c. IsSelected choice x y n (canonical_tree c))
+is_selected choice k x y t valid n found is plain rows nullability =
+    IfOk-weaker found _ _
+    (λ c h. record {
+      typed = h.0 ∙ (λ j. with_nullability (nullability j) (plain j));
+      counted = h.1.counted;
+      shown = h.1.shown ∙ same_below n _ _
+          (λ i lt. (λ j. null_unless (rows i lt j) (value (selected (sym is j) (value_at x.rows) (value_at y.rows) i)))
+          ∙ cell_selected (bit_in choice i) (is_valid x.valid i) (is_valid y.valid i) (value_at x.rows i) (value_at y.rows i));
+      clean = h.1.clean;
+      canonical = h.1.canonical;
+    })
 
 computed_selected : (f : ScalarFnRef) (args : List Argument) (choice : BitOperand) (x y : Argument) (n : ℕ) (u : Tree)
     → return_type f (types_of args) ≡ Some (with_nullability (union (nullability_in x.valid) (nullability_in y.valid)) (plain_type x.rows))

@@ -1,15 +1,14 @@
 -- Values chosen between two of one type: what makes them values that are stored so.
-use Rattle.std.proofs.Common.{◌≡◌, ℕ, ℤ, Bool, true, false, if◌then◌else◌, List, map, sym, subst, [], ◌∷◌, refl}
-use Rattle.std.specs.List.{range_with_len}
+use Rattle.std.proofs.Common.{◌≡◌, ℕ, ℤ, Bool, true, false, if◌then◌else◌, List, ap, sym, subst, [], ◌∷◌, refl, ◌∙◌}
 use Rattle.vx_value.specs.Decimals.{has_digits, smallest_width}
 use Rattle.vx_value.specs.declared.decimal.DecimalType.{DecimalType}
-use Rattle.vx_mask.specs.Operands.{bit_in}
-use Rattle.vx_mask.specs.declared.operand.BitOperand.{BitOperand}
+use Rattle.vx_mask.specs.Logic.{bit_row}
 use Rattle.vx_tree.specs.ColumnTypes.{are_decimals_of, bytes_type, are_bytes_of}
-use Rattle.vx_rows.specs.Arguments.{plain_type, unscaled_in, stored_decimals, AreDecimals, bytes_in, AreBytes}
+use Rattle.vx_rows.specs.Arguments.{plain_type, unscaled_in, stored_decimals, HasStored, AreDecimals, bytes_in, AreBytes}
 use Rattle.vx_rows.specs.declared.argument.DecimalOperand.{DecimalOperand}
+use Rattle.vx_rows.specs.declared.argument.ArgumentRows.{ArgumentRows}
 use Rattle.vx_rows.specs.declared.argument.ArgumentRows.TheVariants as stored
-use Rattle.vx_select.specs.Selected.{selected}
+use Rattle.vx_select.specs.Selected.{selected_by, selected_rows}
 use Rattle.vx_value.specs.declared.dtype.Storage.{Storage}
 use Rattle.vx_value.specs.declared.dtype.Storage.TheVariants.{Text}
 use Rattle.vx_rows.specs.declared.argument.BytesOperand.{BytesOperand}
@@ -22,20 +21,23 @@ chosen_digits : (p : ℕ) (c : Bool) (a b : ℤ) → has_digits p a ≡ true →
 chosen_digits p true a b h k = h
 chosen_digits p false a b h k = k
 
-module _ (x y : DecimalOperand) (same : plain_type (stored.Decimals x) ≡ plain_type (stored.Decimals y)) where
-  pub same_precision : x.decimal.precision ≡ y.decimal.precision
+module _ (l r : ArgumentRows) (x y : DecimalOperand) (first : l ≡ stored.Decimals x) (second : r ≡ stored.Decimals y)
+    (same : plain_type l ≡ plain_type r) where
+  same_precision : x.decimal.precision ≡ y.decimal.precision
   same_precision = cc
 
   pub same_scale : x.decimal.scale ≡ y.decimal.scale
   same_scale = cc
 
-  pub selected_decimals : (choice : BitOperand) (w : DecimalType) (zs : List ℤ) (n : ℕ) → AreDecimals x n → AreDecimals y n
+  pub selected_decimals : (bits : List Bool) (w : DecimalType) (zs : List ℤ) (n : ℕ) → HasStored l n → HasStored r n
       → w ≡ smallest_width x.decimal.precision
-      → zs ≡ map (selected choice (unscaled_in x) (unscaled_in y)) (range_with_len 0 n) → are_decimals_of (stored_decimals x.decimal) w zs ≡ true
-  selected_decimals choice w zs n h k width made =
-      numbers_stored x.decimal w (selected choice (unscaled_in x) (unscaled_in y)) zs n width made
-      (λ i lt. chosen_digits x.decimal.precision (bit_in choice i) (unscaled_in x i) (unscaled_in y i) (row_digits x.decimal x.rows n i h lt)
-      (subst (λ p. has_digits p (unscaled_in y i) ≡ true) (sym same_precision) (row_digits y.decimal y.rows n i k lt)))
+      → zs ≡ selected_rows bits (unscaled_in x) (unscaled_in y) n → are_decimals_of (stored_decimals x.decimal) w zs ≡ true
+  selected_decimals bits w zs n h k width made =
+      let left : AreDecimals x n = subst (λ s. HasStored s n) first h in
+      let right : AreDecimals y n = subst (λ s. HasStored s n) second k in
+      numbers_stored x.decimal w (selected_by bits (unscaled_in x) (unscaled_in y)) zs n width made
+      (λ i lt. chosen_digits x.decimal.precision (bit_row bits i) (unscaled_in x i) (unscaled_in y i) (row_digits x.decimal x.rows n i left lt)
+      (subst (λ p. has_digits p (unscaled_in y i) ≡ true) (sym same_precision) (row_digits y.decimal y.rows n i right lt)))
 
 -- ---- text and bytes
 
@@ -49,9 +51,12 @@ chosen_stored : (st : Storage) (c : Bool) (a b : List ℕ) → are_bytes_of st (
 chosen_stored st true a b h k = h
 chosen_stored st false a b h k = k
 
-pub selected_stored : (choice : BitOperand) (x y : BytesOperand) (n : ℕ) (rs : List (List ℕ)) → AreBytes x n → AreBytes y n
-    → bytes_type x.storage ≡ bytes_type y.storage → rs ≡ map (selected choice (bytes_in x) (bytes_in y)) (range_with_len 0 n) → are_bytes_of x.storage rs ≡ true
-selected_stored choice x y n rs h k same made =
-    rows_stored x.storage (selected choice (bytes_in x) (bytes_in y)) rs n made
-    (λ i lt. chosen_stored x.storage (bit_in choice i) (bytes_in x i) (bytes_in y i) (row_stored x.storage x.rows n i h lt)
-    (same_bytes x.storage y.storage (bytes_in y i ∷ []) same (row_stored y.storage y.rows n i k lt)))
+pub selected_stored : (l r : ArgumentRows) (x y : BytesOperand) (bits : List Bool) (rs : List (List ℕ)) (n : ℕ) → l ≡ stored.Bytes x → r ≡ stored.Bytes y
+    → plain_type l ≡ plain_type r → HasStored l n → HasStored r n
+    → rs ≡ selected_rows bits (bytes_in x) (bytes_in y) n → are_bytes_of x.storage rs ≡ true
+selected_stored l r x y bits rs n first second same h k made =
+    let left : AreBytes x n = subst (λ s. HasStored s n) first h in
+    let right : AreBytes y n = subst (λ s. HasStored s n) second k in
+    rows_stored x.storage (selected_by bits (bytes_in x) (bytes_in y)) rs n made
+    (λ i lt. chosen_stored x.storage (bit_row bits i) (bytes_in x i) (bytes_in y i) (row_stored x.storage x.rows n i left lt)
+    (same_bytes x.storage y.storage (bytes_in y i ∷ []) (sym (ap plain_type first) ∙ same ∙ ap plain_type second) (row_stored y.storage y.rows n i right lt)))

@@ -1,7 +1,8 @@
 -- Rows chosen between two arguments by bits.
-use Rattle.std.specs.Prelude.{◌≡◌, ℕ, true, map, if◌then◌else◌}
+use Rattle.std.specs.Prelude.{◌≡◌, ℕ, Bool, true, List, map, if◌then◌else◌}
 use Rattle.std.specs.List.{range_with_len}
 use Rattle.vx_value.specs.Nullabilities.{with_nullability, union}
+use Rattle.vx_mask.specs.Logic.{bit_row}
 use Rattle.vx_mask.specs.Operands.{bit_in}
 use Rattle.vx_mask.specs.declared.operand.BitOperand.{BitOperand}
 use Rattle.vx_tree.specs.Tree.{Tree, dtype, len, datum, slots, is_canonical}
@@ -13,6 +14,14 @@ use Rattle.vx_rows.specs.declared.argument.Argument.{Argument}
 -- x in row i if its bit is true, else y
 abbrev pub selected : {A : Type 0} → BitOperand → (ℕ → A) → (ℕ → A) → ℕ → A
 selected choice x y i = if bit_in choice i then x i else y i
+
+-- the same by stored bits
+abbrev pub selected_by : {A : Type 0} → List Bool → (ℕ → A) → (ℕ → A) → ℕ → A
+selected_by bits x y i = if bit_row bits i then x i else y i
+
+-- n rows of them
+abbrev pub selected_rows : {A : Type 0} → List Bool → (ℕ → A) → (ℕ → A) → ℕ → List A
+selected_rows bits x y n = map (selected_by bits x y) (range_with_len 0 n)
 
 -- u is the canonical column of these cells, nullable if one of the two is
 pub record IsSelected (choice : BitOperand) (x y : Argument) (n : ℕ) (u : Tree) : Type 0 where

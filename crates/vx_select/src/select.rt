@@ -2,7 +2,6 @@
 
 ghost use Rattle.std.specs.Prelude.{◌≡◌, ◌<◌, ◌∷◌, [], ℕ, map, length, IfOk, IfErr, if◌then◌else◌};
 ghost use Rattle.std.specs.List.{range_with_len};
-ghost use Rattle.vx_mask.specs.Logic.{bit_row};
 ghost use Rattle.vx_mask.specs.Operands.{bit_in, HasBits};
 ghost use Rattle.vx_value.specs.Nullabilities.{with_nullability, union};
 ghost use Rattle.vx_value.specs.Cell.{value};
@@ -16,13 +15,13 @@ ghost use Rattle.vx_rows.specs.Arguments.{types_of, plain_type, value_at, intege
 ghost use Rattle.vx_rows.specs.Arguments.{IsSized, HasStored, AreIntegers, AreDecimals, AreBytes};
 ghost use Rattle.vx_kernel.specs.Computed.{IsTaken, IsComputed, IsMade};
 ghost use Rattle.vx_kernel.specs.Operands.{number_in, HasRow, HasRows};
-ghost use Rattle.vx_select.specs.Selected.{selected, IsSelected};
+ghost use Rattle.vx_select.specs.Selected.{selected, selected_by, selected_rows, IsSelected};
 ghost use Rattle.vx_rows.specs.ValidRows.{is_valid, HasValidity, nullability_in};
 
 use std::alloc::{AllocError, Global};
 use vx_kernel::{
-    Operand, bit_rows, byte_rows, decimal_operand_of, decimal_rows, integer_rows, operand_of,
-    stored_column, valid_bools, valid_bytes, valid_decimals, valid_integers,
+    Operand, bit_rows, decimal_operand_of, operand_of, stored_column, valid_bools, valid_bytes,
+    valid_decimals, valid_integers,
 };
 use vx_mask::{BitAnd, BitBuffer, BitLt, BitOperand, BitOr, Buffer};
 use vx_native::{
@@ -83,8 +82,8 @@ pub fn fill_null(
     select(alloc, input.valid.as_operand(), &values, fill_value, len)
 }
 
-/// Chooses `if_true` where `choice` is true, else `if_false`, `len` rows each, whose values must be of one type. The only
-/// error is `OutOfMemory`.
+/// Chooses `if_true` where `choice` is true, else `if_false`, `len` rows each, whose values must be of one type; if one side is
+/// chosen whole, its rows are shared. The only error is `OutOfMemory`.
 fn select(
     alloc: Global,
     choice: BitOperand<'_>,
@@ -102,7 +101,13 @@ fn select(
     ensures err { IfErr result (λ e. e ≡ VortexError.OutOfMemory) }
 {
     let valid = select_valid(alloc, choice, &if_true.valid, &if_false.valid, len)?;
-    select_rows(alloc, choice, if_true.rows, if_false.rows, &valid, len)
+    match choice {
+        BitOperand::Bit(true) => stored_column(alloc, if_true.rows, &valid, len),
+        BitOperand::Bit(false) => stored_column(alloc, if_false.rows, &valid, len),
+        BitOperand::Bits(bits) => {
+            select_rows(alloc, bits, if_true.rows, if_false.rows, &valid, len)
+        }
+    }
 }
 
 /// Chooses the valid rows of a column.
@@ -136,29 +141,30 @@ fn select_valid(
     }
 }
 
-/// Makes the column of the rows that `choice` chooses, whose `valid` rows aren't null. The only error is `OutOfMemory`.
+/// Makes the column of `if_true` at the true bits of `choice`, else `if_false`, `len` rows each, which must be of one type; its
+/// `valid` rows aren't null. The only error is `OutOfMemory`.
 #[tactic(auto, using(vx_rows::proofs::ValidRowsLemmas::counted))]
 fn select_rows(
     alloc: Global,
-    choice: BitOperand<'_>,
+    choice: &BitBuffer,
     if_true: ArgumentRows<'_>,
     if_false: ArgumentRows<'_>,
     valid: &ValidRows,
     len: usize,
 ) -> VortexResult<Canonical>
-    requires choice { HasBits choice len }
+    requires choice { length choice.now ≡ len }
     requires if_true { HasStored if_true len }
     requires if_false { HasStored if_false len }
     requires valid { HasValidity valid.now len }
     requires same { plain_type if_true ≡ plain_type if_false }
     ensures ok { IfOk result (λ c. (dtype (canonical_tree c) ≡ with_nullability (nullability_in valid.now) (plain_type if_true.entry))
-        × IsMade valid.now (λ i. value (selected choice.entry (value_at if_true.entry) (value_at if_false.entry) i)) len (canonical_tree c)) }
+        × IsMade valid.now (λ i. value (selected_by choice.now (value_at if_true.entry) (value_at if_false.entry) i)) len (canonical_tree c)) }
     ensures err { IfErr result (λ e. e ≡ VortexError.OutOfMemory) }
 {
     match (if_true, if_false) {
         (ArgumentRows::Nulls, ArgumentRows::Nulls) => stored_column(alloc, if_true, valid, len),
         (ArgumentRows::Bits(if_true), ArgumentRows::Bits(if_false)) => {
-            let bits = select_bits(alloc, choice, if_true, if_false, len)?;
+            let bits = select_bits(alloc, BitOperand::Bits(choice), if_true, if_false, len)?;
             valid_bools(alloc, bits, valid, len)
         }
         (ArgumentRows::Integers(if_true), ArgumentRows::Integers(if_false)) => {
@@ -170,7 +176,7 @@ fn select_rows(
             valid_decimals(alloc, if_true.decimal, values, valid, len)
         }
         (ArgumentRows::Bytes(if_true), ArgumentRows::Bytes(if_false)) => {
-            let rows = select_bytes(alloc, choice, if_true, if_false, len)?;
+            let rows = select_views(alloc, choice, if_true, if_false, len)?;
             valid_bytes(alloc, if_true.storage, rows, valid, len)
         }
         _ => unreachable!(),
@@ -178,6 +184,7 @@ fn select_rows(
 }
 
 /// Chooses among bits, by words; if one side is chosen whole, its bits are shared.
+#[tactic(auto, using(vx_rows::proofs::ValidRowsLemmas::counted))]
 fn select_bits(
     alloc: Global,
     choice: BitOperand<'_>,
@@ -194,55 +201,33 @@ fn select_bits(
         (BitOperand::Bit(true), _) => bit_rows(alloc, if_true, len),
         (BitOperand::Bit(false), _) => bit_rows(alloc, if_false, len),
         (_, BitOperand::Bit(true)) => BitBuffer::zip::<BitOr>(alloc, choice, if_false, len),
-        _ => select_words(alloc, choice, if_true, if_false, len),
+        _ => {
+            let chosen = BitBuffer::zip::<BitAnd>(alloc, choice, if_true, len)?;
+            let others = BitBuffer::zip::<BitLt>(alloc, choice, if_false, len)?;
+            let chosen = BitOperand::Bits(&chosen);
+            BitBuffer::zip::<BitOr>(alloc, chosen, BitOperand::Bits(&others), len)
+        }
     }
 }
 
-/// Chooses among bits, by words.
-#[tactic(auto, using(vx_rows::proofs::ValidRowsLemmas::counted))]
-fn select_words(
-    alloc: Global,
-    choice: BitOperand<'_>,
-    if_true: BitOperand<'_>,
-    if_false: BitOperand<'_>,
-    len: usize,
-) -> Result<BitBuffer, AllocError>
-    requires choice { HasBits choice len }
-    requires if_true { HasBits if_true len }
-    requires if_false { HasBits if_false len }
-    ensures { IfOk result (λ b. b ≡ map (selected choice.entry (bit_in if_true.entry) (bit_in if_false.entry)) (range_with_len 0 len)) }
-{
-    let chosen = BitBuffer::zip::<BitAnd>(alloc, choice, if_true, len)?;
-    let others = BitBuffer::zip::<BitLt>(alloc, choice, if_false, len)?;
-    let chosen = BitOperand::Bits(&chosen);
-    BitBuffer::zip::<BitOr>(alloc, chosen, BitOperand::Bits(&others), len)
-}
-
-/// Chooses among integers; if one side is chosen whole, its integers are shared.
+/// Chooses `if_true` at the true bits of `choice`, else `if_false`, `len` rows each, which must be of one type.
 fn select_integers(
     alloc: Global,
-    choice: BitOperand<'_>,
+    choice: &BitBuffer,
     if_true: IntegerOperand<'_>,
     if_false: IntegerOperand<'_>,
     len: usize,
 ) -> Result<PrimitiveValues, AllocError>
-    requires choice { HasBits choice len }
+    requires choice { length choice.now ≡ len }
     requires if_true { AreIntegers (ptype_in if_true) if_true len }
     requires if_false { AreIntegers (ptype_in if_true) if_false len }
     ensures kind { IfOk result (λ v. ptype_of v ≡ ptype_in if_true.entry) }
-    ensures values { IfOk result (λ v. values_of v
-        ≡ map (selected choice.entry (integer_in if_true.entry) (integer_in if_false.entry)) (range_with_len 0 len)) }
+    ensures values { IfOk result (λ v. values_of v ≡ selected_rows choice.now (integer_in if_true.entry) (integer_in if_false.entry) len) }
 {
-    match choice {
-        BitOperand::Bit(true) => integer_rows(alloc, if_true, len),
-        BitOperand::Bit(false) => integer_rows(alloc, if_false, len),
-        BitOperand::Bits(bits) => {
-            by_type!(
-                if_true.ptype(),
-                select_natives(alloc, bits, if_true, if_false, len)
-            )
-        }
-    }
+    by_type!(
+        if_true.ptype(),
+        select_natives(alloc, choice, if_true, if_false, len)
+    )
 }
 
 /// Chooses `if_true` at the true bits of `choice`, else `if_false`, `len` rows each, which must be of the type `T`.
@@ -258,39 +243,32 @@ fn select_natives<T: NativeInteger>(
     requires if_true { AreIntegers (ptype_in if_true) if_true len }
     requires if_false { AreIntegers (ptype_in if_true) if_false len }
     ensures kind { IfOk result (λ v. ptype_of v ≡ T.kind) }
-    ensures values { IfOk result (λ v. values_of v
-        ≡ map (λ i. if bit_row choice.now i then integer_in if_true.entry i else integer_in if_false.entry i) (range_with_len 0 len)) }
+    ensures values { IfOk result (λ v. values_of v ≡ selected_rows choice.now (integer_in if_true.entry) (integer_in if_false.entry) len) }
 {
     let left: Operand<'_, T> = operand_of(if_true);
-    let right: Operand<'_, T> = operand_of(if_false);
-    let numbers = select_numbers(alloc, choice, left, right, len)?;
-    Ok(T::wrap(Buffer::from_vec(alloc, numbers)?))
+    let numbers = select_numbers(alloc, choice, left, operand_of(if_false), len)?;
+    Ok(T::wrap(numbers))
 }
 
-/// Chooses among decimals of one type; if one side is chosen whole, its numbers are shared.
+/// Chooses `if_true` at the true bits of `choice`, else `if_false`, `len` rows each, which must be of one type.
 fn select_decimals(
     alloc: Global,
-    choice: BitOperand<'_>,
+    choice: &BitBuffer,
     if_true: DecimalOperand<'_>,
     if_false: DecimalOperand<'_>,
     len: usize,
 ) -> Result<DecimalValues, AllocError>
-    requires choice { HasBits choice len }
+    requires choice { length choice.now ≡ len }
     requires if_true { AreDecimals if_true len }
     requires if_false { AreDecimals if_false len }
     requires same { if_true.decimal.precision ≡ if_false.decimal.precision }
     ensures kind { IfOk result (λ v. decimal_type_of v ≡ smallest_width if_true.entry.decimal.precision) }
-    ensures values { IfOk result (λ v. numbers_of v
-        ≡ map (selected choice.entry (unscaled_in if_true.entry) (unscaled_in if_false.entry)) (range_with_len 0 len)) }
+    ensures values { IfOk result (λ v. numbers_of v ≡ selected_rows choice.now (unscaled_in if_true.entry) (unscaled_in if_false.entry) len) }
 {
-    match choice {
-        BitOperand::Bit(true) => decimal_rows(alloc, if_true, len),
-        BitOperand::Bit(false) => decimal_rows(alloc, if_false, len),
-        BitOperand::Bits(bits) => {
-            let width = DecimalType::smallest_decimal_value_type(&if_true.decimal);
-            by_decimal_type!(width, select_unscaled(alloc, bits, if_true, if_false, len))
-        }
-    }
+    by_decimal_type!(
+        DecimalType::smallest_decimal_value_type(&if_true.decimal),
+        select_unscaled(alloc, choice, if_true, if_false, len)
+    )
 }
 
 /// Chooses `if_true` at the true bits of `choice`, else `if_false`, `len` rows each, which must be stored in the width of `T`.
@@ -307,13 +285,11 @@ fn select_unscaled<T: NativeDecimalType>(
     requires if_true { AreDecimals if_true len }
     requires if_false { AreDecimals if_false len }
     ensures kind { IfOk result (λ v. decimal_type_of v ≡ T.kind) }
-    ensures values { IfOk result (λ v. numbers_of v
-        ≡ map (λ i. if bit_row choice.now i then unscaled_in if_true.entry i else unscaled_in if_false.entry i) (range_with_len 0 len)) }
+    ensures values { IfOk result (λ v. numbers_of v ≡ selected_rows choice.now (unscaled_in if_true.entry) (unscaled_in if_false.entry) len) }
 {
     let left: Operand<'_, T> = decimal_operand_of(if_true);
-    let right: Operand<'_, T> = decimal_operand_of(if_false);
-    let numbers = select_numbers(alloc, choice, left, right, len)?;
-    Ok(T::wrap_decimals(Buffer::from_vec(alloc, numbers)?))
+    let numbers = select_numbers(alloc, choice, left, decimal_operand_of(if_false), len)?;
+    Ok(T::wrap_decimals(numbers))
 }
 
 /// Chooses `left` at the true bits of `choice`, else `right`, `len` rows each.
@@ -323,19 +299,18 @@ fn select_numbers<T: NativeNumber>(
     left: Operand<'_, T>,
     right: Operand<'_, T>,
     len: usize,
-) -> Result<Vec<T>, AllocError>
+) -> Result<Buffer<T>, AllocError>
     requires choice { length choice.now ≡ len }
     requires left { HasRows left len }
     requires right { HasRows right len }
-    ensures { IfOk result (λ v. map T.value v.items
-        ≡ map (λ i. if bit_row choice.now i then number_in T.value left.entry i else number_in T.value right.entry i) (range_with_len 0 len)) }
+    ensures { IfOk result (λ b. map T.value b ≡ selected_rows choice.now (number_in T.value left.entry) (number_in T.value right.entry) len) }
 {
     let mut numbers = Vec::with_capacity(alloc, len)?;
     for index in 0..len {
         let is_true = choice.value(index);
         numbers.push_reserved(select_row(&left, &right, index, is_true));
     }
-    Ok(numbers)
+    Buffer::from_vec(alloc, numbers)
 }
 
 /// Returns row `index`, which must exist, of `left` if `choice` is true, else of `right`.
@@ -355,26 +330,6 @@ fn select_row<T: NativeNumber>(
     if choice { first } else { second }
 }
 
-/// Chooses among rows of bytes; if one side is chosen whole, its rows are shared.
-fn select_bytes(
-    alloc: Global,
-    choice: BitOperand<'_>,
-    if_true: BytesOperand<'_>,
-    if_false: BytesOperand<'_>,
-    len: usize,
-) -> Result<BinaryViews, AllocError>
-    requires choice { HasBits choice len }
-    requires if_true { AreBytes if_true len }
-    requires if_false { AreBytes if_false len }
-    ensures { IfOk result (λ r. r ≡ map (selected choice.entry (bytes_in if_true.entry) (bytes_in if_false.entry)) (range_with_len 0 len)) }
-{
-    match choice {
-        BitOperand::Bit(true) => byte_rows(alloc, if_true, len),
-        BitOperand::Bit(false) => byte_rows(alloc, if_false, len),
-        BitOperand::Bits(bits) => select_views(alloc, bits, if_true, if_false, len),
-    }
-}
-
 /// Chooses `left` at the true bits of `choice`, else `right`, `len` rows each: copies the bytes of each row once.
 fn select_views(
     alloc: Global,
@@ -386,8 +341,7 @@ fn select_views(
     requires choice { length choice.now ≡ len }
     requires left { AreBytes left len }
     requires right { AreBytes right len }
-    ensures { IfOk result (λ r. r
-        ≡ map (λ i. if bit_row choice.now i then bytes_in left.entry i else bytes_in right.entry i) (range_with_len 0 len)) }
+    ensures { IfOk result (λ r. r ≡ selected_rows choice.now (bytes_in left.entry) (bytes_in right.entry) len) }
 {
     let mut rows = BinaryBuilder::with_capacity(alloc, len)?;
     for index in 0..len {

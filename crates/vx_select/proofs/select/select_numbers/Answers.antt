@@ -1,8 +1,8 @@
 use Rattle.std.proofs.Common.{rules, if◌then◌else◌, false, ap, sym, ◌∙◌}
 use Rattle.std.proofs.lemmas.Option.{get_or_from_slice_get}
-use Rattle.vx_mask.specs.Logic.{bit_row}
 use Rattle.vx_kernel.specs.Operands.{number_in}
 use Rattle.vx_kernel.proofs.ComputedLemmas.{rows_more}
+use Rattle.vx_select.specs.Selected.{selected_by}
 use Rattle.vx_select.proofs.select.select_numbers.Goals as goal
 
 pub loop-index-preserved : goal.loop-index-preserved
@@ -15,6 +15,6 @@ loop-index-preserved g c =
     rw c.push_reserved.ensures.items (
       search rules,
       search rules,
-      rows_more read (λ j. if bit_row bits j then l j else r j) c.loop-index.numbers.items i c.select_row.result c.loop-index.invariant.2
+      rows_more read (selected_by bits l r) c.loop-index.numbers.items i c.select_row.result c.loop-index.invariant.2
           (ap (λ b. if b then l i else r i) (get_or_from_slice_get bits i c.value-is_true.result false c.value-is_true.ensures) ∙ sym c.select_row.ensures),
     )

@@ -1,11 +1,8 @@
-use Rattle.std.proofs.Common.{map, if◌then◌else◌, ap, ◌∙◌}
-use Rattle.std.specs.List.{range_with_len}
-use Rattle.vx_mask.specs.Logic.{bit_row}
+use Rattle.std.proofs.Common.{◌∙◌}
+use Rattle.vx_select.specs.Selected.{selected_rows}
 use Rattle.vx_select.proofs.select.select_unscaled.Goals as goal
 
 pub returns-clause-values : goal.returns-clause-values
 returns-clause-values g c =
-    let left = c.decimal_operand_of-left.ensures.numbers in
-    let right = c.decimal_operand_of-right.ensures.numbers in
-    c.wrap_decimals.ensures.values ∙ ap (map g.T.Number.value) c.in_ok-from_vec.ensures ∙ c.in_ok-numbers.ensures
-    ∙ (λ j. map (λ i. if bit_row c.args.choice.now i then left j i else right j i) (range_with_len 0 c.args.len))
+    c.wrap_decimals.ensures.values ∙ c.in_ok-numbers.ensures
+    ∙ (λ j. selected_rows c.args.choice.now (c.decimal_operand_of-left.ensures.numbers j) (c.decimal_operand_of.ensures.numbers j) c.args.len)
