@@ -25,11 +25,12 @@ use Rattle.vx_fn.specs.declared.function.ScalarFnRef.TheVariants.{Binary}
 use Rattle.vx_fn.proofs.BinaryLemmas.{result_type, and_is, or_is}
 use Rattle.vx_tree.specs.ColumnTypes.{bytes_type}
 use Rattle.vx_tree.specs.Tree.{Tree, dtype}
-use Rattle.vx_rows.specs.Arguments.{plain_type, row_of}
+use Rattle.vx_rows.specs.Arguments.{plain_type, row_of, IsSized}
 use Rattle.vx_operator.specs.Bits.{bit_by}
 use Rattle.vx_kernel.specs.Computed.{IsMade, IsComputed}
-use Rattle.vx_operator.specs.Truths.{argument_in, row_over}
+use Rattle.vx_operator.specs.Truths.{argument_in, row_over, HasTruths}
 use Rattle.vx_rows.specs.ValidRows.{is_valid, nullability_in, null_unless}
+use Rattle.vx_rows.specs.declared.argument.Argument.{Argument}
 use Rattle.vx_rows.specs.declared.argument.ArgumentRows.{ArgumentRows}
 use Rattle.vx_rows.specs.declared.argument.ArgumentRows.TheVariants.{Nulls, Bits, Integers, Decimals, Bytes}
 use Rattle.vx_operator.specs.declared.logic.Truths.{Truths}
@@ -103,25 +104,25 @@ cell_is false b = refl
 abbrev joined_cell : Bool → Bool → Cell
 joined_cell s p = null_unless (is_eq (bool_cmp s p)) (value (boolean s))
 
+-- of what is sure of a truth value itself, and of what is possible
+truth_joined : (q : Option Bool) → joined_cell (sure q) (possible q) ≡ value (truth q)
+truth_joined None = refl
+truth_joined (Some true) = refl
+truth_joined (Some false) = refl
+
 sure_and : (p q : Option Bool) → joined_cell (sure p && sure q) (possible p && possible q) ≡ value (truth (kleene_and p q))
+sure_and (Some true) q = truth_joined q
+sure_and (Some false) q = refl
 sure_and None None = refl
 sure_and None (Some true) = refl
 sure_and None (Some false) = refl
-sure_and (Some true) None = refl
-sure_and (Some true) (Some true) = refl
-sure_and (Some true) (Some false) = refl
-sure_and (Some false) q = refl
 
 sure_or : (p q : Option Bool) → joined_cell (sure p || sure q) (possible p || possible q) ≡ value (truth (kleene_or p q))
+sure_or (Some true) q = refl
+sure_or (Some false) q = truth_joined q
 sure_or None None = refl
 sure_or None (Some true) = refl
 sure_or None (Some false) = refl
-sure_or (Some false) None = refl
-sure_or (Some false) (Some true) = refl
-sure_or (Some false) (Some false) = refl
-sure_or (Some true) None = refl
-sure_or (Some true) (Some true) = refl
-sure_or (Some true) (Some false) = refl
 
 joined : (op : Operator) (m : Nullability) (p q : Option Bool) → is_logical op ≡ true →
     joined_cell (bit_by op (sure p) (sure q)) (bit_by op (possible p) (possible q)) ≡ apply (Binary op) (bool m) (value (truth p) ∷ value (truth q) ∷ [])
@@ -179,3 +180,8 @@ module _ (op : Operator) (logical : is_logical op ≡ true) (l r : Truths) (n : 
       (λ i lt. ap (λ b. value (boolean b)) (bit_made _ bits n i made lt)
       ∙ sym (bools_valued op w (bit_in l.bits i) (bit_in r.bits i))
       ∙ ap (λ ty. apply (Binary op) ty (value (boolean (bit_in l.bits i)) ∷ value (boolean (bit_in r.bits i)) ∷ [])) (sym h.0))))
+
+-- ---- an argument of booleans
+
+pub truths_sized : (n : ℕ) (t : Truths) (a : Argument) → argument_in t ≡ a → IsSized n a → HasTruths t n
+truths_sized n t a is h = let sized : IsSized n (argument_in t) = subst (IsSized n) (sym is) h in (sized.0, sized.1)

@@ -75,6 +75,17 @@ integers_calculated op p m h c = by_operator op c (integers_plain op p h)
     by_operator operator.Div c l = refl
     by_operator _ c l = absurd (cc)
 
+-- what isn't arithmetic on them compares them
+pub integers_compared : (op : Operator) (p : PType) → IsSome (operator_type op (primitive p NonNullable)) → ¬ (op ≡ operator.Add) → ¬ (op ≡ operator.Sub)
+    → ¬ (op ≡ operator.Mul) → ¬ (op ≡ operator.Div) → is_comparison op ≡ true
+integers_compared operator.Add p h add sub mul div = absurd (add refl)
+integers_compared operator.Sub p h add sub mul div = absurd (sub refl)
+integers_compared operator.Mul p h add sub mul div = absurd (mul refl)
+integers_compared operator.Div p h add sub mul div = absurd (div refl)
+integers_compared operator.And p h add sub mul div = absurd (cc)
+integers_compared operator.Or p h add sub mul div = absurd (cc)
+integers_compared _ p h add sub mul div = refl
+
 pub calculated_value : (op : Operator) (p : PType) (m : Nullability) (x y : ℤ) → is_logical op ≡ false
     → apply (Binary op) (primitive p m) (value (integer x) ∷ value (integer y) ∷ []) ≡ calculated op p x y
 calculated_value op p m x y l = ap (λ b. null_rule b (integer x) (null_rule b (integer y) (operated op (primitive p m) (integer x) (integer y)))) l
@@ -109,6 +120,17 @@ decimals_calculated operator.Div p s m h c = absurd (cc)
 decimals_calculated operator.And p s m h c = absurd (cc)
 decimals_calculated operator.Or p s m h c = absurd (cc)
 decimals_calculated _ p s m h c = absurd (cc)
+
+-- what is neither of the two compares them
+pub decimals_compared : (op : Operator) (p s : ℕ) → IsSome (operator_type op (decimal p s NonNullable)) → ¬ (op ≡ operator.Add) → ¬ (op ≡ operator.Sub)
+    → is_comparison op ≡ true
+decimals_compared operator.Add p s h add sub = absurd (add refl)
+decimals_compared operator.Sub p s h add sub = absurd (sub refl)
+decimals_compared operator.Mul p s h add sub = absurd (cc)
+decimals_compared operator.Div p s h add sub = absurd (cc)
+decimals_compared operator.And p s h add sub = absurd (cc)
+decimals_compared operator.Or p s h add sub = absurd (cc)
+decimals_compared _ p s h add sub = refl
 
 pub decimal_value : (op : Operator) (p s : ℕ) (m : Nullability) (x y : ℤ) (q r : ℕ) → IsSome (operator_type op (decimal p s NonNullable))
     → apply (Binary op) (decimal p s m) (value (values.decimal x q) ∷ value (values.decimal y r) ∷ []) ≡ calculated_by op (sized p s) x y

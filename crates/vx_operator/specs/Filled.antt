@@ -7,9 +7,14 @@ use Rattle.vx_value.specs.Cell.{Cell}
 use Rattle.vx_value.specs.declared.error.VortexError.{VortexError}
 use Rattle.vx_value.specs.declared.error.VortexError.TheVariants.{OutOfMemory, Fault}
 use Rattle.vx_fn.specs.Apply.{apply}
+use Rattle.vx_fn.specs.Binary.{operator_type}
+use Rattle.vx_fn.specs.declared.function.Operator.{Operator}
 use Rattle.vx_fn.specs.declared.function.ScalarFnRef.{ScalarFnRef}
+use Rattle.vx_fn.specs.declared.function.ScalarFnRef.TheVariants.{Binary}
 use Rattle.vx_tree.specs.Tree.{Tree, dtype}
 use Rattle.vx_tree.specs.Cells.{HasNoFault}
+use Rattle.vx_rows.specs.Arguments.{plain_type, pair_at}
+use Rattle.vx_rows.specs.declared.argument.ArgumentRows.{ArgumentRows}
 use Rattle.vx_rows.specs.ValidRows.{is_valid, nullability_in, null_unless}
 use Rattle.vx_rows.specs.declared.valid.ValidRows.{ValidRows}
 use Rattle.vx_kernel.specs.Computed.{IsMade}
@@ -31,3 +36,11 @@ pub record IsFilled (f : ScalarFnRef) (of_type : Option DataType) (row : ℕ →
 abbrev pub IsNotFilled : ScalarFnRef → Option DataType → (ℕ → List Cell) → ValidRows → ℕ → VortexError → Type 0
 IsNotFilled f of_type row valid n e =
     (e ≡ OutOfMemory) ⊎ ((e ≡ Fault) × ((ty : DataType) → filled_type valid of_type ≡ Some ty → ¬ (HasNoFault (filled_cells f ty row valid n))))
+
+-- u is the canonical column of an operator on the rows of two arguments of one type: null in those that aren't valid
+abbrev pub IsOperated : Operator → (lhs rhs : ArgumentRows) → ValidRows → ℕ → Tree → Type 0
+IsOperated op lhs rhs valid n u = IsFilled (Binary op) (operator_type op (plain_type lhs)) (pair_at lhs rhs) valid n u
+
+-- why there is none
+abbrev pub IsNotOperated : Operator → (lhs rhs : ArgumentRows) → ValidRows → ℕ → VortexError → Type 0
+IsNotOperated op lhs rhs valid n e = IsNotFilled (Binary op) (operator_type op (plain_type lhs)) (pair_at lhs rhs) valid n e

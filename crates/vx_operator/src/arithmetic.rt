@@ -7,10 +7,9 @@ ghost use Rattle.vx_fn.specs.Binary.{is_comparison, operator_type};
 ghost use Rattle.vx_fn.specs.Arithmetic.{calculated};
 ghost use Rattle.vx_fn.specs.declared.function.Operator.{Operator as OperatorOf};
 ghost use Rattle.vx_fn.specs.declared.function.Operator.TheVariants.{Add, Sub, Mul, Div};
-ghost use Rattle.vx_fn.specs.declared.function.ScalarFnRef.TheVariants.{Binary};
 ghost use Rattle.vx_tree.specs.Columns.{canonical_tree};
-ghost use Rattle.vx_rows.specs.Arguments.{ptype_in, AreIntegers, plain_type, pair_at};
-ghost use Rattle.vx_operator.specs.Filled.{IsFilled, IsNotFilled};
+ghost use Rattle.vx_rows.specs.Arguments.{ptype_in, AreIntegers, plain_type};
+ghost use Rattle.vx_operator.specs.Filled.{IsOperated, IsNotOperated};
 ghost use Rattle.vx_kernel.specs.Operands.{number_in, HasRow};
 ghost use Rattle.vx_rows.specs.ValidRows.{HasValidity};
 ghost use Rattle.vx_rows.specs.declared.argument.ArgumentRows.TheVariants.{Integers};
@@ -128,10 +127,8 @@ pub(crate) fn calculate<T: NativeInteger + CheckedNumber, A: Arithmetic>(
     requires rhs { AreIntegers (ptype_in lhs) rhs len }
     requires valid { HasValidity valid.now len }
     requires taken { IsSome (operator_type A.operator (plain_type (Integers lhs))) }
-    ensures ok { IfOk result (λ c. IsFilled (Binary A.operator) (operator_type A.operator (plain_type (Integers lhs.entry)))
-        (pair_at (Integers lhs.entry) (Integers rhs.entry)) valid.now len (canonical_tree c)) }
-    ensures err { IfErr result (IsNotFilled (Binary A.operator) (operator_type A.operator (plain_type (Integers lhs.entry)))
-        (pair_at (Integers lhs.entry) (Integers rhs.entry)) valid.now len) }
+    ensures ok { IfOk result (λ c. IsOperated A.operator (Integers lhs.entry) (Integers rhs.entry) valid.now len (canonical_tree c)) }
+    ensures err { IfErr result (IsNotOperated A.operator (Integers lhs.entry) (Integers rhs.entry) valid.now len) }
 {
     let operation: Operation<'_, T, A> = Operation {
         left: operand_of(lhs),

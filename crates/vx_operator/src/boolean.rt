@@ -7,11 +7,11 @@ ghost use Rattle.vx_value.specs.Types.{bool};
 ghost use Rattle.vx_fn.specs.Binary.{operator_type};
 ghost use Rattle.vx_operator.specs.Bits.{bit_by};
 ghost use Rattle.vx_value.specs.Cell.{value};
-ghost use Rattle.vx_fn.specs.declared.function.ScalarFnRef.TheVariants.{Binary, Not};
+ghost use Rattle.vx_fn.specs.declared.function.ScalarFnRef.TheVariants.{Not};
 ghost use Rattle.vx_tree.specs.Columns.{canonical_tree};
-ghost use Rattle.vx_rows.specs.Arguments.{types_of, value_at, pair_at, IsSized};
+ghost use Rattle.vx_rows.specs.Arguments.{types_of, value_at, IsSized};
 ghost use Rattle.vx_kernel.specs.Computed.{IsTaken, IsComputed};
-ghost use Rattle.vx_operator.specs.Filled.{IsFilled};
+ghost use Rattle.vx_operator.specs.Filled.{IsFilled, IsOperated};
 ghost use Rattle.vx_rows.specs.ValidRows.{HasValidity};
 ghost use Rattle.vx_rows.specs.declared.argument.ArgumentRows.TheVariants.{Bits};
 
@@ -66,8 +66,7 @@ pub(crate) fn operate_bools(
     requires rhs { HasBits rhs len }
     requires valid { HasValidity valid.now len }
     requires taken { IsSome (operator_type operator (bool Nullability.NonNullable)) }
-    ensures ok { IfOk result (λ c. IsFilled (Binary operator) (operator_type operator (bool Nullability.NonNullable))
-        (pair_at (Bits lhs.entry) (Bits rhs.entry)) valid.now len (canonical_tree c)) }
+    ensures ok { IfOk result (λ c. IsOperated operator (Bits lhs.entry) (Bits rhs.entry) valid.now len (canonical_tree c)) }
     ensures err { IfErr result (λ e. e ≡ VortexError.OutOfMemory) }
 {
     let bits = operate_bits(alloc, operator, lhs, rhs, len)?;

@@ -2,10 +2,9 @@
 
 ghost use Rattle.std.specs.Prelude.{◌≡◌, IfOk, IfErr, IsSome};
 ghost use Rattle.vx_fn.specs.Binary.{operator_type};
-ghost use Rattle.vx_fn.specs.declared.function.ScalarFnRef.TheVariants.{Binary};
 ghost use Rattle.vx_tree.specs.Columns.{canonical_tree};
-ghost use Rattle.vx_rows.specs.Arguments.{AreBytes, plain_type, pair_at};
-ghost use Rattle.vx_operator.specs.Filled.{IsFilled};
+ghost use Rattle.vx_rows.specs.Arguments.{AreBytes, plain_type};
+ghost use Rattle.vx_operator.specs.Filled.{IsOperated};
 ghost use Rattle.vx_rows.specs.ValidRows.{HasValidity};
 ghost use Rattle.vx_rows.specs.declared.argument.ArgumentRows.TheVariants.{Bytes};
 
@@ -31,8 +30,7 @@ pub(crate) fn operate_bytes(
     requires rhs { AreBytes rhs len }
     requires valid { HasValidity valid.now len }
     requires taken { IsSome (operator_type operator (plain_type (Bytes lhs))) }
-    ensures ok { IfOk result (λ c. IsFilled (Binary operator) (operator_type operator (plain_type (Bytes lhs.entry)))
-        (pair_at (Bytes lhs.entry) (Bytes rhs.entry)) valid.now len (canonical_tree c)) }
+    ensures ok { IfOk result (λ c. IsOperated operator (Bytes lhs.entry) (Bytes rhs.entry) valid.now len (canonical_tree c)) }
     ensures err { IfErr result (λ e. e ≡ VortexError.OutOfMemory) }
 {
     compare_ordered::<BytesOperand<'_>>(alloc, operator, lhs, rhs, valid, len)

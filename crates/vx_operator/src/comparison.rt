@@ -7,30 +7,27 @@ ghost use Rattle.vx_value.specs.Cell.{value};
 ghost use Rattle.vx_value.specs.Order.{value_cmp};
 ghost use Rattle.vx_value.specs.Types.{bool};
 ghost use Rattle.vx_value.specs.Values.{Value, boolean, integer, bytes};
-ghost use Rattle.vx_fn.specs.Binary.{is_comparison, operator_type};
+ghost use Rattle.vx_fn.specs.Binary.{is_comparison};
 ghost use Rattle.vx_fn.specs.Comparisons.{holds};
 ghost use Rattle.vx_fn.specs.declared.function.Operator.{Operator as OperatorOf};
 ghost use Rattle.vx_fn.specs.declared.function.Operator.TheVariants.{Eq, NotEq, Gt, Gte, Lt, Lte};
-ghost use Rattle.vx_fn.specs.declared.function.ScalarFnRef.TheVariants.{Binary};
 ghost use Rattle.vx_tree.specs.Columns.{canonical_tree};
 ghost use Rattle.vx_tree.specs.Tree.{dtype};
-ghost use Rattle.vx_rows.specs.Arguments.{bytes_in, ptype_in, AreIntegers, plain_type, pair_at};
+ghost use Rattle.vx_rows.specs.Arguments.{bytes_in};
 ghost use Rattle.vx_operator.specs.Checks.{checked_rows};
 ghost use Rattle.vx_operator.specs.Compared.{HasBytesRow, is_compared};
-ghost use Rattle.vx_operator.specs.Filled.{IsFilled};
 ghost use Rattle.vx_kernel.specs.Computed.{IsMade};
 ghost use Rattle.vx_kernel.specs.Operands.{number_in, HasRow};
 ghost use Rattle.vx_rows.specs.ValidRows.{is_valid, HasValidity, nullability_in};
-ghost use Rattle.vx_rows.specs.declared.argument.ArgumentRows.TheVariants.{Integers};
 
 use crate::checks::{RowCheck, check_rows};
 use std::alloc::{AllocError, Global};
 use std::marker::PhantomData;
 use vx_fn::Operator;
-use vx_kernel::{Operand, operand_of, valid_bools};
+use vx_kernel::{Operand, valid_bools};
 use vx_mask::BitBuffer;
-use vx_native::{NativeInteger, NativeNumber};
-use vx_rows::{BytesOperand, IntegerOperand, ValidRows};
+use vx_native::NativeNumber;
+use vx_rows::{BytesOperand, ValidRows};
 use vx_tree::Canonical;
 use vx_value::{VortexError, VortexResult};
 
@@ -206,30 +203,6 @@ impl<R: OrderedRows, C: Comparison> RowCheck for Compared<R, C> {
     fn check_row(&self, index: usize) -> bool {
         self.left.compare_at::<C>(&self.right, index)
     }
-}
-
-/// Compares the `valid` rows of `lhs` and `rhs`, `len` rows each, which must be of the type `T`, by `operator`, which must be a
-/// comparison. The other rows are null. The only error is `OutOfMemory`.
-pub(crate) fn compare_natives<T: NativeInteger>(
-    alloc: Global,
-    operator: Operator,
-    lhs: IntegerOperand<'_>,
-    rhs: IntegerOperand<'_>,
-    valid: &ValidRows,
-    len: usize,
-) -> VortexResult<Canonical>
-    requires operator { is_comparison operator ≡ true }
-    requires kind { T.kind ≡ ptype_in lhs }
-    requires lhs { AreIntegers (ptype_in lhs) lhs len }
-    requires rhs { AreIntegers (ptype_in lhs) rhs len }
-    requires valid { HasValidity valid.now len }
-    ensures ok { IfOk result (λ c. IsFilled (Binary operator) (operator_type operator (plain_type (Integers lhs.entry)))
-        (pair_at (Integers lhs.entry) (Integers rhs.entry)) valid.now len (canonical_tree c)) }
-    ensures err { IfErr result (λ e. e ≡ VortexError.OutOfMemory) }
-{
-    let left: Operand<'_, T> = operand_of(lhs);
-    let right: Operand<'_, T> = operand_of(rhs);
-    compare_ordered::<Operand<'_, T>>(alloc, operator, left, right, valid, len)
 }
 
 /// Compares the `valid` rows of `left` and `right`, `len` rows each, by `operator`, which must be a comparison. The other rows

@@ -1,18 +1,17 @@
 //! Operators applied to decimals of one type.
 
-ghost use Rattle.std.specs.Prelude.{◌≡◌, ℤ, true, false, IfOk, IfErr, IsSome, MatchOption};
+ghost use Rattle.std.specs.Prelude.{◌≡◌, ℤ, false, IfOk, IfErr, IsSome, MatchOption};
 ghost use Rattle.vx_value.specs.Casts.{sized};
 ghost use Rattle.vx_value.specs.Cell.{Cell, fault};
 ghost use Rattle.vx_value.specs.Decimals.{smallest_width};
 ghost use Rattle.vx_value.specs.Values.{decimal};
 ghost use Rattle.vx_fn.specs.Arithmetic.{calculated_by};
 ghost use Rattle.vx_fn.specs.Binary.{is_comparison, operator_type};
-ghost use Rattle.vx_fn.specs.declared.function.ScalarFnRef.TheVariants.{Binary};
 ghost use Rattle.vx_tree.specs.Columns.{canonical_tree};
-ghost use Rattle.vx_rows.specs.Arguments.{AreDecimals, plain_type, pair_at};
+ghost use Rattle.vx_rows.specs.Arguments.{AreDecimals, plain_type};
 ghost use Rattle.vx_rows.specs.ValidRows.{HasValidity};
 ghost use Rattle.vx_rows.specs.declared.argument.ArgumentRows.TheVariants.{Decimals};
-ghost use Rattle.vx_operator.specs.Filled.{IsFilled, IsNotFilled};
+ghost use Rattle.vx_operator.specs.Filled.{IsOperated, IsNotOperated};
 ghost use Rattle.vx_operator.specs.Digits.{is_within, AreLimits, HasLimits, IsWithin};
 ghost use Rattle.vx_kernel.specs.Operands.{number_in, HasRow};
 
@@ -28,10 +27,10 @@ use vx_kernel::{
 use vx_native::{NativeDecimalType, narrowed};
 use vx_rows::{DecimalOperand, ValidRows};
 use vx_tree::Canonical;
-use vx_value::{DecimalDType, VortexError, VortexResult};
+use vx_value::{DecimalDType, VortexResult};
 
 /// Applies `operator` to the `valid` rows of `lhs` and `rhs`, `len` rows each, which must be of one type and stored in the width
-/// of `T`. The other rows are null. `Fault` if a row has no value.
+/// of `T`: numbers of one scale are ordered as without their points. The other rows are null. `Fault` if a row has no value.
 pub(crate) fn operate_decimals<T: NativeDecimalType + CheckedNumber>(
     alloc: Global,
     operator: Operator,
@@ -46,45 +45,17 @@ pub(crate) fn operate_decimals<T: NativeDecimalType + CheckedNumber>(
     requires same { plain_type (Decimals lhs) ≡ plain_type (Decimals rhs) }
     requires valid { HasValidity valid.now len }
     requires taken { IsSome (operator_type operator (plain_type (Decimals lhs))) }
-    ensures ok { IfOk result (λ c. IsFilled (Binary operator) (operator_type operator (plain_type (Decimals lhs.entry)))
-        (pair_at (Decimals lhs.entry) (Decimals rhs.entry)) valid.now len (canonical_tree c)) }
-    ensures err { IfErr result (IsNotFilled (Binary operator) (operator_type operator (plain_type (Decimals lhs.entry)))
-        (pair_at (Decimals lhs.entry) (Decimals rhs.entry)) valid.now len) }
+    ensures ok { IfOk result (λ c. IsOperated operator (Decimals lhs.entry) (Decimals rhs.entry) valid.now len (canonical_tree c)) }
+    ensures err { IfErr result (IsNotOperated operator (Decimals lhs.entry) (Decimals rhs.entry) valid.now len) }
 {
-    if operator.is_comparison() {
-        return compare_decimals::<T>(alloc, operator, lhs, rhs, valid, len);
-    }
     match operator {
         Operator::Add => calculate_decimals::<T, Sum>(alloc, lhs, rhs, valid, len),
         Operator::Sub => calculate_decimals::<T, Difference>(alloc, lhs, rhs, valid, len),
-        _ => unreachable!(),
+        _ => {
+            let left: Operand<'_, T> = decimal_operand_of(lhs);
+            compare_ordered(alloc, operator, left, decimal_operand_of(rhs), valid, len)
+        }
     }
-}
-
-/// Compares the `valid` rows of `lhs` and `rhs`, `len` rows each, which must be of one type and stored in the width of `T`, by
-/// `operator`, which must be a comparison: numbers of one scale are ordered as without their points. The other rows are null. The
-/// only error is `OutOfMemory`.
-fn compare_decimals<T: NativeDecimalType>(
-    alloc: Global,
-    operator: Operator,
-    lhs: DecimalOperand<'_>,
-    rhs: DecimalOperand<'_>,
-    valid: &ValidRows,
-    len: usize,
-) -> VortexResult<Canonical>
-    requires operator { is_comparison operator ≡ true }
-    requires kind { T.kind ≡ smallest_width lhs.decimal.precision }
-    requires lhs { AreDecimals lhs len }
-    requires rhs { AreDecimals rhs len }
-    requires same { plain_type (Decimals lhs) ≡ plain_type (Decimals rhs) }
-    requires valid { HasValidity valid.now len }
-    ensures ok { IfOk result (λ c. IsFilled (Binary operator) (operator_type operator (plain_type (Decimals lhs.entry)))
-        (pair_at (Decimals lhs.entry) (Decimals rhs.entry)) valid.now len (canonical_tree c)) }
-    ensures err { IfErr result (λ e. e ≡ VortexError.OutOfMemory) }
-{
-    let left: Operand<'_, T> = decimal_operand_of(lhs);
-    let right: Operand<'_, T> = decimal_operand_of(rhs);
-    compare_ordered::<Operand<'_, T>>(alloc, operator, left, right, valid, len)
 }
 
 /// An arithmetic operator on decimals of one type.
@@ -196,10 +167,8 @@ fn calculate_decimals<T: NativeDecimalType + CheckedNumber, A: DecimalArithmetic
     requires same { plain_type (Decimals lhs) ≡ plain_type (Decimals rhs) }
     requires valid { HasValidity valid.now len }
     requires taken { IsSome (operator_type A.operator (plain_type (Decimals lhs))) }
-    ensures ok { IfOk result (λ c. IsFilled (Binary A.operator) (operator_type A.operator (plain_type (Decimals lhs.entry)))
-        (pair_at (Decimals lhs.entry) (Decimals rhs.entry)) valid.now len (canonical_tree c)) }
-    ensures err { IfErr result (IsNotFilled (Binary A.operator) (operator_type A.operator (plain_type (Decimals lhs.entry)))
-        (pair_at (Decimals lhs.entry) (Decimals rhs.entry)) valid.now len) }
+    ensures ok { IfOk result (λ c. IsOperated A.operator (Decimals lhs.entry) (Decimals rhs.entry) valid.now len (canonical_tree c)) }
+    ensures err { IfErr result (IsNotOperated A.operator (Decimals lhs.entry) (Decimals rhs.entry) valid.now len) }
 {
     let operation: DecimalOperation<'_, T, A> = DecimalOperation {
         left: decimal_operand_of(lhs),

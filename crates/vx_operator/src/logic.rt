@@ -6,9 +6,10 @@ ghost use Rattle.vx_value.specs.Nullabilities.{union};
 ghost use Rattle.vx_fn.specs.Binary.{is_logical};
 ghost use Rattle.vx_fn.specs.declared.function.ScalarFnRef.TheVariants.{Binary};
 ghost use Rattle.vx_tree.specs.Columns.{canonical_tree};
-ghost use Rattle.vx_rows.specs.Arguments.{types_of, IsSized};
+ghost use Rattle.vx_mask.specs.declared.operand.BitOperand.{BitOperand as Operand};
+ghost use Rattle.vx_rows.specs.declared.argument.ArgumentRows.TheVariants.{Bits};
 ghost use Rattle.vx_operator.specs.Bits.{bit_by};
-ghost use Rattle.vx_kernel.specs.Computed.{IsTaken, IsComputed};
+ghost use Rattle.vx_kernel.specs.Computed.{IsComputed};
 ghost use Rattle.vx_operator.specs.Truths.{HasTruths, argument_in, row_over};
 ghost use Rattle.vx_rows.specs.ValidRows.{nullability_in};
 
@@ -28,42 +29,24 @@ pub(crate) struct Truths<'a> {
     pub(crate) valid: &'a ValidRows,
 }
 
-/// Joins `lhs` and `rhs`, `len` booleans each, by `operator`, which must be logical. The only error is `OutOfMemory`.
-pub(crate) fn join(
-    alloc: Global,
-    operator: Operator,
-    lhs: &Argument<'_>,
-    rhs: &Argument<'_>,
-    len: usize,
-) -> VortexResult<Canonical>
-    requires lhs { IsSized len lhs.now }
-    requires rhs { IsSized len rhs.now }
-    requires taken { IsTaken (Binary operator) (types_of (lhs.now ∷ rhs.now ∷ [])) }
-    requires logical { is_logical operator ≡ true }
-    ensures ok { IfOk result (λ c. IsComputed (Binary operator) (lhs.now ∷ rhs.now ∷ []) len (canonical_tree c)) }
-    ensures err { IfErr result (λ e. e ≡ VortexError.OutOfMemory) }
+/// Returns the rows of `argument`, which must be booleans, as truth values.
+pub(crate) fn truths_of<'a>(argument: &'a Argument<'_>) -> Truths<'a>
+    requires { (bits : Operand) × (argument.now.rows ≡ Bits bits) }
+    ensures { argument_in result ≡ argument.now }
 {
-    let ArgumentRows::Bits(first) = lhs.rows else {
+    let ArgumentRows::Bits(bits) = argument.rows else {
         unreachable!()
     };
-    let ArgumentRows::Bits(second) = rhs.rows else {
-        unreachable!()
-    };
-    let first = Truths {
-        bits: first,
-        valid: &lhs.valid,
-    };
-    let second = Truths {
-        bits: second,
-        valid: &rhs.valid,
-    };
-    join_truths(alloc, operator, first, second, len)
+    Truths {
+        bits,
+        valid: &argument.valid,
+    }
 }
 
 /// Joins `lhs` and `rhs`, `len` rows each, by `operator`, which must be logical: in one pass if no row of either is null.
 /// The only error is `OutOfMemory`.
 #[tactic(auto, using(vx_rows::proofs::ValidRowsLemmas::counted))]
-fn join_truths(
+pub(crate) fn join(
     alloc: Global,
     operator: Operator,
     lhs: Truths<'_>,

@@ -4,9 +4,9 @@ ghost use Rattle.std.specs.Prelude.{◌≡◌, ◌∷◌, [], IfOk, IfErr, IsSom
 ghost use Rattle.vx_fn.specs.Binary.{operator_type};
 ghost use Rattle.vx_fn.specs.declared.function.ScalarFnRef.TheVariants.{Binary};
 ghost use Rattle.vx_tree.specs.Columns.{canonical_tree};
-ghost use Rattle.vx_rows.specs.Arguments.{ptype_in, types_of, plain_type, pair_at, IsSized, HasStored, AreShown, AreIntegers};
+ghost use Rattle.vx_rows.specs.Arguments.{ptype_in, types_of, plain_type, IsSized, HasStored, AreShown, AreIntegers};
 ghost use Rattle.vx_kernel.specs.Computed.{IsTaken, IsComputed, IsNotComputed};
-ghost use Rattle.vx_operator.specs.Filled.{IsFilled, IsNotFilled};
+ghost use Rattle.vx_operator.specs.Filled.{IsOperated, IsNotOperated};
 ghost use Rattle.vx_rows.specs.ValidRows.{HasValidity};
 ghost use Rattle.vx_rows.specs.declared.argument.ArgumentRows.TheVariants.{Integers};
 
@@ -14,12 +14,12 @@ use crate::arithmetic::{Difference, Product, Quotient, Sum, calculate};
 use crate::boolean::operate_bools;
 use crate::bytes::operate_bytes;
 use crate::checked::CheckedNumber;
-use crate::comparison::compare_natives;
+use crate::comparison::compare_ordered;
 use crate::decimals::operate_decimals;
-use crate::logic::join;
+use crate::logic::{join, truths_of};
 use std::alloc::Global;
 use vx_fn::Operator;
-use vx_kernel::valid_bools;
+use vx_kernel::{Operand, operand_of, valid_bools};
 use vx_mask::BitBuffer;
 use vx_native::{NativeInteger, by_decimal_type, by_type};
 use vx_rows::{Argument, ArgumentRows, IntegerOperand, ValidRows};
@@ -41,7 +41,7 @@ pub fn operate(
     ensures err { IfErr result (IsNotComputed (Binary operator) (lhs.now ∷ rhs.now ∷ []) len) }
 {
     if operator.is_logical() {
-        return join(alloc, operator, lhs, rhs, len);
+        return join(alloc, operator, truths_of(lhs), truths_of(rhs), len);
     }
     let valid = lhs.valid.and(alloc, &rhs.valid, len)?;
     match operate_rows(alloc, operator, lhs.rows, rhs.rows, &valid, len) {
@@ -66,10 +66,8 @@ fn operate_rows(
     requires shown { AreShown lhs valid.now len }
     requires same { plain_type lhs ≡ plain_type rhs }
     requires taken { IsSome (operator_type operator (plain_type lhs)) }
-    ensures ok { IfOk result (λ c.
-        IsFilled (Binary operator) (operator_type operator (plain_type lhs.entry)) (pair_at lhs.entry rhs.entry) valid.now len (canonical_tree c)) }
-    ensures err { IfErr result
-        (IsNotFilled (Binary operator) (operator_type operator (plain_type lhs.entry)) (pair_at lhs.entry rhs.entry) valid.now len) }
+    ensures ok { IfOk result (λ c. IsOperated operator lhs.entry rhs.entry valid.now len (canonical_tree c)) }
+    ensures err { IfErr result (IsNotOperated operator lhs.entry rhs.entry valid.now len) }
 {
     match (lhs, rhs) {
         (ArgumentRows::Nulls, ArgumentRows::Nulls) => {
@@ -100,7 +98,6 @@ fn operate_rows(
 
 /// Applies `operator` to the `valid` rows of `lhs` and `rhs`, `len` rows each, which must be of the type `T`. `Fault` if a row
 /// has no value.
-#[tactic(auto, using(crate::proofs::OperatorLemmas::integers_plain))]
 fn operate_natives<T: NativeInteger + CheckedNumber>(
     alloc: Global,
     operator: Operator,
@@ -114,19 +111,17 @@ fn operate_natives<T: NativeInteger + CheckedNumber>(
     requires rhs { AreIntegers (ptype_in lhs) rhs len }
     requires valid { HasValidity valid.now len }
     requires taken { IsSome (operator_type operator (plain_type (Integers lhs))) }
-    ensures ok { IfOk result (λ c. IsFilled (Binary operator) (operator_type operator (plain_type (Integers lhs.entry)))
-        (pair_at (Integers lhs.entry) (Integers rhs.entry)) valid.now len (canonical_tree c)) }
-    ensures err { IfErr result (IsNotFilled (Binary operator) (operator_type operator (plain_type (Integers lhs.entry)))
-        (pair_at (Integers lhs.entry) (Integers rhs.entry)) valid.now len) }
+    ensures ok { IfOk result (λ c. IsOperated operator (Integers lhs.entry) (Integers rhs.entry) valid.now len (canonical_tree c)) }
+    ensures err { IfErr result (IsNotOperated operator (Integers lhs.entry) (Integers rhs.entry) valid.now len) }
 {
-    if operator.is_comparison() {
-        return compare_natives::<T>(alloc, operator, lhs, rhs, valid, len);
-    }
     match operator {
         Operator::Add => calculate::<T, Sum>(alloc, lhs, rhs, valid, len),
         Operator::Sub => calculate::<T, Difference>(alloc, lhs, rhs, valid, len),
         Operator::Mul => calculate::<T, Product>(alloc, lhs, rhs, valid, len),
         Operator::Div => calculate::<T, Quotient>(alloc, lhs, rhs, valid, len),
-        _ => unreachable!(),
+        _ => {
+            let left: Operand<'_, T> = operand_of(lhs);
+            compare_ordered(alloc, operator, left, operand_of(rhs), valid, len)
+        }
     }
 }

@@ -1,26 +1,16 @@
-use Rattle.std.proofs.Common.{IfOk, ◌∷◌, [], sym, subst}
-use Rattle.vx_fn.specs.declared.function.ScalarFnRef.TheVariants.{Binary}
+use Rattle.std.proofs.lemmas.Result.{IfOk-weaker}
 use Rattle.vx_tree.specs.Columns.{canonical_tree}
-use Rattle.vx_kernel.specs.Computed.{IsComputed}
-use Rattle.vx_rows.specs.declared.argument.ArgumentRows.TheVariants.{Bits}
-use Rattle.vx_operator.proofs.LogicLemmas.{logic_bits}
-use Rattle.vx_operator.proofs.OperatorLemmas.{operands_taken}
+use Rattle.vx_operator.proofs.LogicLemmas.{logic_taken, plain_joined}
 use Rattle.vx_operator.proofs.logic.join.Goals as goal
 
-pub unreachable-requires : goal.unreachable-requires
-unreachable-requires c =
-    let a = c.args.lhs.now in
-    let taken = operands_taken c.args.operator c.args.len a c.args.rhs.now c.requires.lhs c.requires.rhs c.requires.taken in
-    let bits = logic_bits c.args.operator a.rows c.requires.logical taken in
-    c.in_default.not-Bits bits.0 bits.1
+pub operate_bits-requires-clause-taken : goal.operate_bits-requires-clause-taken
+operate_bits-requires-clause-taken c = logic_taken c.args.operator c.requires.logical
 
-pub returns-clause-ok : goal.returns-clause-ok
-returns-clause-ok c =
-    let a = c.args.lhs.now in
-    let b = c.args.rhs.now in
-    let f = Binary c.args.operator in
-    let r = c.join_truths.result in
-    subst (λ x. IfOk r (λ u. IsComputed f (record { rows = x; valid = a.valid } ∷ b ∷ []) c.args.len (canonical_tree u))) (sym c.in-Bits.is)
-    (subst (λ x. IfOk r (λ u. IsComputed f (record { rows = Bits c.in-Bits.first; valid = a.valid } ∷ record { rows = x; valid = b.valid } ∷ [])
-    c.args.len (canonical_tree u)))
-    (sym c.in-Bits-rows.is) c.join_truths.ensures.ok)
+pub returns-in_ok-bits-in-All-All-clause-ok : goal.returns-in_ok-bits-in-All-All-clause-ok
+returns-in_ok-bits-in-All-All-clause-ok c =
+    let union_is = c.union.ensures in
+    IfOk-weaker c.valid_bools.result _ _
+    (λ u made. plain_joined c.args.operator c.requires.logical c.args.lhs c.args.rhs c.args.len c.in-All-All.first c.in-All-All.second
+    c.union.result c.in_ok-bits-in-All-All.bits
+    (canonical_tree u) c.in-All-All.is-0 c.in-All-All.is-1 c.in_ok-bits-in-All-All.ensures union_is made)
+    c.valid_bools.ensures.ok

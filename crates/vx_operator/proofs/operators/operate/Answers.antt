@@ -1,8 +1,29 @@
-use Rattle.std.proofs.Common.{sym, ◌∙◌}
+use Rattle.std.proofs.Common.{sym, subst, ◌∙◌}
+use Rattle.std.specs.Prelude.{IsSome}
+use Rattle.vx_fn.specs.Binary.{operator_type}
 use Rattle.vx_tree.specs.Columns.{canonical_tree}
+use Rattle.vx_operator.proofs.LogicLemmas.{logic_bits, truths_sized}
 use Rattle.vx_operator.proofs.OperatorLemmas.{operands_same, operands_taken}
 use Rattle.vx_operator.proofs.PassingLemmas.{operands_shown, operands_computed, operands_not_computed}
 use Rattle.vx_operator.proofs.operators.operate.Goals as goal
+
+pub truths_of-requires : goal.truths_of-requires
+truths_of-requires c =
+    logic_bits c.args.operator c.args.lhs.now.rows (sym c.is_logical.ensures ∙ c.if-is_logical.true)
+    (operands_taken c.args.operator c.args.len c.args.lhs.now c.args.rhs.now c.requires.lhs c.requires.rhs c.requires.taken)
+
+pub truths_of-requires-then-is_logical : goal.truths_of-requires-then-is_logical
+truths_of-requires-then-is_logical c =
+    let same = operands_same c.args.operator c.args.len c.args.lhs.now c.args.rhs.now c.requires.lhs c.requires.rhs c.requires.taken in
+    logic_bits c.args.operator c.args.rhs.now.rows (sym c.is_logical.ensures ∙ c.if-is_logical.true)
+    (subst (λ t. IsSome (operator_type c.args.operator t)) same
+    (operands_taken c.args.operator c.args.len c.args.lhs.now c.args.rhs.now c.requires.lhs c.requires.rhs c.requires.taken))
+
+pub join-requires-clause-lhs : goal.join-requires-clause-lhs
+join-requires-clause-lhs c = truths_sized c.args.len c.truths_of.result c.args.lhs.now c.truths_of.ensures c.requires.lhs
+
+pub join-requires-clause-rhs : goal.join-requires-clause-rhs
+join-requires-clause-rhs c = truths_sized c.args.len c.truths_of-then-is_logical.result c.args.rhs.now c.truths_of-then-is_logical.ensures c.requires.rhs
 
 pub operate_rows-requires-clause-same : goal.operate_rows-requires-clause-same
 operate_rows-requires-clause-same c = operands_same c.args.operator c.args.len c.args.lhs.now c.args.rhs.now c.requires.lhs c.requires.rhs c.requires.taken
