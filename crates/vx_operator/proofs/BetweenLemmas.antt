@@ -29,15 +29,16 @@ use Rattle.vx_fn.proofs.MeaningsLemmas.{union_with_plain}
 use Rattle.vx_tree.specs.Tree.{Tree, dtype}
 use Rattle.vx_rows.specs.Arguments.{IsSized, types_of, value_at, integer_in, unscaled_in, plain_type, type_of_argument}
 use Rattle.vx_operator.specs.Bits.{bit_by}
-use Rattle.vx_operator.specs.Bounds.{bound_by, is_between, is_bounded}
+use Rattle.vx_operator.specs.Bounds.{bound_by, is_between, is_bounded, AreBetween}
 use Rattle.vx_operator.specs.Checks.{checked_rows}
 use Rattle.vx_kernel.specs.Computed.{IsTaken, IsMade, IsComputed}
 use Rattle.vx_rows.specs.ValidRows.{is_valid, nullability_in, null_unless}
 use Rattle.vx_rows.specs.declared.argument.Argument.{Argument}
+use Rattle.vx_rows.specs.declared.argument.BytesOperand.{BytesOperand}
 use Rattle.vx_rows.specs.declared.argument.DecimalOperand.{DecimalOperand}
 use Rattle.vx_rows.specs.declared.argument.IntegerOperand.{IntegerOperand}
 use Rattle.vx_rows.specs.declared.argument.ArgumentRows.{ArgumentRows}
-use Rattle.vx_rows.specs.declared.argument.ArgumentRows.TheVariants.{Bits, Integers, Decimals}
+use Rattle.vx_rows.specs.declared.argument.ArgumentRows.TheVariants.{Bits, Integers, Decimals, Bytes}
 use Rattle.vx_rows.specs.declared.valid.ValidRows.{ValidRows}
 use Rattle.vx_operator.proofs.ComparisonLemmas.{integers, stored_through, ordered_again, decimals_ordered}
 use Rattle.vx_kernel.proofs.MadeLemmas.{computed_by, stored_cell}
@@ -78,34 +79,41 @@ bounds_between options s t x l u v n found low high =
     (λ i lt. (λ j. v i && (bound_holds s (value_cmp (l i) (x i)) j && bound_holds t (value_cmp (x i) (u i)) j))
     ∙ (λ j. v i && (is_below (sym low j) (value_cmp (l i) (x i)) && is_below (sym high j) (value_cmp (x i) (u i))))))
 
-pub integers_between : {E : Type 0} (options : BetweenOptions) (x l u : IntegerOperand) (p q r : ℕ → ℤ) (v : ℕ → Bool) (n : ℕ)
+pub integers_between : {E : Type 0} (options : BetweenOptions) (x l u : IntegerOperand) (p q r : ℕ → ℤ) (valid : ValidRows) (n : ℕ)
     (found : Result (List Bool) E) → p ≡ integer_in x → q ≡ integer_in l → r ≡ integer_in u
-    → IfOk found (λ b. b ≡ checked_rows v (is_between options (integers p) (integers q) (integers r)) n)
-    → IfOk found (λ b. b ≡ checked_rows v (is_between options (value_at (Integers x)) (value_at (Integers l)) (value_at (Integers u))) n)
-integers_between options x l u p q r v n found here below above =
-    IfOk-weaker found _ _ (λ b are. are ∙ (λ j. checked_rows v (is_between options (integers (here j)) (integers (below j)) (integers (above j))) n))
+    → IfOk found (λ b. b ≡ checked_rows (is_valid valid) (is_between options (integers p) (integers q) (integers r)) n)
+    → IfOk found (AreBetween options valid (Integers x) (Integers l) (Integers u) n)
+integers_between options x l u p q r valid n found here below above =
+    IfOk-weaker found _ _
+    (λ b are. record {
+      made = are ∙ (λ j. checked_rows (is_valid valid) (is_between options (integers (here j)) (integers (below j)) (integers (above j))) n);
+    })
 
-pub decimals_between : {E : Type 0} (options : BetweenOptions) (x l u : DecimalOperand) (p q r : ℕ → ℤ) (v : ℕ → Bool) (n : ℕ)
+pub decimals_between : {E : Type 0} (options : BetweenOptions) (x l u : DecimalOperand) (p q r : ℕ → ℤ) (valid : ValidRows) (n : ℕ)
     (found : Result (List Bool) E) → p ≡ unscaled_in x → q ≡ unscaled_in l → r ≡ unscaled_in u
     → plain_type (Decimals x) ≡ plain_type (Decimals l) → plain_type (Decimals x) ≡ plain_type (Decimals u)
-    → IfOk found (λ b. b ≡ checked_rows v (is_between options (integers p) (integers q) (integers r)) n)
-    → IfOk found (λ b. b ≡ checked_rows v (is_between options (value_at (Decimals x)) (value_at (Decimals l)) (value_at (Decimals u))) n)
-decimals_between options x l u p q r v n found here below above same_lower same_upper =
+    → IfOk found (λ b. b ≡ checked_rows (is_valid valid) (is_between options (integers p) (integers q) (integers r)) n)
+    → IfOk found (AreBetween options valid (Decimals x) (Decimals l) (Decimals u) n)
+decimals_between options x l u p q r valid n found here below above same_lower same_upper =
     IfOk-weaker found _ _
-    (λ b are. are
-    ∙ same_below n _ _
-    (λ i lt. (λ j. v i
-    && (is_below options.lower_strict (decimals_ordered l x q p below here (sym same_lower) i j)
-    && is_below options.upper_strict (decimals_ordered x u p r here above same_upper i j)))))
+    (λ b are. record {
+      made = are
+          ∙ same_below n _ _
+          (λ i lt. (λ j. is_valid valid i
+          && (is_below options.lower_strict (decimals_ordered l x q p below here (sym same_lower) i j)
+          && is_below options.upper_strict (decimals_ordered x u p r here above same_upper i j))));
+    })
 
--- of arguments that are known
-pub rows_between : {E : Type 0} (options : BetweenOptions) (x l u p q r : ArgumentRows) (v : ℕ → Bool) (n : ℕ) (found : Result (List Bool) E)
-    → x ≡ p → l ≡ q → u ≡ r
-    → IfOk found (λ b. b ≡ checked_rows v (is_between options (value_at p) (value_at q) (value_at r)) n)
-    → IfOk found (λ b. b ≡ checked_rows v (is_between options (value_at x) (value_at l) (value_at u)) n)
-rows_between options x l u p q r v n found here below above =
+pub bytes_between : {E : Type 0} (options : BetweenOptions) (valid : ValidRows) (x l u : ArgumentRows) (p q r : BytesOperand) (n : ℕ)
+    (found : Result (List Bool) E) → x ≡ Bytes p → l ≡ Bytes q → u ≡ Bytes r
+    → IfOk found (λ b. b ≡ checked_rows (is_valid valid) (is_between options (value_at (Bytes p)) (value_at (Bytes q)) (value_at (Bytes r))) n)
+    → IfOk found (AreBetween options valid x l u n)
+bytes_between options valid x l u p q r n found here below above =
     IfOk-weaker found _ _
-    (λ b are. are ∙ (λ j. checked_rows v (is_between options (value_at (sym here j)) (value_at (sym below j)) (value_at (sym above j))) n))
+    (λ b are. record {
+      made = are
+          ∙ (λ j. checked_rows (is_valid valid) (is_between options (value_at (sym here j)) (value_at (sym below j)) (value_at (sym above j))) n);
+    })
 
 -- ---- the function
 

@@ -1,5 +1,5 @@
 -- Whether the rows of an argument lie between those of two others.
-use Rattle.std.specs.Prelude.{ℕ, Bool, ◌&&◌}
+use Rattle.std.specs.Prelude.{◌≡◌, ℕ, Bool, ◌&&◌, List}
 use Rattle.vx_value.specs.Values.{Value}
 use Rattle.vx_value.specs.Order.{value_cmp}
 use Rattle.vx_fn.specs.Between.{is_below}
@@ -9,6 +9,11 @@ use Rattle.vx_fn.specs.declared.function.Operator.TheVariants.{Lt, Lte}
 use Rattle.vx_fn.specs.declared.functions.between.StrictComparison.{StrictComparison}
 use Rattle.vx_fn.specs.declared.functions.between.StrictComparison.TheVariants.{Strict, NonStrict}
 use Rattle.vx_fn.specs.declared.functions.between.BetweenOptions.{BetweenOptions}
+use Rattle.vx_rows.specs.Arguments.{value_at}
+use Rattle.vx_rows.specs.ValidRows.{is_valid}
+use Rattle.vx_rows.specs.declared.argument.ArgumentRows.{ArgumentRows}
+use Rattle.vx_rows.specs.declared.valid.ValidRows.{ValidRows}
+use Rattle.vx_operator.specs.Checks.{checked_rows}
 
 -- the operator by which a bound is compared
 abbrev pub bound_by : StrictComparison → Operator
@@ -19,6 +24,10 @@ bound_by NonStrict = Lte
 abbrev pub is_between : BetweenOptions → (array lower upper : ℕ → Value) → ℕ → Bool
 is_between options array lower upper i =
     is_below options.lower_strict (value_cmp (lower i) (array i)) && is_below options.upper_strict (value_cmp (array i) (upper i))
+
+-- these are the bits that it stores of n rows: false if the row is null
+pub record AreBetween (options : BetweenOptions) (valid : ValidRows) (array lower upper : ArgumentRows) (n : ℕ) (bits : List Bool) : Type 0 where
+  pub made : bits ≡ checked_rows (is_valid valid) (is_between options (value_at array) (value_at lower) (value_at upper)) n
 
 -- the first operator holds of row i of `lower` and of `array`, and the second of row i of `array` and of `upper`
 abbrev pub is_bounded : (first second : Operator) → (array lower upper : ℕ → Value) → ℕ → Bool

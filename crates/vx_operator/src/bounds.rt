@@ -6,8 +6,8 @@ ghost use Rattle.vx_mask.specs.Operands.{HasBits};
 ghost use Rattle.vx_fn.specs.Comparisons.{is_ordered};
 ghost use Rattle.vx_fn.specs.declared.function.ScalarFnRef.TheVariants.{Between};
 ghost use Rattle.vx_tree.specs.Columns.{canonical_tree};
-ghost use Rattle.vx_rows.specs.Arguments.{ptype_in, types_of, plain_type, value_at, IsSized, HasStored, AreIntegers, AreDecimals};
-ghost use Rattle.vx_operator.specs.Bounds.{bound_by, is_between, is_bounded};
+ghost use Rattle.vx_rows.specs.Arguments.{ptype_in, types_of, plain_type, IsSized, HasStored, AreIntegers, AreDecimals};
+ghost use Rattle.vx_operator.specs.Bounds.{bound_by, is_between, is_bounded, AreBetween};
 ghost use Rattle.vx_operator.specs.Checks.{checked_rows};
 ghost use Rattle.vx_kernel.specs.Computed.{IsTaken, IsComputed};
 ghost use Rattle.vx_rows.specs.ValidRows.{is_valid, HasValidity};
@@ -69,8 +69,7 @@ fn between_rows(
     requires same_upper { plain_type array ≡ plain_type upper }
     requires ordered { is_ordered (plain_type array) ≡ true }
     requires valid { HasValidity valid.now len }
-    ensures { IfOk result (λ b.
-        b ≡ checked_rows (is_valid valid.now) (is_between options (value_at array.entry) (value_at lower.entry) (value_at upper.entry)) len) }
+    ensures { IfOk result (AreBetween options valid.now array.entry lower.entry upper.entry len) }
 {
     match (array, lower, upper) {
         (ArgumentRows::Bits(array), ArgumentRows::Bits(lower), ArgumentRows::Bits(upper)) => {
@@ -80,12 +79,18 @@ fn between_rows(
             ArgumentRows::Integers(array),
             ArgumentRows::Integers(lower),
             ArgumentRows::Integers(upper),
-        ) => between_integers(alloc, options, array, lower, upper, valid, len),
+        ) => by_type!(
+            array.ptype(),
+            between_natives(alloc, options, array, lower, upper, valid, len)
+        ),
         (
             ArgumentRows::Decimals(array),
             ArgumentRows::Decimals(lower),
             ArgumentRows::Decimals(upper),
-        ) => between_decimals(alloc, options, array, lower, upper, valid, len),
+        ) => by_decimal_type!(
+            DecimalType::smallest_decimal_value_type(&array.decimal),
+            between_unscaled(alloc, options, array, lower, upper, valid, len)
+        ),
         (ArgumentRows::Bytes(array), ArgumentRows::Bytes(lower), ArgumentRows::Bytes(upper)) => {
             between_ordered::<BytesOperand<'_>>(alloc, options, array, lower, upper, valid, len)
         }
@@ -118,8 +123,7 @@ fn between_bits(
     requires lower { HasBits lower len }
     requires upper { HasBits upper len }
     requires valid { HasValidity valid.now len }
-    ensures { IfOk result (λ b. b ≡ checked_rows (is_valid valid.now)
-        (is_between options (value_at (Bits array.entry)) (value_at (Bits lower.entry)) (value_at (Bits upper.entry))) len) }
+    ensures { IfOk result (AreBetween options valid.now (Bits array.entry) (Bits lower.entry) (Bits upper.entry) len) }
 {
     let above = operate_bits(
         alloc,
@@ -140,29 +144,6 @@ fn between_bits(
     keep_valid(alloc, bits, valid, len)
 }
 
-/// Checks the `valid` rows of integers, `len` rows each, which must be of one type; `false` stands for the others.
-fn between_integers(
-    alloc: Global,
-    options: BetweenOptions,
-    array: IntegerOperand<'_>,
-    lower: IntegerOperand<'_>,
-    upper: IntegerOperand<'_>,
-    valid: &ValidRows,
-    len: usize,
-) -> Result<BitBuffer, AllocError>
-    requires array { AreIntegers (ptype_in array) array len }
-    requires lower { AreIntegers (ptype_in array) lower len }
-    requires upper { AreIntegers (ptype_in array) upper len }
-    requires valid { HasValidity valid.now len }
-    ensures { IfOk result (λ b. b ≡ checked_rows (is_valid valid.now)
-        (is_between options (value_at (Integers array.entry)) (value_at (Integers lower.entry)) (value_at (Integers upper.entry))) len) }
-{
-    by_type!(
-        array.ptype(),
-        between_natives(alloc, options, array, lower, upper, valid, len)
-    )
-}
-
 /// Checks the `valid` rows of integers, `len` rows each, which must be of the type `T`; `false` stands for the others.
 fn between_natives<T: NativeInteger>(
     alloc: Global,
@@ -178,38 +159,11 @@ fn between_natives<T: NativeInteger>(
     requires lower { AreIntegers (ptype_in array) lower len }
     requires upper { AreIntegers (ptype_in array) upper len }
     requires valid { HasValidity valid.now len }
-    ensures { IfOk result (λ b. b ≡ checked_rows (is_valid valid.now)
-        (is_between options (value_at (Integers array.entry)) (value_at (Integers lower.entry)) (value_at (Integers upper.entry))) len) }
+    ensures { IfOk result (AreBetween options valid.now (Integers array.entry) (Integers lower.entry) (Integers upper.entry) len) }
 {
     let array: Operand<'_, T> = operand_of(array);
-    let lower: Operand<'_, T> = operand_of(lower);
-    let upper: Operand<'_, T> = operand_of(upper);
-    between_ordered::<Operand<'_, T>>(alloc, options, array, lower, upper, valid, len)
-}
-
-/// Checks the `valid` rows of decimals, `len` rows each, which must be of one type; `false` stands for the others.
-fn between_decimals(
-    alloc: Global,
-    options: BetweenOptions,
-    array: DecimalOperand<'_>,
-    lower: DecimalOperand<'_>,
-    upper: DecimalOperand<'_>,
-    valid: &ValidRows,
-    len: usize,
-) -> Result<BitBuffer, AllocError>
-    requires array { AreDecimals array len }
-    requires lower { AreDecimals lower len }
-    requires upper { AreDecimals upper len }
-    requires same_lower { plain_type (Decimals array) ≡ plain_type (Decimals lower) }
-    requires same_upper { plain_type (Decimals array) ≡ plain_type (Decimals upper) }
-    requires valid { HasValidity valid.now len }
-    ensures { IfOk result (λ b. b ≡ checked_rows (is_valid valid.now)
-        (is_between options (value_at (Decimals array.entry)) (value_at (Decimals lower.entry)) (value_at (Decimals upper.entry))) len) }
-{
-    by_decimal_type!(
-        DecimalType::smallest_decimal_value_type(&array.decimal),
-        between_unscaled(alloc, options, array, lower, upper, valid, len)
-    )
+    let (lower, upper) = (operand_of(lower), operand_of(upper));
+    between_ordered(alloc, options, array, lower, upper, valid, len)
 }
 
 /// Checks the `valid` rows of decimals, `len` rows each, which must be of one type and stored in the width of `T`: numbers of one
@@ -230,13 +184,11 @@ fn between_unscaled<T: NativeDecimalType>(
     requires same_lower { plain_type (Decimals array) ≡ plain_type (Decimals lower) }
     requires same_upper { plain_type (Decimals array) ≡ plain_type (Decimals upper) }
     requires valid { HasValidity valid.now len }
-    ensures { IfOk result (λ b. b ≡ checked_rows (is_valid valid.now)
-        (is_between options (value_at (Decimals array.entry)) (value_at (Decimals lower.entry)) (value_at (Decimals upper.entry))) len) }
+    ensures { IfOk result (AreBetween options valid.now (Decimals array.entry) (Decimals lower.entry) (Decimals upper.entry) len) }
 {
     let array: Operand<'_, T> = decimal_operand_of(array);
-    let lower: Operand<'_, T> = decimal_operand_of(lower);
-    let upper: Operand<'_, T> = decimal_operand_of(upper);
-    between_ordered::<Operand<'_, T>>(alloc, options, array, lower, upper, valid, len)
+    let (lower, upper) = (decimal_operand_of(lower), decimal_operand_of(upper));
+    between_ordered(alloc, options, array, lower, upper, valid, len)
 }
 
 /// Checks the `valid` rows, `len` rows each; `false` stands for the others.

@@ -29,5 +29,5 @@ returns-clause-ok c =
     valid.valid c.in_ok-bits.bits (canonical_tree u)
     (λ i lt. valid.ensures.rows i lt ∙ ap (λ b. is_valid a.valid i && b) (bounds.rows i lt))
     (valid.ensures.nullability ∙ ap (union (nullability_in a.valid)) bounds.nullability)
-    c.in_ok-bits.ensures h)
+    c.in_ok-bits.ensures.made h)
     c.valid_bools.ensures.ok

@@ -16,7 +16,9 @@ returns c =
     let above = c.in_ok-above.ensures ∙ (λ j. map (λ i. bit_by (c.bound_operator.ensures j) (bit_in l i) (bit_in x i)) (range_with_len 0 n)) in
     let below = c.in_ok-below.ensures ∙ (λ j. map (λ i. bit_by (c.bound_operator-2.ensures j) (bit_in x i) (bit_in u i)) (range_with_len 0 n)) in
     IfOk-weaker c.keep_valid.result _ _
-    (λ b kept. kept
-    ∙ words_between c.args.options x l u (is_valid c.args.valid.now) n c.in_ok-above.above c.in_ok-below.below c.in_ok-bits.bits above below
-    c.in_ok-bits.ensures)
+    (λ b kept. record {
+      made = kept
+          ∙ words_between c.args.options x l u (is_valid c.args.valid.now) n c.in_ok-above.above c.in_ok-below.below c.in_ok-bits.bits above below
+          c.in_ok-bits.ensures;
+    })
     c.keep_valid.ensures
