@@ -47,10 +47,6 @@ use Rattle.vx_rows.proofs.ValidRowsLemmas.{bit_made}
 
 -- ---- a bound
 
-bound_holds : (s : StrictComparison) (o : Ordering) → holds (bound_by s) o ≡ is_below s o
-bound_holds Strict o = refl
-bound_holds NonStrict o = refl
-
 bound_bit : (s : StrictComparison) (a b : Bool) → bit_by (bound_by s) a b ≡ is_below s (bool_cmp a b)
 bound_bit Strict a b = refl
 bound_bit NonStrict a b = refl
@@ -67,17 +63,6 @@ words_between options x l u v n above below bits first second both =
     ∙ (λ j. bit_made (λ k. bit_by (bound_by options.lower_strict) (bit_in l k) (bit_in x k)) above n i first lt j
     && bit_made (λ k. bit_by (bound_by options.upper_strict) (bit_in x k) (bit_in u k)) below n i second lt j)
     ∙ (λ j. bound_bit options.lower_strict (bit_in l i) (bit_in x i) j && bound_bit options.upper_strict (bit_in x i) (bit_in u i) j)))
-
-pub bounds_between : {E : Type 0} (options : BetweenOptions) (s t : StrictComparison) (x l u : ℕ → Value) (v : ℕ → Bool) (n : ℕ)
-    (found : Result (List Bool) E) → options.lower_strict ≡ s → options.upper_strict ≡ t
-    → IfOk found (λ b. b ≡ checked_rows v (is_bounded (bound_by s) (bound_by t) x l u) n)
-    → IfOk found (λ b. b ≡ checked_rows v (is_between options x l u) n)
-bounds_between options s t x l u v n found low high =
-    IfOk-weaker found _ _
-    (λ b are. are
-    ∙ same_below n _ _
-    (λ i lt. (λ j. v i && (bound_holds s (value_cmp (l i) (x i)) j && bound_holds t (value_cmp (x i) (u i)) j))
-    ∙ (λ j. v i && (is_below (sym low j) (value_cmp (l i) (x i)) && is_below (sym high j) (value_cmp (x i) (u i))))))
 
 pub integers_between : {E : Type 0} (options : BetweenOptions) (x l u : IntegerOperand) (p q r : ℕ → ℤ) (valid : ValidRows) (n : ℕ)
     (found : Result (List Bool) E) → p ≡ integer_in x → q ≡ integer_in l → r ≡ integer_in u

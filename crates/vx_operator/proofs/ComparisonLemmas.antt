@@ -1,8 +1,9 @@
 -- Comparisons of the values that arguments store: an order of each type, and the column of what a comparison gives.
-use Rattle.std.proofs.Common.{◌≡◌, ℕ, true, if◌then◌else◌, Some, None, refl, sym, ap, ◌∙◌, ◌+◌, ℤ, Bool, false, List, [], ◌∷◌, ◌++◌, map}
+use Rattle.std.proofs.Common.{◌≡◌, ℕ, true, if◌then◌else◌, Some, None, refl, sym, ap, ◌∙◌, ◌+◌, ℤ, Bool, false, List, [], ◌∷◌, ◌++◌, map, Result, IfOk}
 use Rattle.std.specs.Prelude.{ℤ, IsSome, option_map, ◌&&◌, slice_get}
 use Rattle.std.specs.Cmp.{nat_cmp_is}
-use Rattle.std.specs.Ordering.{int_cmp, ordering_then}
+use Rattle.std.proofs.lemmas.Result.{IfOk-weaker}
+use Rattle.std.specs.Ordering.{int_cmp, ordering_then, ordering_reverse}
 use Rattle.std.specs.declared.cmp.Ordering.{Ordering}
 use Rattle.std.specs.declared.cmp.Ordering.TheVariants.{Less, Equal, Greater}
 use Rattle.vx_value.specs.Storage.{storage_of}
@@ -12,6 +13,7 @@ use Rattle.vx_value.specs.Nullabilities.{with_nullability}
 use Rattle.vx_value.specs.Values.{Value, boolean, integer}
 use Rattle.vx_value.specs.Cell.{Cell, value}
 use Rattle.vx_value.specs.Order.{value_cmp}
+use Rattle.vx_value.specs.OrderLaws.{value_cmp_total}
 use Rattle.vx_value.specs.declared.dtype.Nullability.{Nullability}
 use Rattle.vx_value.specs.declared.dtype.Nullability.TheVariants.{NonNullable}
 use Rattle.vx_value.specs.declared.dtype.Storage.{Storage}
@@ -42,6 +44,7 @@ use Rattle.vx_kernel.proofs.ComputedLemmas.{items_more}
 use Rattle.vx_kernel.proofs.MadeLemmas.{made_by}
 use Rattle.vx_rows.proofs.ValidRowsLemmas.{bit_made}
 use Rattle.vx_mask.specs.Logic.{bit_row}
+use Rattle.vx_mask.proofs.Lists.{same_below}
 
 -- ---- what arguments store
 
@@ -124,6 +127,37 @@ pub kept_more : (f : ℕ → Bool) (bits out : List Bool) (i : ℕ) (x b : Bool)
     out ≡ checked_rows (bit_row bits) f i → out ++ x ∷ [] ≡ checked_rows (bit_row bits) f (i + 1)
 kept_more f bits out i x b here e h =
     bits_more (λ j. bit_row bits j && f j) out i x h (e ∙ ap (λ c. c && f i) (sym (get_or_from_slice_get bits i b false here)))
+
+above_turned : (o : Ordering) → holds operator.Lt o ≡ holds operator.Gt (ordering_reverse o)
+above_turned Less = refl
+above_turned Equal = refl
+above_turned Greater = refl
+
+not_below_turned : (o : Ordering) → holds operator.Lte o ≡ holds operator.Gte (ordering_reverse o)
+not_below_turned Less = refl
+not_below_turned Equal = refl
+not_below_turned Greater = refl
+
+-- the bits of a comparison, from those of the one with swapped operands
+module _ {R E : Type 0} (value : R → ℕ → Value) (op : Operator) (l r p q : R) (v : ℕ → Bool) (n : ℕ) (found : Result (List Bool) E)
+    (first : p ≡ r) (second : q ≡ l) where
+  turned : (o : Operator) → ((x : Ordering) → holds o x ≡ holds op (ordering_reverse x))
+      → IfOk found (λ b. b ≡ checked_rows v (is_compared o (value p) (value q)) n) → IfOk found (λ b. b ≡ checked_rows v (is_compared op (value l) (value r)) n)
+  turned o reversed =
+      IfOk-weaker found _ _
+      (λ b are. are
+      ∙ (λ j. checked_rows v (is_compared o (value (first j)) (value (second j))) n)
+      ∙ same_below n _ _
+      (λ i lt. ap (λ b. v i && b)
+      (reversed (value_cmp (value r i) (value l i)) ∙ ap (holds op) (sym (value_cmp_total.antisymm (value l i) (value r i))))))
+
+  pub compared_above : op ≡ operator.Gt → IfOk found (λ b. b ≡ checked_rows v (is_compared operator.Lt (value p) (value q)) n)
+      → IfOk found (λ b. b ≡ checked_rows v (is_compared op (value l) (value r)) n)
+  compared_above is = turned operator.Lt (λ o. above_turned o ∙ ap (λ a. holds a (ordering_reverse o)) (sym is))
+
+  pub compared_not_below : op ≡ operator.Gte → IfOk found (λ b. b ≡ checked_rows v (is_compared operator.Lte (value p) (value q)) n)
+      → IfOk found (λ b. b ≡ checked_rows v (is_compared op (value l) (value r)) n)
+  compared_not_below is = turned operator.Lte (λ o. not_below_turned o ∙ ap (λ a. holds a (ordering_reverse o)) (sym is))
 
 -- a column that stores these bits
 pub compared_made : (op : Operator) (valid : ValidRows) (l r : ℕ → Value) (n : ℕ) (bits : List Bool) (t : Tree) →

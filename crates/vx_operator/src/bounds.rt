@@ -210,44 +210,38 @@ fn between_ordered<R: OrderedRows>(
 {
     match (options.lower_strict, options.upper_strict) {
         (StrictComparison::Strict, StrictComparison::Strict) => {
-            between_by::<R, Below, Below>(alloc, array, lower, upper, valid, len)
+            check_rows(
+                alloc,
+                Bounded::<R, Below, Below>::of(array, lower, upper),
+                valid,
+                len,
+            )
         }
         (StrictComparison::Strict, StrictComparison::NonStrict) => {
-            between_by::<R, Below, NotAbove>(alloc, array, lower, upper, valid, len)
+            check_rows(
+                alloc,
+                Bounded::<R, Below, NotAbove>::of(array, lower, upper),
+                valid,
+                len,
+            )
         }
         (StrictComparison::NonStrict, StrictComparison::Strict) => {
-            between_by::<R, NotAbove, Below>(alloc, array, lower, upper, valid, len)
+            check_rows(
+                alloc,
+                Bounded::<R, NotAbove, Below>::of(array, lower, upper),
+                valid,
+                len,
+            )
         }
         (StrictComparison::NonStrict, StrictComparison::NonStrict) => {
-            between_by::<R, NotAbove, NotAbove>(alloc, array, lower, upper, valid, len)
+            check_rows(
+                alloc,
+                Bounded::<R, NotAbove, NotAbove>::of(array, lower, upper),
+                valid,
+                len,
+            )
         }
     }
-}
-
-/// Compares `lower` with `array` by `L`, and `array` with `upper` by `U`, in the `valid` rows, `len` rows each; `false` stands for
-/// the others.
-fn between_by<R: OrderedRows, L: Comparison, U: Comparison>(
-    alloc: Global,
-    array: R,
-    lower: R,
-    upper: R,
-    valid: &ValidRows,
-    len: usize,
-) -> Result<BitBuffer, AllocError>
-    requires array { (i : ℕ) → i < len → R.has_row array i }
-    requires lower { (i : ℕ) → i < len → R.has_row lower i }
-    requires upper { (i : ℕ) → i < len → R.has_row upper i }
-    requires valid { HasValidity valid.now len }
-    ensures { IfOk result (λ b.
-        b ≡ checked_rows (is_valid valid.now) (is_bounded L.operator U.operator (R.row_value array) (R.row_value lower) (R.row_value upper)) len) }
-{
-    let check: Bounded<R, L, U> = Bounded {
-        array,
-        lower,
-        upper,
-        operators: PhantomData,
-    };
-    check_rows(alloc, check, valid, len)
 }
 
 /// A comparison of the rows of `lower` and `array` by `L`, and of those of `array` and `upper` by `U`.
@@ -257,6 +251,22 @@ struct Bounded<R, L, U> {
     lower: R,
     upper: R,
     operators: PhantomData<(L, U)>,
+}
+
+impl<R, L, U> Bounded<R, L, U> {
+    /// Returns the comparison of `array` with its bounds.
+    fn of(array: R, lower: R, upper: R) -> Bounded<R, L, U>
+        ensures array { result.array ≡ array }
+        ensures lower { result.lower ≡ lower }
+        ensures upper { result.upper ≡ upper }
+    {
+        Bounded {
+            array,
+            lower,
+            upper,
+            operators: PhantomData,
+        }
+    }
 }
 
 impl<R: OrderedRows, L: Comparison, U: Comparison> RowCheck for Bounded<R, L, U> {

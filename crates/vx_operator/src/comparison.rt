@@ -10,7 +10,7 @@ ghost use Rattle.vx_value.specs.Values.{Value, boolean, integer, bytes};
 ghost use Rattle.vx_fn.specs.Binary.{is_comparison};
 ghost use Rattle.vx_fn.specs.Comparisons.{holds};
 ghost use Rattle.vx_fn.specs.declared.function.Operator.{Operator as OperatorOf};
-ghost use Rattle.vx_fn.specs.declared.function.Operator.TheVariants.{Eq, NotEq, Gt, Gte, Lt, Lte};
+ghost use Rattle.vx_fn.specs.declared.function.Operator.TheVariants.{Eq, NotEq, Lt, Lte};
 ghost use Rattle.vx_tree.specs.Columns.{canonical_tree};
 ghost use Rattle.vx_tree.specs.Tree.{dtype};
 ghost use Rattle.vx_rows.specs.Arguments.{bytes_in};
@@ -31,7 +31,7 @@ use vx_rows::{BytesOperand, ValidRows};
 use vx_tree::Canonical;
 use vx_value::{VortexError, VortexResult};
 
-/// A comparison operator.
+/// A comparison operator: `>` and `>=` are `<` and `<=` of swapped operands.
 pub(crate) trait Comparison {
     // its variant of `Operator`
     ghost operator: { OperatorOf };
@@ -78,40 +78,6 @@ impl Comparison for Different {
     #[tactic(auto, using(vx_value::proofs::BytesLemmas::bytes_eq_by_cmp))]
     fn compare_bytes(lhs: &[u8], rhs: &[u8]) -> bool {
         lhs != rhs
-    }
-}
-
-/// `x > y`.
-pub(crate) struct Above;
-
-impl Comparison for Above {
-    ghost operator = { Gt };
-
-    #[inline]
-    fn compare_row<T: NativeNumber>(lhs: T, rhs: T) -> bool {
-        lhs > rhs
-    }
-
-    #[inline]
-    fn compare_bytes(lhs: &[u8], rhs: &[u8]) -> bool {
-        lhs.cmp(rhs).is_gt()
-    }
-}
-
-/// `x >= y`.
-pub(crate) struct NotBelow;
-
-impl Comparison for NotBelow {
-    ghost operator = { Gte };
-
-    #[inline]
-    fn compare_row<T: NativeNumber>(lhs: T, rhs: T) -> bool {
-        lhs >= rhs
-    }
-
-    #[inline]
-    fn compare_bytes(lhs: &[u8], rhs: &[u8]) -> bool {
-        lhs.cmp(rhs).is_ge()
     }
 }
 
@@ -194,6 +160,20 @@ struct Compared<R, C> {
     operator: PhantomData<C>,
 }
 
+impl<R, C> Compared<R, C> {
+    /// Returns the comparison of `left` and `right`.
+    fn of(left: R, right: R) -> Compared<R, C>
+        ensures left { result.left ≡ left }
+        ensures right { result.right ≡ right }
+    {
+        Compared {
+            left,
+            right,
+            operator: PhantomData,
+        }
+    }
+}
+
 impl<R: OrderedRows, C: Comparison> RowCheck for Compared<R, C> {
     ghost has_row = { λ s i. R.has_row s.left i × R.has_row s.right i };
 
@@ -245,33 +225,12 @@ fn compare_rows<R: OrderedRows>(
     ensures { IfOk result (λ b. b ≡ checked_rows (is_valid valid.now) (is_compared operator (R.row_value left) (R.row_value right)) len) }
 {
     match operator {
-        Operator::Eq => compare_by::<R, Equal>(alloc, left, right, valid, len),
-        Operator::NotEq => compare_by::<R, Different>(alloc, left, right, valid, len),
-        Operator::Gt => compare_by::<R, Above>(alloc, left, right, valid, len),
-        Operator::Gte => compare_by::<R, NotBelow>(alloc, left, right, valid, len),
-        Operator::Lt => compare_by::<R, Below>(alloc, left, right, valid, len),
-        Operator::Lte => compare_by::<R, NotAbove>(alloc, left, right, valid, len),
+        Operator::Eq => check_rows(alloc, Compared::<R, Equal>::of(left, right), valid, len),
+        Operator::NotEq => check_rows(alloc, Compared::<R, Different>::of(left, right), valid, len),
+        Operator::Gt => check_rows(alloc, Compared::<R, Below>::of(right, left), valid, len),
+        Operator::Gte => check_rows(alloc, Compared::<R, NotAbove>::of(right, left), valid, len),
+        Operator::Lt => check_rows(alloc, Compared::<R, Below>::of(left, right), valid, len),
+        Operator::Lte => check_rows(alloc, Compared::<R, NotAbove>::of(left, right), valid, len),
         _ => unreachable!(),
     }
-}
-
-/// Compares the `valid` rows of `left` and `right`, `len` rows each, by `C`; `false` stands for the others.
-fn compare_by<R: OrderedRows, C: Comparison>(
-    alloc: Global,
-    left: R,
-    right: R,
-    valid: &ValidRows,
-    len: usize,
-) -> Result<BitBuffer, AllocError>
-    requires left { (i : ℕ) → i < len → R.has_row left i }
-    requires right { (i : ℕ) → i < len → R.has_row right i }
-    requires valid { HasValidity valid.now len }
-    ensures { IfOk result (λ b. b ≡ checked_rows (is_valid valid.now) (is_compared C.operator (R.row_value left) (R.row_value right)) len) }
-{
-    let check: Compared<R, C> = Compared {
-        left,
-        right,
-        operator: PhantomData,
-    };
-    check_rows(alloc, check, valid, len)
 }
