@@ -26,7 +26,7 @@ use Rattle.vx_tree.specs.declared.canonical.Canonical.{Canonical}
 use Rattle.vx_value.specs.declared.error.VortexError.{VortexError}
 use Rattle.vx_rows.specs.Arguments.{IsSized, types_of, row_of, cell_at, value_at, plain_type, type_of_argument}
 use Rattle.vx_kernel.specs.Computed.{IsTaken, IsMade, IsComputed}
-use Rattle.vx_select.specs.Selected.{selected, selected_by, selected_rows, IsSelected}
+use Rattle.vx_select.specs.Selected.{selected, selected_by, selected_rows, AreSelected, IsSelected}
 use Rattle.vx_rows.specs.ValidRows.{is_valid, nullability_in, null_unless}
 use Rattle.vx_rows.specs.declared.argument.Argument.{Argument}
 use Rattle.vx_rows.specs.declared.argument.ArgumentRows.{ArgumentRows}
@@ -68,22 +68,28 @@ pub column_selected : {X : Type 0} (read : X → Value) (d : X) (bits : List Boo
     → value_at p ≡ (λ j. read (x j)) → value_at q ≡ (λ j. read (y j)) → t ≡ with_nullability (nullability_in valid) (plain_type p)
     → xs ≡ selected_rows bits x y n
     → IfOk found (λ c. (dtype (canonical_tree c) ≡ t) × IsMade valid (λ i. value (read (get_or xs i d))) n (canonical_tree c))
-    → IfOk found (λ c. (dtype (canonical_tree c) ≡ with_nullability (nullability_in valid) (plain_type l))
-    × IsMade valid (λ i. value (selected_by bits (value_at l) (value_at r) i)) n (canonical_tree c))
+    → IfOk found (λ c. AreSelected bits l r valid n (canonical_tree c))
 column_selected read d bits l r p q x y valid n xs t found first second left right typed are =
     IfOk-weaker found _ _
-    (λ c h. (
-      h.0 ∙ typed ∙ ap (λ a. with_nullability (nullability_in valid) (plain_type a)) (sym first),
-      made_stored read d (selected_by bits x y) (selected_by bits (value_at l) (value_at r)) valid n xs (canonical_tree c) are
+    (λ c h. record {
+      typed = h.0 ∙ typed ∙ ap (λ a. with_nullability (nullability_in valid) (plain_type a)) (sym first);
+      made = made_stored read d (selected_by bits x y) (selected_by bits (value_at l) (value_at r)) valid n xs (canonical_tree c) are
           (λ i. chosen_in read (bit_row bits i) (x i) (y i)
-          ∙ (λ j. if bit_row bits i then (sym left ∙ ap value_at (sym first)) j i else (sym right ∙ ap value_at (sym second)) j i)) h.1,
-    ))
+          ∙ (λ j. if bit_row bits i then (sym left ∙ ap value_at (sym first)) j i else (sym right ∙ ap value_at (sym second)) j i)) h.1;
+    })
 
 -- of two that store the same
-pub made_either : (bits : List Bool) (l r : ℕ → Value) (valid : ValidRows) (n : ℕ) (u : Tree) → l ≡ r → IsMade valid (λ i. value (l i)) n u
-    → IsMade valid (λ i. value (selected_by bits l r i)) n u
-made_either bits l r valid n u same =
-    made_by valid _ _ n u (λ i lt here. ap value (sym (either (bit_row bits i) (l i)) ∙ (λ j. if bit_row bits i then l i else same j i)))
+pub column_either : (bits : List Bool) (l r : ArgumentRows) (valid : ValidRows) (n : ℕ) (found : Result Canonical VortexError) → value_at l ≡ value_at r
+    → IfOk found (λ c. (dtype (canonical_tree c) ≡ with_nullability (nullability_in valid) (plain_type l))
+    × IsMade valid (λ i. value (value_at l i)) n (canonical_tree c))
+    → IfOk found (λ c. AreSelected bits l r valid n (canonical_tree c))
+column_either bits l r valid n found same =
+    IfOk-weaker found _ _
+    (λ c h. record {
+      typed = h.0;
+      made = made_by valid _ _ n (canonical_tree c)
+          (λ i lt here. ap value (sym (either (bit_row bits i) (value_at l i)) ∙ (λ j. if bit_row bits i then value_at l i else same j i))) h.1;
+    })
   where
     either : (c : Bool) (v : Value) → (if c then v else v) ≡ v
     either true v = refl

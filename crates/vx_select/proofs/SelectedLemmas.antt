@@ -21,23 +21,23 @@ chosen_digits : (p : ℕ) (c : Bool) (a b : ℤ) → has_digits p a ≡ true →
 chosen_digits p true a b h k = h
 chosen_digits p false a b h k = k
 
-module _ (l r : ArgumentRows) (x y : DecimalOperand) (first : l ≡ stored.Decimals x) (second : r ≡ stored.Decimals y)
-    (same : plain_type l ≡ plain_type r) where
+module _ (x y : DecimalOperand) (same : plain_type (stored.Decimals x) ≡ plain_type (stored.Decimals y)) where
   same_precision : x.decimal.precision ≡ y.decimal.precision
   same_precision = cc
 
   pub same_scale : x.decimal.scale ≡ y.decimal.scale
   same_scale = cc
 
-  pub selected_decimals : (bits : List Bool) (w : DecimalType) (zs : List ℤ) (n : ℕ) → HasStored l n → HasStored r n
+  pub same_width : (w : DecimalType) → w ≡ smallest_width x.decimal.precision → w ≡ smallest_width y.decimal.precision
+  same_width w h = h ∙ ap smallest_width same_precision
+
+  pub selected_decimals : (bits : List Bool) (w : DecimalType) (zs : List ℤ) (n : ℕ) → AreDecimals x n → AreDecimals y n
       → w ≡ smallest_width x.decimal.precision
       → zs ≡ selected_rows bits (unscaled_in x) (unscaled_in y) n → are_decimals_of (stored_decimals x.decimal) w zs ≡ true
   selected_decimals bits w zs n h k width made =
-      let left : AreDecimals x n = subst (λ s. HasStored s n) first h in
-      let right : AreDecimals y n = subst (λ s. HasStored s n) second k in
       numbers_stored x.decimal w (selected_by bits (unscaled_in x) (unscaled_in y)) zs n width made
-      (λ i lt. chosen_digits x.decimal.precision (bit_row bits i) (unscaled_in x i) (unscaled_in y i) (row_digits x.decimal x.rows n i left lt)
-      (subst (λ p. has_digits p (unscaled_in y i) ≡ true) (sym same_precision) (row_digits y.decimal y.rows n i right lt)))
+      (λ i lt. chosen_digits x.decimal.precision (bit_row bits i) (unscaled_in x i) (unscaled_in y i) (row_digits x.decimal x.rows n i h lt)
+      (subst (λ p. has_digits p (unscaled_in y i) ≡ true) (sym same_precision) (row_digits y.decimal y.rows n i k lt)))
 
 -- ---- text and bytes
 

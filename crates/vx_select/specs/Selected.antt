@@ -1,15 +1,19 @@
 -- Rows chosen between two arguments by bits.
 use Rattle.std.specs.Prelude.{◌≡◌, ℕ, Bool, true, List, map, if◌then◌else◌}
 use Rattle.std.specs.List.{range_with_len}
+use Rattle.vx_value.specs.Cell.{value}
 use Rattle.vx_value.specs.Nullabilities.{with_nullability, union}
 use Rattle.vx_mask.specs.Logic.{bit_row}
 use Rattle.vx_mask.specs.Operands.{bit_in}
 use Rattle.vx_mask.specs.declared.operand.BitOperand.{BitOperand}
 use Rattle.vx_tree.specs.Tree.{Tree, dtype, len, datum, slots, is_canonical}
 use Rattle.vx_tree.specs.Cells.{rows, AreClean}
-use Rattle.vx_rows.specs.Arguments.{plain_type, cell_at}
+use Rattle.vx_rows.specs.Arguments.{plain_type, value_at, cell_at}
 use Rattle.vx_rows.specs.ValidRows.{nullability_in}
 use Rattle.vx_rows.specs.declared.argument.Argument.{Argument}
+use Rattle.vx_rows.specs.declared.argument.ArgumentRows.{ArgumentRows}
+use Rattle.vx_rows.specs.declared.valid.ValidRows.{ValidRows}
+use Rattle.vx_kernel.specs.Computed.{IsMade}
 
 -- x in row i if its bit is true, else y
 abbrev pub selected : {A : Type 0} → BitOperand → (ℕ → A) → (ℕ → A) → ℕ → A
@@ -22,6 +26,11 @@ selected_by bits x y i = if bit_row bits i then x i else y i
 -- n rows of them
 abbrev pub selected_rows : {A : Type 0} → List Bool → (ℕ → A) → (ℕ → A) → ℕ → List A
 selected_rows bits x y n = map (selected_by bits x y) (range_with_len 0 n)
+
+-- u is the canonical column of the stored values, null in those that aren't valid
+pub record AreSelected (bits : List Bool) (x y : ArgumentRows) (valid : ValidRows) (n : ℕ) (u : Tree) : Type 0 where
+  pub typed : dtype u ≡ with_nullability (nullability_in valid) (plain_type x)
+  pub made : IsMade valid (λ i. value (selected_by bits (value_at x) (value_at y) i)) n u
 
 -- u is the canonical column of these cells, nullable if one of the two is
 pub record IsSelected (choice : BitOperand) (x y : Argument) (n : ℕ) (u : Tree) : Type 0 where

@@ -3,19 +3,16 @@
 ghost use Rattle.std.specs.Prelude.{◌≡◌, ◌<◌, ◌∷◌, [], ℕ, map, length, IfOk, IfErr, if◌then◌else◌};
 ghost use Rattle.std.specs.List.{range_with_len};
 ghost use Rattle.vx_mask.specs.Operands.{bit_in, HasBits};
-ghost use Rattle.vx_value.specs.Nullabilities.{with_nullability, union};
-ghost use Rattle.vx_value.specs.Cell.{value};
+ghost use Rattle.vx_value.specs.Nullabilities.{union};
 ghost use Rattle.vx_value.specs.Decimals.{smallest_width};
-ghost use Rattle.vx_native.specs.DecimalNumbers.{numbers_of, decimal_type_of};
-ghost use Rattle.vx_native.specs.Natives.{values_of, ptype_of};
 ghost use Rattle.vx_fn.specs.declared.function.ScalarFnRef.TheVariants.{Zip, FillNull};
-ghost use Rattle.vx_tree.specs.Tree.{dtype};
 ghost use Rattle.vx_tree.specs.Columns.{canonical_tree};
-ghost use Rattle.vx_rows.specs.Arguments.{types_of, plain_type, value_at, integer_in, ptype_in, unscaled_in, bytes_in};
+ghost use Rattle.vx_rows.specs.Arguments.{types_of, plain_type, ptype_in, bytes_in};
 ghost use Rattle.vx_rows.specs.Arguments.{IsSized, HasStored, AreIntegers, AreDecimals, AreBytes};
-ghost use Rattle.vx_kernel.specs.Computed.{IsTaken, IsComputed, IsMade};
+ghost use Rattle.vx_kernel.specs.Computed.{IsTaken, IsComputed};
 ghost use Rattle.vx_kernel.specs.Operands.{number_in, HasRow, HasRows};
-ghost use Rattle.vx_select.specs.Selected.{selected, selected_by, selected_rows, IsSelected};
+ghost use Rattle.vx_select.specs.Selected.{selected, selected_rows, AreSelected, IsSelected};
+ghost use Rattle.vx_rows.specs.declared.argument.ArgumentRows.TheVariants.{Integers, Decimals};
 ghost use Rattle.vx_rows.specs.ValidRows.{is_valid, HasValidity, nullability_in};
 
 use std::alloc::{AllocError, Global};
@@ -24,10 +21,7 @@ use vx_kernel::{
     valid_decimals, valid_integers,
 };
 use vx_mask::{BitAnd, BitBuffer, BitLt, BitOperand, BitOr, Buffer};
-use vx_native::{
-    DecimalValues, NativeDecimalType, NativeInteger, NativeNumber, PrimitiveValues,
-    by_decimal_type, by_type,
-};
+use vx_native::{NativeDecimalType, NativeInteger, NativeNumber, by_decimal_type, by_type};
 use vx_rows::{Argument, ArgumentRows, BytesOperand, DecimalOperand, IntegerOperand, ValidRows};
 use vx_tree::Canonical;
 use vx_value::{DecimalType, Nullability, VortexError, VortexResult};
@@ -157,8 +151,7 @@ fn select_rows(
     requires if_false { HasStored if_false len }
     requires valid { HasValidity valid.now len }
     requires same { plain_type if_true ≡ plain_type if_false }
-    ensures ok { IfOk result (λ c. (dtype (canonical_tree c) ≡ with_nullability (nullability_in valid.now) (plain_type if_true.entry))
-        × IsMade valid.now (λ i. value (selected_by choice.now (value_at if_true.entry) (value_at if_false.entry) i)) len (canonical_tree c)) }
+    ensures ok { IfOk result (λ c. AreSelected choice.now if_true.entry if_false.entry valid.now len (canonical_tree c)) }
     ensures err { IfErr result (λ e. e ≡ VortexError.OutOfMemory) }
 {
     match (if_true, if_false) {
@@ -168,12 +161,16 @@ fn select_rows(
             valid_bools(alloc, bits, valid, len)
         }
         (ArgumentRows::Integers(if_true), ArgumentRows::Integers(if_false)) => {
-            let values = select_integers(alloc, choice, if_true, if_false, len)?;
-            valid_integers(alloc, values, valid, len)
+            by_type!(
+                if_true.ptype(),
+                select_natives(alloc, choice, if_true, if_false, valid, len)
+            )
         }
         (ArgumentRows::Decimals(if_true), ArgumentRows::Decimals(if_false)) => {
-            let values = select_decimals(alloc, choice, if_true, if_false, len)?;
-            valid_decimals(alloc, if_true.decimal, values, valid, len)
+            by_decimal_type!(
+                DecimalType::smallest_decimal_value_type(&if_true.decimal),
+                select_unscaled(alloc, choice, if_true, if_false, valid, len)
+            )
         }
         (ArgumentRows::Bytes(if_true), ArgumentRows::Bytes(if_false)) => {
             let rows = select_views(alloc, choice, if_true, if_false, len)?;
@@ -210,86 +207,52 @@ fn select_bits(
     }
 }
 
-/// Chooses `if_true` at the true bits of `choice`, else `if_false`, `len` rows each, which must be of one type.
-fn select_integers(
-    alloc: Global,
-    choice: &BitBuffer,
-    if_true: IntegerOperand<'_>,
-    if_false: IntegerOperand<'_>,
-    len: usize,
-) -> Result<PrimitiveValues, AllocError>
-    requires choice { length choice.now ≡ len }
-    requires if_true { AreIntegers (ptype_in if_true) if_true len }
-    requires if_false { AreIntegers (ptype_in if_true) if_false len }
-    ensures kind { IfOk result (λ v. ptype_of v ≡ ptype_in if_true.entry) }
-    ensures values { IfOk result (λ v. values_of v ≡ selected_rows choice.now (integer_in if_true.entry) (integer_in if_false.entry) len) }
-{
-    by_type!(
-        if_true.ptype(),
-        select_natives(alloc, choice, if_true, if_false, len)
-    )
-}
-
-/// Chooses `if_true` at the true bits of `choice`, else `if_false`, `len` rows each, which must be of the type `T`.
+/// Makes the column of `if_true` at the true bits of `choice`, else `if_false`, `len` rows each, which must be of the type `T`; its
+/// `valid` rows aren't null. The only error is `OutOfMemory`.
 fn select_natives<T: NativeInteger>(
     alloc: Global,
     choice: &BitBuffer,
     if_true: IntegerOperand<'_>,
     if_false: IntegerOperand<'_>,
+    valid: &ValidRows,
     len: usize,
-) -> Result<PrimitiveValues, AllocError>
+) -> VortexResult<Canonical>
     requires choice { length choice.now ≡ len }
     requires kind { T.kind ≡ ptype_in if_true }
     requires if_true { AreIntegers (ptype_in if_true) if_true len }
     requires if_false { AreIntegers (ptype_in if_true) if_false len }
-    ensures kind { IfOk result (λ v. ptype_of v ≡ T.kind) }
-    ensures values { IfOk result (λ v. values_of v ≡ selected_rows choice.now (integer_in if_true.entry) (integer_in if_false.entry) len) }
+    requires valid { HasValidity valid.now len }
+    ensures ok { IfOk result (λ c. AreSelected choice.now (Integers if_true.entry) (Integers if_false.entry) valid.now len (canonical_tree c)) }
+    ensures err { IfErr result (λ e. e ≡ VortexError.OutOfMemory) }
 {
     let left: Operand<'_, T> = operand_of(if_true);
     let numbers = select_numbers(alloc, choice, left, operand_of(if_false), len)?;
-    Ok(T::wrap(numbers))
+    valid_integers(alloc, T::wrap(numbers), valid, len)
 }
 
-/// Chooses `if_true` at the true bits of `choice`, else `if_false`, `len` rows each, which must be of one type.
-fn select_decimals(
-    alloc: Global,
-    choice: &BitBuffer,
-    if_true: DecimalOperand<'_>,
-    if_false: DecimalOperand<'_>,
-    len: usize,
-) -> Result<DecimalValues, AllocError>
-    requires choice { length choice.now ≡ len }
-    requires if_true { AreDecimals if_true len }
-    requires if_false { AreDecimals if_false len }
-    requires same { if_true.decimal.precision ≡ if_false.decimal.precision }
-    ensures kind { IfOk result (λ v. decimal_type_of v ≡ smallest_width if_true.entry.decimal.precision) }
-    ensures values { IfOk result (λ v. numbers_of v ≡ selected_rows choice.now (unscaled_in if_true.entry) (unscaled_in if_false.entry) len) }
-{
-    by_decimal_type!(
-        DecimalType::smallest_decimal_value_type(&if_true.decimal),
-        select_unscaled(alloc, choice, if_true, if_false, len)
-    )
-}
-
-/// Chooses `if_true` at the true bits of `choice`, else `if_false`, `len` rows each, which must be stored in the width of `T`.
+/// Makes the column of `if_true` at the true bits of `choice`, else `if_false`, `len` rows each, which must be of one type and stored
+/// in the width of `T`; its `valid` rows aren't null. The only error is `OutOfMemory`.
 fn select_unscaled<T: NativeDecimalType>(
     alloc: Global,
     choice: &BitBuffer,
     if_true: DecimalOperand<'_>,
     if_false: DecimalOperand<'_>,
+    valid: &ValidRows,
     len: usize,
-) -> Result<DecimalValues, AllocError>
+) -> VortexResult<Canonical>
     requires choice { length choice.now ≡ len }
-    requires left { T.kind ≡ smallest_width if_true.decimal.precision }
-    requires right { T.kind ≡ smallest_width if_false.decimal.precision }
+    requires kind { T.kind ≡ smallest_width if_true.decimal.precision }
     requires if_true { AreDecimals if_true len }
     requires if_false { AreDecimals if_false len }
-    ensures kind { IfOk result (λ v. decimal_type_of v ≡ T.kind) }
-    ensures values { IfOk result (λ v. numbers_of v ≡ selected_rows choice.now (unscaled_in if_true.entry) (unscaled_in if_false.entry) len) }
+    requires same { plain_type (Decimals if_true) ≡ plain_type (Decimals if_false) }
+    requires valid { HasValidity valid.now len }
+    ensures ok { IfOk result (λ c. AreSelected choice.now (Decimals if_true.entry) (Decimals if_false.entry) valid.now len (canonical_tree c)) }
+    ensures err { IfErr result (λ e. e ≡ VortexError.OutOfMemory) }
 {
     let left: Operand<'_, T> = decimal_operand_of(if_true);
     let numbers = select_numbers(alloc, choice, left, decimal_operand_of(if_false), len)?;
-    Ok(T::wrap_decimals(numbers))
+    let values = T::wrap_decimals(numbers);
+    valid_decimals(alloc, if_true.decimal, values, valid, len)
 }
 
 /// Chooses `left` at the true bits of `choice`, else `right`, `len` rows each.

@@ -1,4 +1,5 @@
 use Rattle.std.proofs.Common.{true, false, refl, sym, ap, ◌∙◌}
+use Rattle.std.proofs.lemmas.Result.{IfOk-weaker}
 use Rattle.vx_mask.specs.declared.operand.BitOperand.TheVariants.{Bit, Bits}
 use Rattle.vx_rows.specs.Arguments.{plain_type}
 use Rattle.vx_select.proofs.SelectLemmas.{is_selected}
@@ -22,4 +23,5 @@ pub returns-clause-ok : goal.returns-clause-ok
 returns-clause-ok c =
     let valid = c.in_ok-valid.ensures in
     is_selected c.args.choice (Bits c.in-Bits.bits) c.args.if_true.now c.args.if_false.now (plain_type c.args.if_true.now.rows) c.in_ok-valid.valid c.args.len
-    c.select_rows.result c.in-Bits.is refl valid.rows valid.nullability c.select_rows.ensures.ok
+    c.select_rows.result c.in-Bits.is refl valid.rows valid.nullability
+    (IfOk-weaker c.select_rows.result _ _ (λ u h. (h.typed, h.made)) c.select_rows.ensures.ok)
