@@ -135,8 +135,5 @@ pub(crate) fn calculate<T: NativeInteger + CheckedNumber, A: Arithmetic>(
         right: operand_of(rhs),
         operator: PhantomData,
     };
-    match calculated_column(alloc, &operation, valid, len) {
-        Ok(column) => Ok(column),
-        Err(e) => Err(e),
-    }
+    calculated_column(alloc, &operation, valid, len)
 }

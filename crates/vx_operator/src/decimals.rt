@@ -177,8 +177,5 @@ fn calculate_decimals<T: NativeDecimalType + CheckedNumber, A: DecimalArithmetic
         limits: DigitLimits::of(lhs.decimal),
         operator: PhantomData,
     };
-    match calculated_decimals(alloc, &operation, valid, len) {
-        Ok(column) => Ok(column),
-        Err(e) => Err(e),
-    }
+    calculated_decimals(alloc, &operation, valid, len)
 }

@@ -44,10 +44,7 @@ pub fn operate(
         return join(alloc, operator, truths_of(lhs), truths_of(rhs), len);
     }
     let valid = lhs.valid.and(alloc, &rhs.valid, len)?;
-    match operate_rows(alloc, operator, lhs.rows, rhs.rows, &valid, len) {
-        Ok(column) => Ok(column),
-        Err(e) => Err(e),
-    }
+    operate_rows(alloc, operator, lhs.rows, rhs.rows, &valid, len)
 }
 
 /// Applies `operator` to the `valid` rows of `lhs` and `rhs`, `len` rows each, which must be of one type; none of type null may be

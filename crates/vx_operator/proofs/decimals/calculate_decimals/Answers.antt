@@ -1,16 +1,19 @@
+use Rattle.std.proofs.lemmas.Result.{IfOk-weaker, IfErr-weaker}
 use Rattle.vx_tree.specs.Columns.{canonical_tree}
 use Rattle.vx_kernel.specs.Operands.{number_in}
 use Rattle.vx_operator.proofs.OperandsLemmas.{decimals_filled, decimals_not_filled}
 use Rattle.vx_operator.proofs.decimals.calculate_decimals.Goals as goal
 
-pub returns-in-Ok-clause-ok : goal.returns-in-Ok-clause-ok
-returns-in-Ok-clause-ok g c =
-    decimals_filled g.A.Arithmetic.operator c.args.lhs c.args.rhs c.args.valid.now c.args.len c.requires.operator c.requires.taken
+pub returns-clause-ok : goal.returns-clause-ok
+returns-clause-ok g c =
+    IfOk-weaker c.calculated_decimals.result _ _
+    (λ t. decimals_filled g.A.Arithmetic.operator c.args.lhs c.args.rhs c.args.valid.now c.args.len c.requires.operator c.requires.taken
     (number_in g.T.Number.value c.decimal_operand_of.result) (number_in g.T.Number.value c.decimal_operand_of-2.result) c.decimal_operand_of.ensures.numbers
-    c.decimal_operand_of-2.ensures.numbers (canonical_tree c.in-Ok.column) c.in-Ok.ensures.ok
+    c.decimal_operand_of-2.ensures.numbers (canonical_tree t)) c.calculated_decimals.ensures.ok
 
-pub returns-in-Err-clause-err : goal.returns-in-Err-clause-err
-returns-in-Err-clause-err g c =
-    decimals_not_filled g.A.Arithmetic.operator c.args.lhs c.args.rhs c.args.valid.now c.args.len c.requires.operator c.requires.taken
+pub returns-clause-err : goal.returns-clause-err
+returns-clause-err g c =
+    IfErr-weaker c.calculated_decimals.result _ _
+    (decimals_not_filled g.A.Arithmetic.operator c.args.lhs c.args.rhs c.args.valid.now c.args.len c.requires.operator c.requires.taken
     (number_in g.T.Number.value c.decimal_operand_of.result) (number_in g.T.Number.value c.decimal_operand_of-2.result) c.decimal_operand_of.ensures.numbers
-    c.decimal_operand_of-2.ensures.numbers c.in-Err.e c.in-Err.ensures.err
+    c.decimal_operand_of-2.ensures.numbers) c.calculated_decimals.ensures.err

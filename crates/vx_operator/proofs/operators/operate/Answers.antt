@@ -1,5 +1,6 @@
 use Rattle.std.proofs.Common.{sym, subst, ◌∙◌}
 use Rattle.std.specs.Prelude.{IsSome}
+use Rattle.std.proofs.lemmas.Result.{IfOk-weaker, IfErr-weaker}
 use Rattle.vx_fn.specs.Binary.{operator_type}
 use Rattle.vx_tree.specs.Columns.{canonical_tree}
 use Rattle.vx_operator.proofs.LogicLemmas.{logic_bits, truths_sized}
@@ -36,14 +37,17 @@ operate_rows-requires-clause-shown c =
     operands_shown c.args.operator c.args.len c.args.lhs.now c.args.rhs.now c.requires.lhs c.requires.rhs c.requires.taken
     (sym c.is_logical.ensures ∙ c.if-is_logical.false) c.in_ok-valid.valid c.in_ok-valid.ensures.rows c.in_ok-valid.ensures.nullability
 
-pub returns-in-Ok-clause-ok : goal.returns-in-Ok-clause-ok
-returns-in-Ok-clause-ok c =
-    operands_computed c.args.operator c.args.len c.args.lhs.now c.args.rhs.now c.requires.lhs c.requires.rhs c.requires.taken
+pub returns-clause-ok : goal.returns-clause-ok
+returns-clause-ok c =
+    IfOk-weaker c.operate_rows.result _ _
+    (λ t. operands_computed c.args.operator c.args.len c.args.lhs.now c.args.rhs.now c.requires.lhs c.requires.rhs c.requires.taken
     (sym c.is_logical.ensures ∙ c.if-is_logical.false) c.in_ok-valid.valid c.in_ok-valid.ensures.rows c.in_ok-valid.ensures.nullability
-    (canonical_tree c.in-Ok.column) c.in-Ok.ensures.ok
+    (canonical_tree t))
+    c.operate_rows.ensures.ok
 
 pub returns-clause-err : goal.returns-clause-err
 returns-clause-err c =
-    operands_not_computed c.args.operator c.args.len c.args.lhs.now c.args.rhs.now c.requires.lhs c.requires.rhs c.requires.taken
-    (sym c.is_logical.ensures ∙ c.if-is_logical.false) c.in_ok-valid.valid c.in_ok-valid.ensures.rows c.in_ok-valid.ensures.nullability
-    c.in-Err.e c.in-Err.ensures.err
+    IfErr-weaker c.operate_rows.result _ _
+    (operands_not_computed c.args.operator c.args.len c.args.lhs.now c.args.rhs.now c.requires.lhs c.requires.rhs c.requires.taken
+    (sym c.is_logical.ensures ∙ c.if-is_logical.false) c.in_ok-valid.valid c.in_ok-valid.ensures.rows c.in_ok-valid.ensures.nullability)
+    c.operate_rows.ensures.err
