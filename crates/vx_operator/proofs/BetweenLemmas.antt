@@ -5,12 +5,10 @@ use Rattle.std.specs.Prelude.{◌&&◌, ℤ}
 use Rattle.std.specs.Ordering.{bool_cmp}
 use Rattle.std.specs.Cmp.{first_so, second_so}
 use Rattle.std.specs.List.{range_with_len}
-use Rattle.std.specs.declared.cmp.Ordering.{Ordering}
 use Rattle.vx_value.specs.Types.{DataType, bool, nullability_of}
 use Rattle.vx_value.specs.Nullabilities.{union, same_but_nullability}
 use Rattle.vx_value.specs.Values.{Value, null, boolean}
 use Rattle.vx_value.specs.Cell.{Cell, value}
-use Rattle.vx_value.specs.Order.{value_cmp}
 use Rattle.vx_value.specs.declared.dtype.Nullability.TheVariants.{NonNullable}
 use Rattle.vx_mask.specs.Logic.{bit_row}
 use Rattle.vx_mask.specs.Operands.{bit_in}
@@ -18,7 +16,7 @@ use Rattle.vx_mask.specs.declared.operand.BitOperand.{BitOperand}
 use Rattle.vx_mask.proofs.Lists.{same_below}
 use Rattle.vx_fn.specs.Apply.{apply}
 use Rattle.vx_fn.specs.Between.{is_below, lies_between}
-use Rattle.vx_fn.specs.Comparisons.{holds, is_ordered, ordered_type}
+use Rattle.vx_fn.specs.Comparisons.{is_ordered, ordered_type}
 use Rattle.vx_fn.specs.Meanings.{widened, null_through}
 use Rattle.vx_fn.specs.ReturnTypes.{return_type}
 use Rattle.vx_fn.specs.declared.function.ScalarFnRef.TheVariants.{Between}
@@ -29,7 +27,7 @@ use Rattle.vx_fn.proofs.MeaningsLemmas.{union_with_plain}
 use Rattle.vx_tree.specs.Tree.{Tree, dtype}
 use Rattle.vx_rows.specs.Arguments.{IsSized, types_of, value_at, integer_in, unscaled_in, plain_type, type_of_argument}
 use Rattle.vx_operator.specs.Bits.{bit_by}
-use Rattle.vx_operator.specs.Bounds.{bound_by, is_between, is_bounded, AreBetween}
+use Rattle.vx_operator.specs.Bounds.{bound_by, is_between, AreBetween}
 use Rattle.vx_operator.specs.Checks.{checked_rows}
 use Rattle.vx_kernel.specs.Computed.{IsTaken, IsMade, IsComputed}
 use Rattle.vx_rows.specs.ValidRows.{is_valid, nullability_in, null_unless}
