@@ -217,8 +217,8 @@ fn select_natives<T: NativeInteger>(
     valid: &ValidRows,
     len: usize,
 ) -> VortexResult<Canonical>
-    requires choice { length choice.now ≡ len }
     requires kind { T.kind ≡ ptype_in if_true }
+    requires choice { length choice.now ≡ len }
     requires if_true { AreIntegers (ptype_in if_true) if_true len }
     requires if_false { AreIntegers (ptype_in if_true) if_false len }
     requires valid { HasValidity valid.now len }
@@ -240,12 +240,12 @@ fn select_unscaled<T: NativeDecimalType>(
     valid: &ValidRows,
     len: usize,
 ) -> VortexResult<Canonical>
-    requires choice { length choice.now ≡ len }
     requires kind { T.kind ≡ smallest_width if_true.decimal.precision }
+    requires choice { length choice.now ≡ len }
     requires if_true { AreDecimals if_true len }
     requires if_false { AreDecimals if_false len }
-    requires same { plain_type (Decimals if_true) ≡ plain_type (Decimals if_false) }
     requires valid { HasValidity valid.now len }
+    requires same { plain_type (Decimals if_true) ≡ plain_type (Decimals if_false) }
     ensures ok { IfOk result (λ c. AreSelected choice.now (Decimals if_true.entry) (Decimals if_false.entry) valid.now len (canonical_tree c)) }
     ensures err { IfErr result (λ e. e ≡ VortexError.OutOfMemory) }
 {
