@@ -9,6 +9,7 @@ use Rattle.vx_value.specs.Types.{DataType, bool, nullability_of}
 use Rattle.vx_value.specs.Nullabilities.{union, same_but_nullability}
 use Rattle.vx_value.specs.Values.{Value, null, boolean}
 use Rattle.vx_value.specs.Cell.{Cell, value}
+use Rattle.vx_value.specs.Order.{value_cmp}
 use Rattle.vx_value.specs.declared.dtype.Nullability.TheVariants.{NonNullable}
 use Rattle.vx_mask.specs.Logic.{bit_row}
 use Rattle.vx_mask.specs.Operands.{bit_in}
@@ -62,40 +63,17 @@ words_between options x l u v n above below bits first second both =
     && bit_made (λ k. bit_by (bound_by options.upper_strict) (bit_in x k) (bit_in u k)) below n i second lt j)
     ∙ (λ j. bound_bit options.lower_strict (bit_in l i) (bit_in x i) j && bound_bit options.upper_strict (bit_in x i) (bit_in u i) j)))
 
-pub integers_between : {E : Type 0} (options : BetweenOptions) (x l u : IntegerOperand) (p q r : ℕ → ℤ) (valid : ValidRows) (n : ℕ)
-    (found : Result (List Bool) E) → p ≡ integer_in x → q ≡ integer_in l → r ≡ integer_in u
-    → IfOk found (λ b. b ≡ checked_rows (is_valid valid) (is_between options (integers p) (integers q) (integers r)) n)
-    → IfOk found (AreBetween options valid (Integers x) (Integers l) (Integers u) n)
-integers_between options x l u p q r valid n found here below above =
-    IfOk-weaker found _ _
-    (λ b are. record {
-      made = are ∙ (λ j. checked_rows (is_valid valid) (is_between options (integers (here j)) (integers (below j)) (integers (above j))) n);
-    })
-
-pub decimals_between : {E : Type 0} (options : BetweenOptions) (x l u : DecimalOperand) (p q r : ℕ → ℤ) (valid : ValidRows) (n : ℕ)
-    (found : Result (List Bool) E) → p ≡ unscaled_in x → q ≡ unscaled_in l → r ≡ unscaled_in u
-    → plain_type (Decimals x) ≡ plain_type (Decimals l) → plain_type (Decimals x) ≡ plain_type (Decimals u)
-    → IfOk found (λ b. b ≡ checked_rows (is_valid valid) (is_between options (integers p) (integers q) (integers r)) n)
-    → IfOk found (AreBetween options valid (Decimals x) (Decimals l) (Decimals u) n)
-decimals_between options x l u p q r valid n found here below above same_lower same_upper =
+-- of values that are ordered as those that the arguments store
+pub values_between : {E : Type 0} (options : BetweenOptions) (valid : ValidRows) (x l u : ArgumentRows) (p q r : ℕ → Value) (n : ℕ)
+    (found : Result (List Bool) E) → ((i : ℕ) → value_cmp (q i) (p i) ≡ value_cmp (value_at l i) (value_at x i))
+    → ((i : ℕ) → value_cmp (p i) (r i) ≡ value_cmp (value_at x i) (value_at u i))
+    → IfOk found (λ b. b ≡ checked_rows (is_valid valid) (is_between options p q r) n) → IfOk found (AreBetween options valid x l u n)
+values_between options valid x l u p q r n found below above =
     IfOk-weaker found _ _
     (λ b are. record {
       made = are
           ∙ same_below n _ _
-          (λ i lt. (λ j. is_valid valid i
-          && (is_below options.lower_strict (decimals_ordered l x q p below here (sym same_lower) i j)
-          && is_below options.upper_strict (decimals_ordered x u p r here above same_upper i j))));
-    })
-
-pub bytes_between : {E : Type 0} (options : BetweenOptions) (valid : ValidRows) (x l u : ArgumentRows) (p q r : BytesOperand) (n : ℕ)
-    (found : Result (List Bool) E) → x ≡ Bytes p → l ≡ Bytes q → u ≡ Bytes r
-    → IfOk found (λ b. b ≡ checked_rows (is_valid valid) (is_between options (value_at (Bytes p)) (value_at (Bytes q)) (value_at (Bytes r))) n)
-    → IfOk found (AreBetween options valid x l u n)
-bytes_between options valid x l u p q r n found here below above =
-    IfOk-weaker found _ _
-    (λ b are. record {
-      made = are
-          ∙ (λ j. checked_rows (is_valid valid) (is_between options (value_at (sym here j)) (value_at (sym below j)) (value_at (sym above j))) n);
+          (λ i lt j. is_valid valid i && (is_below options.lower_strict (below i j) && is_below options.upper_strict (above i j)));
     })
 
 -- ---- the function

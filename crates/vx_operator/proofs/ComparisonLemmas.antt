@@ -128,36 +128,18 @@ pub kept_more : (f : ℕ → Bool) (bits out : List Bool) (i : ℕ) (x b : Bool)
 kept_more f bits out i x b here e h =
     bits_more (λ j. bit_row bits j && f j) out i x h (e ∙ ap (λ c. c && f i) (sym (get_or_from_slice_get bits i b false here)))
 
-above_turned : (o : Ordering) → holds operator.Lt o ≡ holds operator.Gt (ordering_reverse o)
-above_turned Less = refl
-above_turned Equal = refl
-above_turned Greater = refl
-
-not_below_turned : (o : Ordering) → holds operator.Lte o ≡ holds operator.Gte (ordering_reverse o)
-not_below_turned Less = refl
-not_below_turned Equal = refl
-not_below_turned Greater = refl
-
--- the bits of a comparison, from those of the one with swapped operands
-module _ {R E : Type 0} (value : R → ℕ → Value) (op : Operator) (l r p q : R) (v : ℕ → Bool) (n : ℕ) (found : Result (List Bool) E)
-    (first : p ≡ r) (second : q ≡ l) where
-  turned : (o : Operator) → ((x : Ordering) → holds o x ≡ holds op (ordering_reverse x))
-      → IfOk found (λ b. b ≡ checked_rows v (is_compared o (value p) (value q)) n) → IfOk found (λ b. b ≡ checked_rows v (is_compared op (value l) (value r)) n)
-  turned o reversed =
-      IfOk-weaker found _ _
-      (λ b are. are
-      ∙ (λ j. checked_rows v (is_compared o (value (first j)) (value (second j))) n)
-      ∙ same_below n _ _
-      (λ i lt. ap (λ b. v i && b)
-      (reversed (value_cmp (value r i) (value l i)) ∙ ap (holds op) (sym (value_cmp_total.antisymm (value l i) (value r i))))))
-
-  pub compared_above : op ≡ operator.Gt → IfOk found (λ b. b ≡ checked_rows v (is_compared operator.Lt (value p) (value q)) n)
-      → IfOk found (λ b. b ≡ checked_rows v (is_compared op (value l) (value r)) n)
-  compared_above is = turned operator.Lt (λ o. above_turned o ∙ ap (λ a. holds a (ordering_reverse o)) (sym is))
-
-  pub compared_not_below : op ≡ operator.Gte → IfOk found (λ b. b ≡ checked_rows v (is_compared operator.Lte (value p) (value q)) n)
-      → IfOk found (λ b. b ≡ checked_rows v (is_compared op (value l) (value r)) n)
-  compared_not_below is = turned operator.Lte (λ o. not_below_turned o ∙ ap (λ a. holds a (ordering_reverse o)) (sym is))
+-- the bits of `op`, from those of the one that says the same of swapped operands
+pub swapped_compared : {R E : Type 0} (read : R → ℕ → Value) (op known swapped : Operator) (l r p q : R) (v : ℕ → Bool) (n : ℕ) (found : Result (List Bool) E)
+    → op ≡ known → ((o : Ordering) → holds swapped o ≡ holds known (ordering_reverse o)) → p ≡ r → q ≡ l
+    → IfOk found (λ b. b ≡ checked_rows v (is_compared swapped (read p) (read q)) n)
+    → IfOk found (λ b. b ≡ checked_rows v (is_compared op (read l) (read r)) n)
+swapped_compared read op known swapped l r p q v n found is says first second =
+    IfOk-weaker found _ _
+    (λ b are. are
+    ∙ (λ j. checked_rows v (is_compared swapped (read (first j)) (read (second j))) n)
+    ∙ same_below n _ _
+    (λ i lt. ap (λ b. v i && b)
+    (says (value_cmp (read r i) (read l i)) ∙ (λ j. holds (sym is j) (sym (value_cmp_total.antisymm (read l i) (read r i)) j)))))
 
 -- a column that stores these bits
 pub compared_made : (op : Operator) (valid : ValidRows) (l r : ℕ → Value) (n : ℕ) (bits : List Bool) (t : Tree) →

@@ -1,7 +1,13 @@
-use Rattle.vx_operator.proofs.BetweenLemmas.{bytes_between}
+use Rattle.std.proofs.Common.{sym}
+use Rattle.vx_value.specs.Order.{value_cmp}
+use Rattle.vx_rows.specs.Arguments.{value_at}
+use Rattle.vx_rows.specs.declared.argument.ArgumentRows.TheVariants.{Bytes}
+use Rattle.vx_operator.proofs.BetweenLemmas.{values_between}
 use Rattle.vx_operator.proofs.bounds.between_rows.Goals as goal
 
 pub returns-in-Bytes-Bytes-Bytes : goal.returns-in-Bytes-Bytes-Bytes
 returns-in-Bytes-Bytes-Bytes c =
     let arm = c.in-Bytes-Bytes-Bytes in
-    bytes_between c.args.options c.args.valid.now c.args.array c.args.lower c.args.upper _ _ _ c.args.len _ arm.is-0 arm.is-1 arm.is-2 c.between_ordered.ensures
+    values_between c.args.options c.args.valid.now c.args.array c.args.lower c.args.upper (value_at (Bytes arm.array)) (value_at (Bytes arm.lower))
+    (value_at (Bytes arm.upper)) c.args.len _ (λ i j. value_cmp (value_at (sym arm.is-1 j) i) (value_at (sym arm.is-0 j) i))
+    (λ i j. value_cmp (value_at (sym arm.is-0 j) i) (value_at (sym arm.is-2 j) i)) c.between_ordered.ensures
