@@ -1,7 +1,7 @@
 -- Rows between bounds.
 use Rattle.std.proofs.Common.{Result, IfOk, ◌≡◌, ◌<◌, ℕ, Bool, true, false, if◌then◌else◌, List, [], ◌∷◌, map, Some, None, refl, sym, ap, ◌∙◌}
 use Rattle.std.proofs.lemmas.Result.{IfOk-weaker}
-use Rattle.std.specs.Prelude.{◌&&◌, ℤ}
+use Rattle.std.specs.Prelude.{◌&&◌}
 use Rattle.std.specs.Ordering.{bool_cmp}
 use Rattle.std.specs.Cmp.{first_so, second_so}
 use Rattle.std.specs.List.{range_with_len}
@@ -26,20 +26,17 @@ use Rattle.vx_fn.specs.declared.functions.between.StrictComparison.{StrictCompar
 use Rattle.vx_fn.specs.declared.functions.between.StrictComparison.TheVariants.{Strict, NonStrict}
 use Rattle.vx_fn.proofs.MeaningsLemmas.{union_with_plain}
 use Rattle.vx_tree.specs.Tree.{Tree, dtype}
-use Rattle.vx_rows.specs.Arguments.{IsSized, types_of, value_at, integer_in, unscaled_in, plain_type, type_of_argument}
+use Rattle.vx_rows.specs.Arguments.{IsSized, types_of, value_at, plain_type, type_of_argument}
 use Rattle.vx_operator.specs.Bits.{bit_by}
 use Rattle.vx_operator.specs.Bounds.{bound_by, is_between, AreBetween}
 use Rattle.vx_operator.specs.Checks.{checked_rows}
 use Rattle.vx_kernel.specs.Computed.{IsTaken, IsMade, IsComputed}
 use Rattle.vx_rows.specs.ValidRows.{is_valid, nullability_in, null_unless}
 use Rattle.vx_rows.specs.declared.argument.Argument.{Argument}
-use Rattle.vx_rows.specs.declared.argument.BytesOperand.{BytesOperand}
-use Rattle.vx_rows.specs.declared.argument.DecimalOperand.{DecimalOperand}
-use Rattle.vx_rows.specs.declared.argument.IntegerOperand.{IntegerOperand}
 use Rattle.vx_rows.specs.declared.argument.ArgumentRows.{ArgumentRows}
-use Rattle.vx_rows.specs.declared.argument.ArgumentRows.TheVariants.{Bits, Integers, Decimals, Bytes}
+use Rattle.vx_rows.specs.declared.argument.ArgumentRows.TheVariants.{Bits}
 use Rattle.vx_rows.specs.declared.valid.ValidRows.{ValidRows}
-use Rattle.vx_operator.proofs.ComparisonLemmas.{integers, stored_through, ordered_again, decimals_ordered}
+use Rattle.vx_operator.proofs.ComparisonLemmas.{stored_through, ordered_again}
 use Rattle.vx_kernel.proofs.MadeLemmas.{computed_by, stored_cell}
 use Rattle.vx_kernel.proofs.ArgumentsLemmas.{argument_type, argument_nullability, plain_same}
 use Rattle.vx_rows.proofs.ValidRowsLemmas.{bit_made}
