@@ -1,8 +1,8 @@
 //! Columns in the canonical encoding of their type.
 
-ghost use Rattle.std.specs.Prelude.{◌≡◌, true, is_ok, IfOk, IfErr, option_map};
+ghost use Rattle.std.specs.Prelude.{◌≡◌, ◌==◌, true, is_ok, IfOk, IfErr, option_map};
 ghost use Rattle.vx_value.specs.View.{type_of};
-ghost use Rattle.vx_tree.specs.Tree.{Tree, datum, is_canonical};
+ghost use Rattle.vx_tree.specs.Tree.{Tree, dtype, len, datum, is_canonical};
 ghost use Rattle.vx_tree.specs.Columns.{canonical_tree, null_column, bool_column, primitive_column, decimal_column, varbinview_column, empty_of};
 
 use crate::array::{Array, ArrayRef, Encoding, IntoArray};
@@ -14,7 +14,6 @@ use crate::arrays::primitive::PrimitiveArray;
 use crate::arrays::varbinview::VarBinViewArray;
 use crate::arrays::{into_variant, variant};
 use std::alloc::Global;
-use std::ops::Deref;
 use vx_value::{DType, VortexError, VortexResult};
 
 /// A column in the canonical encoding of its type.
@@ -73,6 +72,27 @@ impl Canonical {
             Canonical::Decimal(column) => column.as_array(),
             Canonical::VarBinView(column) => column.as_array(),
         }
+    }
+
+    /// Returns the number of rows.
+    pub fn len(&self) -> usize
+        ensures { result ≡ len (canonical_tree self.now) }
+    {
+        self.as_array().len()
+    }
+
+    /// Returns whether there are no rows.
+    pub fn is_empty(&self) -> bool
+        ensures { result ≡ (len (canonical_tree self.now) == 0) }
+    {
+        self.as_array().is_empty()
+    }
+
+    /// Returns the type of the rows.
+    pub fn dtype(&self) -> &DType
+        ensures { type_of result.now ≡ dtype (canonical_tree self.now) }
+    {
+        self.as_array().dtype()
     }
 
     /// Returns the column if it is one of nulls, else `None`.
@@ -143,16 +163,6 @@ impl Canonical {
         ensures { result ≡ varbinview_column self }
     {
         into_variant!(self, Canonical::VarBinView)
-    }
-}
-
-impl Deref for Canonical {
-    type Target = ArrayRef;
-
-    ghost deref_gives = { λ c a. a ≡ canonical_tree c };
-
-    fn deref(&self) -> &ArrayRef {
-        self.as_array()
     }
 }
 
