@@ -28,7 +28,8 @@ unread_yet None = refl
 unread_yet (Some l) = refl
 
 -- the items in front of a place are read, and give rows of these values
-pub record AreReadTo {A : Type 0} (m : Nullability) (zero : A) (read : Data → Option A) (vs : List Value) (i : ℕ) (values : List A) (valid : List Bool) : Type 0 where
+pub record AreReadTo {A : Type 0} (m : Nullability) (zero : A) (read : Data → Option A) (vs : List Value) (i : ℕ) (values : List A)
+    (valid : List Bool) : Type 0 where
   pub rows : List (Option A)
   pub so_far : IsReadTo (or_null m read) vs i rows
   pub held : values ≡ map (item_or zero) rows
@@ -40,7 +41,8 @@ module _ {A : Type 0} (m : Nullability) (zero : A) (read : Data → Option A) (v
       record { rows = []; so_far = unread_yet (all_read (or_null m read) (items_view vs)); held = h; are_told = t ∙ sym (told_none A m) }
 
   -- a row that is null, or whose value is read, goes behind those so far
-  pub one_more : (i : ℕ) (values : List A) (valid : List Bool) → AreReadTo m zero read vs i values valid → (v : Value) (null : Bool) (a : A) (values' : List A) (valid' : List Bool) →
+  pub one_more : (i : ℕ) (values : List A) (valid : List Bool) → AreReadTo m zero read vs i values valid →
+      (v : Value) (null : Bool) (a : A) (values' : List A) (valid' : List Bool) →
       i < length vs → v ≡ slice_index_or vs i v → null ≡ (is_nullable m && is_null (view v)) → Some a ≡ read_unless null zero (read (view v)) →
       values' ≡ values ++ a ∷ [] → valid' ≡ told_more m valid (not null) → AreReadTo m zero read vs (i + 1) values' valid'
   one_more i values valid h v null a values' valid' lt at = by_null null
@@ -67,7 +69,8 @@ module _ {A : Type 0} (m : Nullability) (zero : A) (read : Data → Option A) (v
       all_read (or_null m read) (items_view vs) ≡ None
   not_read i values valid h v null lt at = by_null null
     where
-      by_null : (null : Bool) → null ≡ (is_nullable m && is_null (view v)) → read_unless null zero (read (view v)) ≡ None → all_read (or_null m read) (items_view vs) ≡ None
+      by_null : (null : Bool) → null ≡ (is_nullable m && is_null (view v)) → read_unless null zero (read (view v)) ≡ None →
+          all_read (or_null m read) (items_view vs) ≡ None
       by_null true is e = absurd (cc)
       by_null false is e =
           read_none (or_null m read) vs i h.rows h.so_far v lt at
@@ -84,7 +87,8 @@ module _ {A : Type 0} (m : Nullability) (zero : A) (read : Data → Option A) (v
   }
 
 -- the same of values and of a `zero` that are equal
-pub read_as : {A : Type 0} (m : Nullability) (zero : A) (read : Data → Option A) (ds : Items) (values : List A) (valid : List Bool) → AreRead m zero read ds values valid →
+pub read_as : {A : Type 0} (m : Nullability) (zero : A) (read : Data → Option A) (ds : Items) (values : List A) (valid : List Bool) →
+    AreRead m zero read ds values valid →
     (other : A) → zero ≡ other → (now : List A) → now ≡ values → AreRead m other read ds now valid
 read_as m zero read ds values valid h other z now same = record {
   rows = h.rows;
@@ -94,8 +98,8 @@ read_as m zero read ds values valid h other z now same = record {
 }
 
 -- rows of which none may be null are the values
-pub none_null : {A : Type 0} (zero : A) (read : Data → Option A) (ds : Items) (values : List A) (valid : List Bool) → AreRead NonNullable zero read ds values valid →
-    all_read read ds ≡ Some values
+pub none_null : {A : Type 0} (zero : A) (read : Data → Option A) (ds : Items) (values : List A) (valid : List Bool) →
+    AreRead NonNullable zero read ds values valid → all_read read ds ≡ Some values
 none_null zero read ds values valid h = by_read (all_read read ds) (sym (mapped_read Some read ds) ∙ h.are_read)
   where
     by_read : (o : Option (List _)) → option_map (map Some) o ≡ Some h.rows → o ≡ Some values

@@ -46,7 +46,8 @@ use Rattle.vx_json.proofs.SpelledDecimalsLemmas.{rows_digits}
 use Rattle.vx_json.proofs.SpelledValuesLemmas.{mapped_read, all_count}
 
 -- whether each row is there is told of as many as there are values
-told_long : {A : Type 0} (zero : A) (read : Json → Option A) (ds : Items) (xs : List A) (valid : List Bool) → AreRead Nullable zero read ds xs valid → length valid ≡ length xs
+told_long : {A : Type 0} (zero : A) (read : Json → Option A) (ds : Items) (xs : List A) (valid : List Bool) →
+    AreRead Nullable zero read ds xs valid → length valid ≡ length xs
 told_long zero read ds xs valid h = ap length h.are_told ∙ length-map h.rows is_some ∙ sym (length-map h.rows (item_or zero)) ∙ sym (ap length h.held)
 
 -- and these are as many as there are items
@@ -55,7 +56,8 @@ rows_counted : {A : Type 0} {m : Nullability} {valid : List Bool} (zero : A) (re
 rows_counted zero read vs xs h = ap length h.held ∙ length-map h.rows (item_or zero) ∙ all_count _ vs h.rows h.are_read
 
 -- a validity of the nullability and the rows of a column isn't refused
-not_refused : (s : DataType) (m : Nullability) (n : ℕ) (v : Validity) → nullability_by v ≡ m → array_refusal n v ≡ None → flat_refusal s (with_nullability m s) n v ≡ None
+not_refused : (s : DataType) (m : Nullability) (n : ℕ) (v : Validity) → nullability_by v ≡ m → array_refusal n v ≡ None →
+    flat_refusal s (with_nullability m s) n v ≡ None
 not_refused s m n v e h = none_refused _ _ (none_unless _ _ ((same_type_Decides _ _).1 (ap (λ k. with_nullability k s) (sym e)))) h
 
 tree_kept : (t : Tree) (n : ℕ) → dtype t ≡ type.bool NonNullable → len t ≡ n → array_refusal n (validity.Array t) ≡ None
@@ -97,8 +99,10 @@ values_fit m (type.primitive p k) ds (Integers v) valid w h e kept =
 values_fit m (type.decimal p s k) ds (Decimals v) valid w h e kept =
     decimals_fit p s k (decimal_type_of v) (numbers_of v) w h.0 (rows_digits m p ds (numbers_of v) valid h.1)
     (not_refused (type.decimal p s NonNullable) k (length (numbers_of v)) w e kept)
-values_fit m (type.utf8 k) ds (Views rows) valid w h e kept = none_refused _ _ (not_refused (type.utf8 NonNullable) k (length rows) w e kept) (none_unless _ _ h.0)
-values_fit m (type.binary k) ds (Views rows) valid w h e kept = none_refused _ _ (not_refused (type.binary NonNullable) k (length rows) w e kept) refl
+values_fit m (type.utf8 k) ds (Views rows) valid w h e kept =
+    none_refused _ _ (not_refused (type.utf8 NonNullable) k (length rows) w e kept) (none_unless _ _ h.0)
+values_fit m (type.binary k) ds (Views rows) valid w h e kept =
+    none_refused _ _ (not_refused (type.binary NonNullable) k (length rows) w e kept) refl
 values_fit m ty ds v valid w h e kept = absurd h
 
 -- values that are never null are those of a column: a line for each type
@@ -107,7 +111,8 @@ pub values_by : (ty : DataType) (ds : Items) (v : ColumnValues) (valid : List Bo
 values_by (type.bool k) ds (Bits bits) valid nulls h =
     ap (option_and_then (λ bs. flat_of (type.bool k) (length bs) (bool bs) nulls)) (none_null false as_bool ds bits valid h)
 values_by (type.primitive p k) ds (Integers v) valid nulls h =
-    ap (option_and_then (λ zs. flat_of (type.primitive p k) (length zs) (primitive p zs) nulls)) (none_null (pos 0) (integer_spelled p) ds (values_of v) valid h.1)
+    ap (option_and_then (λ zs. flat_of (type.primitive p k) (length zs) (primitive p zs) nulls))
+    (none_null (pos 0) (integer_spelled p) ds (values_of v) valid h.1)
     ∙ ap (λ q. flat_of (type.primitive p k) (length (values_of v)) (primitive q (values_of v)) nulls) (sym h.0)
 values_by (type.decimal p s k) ds (Decimals v) valid nulls h =
     ap (option_and_then (λ zs. flat_of (type.decimal p s k) (length zs) (decimals (smallest_width p) zs) nulls))
@@ -128,8 +133,8 @@ values_unread (type.utf8 k) ds nulls h = ap (option_and_then _) (none_null_unrea
 values_unread (type.binary k) ds nulls h = ap (option_and_then _) (none_null_unread (bytes_spelled Bytes) ds h)
 
 -- they are as many as there are items
-values_counted : (m : Nullability) (ty : DataType) (vs : List Value) (v : ColumnValues) (valid : List Bool) → AreStored m (storage_of ty) (items_view vs) v valid →
-    count_of v ≡ length vs
+values_counted : (m : Nullability) (ty : DataType) (vs : List Value) (v : ColumnValues) (valid : List Bool) →
+    AreStored m (storage_of ty) (items_view vs) v valid → count_of v ≡ length vs
 values_counted m (type.bool k) vs (Bits bits) valid h = rows_counted false as_bool vs bits h
 values_counted m (type.primitive p k) vs (Integers v) valid h = rows_counted (pos 0) (integer_spelled p) vs (values_of v) h.1
 values_counted m (type.decimal p s k) vs (Decimals v) valid h = rows_counted (pos 0) (decimal_spelled p) vs (numbers_of v) h.1
@@ -138,7 +143,8 @@ values_counted m (type.binary k) vs (Views rows) valid h = rows_counted [] (byte
 values_counted m ty vs v valid h = absurd h
 
 -- a column of them, if the validity is one of the nullability and of the items
-module _ (ty : DataType) (vs : List Value) (v : ColumnValues) (valid : List Bool) (nulls : Nulls) (w : Validity) (h : AreStored NonNullable (storage_of ty) (items_view vs) v valid) where
+module _ (ty : DataType) (vs : List Value) (v : ColumnValues) (valid : List Bool) (nulls : Nulls) (w : Validity)
+    (h : AreStored NonNullable (storage_of ty) (items_view vs) v valid) where
   pub flat_made : validity_spelled (nullability_of ty) (length vs) nulls ≡ Some w →
       column_of_values nulls ty (items_view vs) ≡ Some (column ty (count_of v) (data_of v) (child_of w (count_of v)))
   flat_made e =
@@ -172,11 +178,12 @@ flat_unspelled (type.utf8 k) vs nulls h = unspelled_by (type.utf8 k) views (byte
 flat_unspelled (type.binary k) vs nulls h = unspelled_by (type.binary k) views (bytes_spelled Bytes) vs nulls h
 
 -- rows, null among them, are the column of what they hold and of a validity that tells whether each is there
-rows_column : {A : Type 0} (zero : A) (ty : DataType) (of_items : List A → Data) (read : Json → Option A) (ds : Items) (xs : List A) (valid : List Bool) (w : Validity) →
-    AreRead Nullable zero read ds xs valid → child_of w (length valid) ≡ child_by valid →
+rows_column : {A : Type 0} (zero : A) (ty : DataType) (of_items : List A → Data) (read : Json → Option A) (ds : Items) (xs : List A) (valid : List Bool)
+    (w : Validity) → AreRead Nullable zero read ds xs valid → child_of w (length valid) ≡ child_by valid →
     option_map (column_of zero ty of_items) (all_read (or_null Nullable read) ds) ≡ Some (column ty (length xs) (of_items xs) (child_of w (length xs)))
 rows_column zero ty of_items read ds xs valid w h tells =
-    let child : child_by (map is_some h.rows) ≡ child_of w (length xs) = ap child_by (sym h.are_told) ∙ sym tells ∙ ap (child_of w) (told_long zero read ds xs valid h) in
+    let child : child_by (map is_some h.rows) ≡ child_of w (length xs) =
+    ap child_by (sym h.are_told) ∙ sym tells ∙ ap (child_of w) (told_long zero read ds xs valid h) in
     let counted : length h.rows ≡ length xs = sym (length-map h.rows (item_or zero)) ∙ ap length (sym h.held) in
     ap (option_map (column_of zero ty of_items)) h.are_read ∙ ap Some (λ i. column ty (counted i) (of_items (sym h.held i)) (child i))
 

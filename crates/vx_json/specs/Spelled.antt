@@ -22,7 +22,8 @@ node_of d child children encoding.Constant = constant_spelled d
 node_of d child children encoding.Null = null_spelled d
 node_of d child children encoding.Slice = option_and_then (slice_spelled d) (child (codes "child"))
 node_of d child children encoding.Filter = option_and_then (filter_spelled d) (child (codes "child"))
-node_of d child children encoding.Masked = option_and_then (λ t. option_and_then (masked_spelled d t) (nulls_at d (child (codes "validity")))) (child (codes "child"))
+node_of d child children encoding.Masked =
+    option_and_then (λ t. option_and_then (masked_spelled d t) (nulls_at d (child (codes "validity")))) (child (codes "child"))
 node_of d child children encoding.IsValid = option_and_then (is_valid_spelled d) (child (codes "child"))
 node_of d child children encoding.Function = option_and_then (call_spelled d) (children (codes "args"))
 

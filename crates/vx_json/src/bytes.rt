@@ -100,7 +100,7 @@ fn bytes_or_none<'v>(
 }
 
 /// Reads a list of values that are stored so, and tells `nulls` which rows aren't null. Returns their bytes, none for null.
-/// `InvalidArgument(BadValue)` if an item is neither.
+/// `InvalidArgument(BadValue)` if an item is neither such a value nor a null row.
 pub(crate) fn byte_rows<N: RowNulls>(
     alloc: Global,
     storage: Storage,

@@ -47,8 +47,8 @@ impl ColumnValues {
     }
 }
 
-/// Reads a list of values of `dtype`, and tells `nulls` which rows aren't null. `InvalidArgument(BadValue)` if an item is neither, or
-/// if `dtype` is that of null alone.
+/// Reads a list of values of `dtype`, and tells `nulls` which rows aren't null. `InvalidArgument(BadValue)` if an item is neither such
+/// a value nor a null row, or if `dtype` is `Null`.
 pub(crate) fn column_values<N: RowNulls>(
     alloc: Global,
     dtype: &DType,

@@ -66,7 +66,8 @@ impl<T: NativeDecimalType> NumberReader<T> for Digits {
 }
 
 /// Reads a list of numbers without their points, which must be among `digits`, in the narrowest integers that hold all of these, and
-/// tells `nulls` which rows aren't null. Returns the numbers, 0 for null. `InvalidArgument(BadValue)` if an item is neither.
+/// tells `nulls` which rows aren't null. Returns the numbers, 0 for null. `InvalidArgument(BadValue)` if an item is neither such a number
+/// nor a null row.
 fn native_decimals<T: NativeDecimalType, N: RowNulls>(
     alloc: Global,
     digits: Digits,
@@ -92,7 +93,8 @@ pub(crate) fn decimals<N: RowNulls>(
 ) -> VortexResult<DecimalValues>
     requires { N.told nulls.old ≡ [] }
     ensures kind { IfOk result (λ v. decimal_type_of v ≡ smallest_width decimal.now.precision) }
-    ensures ok { IfOk result (λ v. AreRead N.mode (pos 0) (decimal_spelled decimal.now.precision) (items_view list.now.items) (numbers_of v) (N.told nulls.new)) }
+    ensures ok { IfOk result (λ v. AreRead N.mode (pos 0) (decimal_spelled decimal.now.precision) (items_view list.now.items) (numbers_of v)
+        (N.told nulls.new)) }
     ensures err { IfErr result (IsRefused (all_read (or_null N.mode (decimal_spelled decimal.now.precision)) (items_view list.now.items) ≡ None)) }
 {
     let digits = decimal.digits();

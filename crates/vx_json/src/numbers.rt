@@ -47,7 +47,7 @@ fn number_or<T: NativeNumber, R: NumberReader<T>>(
 }
 
 /// Reads a list of numbers by `reader`, and tells `nulls` which rows aren't null. Returns the numbers, `zero` for null.
-/// `InvalidArgument(BadValue)` if an item is neither.
+/// `InvalidArgument(BadValue)` if an item is neither a number nor a null row.
 pub(crate) fn numbers<T: NativeNumber, R: NumberReader<T>, N: RowNulls>(
     alloc: Global,
     zero: T,

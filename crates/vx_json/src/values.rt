@@ -49,7 +49,7 @@ impl<T: NativeInteger> NumberReader<T> for InRange {
 }
 
 /// Reads a list of integers in the range of `T`, and tells `nulls` which rows aren't null. Returns the integers, 0 for null.
-/// `InvalidArgument(BadValue)` if an item is neither.
+/// `InvalidArgument(BadValue)` if an item is neither such an integer nor a null row.
 #[tactic(auto, using(vx_value::proofs::DefaultsLemmas::zero_in_range))]
 fn natives<T: NativeInteger, N: RowNulls>(
     alloc: Global,
@@ -97,7 +97,7 @@ fn boolean_or(null: bool, value: &Value) -> Option<bool>
 }
 
 /// Reads a list of booleans, and tells `nulls` which rows aren't null. Returns the booleans, false for null.
-/// `InvalidArgument(BadValue)` if an item is neither.
+/// `InvalidArgument(BadValue)` if an item is neither a boolean nor a null row.
 pub(crate) fn booleans<N: RowNulls>(
     alloc: Global,
     nulls: &mut N,

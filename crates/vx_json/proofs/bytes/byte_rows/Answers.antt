@@ -16,7 +16,8 @@ returns-in_err-bytes_or_none-clause-err g c =
     let spelled = bytes_spelled c.args.storage in
     let within = rw c.deref-value-items.ensures.value at c.loop-value-test.true in
     let item = rw c.deref-value-items.ensures.value at c.value-item.is in
-    let none : read_unless c.is_null_row-null.result [] (spelled (view c.value-item.result)) ≡ None → all_read (or_null g.N.RowNulls.mode spelled) (items_view list) ≡ None =
+    let none : read_unless c.is_null_row-null.result [] (spelled (view c.value-item.result)) ≡ None →
+    all_read (or_null g.N.RowNulls.mode spelled) (items_view list) ≡ None =
     not_read _ _ _ _ _ _ _ c.loop-value.invariant.read c.value-item.result c.is_null_row-null.result within item c.is_null_row-null.ensures in
     search (rules, none)
 

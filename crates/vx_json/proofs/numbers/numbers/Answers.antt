@@ -30,8 +30,8 @@ loop-value-preserved g c =
     record {
       counted = push.len ∙ ap (λ n. n + 1) before.counted;
       room = omega (arith, push.capacity, before.room);
-      read = one_more _ _ _ _ _ _ _ before.read c.value-item.result c.is_null_row-null.result _ _ _ within item c.is_null_row-null.ensures c.in-Some.ensures pushed
-          c.in_ok-tell.ensures;
+      read = one_more _ _ _ _ _ _ _ before.read c.value-item.result c.is_null_row-null.result _ _ _ within item c.is_null_row-null.ensures
+          c.in-Some.ensures pushed c.in_ok-tell.ensures;
     }
 
 pub returns-clause-ok : goal.returns-clause-ok

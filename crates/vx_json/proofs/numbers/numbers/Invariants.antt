@@ -7,6 +7,6 @@ abbrev pub invariant-loop-value : goal.invariant-loop-value
 invariant-loop-value g l = record {
   counted : vec_len l.numbers ≡ l.value-index;
   room : length l.list.items ≤ vec_capacity l.numbers;
-  read : AreReadTo g.N.RowNulls.mode (g.T.Number.value l.zero) (g.R.NumberReader.spelled l.reader) l.list.items l.value-index (map g.T.Number.value l.numbers.items)
-      (g.N.RowNulls.told l.nulls);
+  read : AreReadTo g.N.RowNulls.mode (g.T.Number.value l.zero) (g.R.NumberReader.spelled l.reader) l.list.items l.value-index
+      (map g.T.Number.value l.numbers.items) (g.N.RowNulls.told l.nulls);
 }

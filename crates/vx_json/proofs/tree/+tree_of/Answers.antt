@@ -18,7 +18,7 @@ trees_of-returns-in_err-tree_of-clause-err t c =
     let within = rw c.deref-value-items.ensures.value at c.loop-value-test.true in
     let item = rw c.deref-value-items.ensures.value at c.value-item.is in
     let none : tree_spelled (view value) ≡ None → trees_spelled (items_view list) ≡ None =
-    λ e. trees_read (items_view list) ∙ read_none tree_spelled list c.loop-value.value-index c.loop-value.trees.items c.loop-value.invariant.read value within item e in
+    λ e. trees_read (items_view list) ∙ read_none tree_spelled list c.loop-value.value-index _ c.loop-value.invariant.read value within item e in
     search (rules, none)
 
 pub trees_of-loop-value-preserved : goal.trees_of-loop-value-preserved
