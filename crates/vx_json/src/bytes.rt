@@ -82,6 +82,7 @@ pub(crate) fn byte_buffer(
 
 /// Reads the bytes of a value that is stored so, as `bytes` does, or returns none for a null row.
 #[tactic(auto, using(crate::proofs::SpelledBytesLemmas::typed_none))]
+#[inline]
 fn bytes_or_none<'v>(
     null: bool,
     storage: Storage,

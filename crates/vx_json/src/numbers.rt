@@ -30,6 +30,7 @@ pub(crate) trait NumberReader<T: NativeNumber> {
 }
 
 /// Reads a number by `reader`, or returns `zero` for a null row.
+#[inline]
 fn number_or<T: NativeNumber, R: NumberReader<T>>(
     null: bool,
     zero: T,

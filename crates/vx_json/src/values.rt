@@ -90,6 +90,7 @@ pub(crate) fn integers<N: RowNulls>(
 }
 
 /// Reads a boolean, or returns false for a null row.
+#[inline]
 fn boolean_or(null: bool, value: &Value) -> Option<bool>
     ensures { result ≡ read_unless null false (as_bool (view value.now)) }
 {
