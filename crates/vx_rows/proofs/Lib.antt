@@ -3,4 +3,5 @@ pub mod CellsLemmas
 pub mod KeepsLemmas
 pub mod NullsLemmas
 pub mod StoredLemmas
+mod TruthsLemmas
 pub mod ValidRowsLemmas

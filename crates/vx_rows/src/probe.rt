@@ -18,7 +18,7 @@ ghost use Rattle.vx_rows.specs.Arguments.{IsUnread};
 ghost use Rattle.vx_rows.specs.Nulls.{TellsRow, IsRowBy};
 ghost use Rattle.vx_rows.specs.ValidRows.{null_unless};
 
-use std::alloc::Global;
+use std::alloc::{AllocError, Global};
 use vx_fn::{ScalarFnRef, apply_row};
 use vx_mask::{BitBuffer, BitBuilder};
 use vx_native::{DecimalValues, PrimitiveValues};
@@ -280,8 +280,8 @@ fn bytes_at(alloc: Global, rows: &BinaryViews, index: usize, dtype: &DType) -> V
     Ok(Scalar::new_unchecked(dtype.clone()?, value))
 }
 
-/// Returns the rows of `array`, which must be non-nullable booleans. Shares those of a column without a validity, and repeats a
-/// constant. `Fault` if a row has no value.
+/// Returns the rows of `array`, which must be non-nullable booleans. Shares those of a column without a validity, repeats a constant, and
+/// cuts and chooses those of slices and filters of such a column by words. `Fault` if a row has no value.
 pub fn truths_in(alloc: Global, array: &ArrayRef) -> VortexResult<BitBuffer>
     requires { dtype array.now ≡ type.bool Nullability.NonNullable }
     ensures ok { IfOk result (λ bits. rows array.now ≡ map (λ b. value (boolean b)) bits) }
@@ -289,12 +289,34 @@ pub fn truths_in(alloc: Global, array: &ArrayRef) -> VortexResult<BitBuffer>
     ensures err { IfErr result (IsUnread array.now) }
 {
     array.well();
+    if let ArrayKind::Constant(scalar) = array.kind() {
+        return Ok(BitBuffer::repeat(alloc, is_true(scalar), array.len())?);
+    }
+    match stored_truths(alloc, array)? {
+        Some(bits) => Ok(bits),
+        None => read_truths(alloc, array),
+    }
+}
+
+/// Returns the rows of `array` if it is a column of booleans without a validity, or slices and filters of one; else `None`. Fails only if
+/// there is no memory for them.
+#[cycle(stored_truths)]
+fn stored_truths(alloc: Global, array: &ArrayRef) -> Result<Option<BitBuffer>, AllocError>
+    ensures rows { IfOk result (λ o. IfSome o (λ bits. rows array.now ≡ map (λ b. value (boolean b)) bits)) }
+    ensures sized { IfOk result (λ o. IfSome o (λ bits. length bits ≡ len array.now)) }
+{
+    array.well();
     match array.kind() {
-        ArrayKind::Bool(bits, None) => Ok(bits.clone()?),
-        ArrayKind::Constant(scalar) => {
-            Ok(BitBuffer::repeat(alloc, is_true(scalar), array.len())?)
-        }
-        _ => read_truths(alloc, array),
+        ArrayKind::Bool(bits, None) => Ok(Some(bits.clone()?)),
+        ArrayKind::Slice(child, start, end) => match stored_truths(alloc, child)? {
+            Some(bits) => Ok(Some(bits.slice(start..end)?)),
+            None => Ok(None),
+        },
+        ArrayKind::Filter(child, mask) => match stored_truths(alloc, child)? {
+            Some(bits) => Ok(Some(bits.filter(alloc, mask)?)),
+            None => Ok(None),
+        },
+        _ => Ok(None),
     }
 }
 
