@@ -6,7 +6,7 @@ ghost use Rattle.vx_exec.specs.Frames.{filled, AreFrames};
 ghost use Rattle.vx_exec.specs.Moves.{is_reached, IsMove, IsTurned};
 
 use std::alloc::Global;
-use vx_step::{ExecutionStep, SlotTarget, Suspended, step, take_slot};
+use vx_step::{ExecutionStep, SlotTarget, Suspended, step};
 use vx_tree::{AnyCanonical, ArrayRef, Matcher};
 use vx_value::VortexResult;
 
@@ -57,7 +57,7 @@ fn advance<M: Matcher>(
     match step(alloc, &current) {
         Ok(ExecutionStep::Done(next)) => Ok(next),
         Ok(ExecutionStep::ExecuteSlot(slot, target)) => {
-            let (parent, child) = take_slot(alloc, current, slot)?;
+            let (parent, child) = current.take_slot(slot)?;
             frames.push(Frame {
                 parent,
                 slot,
@@ -90,7 +90,7 @@ pub fn take_turn<M: Matcher>(
                     slot,
                     target: _,
                 },
-            ) => Ok(Turn::Go(parent.put(alloc, slot, current)?)),
+            ) => Ok(Turn::Go(parent.put(slot, current)?)),
             None => Ok(Turn::Return(current)),
         }
     } else {

@@ -15,7 +15,7 @@ below_count zero (slot t ss) h = omega arith
 below_count (suc j) (absent ss) h = omega (arith, below_count j ss h)
 below_count (suc j) (slot t ss) h = omega (arith, below_count j ss h)
 
-present_below : (j : ℕ) (t : Tree) → IsPresent j t → j < count_slots (slots t)
+pub present_below : (j : ℕ) (t : Tree) → IsPresent j t → j < count_slots (slots t)
 present_below j (node ty n d ss) h = below_count j ss h
 
 pub quiet_all : (t : Tree) (n : ℕ) → n ≡ count_slots (slots t) → IsQuiet None t → ((j : ℕ) → j < n → IsQuiet (Some j) t) → IsSettled t

@@ -9,7 +9,7 @@ ghost use Rattle.vx_opt.specs.Limits.{call_limit, IsMade, IsWithin, IsLimited};
 use crate::pass::first_answer;
 use std::alloc::Global;
 use vx_rule::RawNode;
-use vx_tree::{ArrayRef, take_slot};
+use vx_tree::ArrayRef;
 use vx_value::{VortexError, VortexResult};
 
 /// The rewrites that one root may take.
@@ -83,7 +83,7 @@ fn optimize_slot(
     ensures room { IfOk result (λ u. total.new < call_limit) }
     ensures limited { IfErr result (IsLimited array total.old) }
 {
-    let (parent, child) = take_slot(alloc, array, slot)?;
+    let (parent, child) = array.take_slot(slot)?;
     let child = optimize_root(alloc, child, total)?;
-    Ok(parent.put(alloc, slot, child)?)
+    Ok(parent.put(slot, child)?)
 }

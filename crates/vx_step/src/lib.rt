@@ -9,4 +9,4 @@ mod steps;
 mod validity;
 
 pub use steps::{ExecutionStep, SlotTarget, step};
-pub use vx_tree::{Suspended, take_slot};
+pub use vx_tree::Suspended;

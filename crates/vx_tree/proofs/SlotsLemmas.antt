@@ -201,6 +201,11 @@ put_node i c d (node ty n e ss) h s l w = subst (IsNode ty n e) (set_shapes i c 
 
 -- ---- a slot of a node of the program, taken out and filled
 
+-- what is written to is the node itself, or a copy of it
+pub own_or_copy : {X : Type 0} (of : X → Tree) (x y : X) (t : Tree) → (x ≡ y) ⊎ (of x ≡ of y) → of y ≡ t → of x ≡ t
+own_or_copy of x y t (inl same) e = ap of same ∙ e
+own_or_copy of x y t (inr copy) e = copy ∙ e
+
 module _ (ty : DataType) (n : ℕ) (d : Data) (xs : List (Option Tree)) (i : ℕ) (c t : Tree) (e : node ty n d (slots_of xs) ≡ t) where
   -- v is what is found in the slot, and s what is left there
   pub slot_taken : (v s : Option Tree) → IsPresent i t → IsWell t → get_or xs i v ≡ Some c → s ≡ None

@@ -38,7 +38,7 @@ pub use laws::{
 pub use matcher::{AnyArray, AnyCanonical, AnyColumnar, AnyScalarFn, Matcher};
 pub use node_validity::and_lazily;
 pub use slicing::slice_canonical;
-pub use suspended::{Suspended, take_slot};
+pub use suspended::Suspended;
 pub use validity::{
     Validity, child_to_validity, choose_validity, slice_validity, validity_nchildren,
     validity_to_child,

@@ -111,7 +111,7 @@ impl ArrayRef {
         };
         let new = Some(child);
         check_slot(slot, old, &new)?;
-        let mut node = self.into_node(alloc)?;
+        let mut node = self.into_node()?;
         node.slots[slot] = new;
         Ok(node.into_array(alloc)?)
     }
@@ -132,7 +132,7 @@ impl ArrayRef {
             return Err(VortexError::InvalidArgument(ArgKind::SlotCount));
         }
         check_slots(old, &slots)?;
-        let mut node = self.into_node(alloc)?;
+        let mut node = self.into_node()?;
         node.slots = slots;
         Ok(node.into_array(alloc)?)
     }

@@ -4,13 +4,14 @@ ghost use Rattle.std.specs.Prelude.{◌≡◌, IfOk};
 ghost use Rattle.vx_tree.specs.Slots.{put, IsHole, IsPresent, HasSlot};
 ghost use Rattle.vx_tree.specs.Well.{IsNodeOf};
 
-use crate::array::{ArrayRef, Node};
-use std::alloc::{AllocError, Global};
+use crate::array::{ArrayRef, Node, know_well};
+use std::alloc::AllocError;
 use std::marker::Model;
+use std::rc::Rc;
 
-/// A node with an empty slot. It is never an `ArrayRef`. (own)
+/// A node with an empty slot, which no one else holds. It is never an `ArrayRef`. (own)
 pub struct Suspended {
-    node: Node,
+    node: Rc<Node>,
 }
 
 // by hand: see `ArrayRef`
@@ -30,34 +31,35 @@ impl Model for Suspended {
 
     ghost use Rattle.vx_tree.specs.TreeView.{tree_of};
 
-    ghost view = { λ a. tree_of a.node };
+    ghost view = { λ a. tree_of a.node.value };
 }
 
-/// Takes the child out of `slot`, counted from 0. Copies the parts of the root only if it is shared. (own)
-pub fn take_slot(
-    alloc: Global,
-    array: ArrayRef,
-    slot: usize,
-) -> Result<(Suspended, ArrayRef), AllocError>
-    requires { IsPresent slot array }
-    ensures { IfOk result (λ p. (put slot p.1 p.0 ≡ array) × IsHole slot p.0 × IsNodeOf array × HasSlot slot p.1 array) }
-{
-    array.well();
-    let mut node = array.into_node(alloc)?;
-    let taken = node.slots[slot].take();
-    let Some(child) = taken else { unreachable!() };
-    Ok((Suspended { node }, child))
+impl ArrayRef {
+    /// Takes the child out of `slot`, counted from 0, in place. Copies the parts of the root only if it is shared. (own)
+    pub fn take_slot(self, slot: usize) -> Result<(Suspended, ArrayRef), AllocError>
+        requires { IsPresent slot self }
+        ensures { IfOk result (λ p. (put slot p.1 p.0 ≡ self) × IsHole slot p.0 × IsNodeOf self × HasSlot slot p.1 self) }
+    {
+        self.well();
+        let mut node = self.into_root();
+        let root = Rc::make_mut(&mut node)?;
+        let taken = root.slots[slot].take();
+        let Some(child) = taken else { unreachable!() };
+        Ok((Suspended { node }, child))
+    }
 }
 
 impl Suspended {
     /// Puts `child` into the empty `slot`, counted from 0. Copies nothing. (own)
-    pub fn put(self, alloc: Global, slot: usize, child: ArrayRef) -> Result<ArrayRef, AllocError>
+    pub fn put(self, slot: usize, child: ArrayRef) -> Result<ArrayRef, AllocError>
         requires hole { IsHole slot self }
         requires fits { IsNodeOf (put slot child self) }
         ensures { IfOk result (λ t. t ≡ put slot child self) }
     {
         let Suspended { mut node } = self;
-        node.slots[slot] = Some(child);
-        node.into_array(alloc)
+        let root = Rc::make_mut(&mut node)?;
+        root.slots[slot] = Some(child);
+        know_well(&root.slots);
+        Ok(ArrayRef { node })
     }
 }

@@ -117,17 +117,17 @@ impl Clone for Encoding {
     }
 }
 
-fn copy_node(alloc: Global, node: &Node) -> Result<Node, AllocError>
-    ensures { IfOk result (λ copy. tree_of copy ≡ tree_of node.now) }
-{
-    let dtype = node.dtype.clone()?;
-    let slots = node.slots.to_vec(alloc)?;
-    Ok(Node {
-        dtype,
-        len: node.len,
-        encoding: node.encoding.clone()?,
-        slots,
-    })
+impl Clone for Node {
+    ghost is_clone = { λ a b. tree_of b ≡ tree_of a };
+
+    fn clone(&self) -> Result<Node, AllocError> {
+        Ok(Node {
+            dtype: self.dtype.clone()?,
+            len: self.len,
+            encoding: self.encoding.clone()?,
+            slots: self.slots.clone()?,
+        })
+    }
 }
 
 fn know_slot(slot: &Option<ArrayRef>)
@@ -165,15 +165,19 @@ impl Node {
 }
 
 impl ArrayRef {
-    /// Returns the parts of the root. Copies them if the root is shared.
-    pub fn into_node(self, alloc: Global) -> Result<Node, AllocError>
-        ensures { IfOk result (λ n. tree_of n ≡ self) }
+    /// Returns the root, which may be shared.
+    pub(crate) fn into_root(self) -> Rc<Node>
+        ensures { tree_of result.value ≡ self }
     {
         let ArrayRef { node } = self;
-        match Rc::try_unwrap(node) {
-            Ok(node) => Ok(node),
-            Err(shared) => copy_node(alloc, &shared),
-        }
+        node
+    }
+
+    /// Returns the parts of the root. Copies them if the root is shared.
+    pub fn into_node(self) -> Result<Node, AllocError>
+        ensures { IfOk result (λ n. tree_of n ≡ self) }
+    {
+        Rc::unwrap_or_clone(self.into_root())
     }
 
     /// Returns the parts of the root. Hands the tree back if the root is shared.

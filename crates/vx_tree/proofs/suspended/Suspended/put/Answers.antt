@@ -1,27 +1,32 @@
-use Rattle.std.proofs.Common.{◌<◌, ◌≡◌, length, arith, sym, ◌∙◌, subst}
-use Rattle.std.proofs.lemmas.Result.{IfOk-weaker}
+use Rattle.std.proofs.Common.{◌<◌, ◌≡◌, length, arith, sym, ◌∙◌, ap, subst, Some}
+use Rattle.std.specs.Prelude.{is_ok}
+use Rattle.std.specs.Vec.{with_item}
 use Rattle.vx_value.specs.View.{type_of}
-use Rattle.vx_tree.specs.TreeView.{data_of}
-use Rattle.vx_tree.specs.Well.{IsNodeOf}
-use Rattle.vx_tree.specs.Slots.{IsHole, put}
-use Rattle.vx_tree.proofs.SlotsLemmas.{hole_bound, slot_filled}
+use Rattle.vx_tree.specs.TreeView.{data_of, tree_of}
+use Rattle.vx_tree.specs.Slots.{IsHole}
+use Rattle.vx_tree.specs.Tree.{slots_of}
+use Rattle.vx_tree.specs.Well.{IsNodeOf, AreWell}
+use Rattle.vx_tree.proofs.SlotsLemmas.{hole_bound, slot_filled, own_or_copy}
 use Rattle.vx_tree.proofs.suspended.Suspended.put.Goals as goal
 
 pub index_mut-requires : goal.index_mut-requires
 index_mut-requires c =
-    let n = c.self.inside.node in
-    let within : c.args.slot < length n.slots.items = hole_bound _ _ (subst (λ x. IsHole c.args.slot x) (sym c.self.view_is) c.requires.hole) in
+    let n = c.in_ok-root.root.now in
+    let same = own_or_copy tree_of n c.self.inside.node.value c.args.self c.in_ok-root.ensures.value c.self.view_is in
+    let within : c.args.slot < length n.slots.items = hole_bound _ _ (subst (λ x. IsHole c.args.slot x) (sym same) c.requires.hole) in
     omega (arith, n.slots.ok.0)
 
-pub into_array-requires : goal.into_array-requires
-into_array-requires c =
-    let n = c.self.inside.node in
-    subst IsNodeOf (sym (slot_filled (type_of n.dtype) n.len
-    (data_of n.encoding) n.slots.items c.args.slot c.args.child c.args.self c.self.view_is)) c.requires.fits
+pub invariant_of-result : goal.invariant_of-result
+invariant_of-result c =
+    let n = c.in_ok-root.root.now in
+    let same = own_or_copy tree_of n c.self.inside.node.value c.args.self c.in_ok-root.ensures.value c.self.view_is in
+    let filled = slot_filled (type_of n.dtype) n.len (data_of n.encoding) n.slots.items c.args.slot c.args.child c.args.self same in
+    rw (c.make_mut.follows.holds (record { dtype = n.dtype; len = n.len; encoding = n.encoding; slots = with_item n.slots c.args.slot (Some c.args.child) }) (ap is_ok c.in_ok-root.was))
+    (subst IsNodeOf (sym filled) c.requires.fits, subst (λ xs. AreWell (slots_of xs)) c.deref.ensures.value c.know_well.ensures)
 
 pub returns : goal.returns
 returns c =
-    let n = c.self.inside.node in
-    IfOk-weaker c.into_array.result _ (λ t. t ≡ put c.args.slot c.args.child c.args.self)
-    (λ t e. e ∙ slot_filled (type_of n.dtype) n.len
-    (data_of n.encoding) n.slots.items c.args.slot c.args.child c.args.self c.self.view_is) c.into_array.ensures
+    let n = c.in_ok-root.root.now in
+    let same = own_or_copy tree_of n c.self.inside.node.value c.args.self c.in_ok-root.ensures.value c.self.view_is in
+    rw (c.make_mut.follows.holds (record { dtype = n.dtype; len = n.len; encoding = n.encoding; slots = with_item n.slots c.args.slot (Some c.args.child) }) (ap is_ok c.in_ok-root.was))
+    (slot_filled (type_of n.dtype) n.len (data_of n.encoding) n.slots.items c.args.slot c.args.child c.args.self same)

@@ -1,0 +1,31 @@
+use Rattle.std.proofs.Common.{◌<◌, ◌≡◌, length, arith, sym, ◌∙◌, ap, subst}
+use Rattle.std.specs.Prelude.{is_ok}
+use Rattle.std.specs.Vec.{with_item}
+use Rattle.vx_value.specs.View.{type_of}
+use Rattle.vx_tree.specs.TreeView.{data_of, tree_of}
+use Rattle.vx_tree.specs.Slots.{IsPresent}
+use Rattle.vx_tree.proofs.SlotsLemmas.{present_bound, present_some, slot_taken, own_or_copy}
+use Rattle.vx_tree.proofs.array.node.ArrayRef.take_slot.Goals as goal
+
+pub index_mut-requires : goal.index_mut-requires
+index_mut-requires c =
+    let n = c.in_ok-root.root.now in
+    let same = own_or_copy tree_of n c.into_root-node.result.value c.args.self c.in_ok-root.ensures.value c.into_root-node.ensures in
+    let within : c.args.slot < length n.slots.items = present_bound _ _ (subst (λ x. IsPresent c.args.slot x) (sym same) c.requires) in
+    omega (arith, n.slots.ok.0)
+
+pub unreachable-requires : goal.unreachable-requires
+unreachable-requires c =
+    let n = c.in_ok-root.root.now in
+    let same = own_or_copy tree_of n c.into_root-node.result.value c.args.self c.in_ok-root.ensures.value c.into_root-node.ensures in
+    present_some n.slots.items c.args.slot c.index_mut.result.now (subst (λ x. IsPresent c.args.slot x) (sym same) c.requires)
+    (sym c.index_mut.ensures.value ∙ sym c.take-taken.ensures.value ∙ c.in_default.is)
+
+pub returns : goal.returns
+returns c =
+    let n = c.in_ok-root.root.now in
+    let same = own_or_copy tree_of n c.into_root-node.result.value c.args.self c.in_ok-root.ensures.value c.into_root-node.ensures in
+    rw (c.make_mut.follows.holds (record { dtype = n.dtype; len = n.len; encoding = n.encoding; slots = with_item n.slots c.args.slot c.take-taken.new.self }) (ap is_ok c.in_ok-root.was))
+    (slot_taken (type_of n.dtype) n.len
+    (data_of n.encoding) n.slots.items c.args.slot c.in-Some.child c.args.self same c.index_mut.result.now c.take-taken.new.self
+    c.requires c.well.ensures.formed (sym c.index_mut.ensures.value ∙ sym c.take-taken.ensures.value ∙ c.in-Some.is) c.take-taken.ensures.after)
