@@ -1,12 +1,5 @@
-pub mod CallsLemmas
-pub mod FitsLemmas
-pub mod QuietLemmas
-pub mod ChildrenLemmas
-pub mod ConstantsLemmas
 pub mod LighterLemmas
-pub mod SlotsLemmas
-pub mod CombinedLemmas
-pub mod MaskedLemmas
+pub mod PresentLemmas
 pub mod PointsLemmas
 pub mod PicksLemmas
 pub mod RangesLemmas

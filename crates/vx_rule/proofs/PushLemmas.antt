@@ -23,9 +23,7 @@ use Rattle.vx_tree.proofs.KeepsLemmas.{exactly_refl, exactly_trans, exactly_of_r
 use Rattle.vx_tree.proofs.PartsLemmas.{part_exact}
 use Rattle.vx_tree.proofs.KindsLemmas.{type_in, len_in}
 use Rattle.vx_tree.proofs.SlotsLemmas.{one_shape}
-use Rattle.vx_rule.specs.Constants.{IsConstantLike}
-use Rattle.vx_rule.specs.Pushes.{IsPushed}
-use Rattle.vx_rule.proofs.FitsLemmas.{masked_mapped}
+use Rattle.vx_rule.specs.Pushes.{IsPushed, IsConstantLike}
 use Rattle.vx_rule.proofs.PicksLemmas.{IsSecond, masked_slots}
 use Rattle.vx_rule.proofs.RangesLemmas.{S_whole_keeps, S_empty_keeps, S1_keeps, S2_keeps, S4_keeps, S5_keeps}
 
@@ -192,6 +190,11 @@ module _ (x : Tree) (f : ScalarFnRef) (xs : List (Option Tree)) (shown : x ≡ n
         }))
 
 -- ---- a masked array
+
+-- the slots of a masked node, with its validity replaced
+pub masked_mapped : (f : Tree → Tree) (c : Tree) (v : Option Tree) → slots_of (Some c ∷ option_map f v ∷ []) ≡ slot c (map_slots f (slots_of (v ∷ [])))
+masked_mapped f c None = refl
+masked_mapped f c (Some t) = refl
 
 module _ (a b : ℕ) (x c : Tree) (v : Option Tree) (shown : x ≡ masked_of c v) (well : IsWell x) (order : a ≤ b) (bounds : b ≤ len x) where
   here : IsWell (masked_of c v)

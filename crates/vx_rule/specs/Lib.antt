@@ -4,9 +4,9 @@ pub use Rattle.vx_tree.specs.Parts
 pub use Rattle.vx_tree.specs.Keeps
 pub use Rattle.vx_tree.specs.Cost
 pub use Rattle.vx_tree.specs.Weight
+pub use Rattle.vx_tree.specs.Well
+pub use Rattle.vx_tree.specs.Columns
 pub mod Rules
 pub mod Answers
-pub mod Calls
-pub mod SliceLaws
-pub mod Constants
+pub mod Tags
 pub mod Pushes

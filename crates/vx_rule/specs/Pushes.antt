@@ -1,6 +1,7 @@
 -- Slices that are pushed down.
 use Rattle.std.specs.Prelude.{◌≡◌, ◌≤◌, ℕ, ◌+◌, ◌*◌, true}
-use Rattle.vx_tree.specs.Tree.{Tree, datum, slice_of, is_canonical}
+use Rattle.vx_value.specs.Typed.{Typed}
+use Rattle.vx_tree.specs.Tree.{Tree, len, datum, constant_of, slice_of, is_canonical}
 use Rattle.vx_tree.specs.Parts.{column_range}
 use Rattle.vx_tree.specs.Cost.{cost, reach}
 use Rattle.vx_tree.specs.Keeps.{KeepsExactly}
@@ -16,3 +17,7 @@ pub record IsColumnSlice (a b : ℕ) (t u : Tree) : Type 0 where
   pub range : u ≡ column_range a b t
   pub exactly : KeepsExactly (slice_of a b t) u
   pub column : is_canonical (datum u) ≡ true
+
+-- u is n rows of the constant t's value
+abbrev pub IsConstantLike : Tree → ℕ → Tree → Type 0
+IsConstantLike t n u = (v : Typed) × (t ≡ constant_of v (len t)) × (u ≡ constant_of v n)

@@ -1,29 +1,21 @@
-//! The table of rewrite rules: what may stand for a node, by the node itself or by a child of it.
+//! Rewrite rules: the table of their rows with its laws, what a rule is, and the nodes that answers are made of.
 #![tactic(auto)]
 
-mod adaptors;
-mod encodings;
 mod laws;
+mod nodes;
 mod push;
 mod raw_node;
 mod rule;
-mod rule_set;
 pub mod scalar_fns;
-mod slots;
-mod table;
 
-pub use adaptors::{
-    BetweenReduce, BetweenReduceAdaptor, CastReduce, CastReduceAdaptor, FillNullReduce,
-    FillNullReduceAdaptor, FilterReduce, FilterReduceAdaptor, MaskReduce, MaskReduceAdaptor,
-    NotReduce, NotReduceAdaptor, SliceReduce, SliceReduceAdaptor,
-};
-pub use encodings::CanonicalEncoding;
 pub use laws::rule_laws;
+pub use nodes::{
+    column_slice, constant_like, empty_column, function_node, function_parts, masked_node,
+    masked_parts, two_slots,
+};
 pub use push::push_slice;
 pub use raw_node::RawNode;
 pub use rule::{
     ArrayParentReduceRule, ArrayReduceRule, DynArrayParentReduceRule, ParentReduceRuleAdapter,
 };
-pub use rule_set::{ParentRuleSet, ReduceRuleSet, ReduceVTable};
 pub use scalar_fns::{ExactScalarFn, ScalarFnTag};
-pub use table::{reduce, reduce_parent};

@@ -7,7 +7,7 @@ ghost use Rattle.vx_tree.specs.Keeps.{KeepsExactly};
 ghost use Rattle.vx_tree.specs.Cost.{cost, reach};
 ghost use Rattle.vx_rule.specs.Pushes.{IsPushed};
 
-use crate::slots::{
+use crate::nodes::{
     column_slice, constant_like, empty_column, function_node, function_parts, masked_node,
 };
 use std::alloc::Global;

@@ -20,7 +20,7 @@ pub struct RawNode {
 
 impl RawNode {
     /// Returns `tree` as an answer none of whose slots is to be optimized.
-    pub(crate) fn done(alloc: Global, tree: ArrayRef) -> RawNode
+    pub fn done(alloc: Global, tree: ArrayRef) -> RawNode
         ensures tree { result.tree ≡ tree }
         ensures optimize { result.optimize.items ≡ [] }
     {
@@ -31,7 +31,7 @@ impl RawNode {
     }
 
     /// Returns `tree` as an answer all of whose slots are to be optimized. The only error is `OutOfMemory`.
-    pub(crate) fn raw(alloc: Global, tree: ArrayRef) -> VortexResult<Option<RawNode>>
+    pub fn raw(alloc: Global, tree: ArrayRef) -> VortexResult<Option<RawNode>>
         ensures { IsRaw tree result }
     {
         let optimize = present_slots(alloc, tree.slots())?;

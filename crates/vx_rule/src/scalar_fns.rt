@@ -3,7 +3,7 @@
 ghost use Rattle.std.specs.Prelude.{◌≡◌, Bool};
 ghost use Rattle.vx_fn.specs.declared.function.ScalarFnRef.{ScalarFnRef as Function};
 ghost use Rattle.vx_tree.specs.Tree.{datum};
-ghost use Rattle.vx_rule.specs.Calls.{is_mask, is_cast, is_not, is_between, is_fill_null, applies};
+ghost use Rattle.vx_rule.specs.Tags.{is_mask, is_cast, is_not, is_between, is_fill_null, applies};
 
 use std::marker::PhantomData;
 use vx_fn::ScalarFnRef;

@@ -1,7 +1,7 @@
 use Rattle.std.proofs.Common.{rules, ◌≡◌, length, take, arith, true, false, sym}
 use Rattle.std.specs.Prelude.{is_some}
 use Rattle.std.proofs.lemmas.List.{take_more, length-take-le}
-use Rattle.vx_rule.proofs.SlotsLemmas.{present_more, absent_more, some_is, none_is}
+use Rattle.vx_rule.proofs.PresentLemmas.{present_more, absent_more, some_is, none_is}
 use Rattle.vx_rule.proofs.raw_node.present_slots.Goals as goal
 use Rattle.vx_rule.proofs.raw_node.present_slots.Goals.{then-is_some+in_ok-push, else-is_some}
 

@@ -1,0 +1,8 @@
+mod SlotsLemmas
+mod CallsLemmas
+mod FitsLemmas
+mod QuietLemmas
+mod ChildrenLemmas
+mod ConstantsLemmas
+mod CombinedLemmas
+mod MaskedLemmas

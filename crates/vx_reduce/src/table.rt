@@ -1,0 +1,97 @@
+//! Asking the table.
+
+ghost use Rattle.std.specs.Prelude.{◌≡◌, IfOk, IfErr, None, Some};
+ghost use Rattle.vx_value.specs.declared.error.VortexError.TheVariants.{OutOfMemory};
+ghost use Rattle.vx_tree.specs.Tree.{datum};
+ghost use Rattle.vx_tree.specs.Slots.{HasSlot};
+ghost use Rattle.vx_rule.specs.Answers.{IsAnswer};
+
+use crate::rule_set::{ParentRuleSet, ReduceRuleSet, ReduceVTable};
+use std::alloc::Global;
+use vx_rule::RawNode;
+use vx_tree::{
+    ArrayRef, ArrayView, Bool, Constant, Decimal, Encoding, Filter, Masked, Null, Primitive,
+    ScalarFn, ScalarFnValidity, Slice, VarBinView,
+};
+use vx_value::VortexResult;
+
+/// Calls a generic function at the encoding of `$array`, with its data as the last argument: a line for each encoding.
+macro_rules! by_encoding {
+    ($array:expr, $function:ident($($argument:expr),*)) => {
+        match $array.encoding() {
+            Encoding::Constant(payload) => $function::<Constant>($($argument),*, payload),
+            Encoding::Slice(payload) => $function::<Slice>($($argument),*, payload),
+            Encoding::Filter(payload) => $function::<Filter>($($argument),*, payload),
+            Encoding::Masked(payload) => $function::<Masked>($($argument),*, payload),
+            Encoding::ScalarFnValidity(payload) => {
+                $function::<ScalarFnValidity>($($argument),*, payload)
+            }
+            Encoding::ScalarFn(payload) => $function::<ScalarFn>($($argument),*, payload),
+            Encoding::Null(payload) => $function::<Null>($($argument),*, payload),
+            Encoding::Bool(payload) => $function::<Bool>($($argument),*, payload),
+            Encoding::Primitive(payload) => $function::<Primitive>($($argument),*, payload),
+            Encoding::Decimal(payload) => $function::<Decimal>($($argument),*, payload),
+            Encoding::VarBinView(payload) => $function::<VarBinView>($($argument),*, payload),
+        }
+    };
+}
+
+/// Returns the answer of `array` itself by the rules of `V`, its encoding, whose data is `payload`.
+#[inline]
+fn evaluate<V: ReduceVTable>(
+    alloc: Global,
+    array: &ArrayRef,
+    payload: &V::TypedArrayData,
+) -> VortexResult<Option<RawNode>>
+    requires { V.stands_for payload.now ≡ datum array.now }
+    ensures answer { IfOk result (λ o. IsAnswer None array.now o) }
+    ensures err { IfErr result (λ e. e ≡ OutOfMemory) }
+{
+    let view: ArrayView<'_, V> = ArrayView { array, payload };
+    ReduceRuleSet::new().evaluate(alloc, &view)
+}
+
+/// Returns the answer of `child`, which stands in `slot` of `parent`, by the rules of `V`, its encoding, whose data is `payload`.
+#[inline]
+fn evaluate_child<V: ReduceVTable>(
+    alloc: Global,
+    child: &ArrayRef,
+    parent: &ArrayRef,
+    slot: usize,
+    payload: &V::TypedArrayData,
+) -> VortexResult<Option<RawNode>>
+    requires payload { V.stands_for payload.now ≡ datum child.now }
+    requires slot { HasSlot slot child.now parent.now }
+    ensures answer { IfOk result (λ o. IsAnswer (Some slot) parent.now o) }
+    ensures err { IfErr result (λ e. e ≡ OutOfMemory) }
+{
+    let view: ArrayView<'_, V> = ArrayView {
+        array: child,
+        payload,
+    };
+    ParentRuleSet::new().evaluate(alloc, &view, parent, slot)
+}
+
+/// Returns the answer of `array` itself, by the rows F1 to F3, C1 and N1: `None` exactly if none of them fits. The only error is
+/// `OutOfMemory`.
+pub fn reduce(alloc: Global, array: &ArrayRef) -> VortexResult<Option<RawNode>>
+    ensures answer { IfOk result (λ o. IsAnswer None array.now o) }
+    ensures err { IfErr result (λ e. e ≡ OutOfMemory) }
+{
+    by_encoding!(array, evaluate(alloc, array))
+}
+
+/// Returns the answer of `child`, which stands in `slot` of `parent`, by the rows S1 to S5, F5 to F8, M1 and K1 to K4: `None` exactly if
+/// none of them fits there. The only error is `OutOfMemory`.
+pub fn reduce_parent(
+    alloc: Global,
+    child: &ArrayRef,
+    parent: &ArrayRef,
+    slot: usize,
+) -> VortexResult<Option<RawNode>>
+    requires { HasSlot slot child.now parent.now }
+    ensures answer { IfOk result (λ o. IsAnswer (Some slot) parent.now o) }
+    ensures err { IfErr result (λ e. e ≡ OutOfMemory) }
+{
+    by_encoding!(child, evaluate_child(alloc, child, parent, slot))
+}

@@ -1,0 +1,132 @@
+//! Nodes taken apart, and the nodes that answers are made of.
+
+ghost use Rattle.std.specs.Prelude.{◌≡◌, ◌≤◌, [], ◌∷◌, Some, IfOk, IfErr, true};
+ghost use Rattle.vx_value.specs.declared.error.VortexError.TheVariants.{OutOfMemory};
+ghost use Rattle.vx_value.specs.View.{type_of};
+ghost use Rattle.vx_tree.specs.Tree.{dtype, len, datum, node, function, masked, slots_of, masked_of};
+ghost use Rattle.vx_tree.specs.Tree.{is_function, is_masked, is_constant, is_canonical};
+ghost use Rattle.vx_tree.specs.Well.{IsNode, IsWell, shapes};
+ghost use Rattle.vx_tree.specs.Columns.{empty_of};
+ghost use Rattle.vx_rule.specs.Pushes.{IsConstantLike, IsColumnSlice};
+
+use std::alloc::Global;
+use std::ops::Range;
+use vx_fn::ScalarFnRef;
+use vx_tree::{
+    Array, ArrayKind, ArrayParts, ArrayRef, Canonical, ConstantArray, IntoArray, Masked,
+    MaskedData, ScalarFn, ScalarFnData, slice_canonical,
+};
+use vx_value::{DType, VortexResult};
+
+/// Returns the function of `array`, which must apply one, and the slots of its arguments.
+pub fn function_parts(array: &ArrayRef) -> (&ScalarFnRef, &[Option<ArrayRef>])
+    requires { is_function (datum array.now) ≡ true }
+    ensures shape { array.now ≡ node (dtype array.now) (len array.now) (function result.0.now) (slots_of result.1.now) }
+    ensures node { IsNode (dtype array.now) (len array.now) (function result.0.now) (shapes (slots_of result.1.now)) }
+    ensures well { IsWell array.now }
+{
+    array.well();
+    let ArrayKind::ScalarFn(scalar_fn, slots) = array.kind() else {
+        unreachable!()
+    };
+    (scalar_fn, slots)
+}
+
+/// Makes the node of `scalar_fn` over `slots`, `len` rows of `like`'s type, which must be well formed. The only error is `OutOfMemory`.
+pub fn function_node(
+    alloc: Global,
+    like: &ArrayRef,
+    scalar_fn: &ScalarFnRef,
+    len: usize,
+    slots: Vec<Option<ArrayRef>>,
+) -> VortexResult<ArrayRef>
+    requires { IsNode (dtype like.now) len (function scalar_fn.now) (shapes (slots_of slots.items)) }
+    ensures ok { IfOk result (λ t. t ≡ node (dtype like.now) len (function scalar_fn.now) (slots_of slots.items)) }
+    ensures err { IfErr result (λ e. e ≡ OutOfMemory) }
+{
+    let vtable = ScalarFn { id: scalar_fn.id() };
+    let payload = ScalarFnData::new(scalar_fn.clone()?);
+    let parts = ArrayParts::new(vtable, like.dtype().clone()?, len, payload, slots);
+    Ok(Array::from_parts_unchecked(alloc, parts)?.into_array())
+}
+
+/// Returns the child of `array`, which must be masked, and the slot of its validity.
+pub fn masked_parts(array: &ArrayRef) -> (&ArrayRef, &Option<ArrayRef>)
+    requires { is_masked (datum array.now) ≡ true }
+    ensures shape { array.now ≡ masked_of result.0.now result.1.now }
+    ensures well { IsWell array.now }
+{
+    array.well();
+    let ArrayKind::Masked(child, validity) = array.kind() else {
+        unreachable!()
+    };
+    (child, validity)
+}
+
+/// Makes the masked array of `child`, of `like`'s type, with this tree in the slot of its validity; it must be well formed. The only error
+/// is `OutOfMemory`.
+pub fn masked_node(
+    alloc: Global,
+    like: &ArrayRef,
+    child: ArrayRef,
+    validity: Option<ArrayRef>,
+) -> VortexResult<ArrayRef>
+    requires { IsNode (dtype like.now) (len child) masked (shapes (slots_of (Some child ∷ validity ∷ []))) }
+    ensures ok { IfOk result (λ t. t ≡ node (dtype like.now) (len child) masked (slots_of (Some child ∷ validity ∷ []))) }
+    ensures err { IfErr result (λ e. e ≡ OutOfMemory) }
+{
+    let len = child.len();
+    let slots = two_slots(alloc, child, validity)?;
+    let parts = ArrayParts::new(Masked, like.dtype().clone()?, len, MaskedData, slots);
+    Ok(Array::from_parts_unchecked(alloc, parts)?.into_array())
+}
+
+/// Makes a vector of two slots. The only error is `OutOfMemory`.
+pub fn two_slots(
+    alloc: Global,
+    first: ArrayRef,
+    second: Option<ArrayRef>,
+) -> VortexResult<Vec<Option<ArrayRef>>>
+    ensures ok { IfOk result (λ v. v.items ≡ Some first ∷ second ∷ []) }
+    ensures err { IfErr result (λ e. e ≡ OutOfMemory) }
+{
+    let mut slots = Vec::with_capacity(alloc, 2)?;
+    slots.push(Some(first))?;
+    slots.push(second)?;
+    Ok(slots)
+}
+
+/// Returns the constant of `len` rows that has the value of `array`, which must be one. The only error is `OutOfMemory`.
+pub fn constant_like(alloc: Global, array: &ArrayRef, len: usize) -> VortexResult<ArrayRef>
+    requires { is_constant (datum array.now) ≡ true }
+    ensures ok { IfOk result (λ t. IsConstantLike array.now len t) }
+    ensures err { IfErr result (λ e. e ≡ OutOfMemory) }
+{
+    let ArrayKind::Constant(scalar) = array.kind() else {
+        unreachable!()
+    };
+    Ok(ConstantArray::new(alloc, scalar.clone()?, len)?.into_array())
+}
+
+/// Returns the column of type `dtype` without rows. The only error is `OutOfMemory`.
+pub fn empty_column(alloc: Global, dtype: &DType) -> VortexResult<ArrayRef>
+    ensures ok { IfOk result (λ t. t ≡ empty_of (type_of dtype.now)) }
+    ensures err { IfErr result (λ e. e ≡ OutOfMemory) }
+{
+    Ok(Canonical::empty(alloc, dtype)?.into_array())
+}
+
+/// Returns the rows of `array`, which must be canonical, in `range`, as a column that shares its buffers. The only error is `OutOfMemory`.
+pub fn column_slice(alloc: Global, array: &ArrayRef, range: Range<usize>) -> VortexResult<ArrayRef>
+    requires canonical { is_canonical (datum array.now) ≡ true }
+    requires within { (range.start ≤ range.end) × (range.end ≤ len array.now) }
+    ensures ok { IfOk result (λ t. IsColumnSlice range.start range.end array.now t) }
+    ensures err { IfErr result (λ e. e ≡ OutOfMemory) }
+{
+    let Ok(column) = Canonical::try_from_array_ref(array.clone()?) else {
+        unreachable!()
+    };
+    let part = slice_canonical(alloc, &column, range)?;
+    let _canonical = part.as_array();
+    Ok(part.into_array())
+}
