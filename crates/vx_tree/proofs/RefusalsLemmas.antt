@@ -1,5 +1,5 @@
 -- What is refused, and what isn't.
-use Rattle.std.proofs.Common.{◌≡◌, ◌≢◌, get_or, ℕ, suc, ◌-◌, ◌<◌, ◌≤◌, List, [], ◌∷◌, ◌++◌, length, map, Bool, true, false, not, nat_le, ◌&&◌, Option, Some, None}
+use Rattle.std.proofs.Common.{◌≡◌, ◌≢◌, get_or, ℕ, suc, ◌-◌, ◌<◌, ◌≤◌, List, [], ◌∷◌, ◌++◌, length, map, Bool, true, false, nat_le, ◌&&◌, Option, Some, None}
 use Rattle.std.proofs.Common.{refl, sym, ◌∙◌, ap, subst, arith}
 use Rattle.std.proofs.lemmas.Bool.{and_from, leb-true, le-leb}
 use Rattle.std.proofs.lemmas.List.{length-map}
@@ -117,13 +117,6 @@ types_more [] None = refl
 types_more [] (Some t) = refl
 types_more (None ∷ xs) s = types_more xs s
 types_more (Some u ∷ xs) s = ap (λ us. dtype u ∷ us) (types_more xs s)
-
-pub slots_missing : (f : ScalarFnRef) (ss : List (Option Shape)) →
-    all_present ss ≡ false → slots_refusal f ss ≡ Some (InvalidArgument FnSlotMissing)
-slots_missing f ss h = ap (λ b. first_of_both (unless b (InvalidArgument FnSlotMissing)) (arity_refusal f (length ss))) h
-
-pub slots_there : (f : ScalarFnRef) (ss : List (Option Shape)) → all_present ss ≡ true → slots_refusal f ss ≡ arity_refusal f (length ss)
-slots_there f ss h = ap (λ b. first_of_both (unless b (InvalidArgument FnSlotMissing)) (arity_refusal f (length ss))) h
 
 pub count_slots : (xs : List (Option Tree)) → length (shapes (slots_of xs)) ≡ length xs
 count_slots [] = refl
@@ -314,24 +307,6 @@ node_unless_refused i ty n d ss = (decided ty n d ss).0 i
 
 pub refused_unless_node : (ty : DataType) (n : ℕ) (d : Data) (ss : List (Option Shape)) → IsNode ty n d ss → refusal (id_of d) ty n d ss ≡ None
 refused_unless_node ty n d ss = (decided ty n d ss).1
-
--- ---- the id of a function's node, as the code compares it
-
-first_tested : (b : Bool) (e : VortexError) (x : Option VortexError) → not b ≡ false → first_of_both (unless b e) x ≡ x
-first_tested true e x h = refl
-first_tested false e x h = absurd (cc)
-
-first_failed : (b : Bool) (e : VortexError) (x : Option VortexError) → not b ≡ true → first_of_both (unless b e) x ≡ Some e
-first_failed true e x h = absurd (cc)
-first_failed false e x h = refl
-
-pub named_so : (i j : Id) (ty : DataType) (f : ScalarFnRef) (ss : List (Option Shape)) → j ≡ function_id f → not (same_id i j) ≡ false
-    → types_refusal i ty f ss ≡ result_refusal ty (return_type f (types_in ss))
-named_so i j ty f ss h k = first_tested _ _ _ (ap (λ z. not (same_id i z)) (sym h) ∙ k)
-
-pub named_otherwise : (i j : Id) (ty : DataType) (f : ScalarFnRef) (ss : List (Option Shape)) → j ≡ function_id f → not (same_id i j) ≡ true
-    → types_refusal i ty f ss ≡ Some (InvalidArgument NodeType)
-named_otherwise i j ty f ss h k = first_failed _ _ _ (ap (λ z. not (same_id i z)) (sym h) ∙ k)
 
 -- ---- what is asked of the slots, as the code asks
 

@@ -1,5 +1,5 @@
 -- The first condition of a node that fails: slots, types, lengths, ranges, in this order.
-use Rattle.std.specs.Prelude.{ℕ, ◌-◌, List, [], ◌∷◌, length, Bool, true, false, ◌==◌, ◌&&◌, nat_le, Option, Some, None}
+use Rattle.std.specs.Prelude.{ℕ, ◌-◌, List, [], ◌∷◌, length, Bool, true, false, ◌==◌, ◌&&◌, nat_le, Option, Some, None, is_some}
 use Rattle.vx_value.specs.Types as type
 use Rattle.vx_value.specs.Types.{DataType, same_type, nullability_of}
 use Rattle.vx_value.specs.Nullabilities.{same_but_nullability, with_nullability}
@@ -109,8 +109,7 @@ type_in None = []
 type_in (Some t) = dtype t ∷ []
 
 abbrev pub is_present : Option Tree → Bool
-is_present None = false
-is_present (Some t) = true
+is_present = is_some
 
 abbrev pub is_long : ℕ → Option Tree → Bool
 is_long n None = true

@@ -5,6 +5,7 @@ pub mod array;
 pub mod arrays;
 mod canonical;
 mod columnar;
+mod conditions;
 mod laws;
 mod matcher;
 mod node_validity;

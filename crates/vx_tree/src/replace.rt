@@ -2,6 +2,7 @@
 
 ghost use Rattle.std.specs.Prelude.{◌≡◌, ◌⊎◌, IfOk, IfErr, OnOk, None, Some, length, option_map};
 ghost use Rattle.vx_tree.specs.Tree.{slots_of};
+ghost use Rattle.vx_tree.specs.Conditions.{Checks};
 ghost use Rattle.vx_tree.specs.Well.{shape_of, shapes};
 ghost use Rattle.vx_tree.specs.Slots.{put};
 ghost use Rattle.vx_tree.specs.Replacements.{is_kept, wrong_in, kept_refusal, slot_refusal, first_refusal, each_refusal};
@@ -9,6 +10,7 @@ ghost use Rattle.vx_tree.specs.Replacements.{with_slots, with_slot_refusal, with
 
 use crate::array::ArrayRef;
 use crate::arrays::types::is_same_type;
+use crate::conditions::check_that;
 use std::alloc::Global;
 use vx_value::{ArgKind, VortexError, VortexResult};
 
@@ -49,21 +51,15 @@ impl Kept {
 
     /// Checks that `slot`, which held `old`, keeps it with `new`.
     fn check(self, slot: usize, old: &Option<ArrayRef>, new: &Option<ArrayRef>) -> VortexResult<()>
-        ensures valid { OnOk result (kept_refusal self slot (option_map shape_of old.now) (option_map shape_of new.now) ≡ None) }
-        ensures refused { IfErr result (λ e. kept_refusal self slot (option_map shape_of old.now) (option_map shape_of new.now) ≡ Some e) }
+        ensures { Checks result (kept_refusal self slot (option_map shape_of old.now) (option_map shape_of new.now)) }
     {
-        if self.is_kept(old, new) {
-            Ok(())
-        } else {
-            Err(VortexError::InvalidArgument(self.wrong_in(slot)))
-        }
+        check_that(self.is_kept(old, new), self.wrong_in(slot))
     }
 
     /// Checks that each slot keeps it with the new slots.
     fn check_each(self, old: &[Option<ArrayRef>], new: &[Option<ArrayRef>]) -> VortexResult<()>
         requires { length old.now ≡ length new.now }
-        ensures valid { OnOk result (first_refusal self 0 (shapes (slots_of old.now)) (shapes (slots_of new.now)) ≡ None) }
-        ensures refused { IfErr result (λ e. first_refusal self 0 (shapes (slots_of old.now)) (shapes (slots_of new.now)) ≡ Some e) }
+        ensures { Checks result (first_refusal self 0 (shapes (slots_of old.now)) (shapes (slots_of new.now))) }
     {
         for slot in 0..old.len() {
             self.check(slot, &old[slot], &new[slot])?;
@@ -75,8 +71,7 @@ impl Kept {
 /// Checks that `slot`, which held `old`, keeps presence, type and length with `new`.
 #[tactic(auto, using(crate::proofs::ConditionsLemmas::in_turn))]
 fn check_slot(slot: usize, old: &Option<ArrayRef>, new: &Option<ArrayRef>) -> VortexResult<()>
-    ensures valid { OnOk result (slot_refusal slot (option_map shape_of old.now) (option_map shape_of new.now) ≡ None) }
-    ensures refused { IfErr result (λ e. slot_refusal slot (option_map shape_of old.now) (option_map shape_of new.now) ≡ Some e) }
+    ensures { Checks result (slot_refusal slot (option_map shape_of old.now) (option_map shape_of new.now)) }
 {
     Kept::Presence.check(slot, old, new)?;
     Kept::Dtype.check(slot, old, new)?;
@@ -87,8 +82,7 @@ fn check_slot(slot: usize, old: &Option<ArrayRef>, new: &Option<ArrayRef>) -> Vo
 #[tactic(auto, using(crate::proofs::ConditionsLemmas::in_turn))]
 fn check_slots(old: &[Option<ArrayRef>], new: &[Option<ArrayRef>]) -> VortexResult<()>
     requires { length old.now ≡ length new.now }
-    ensures valid { OnOk result (each_refusal (shapes (slots_of old.now)) (shapes (slots_of new.now)) ≡ None) }
-    ensures refused { IfErr result (λ e. each_refusal (shapes (slots_of old.now)) (shapes (slots_of new.now)) ≡ Some e) }
+    ensures { Checks result (each_refusal (shapes (slots_of old.now)) (shapes (slots_of new.now))) }
 {
     Kept::Presence.check_each(old, new)?;
     Kept::Dtype.check_each(old, new)?;

@@ -14,6 +14,7 @@ use crate::arrays::constant::ConstantArray;
 use crate::arrays::filter::FilterArray;
 use crate::arrays::slice::SliceArray;
 use crate::arrays::types::{BOOLEANS, is_same_type};
+use crate::conditions::check_that;
 use std::alloc::{AllocError, Global};
 use std::ops::Range;
 use vx_mask::{BitBuffer, Mask};
@@ -126,19 +127,18 @@ pub fn validity_nchildren(validity: &Validity) -> usize
 }
 
 /// Checks that `validity` is one of `len` rows.
+#[tactic(auto, using(crate::proofs::ConditionsLemmas::in_turn))]
 pub(crate) fn check_validity(validity: &Validity, len: usize) -> VortexResult<()>
     ensures { Checks result (array_refusal len validity.now) }
 {
     let Validity::Array(array) = validity else {
         return Ok(());
     };
-    if !is_same_type(array.dtype(), &BOOLEANS) {
-        return Err(VortexError::InvalidArgument(ArgKind::SlotType { slot: 0 }));
-    }
-    if array.len() != len {
-        return Err(VortexError::InvalidArgument(ArgKind::SlotLen { slot: 0 }));
-    }
-    Ok(())
+    check_that(
+        is_same_type(array.dtype(), &BOOLEANS),
+        ArgKind::SlotType { slot: 0 },
+    )?;
+    check_that(array.len() == len, ArgKind::SlotLen { slot: 0 })
 }
 
 /// Returns the slot of a validity that tells the same of each of `len` rows, as `scalar` says. The only error is `OutOfMemory`.

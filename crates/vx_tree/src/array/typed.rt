@@ -98,36 +98,19 @@ impl<V: VTable> Array<V> {
         requires { IsNode (type_of parts.dtype) parts.len (V.stands_for parts.payload) (shapes (slots_of parts.slots.items)) }
         ensures { IfOk result (λ a. a ≡ node (type_of parts.dtype) parts.len (V.stands_for parts.payload) (slots_of parts.slots.items)) }
     {
-        let ArrayParts {
-            vtable: _,
-            dtype,
-            len,
-            payload,
-            slots,
-        } = parts;
-        let node = Node {
-            dtype,
-            len,
-            encoding: V::wrap(payload),
-            slots,
-        };
-        Ok(Array {
-            array: node.into_array(alloc)?,
-            tag: PhantomData,
-        })
+        Array::of(alloc, parts.dtype, parts.len, parts.payload, parts.slots)
     }
 
-    /// Makes the node of these parts, which must meet the conditions of the encoding. The only error is `OutOfMemory`.
+    /// Makes the node of these parts, which must meet the conditions of the encoding.
     pub(crate) fn of(
         alloc: Global,
         dtype: DType,
         len: usize,
         payload: V::TypedArrayData,
         slots: Vec<Option<ArrayRef>>,
-    ) -> VortexResult<Array<V>>
+    ) -> Result<Array<V>, AllocError>
         requires { IsNode (type_of dtype) len (V.stands_for payload) (shapes (slots_of slots.items)) }
-        ensures ok { IfOk result (λ a. a ≡ node (type_of dtype) len (V.stands_for payload) (slots_of slots.items)) }
-        ensures err { IfErr result (λ e. e ≡ VortexError.OutOfMemory) }
+        ensures { IfOk result (λ a. a ≡ node (type_of dtype) len (V.stands_for payload) (slots_of slots.items)) }
     {
         let node = Node {
             dtype,
@@ -141,7 +124,7 @@ impl<V: VTable> Array<V> {
         })
     }
 
-    /// Makes the node of these parts and one slot, as `of`.
+    /// Makes the node of these parts and one slot, as `of`. The only error is `OutOfMemory`.
     pub(crate) fn over(
         alloc: Global,
         dtype: DType,
@@ -154,7 +137,7 @@ impl<V: VTable> Array<V> {
         ensures err { IfErr result (λ e. e ≡ VortexError.OutOfMemory) }
     {
         let slots = vec![in alloc; slot]?;
-        Array::of(alloc, dtype, len, payload, slots)
+        Ok(Array::of(alloc, dtype, len, payload, slots)?)
     }
 
     /// Returns the handle of `array`'s node. Hands `array` back if it has another encoding.

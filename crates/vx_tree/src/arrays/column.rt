@@ -16,6 +16,7 @@ ghost use Rattle.vx_tree.specs.Validities.{child_of, flat_refusal};
 
 use crate::array::{Array, ArrayParts, ArrayRef, Encoded, VTable};
 use crate::arrays::types::{BOOLEANS, is_same_type};
+use crate::conditions::check_that;
 use crate::validity::{Validity, check_validity, slice_validity, validity_to_child};
 use std::alloc::{AllocError, Global};
 use std::ops::Range;
@@ -48,13 +49,9 @@ fn check_flat(
 ) -> VortexResult<()>
     ensures { Checks result (column_refusal (type_of dtype.now) len (type_of of_type.now) values (option_map shape_of validity.now ∷ [])) }
 {
-    if !dtype.eq_ignore_nullability(of_type) {
-        return Err(VortexError::InvalidArgument(ArgKind::BadType));
-    }
+    check_that(dtype.eq_ignore_nullability(of_type), ArgKind::BadType)?;
     check_validity_type(dtype.nullability(), validity, 0)?;
-    if len != values {
-        return Err(VortexError::InvalidArgument(ArgKind::NodeLen));
-    }
+    check_that(len == values, ArgKind::NodeLen)?;
     check_validity_len(len, validity, 0)
 }
 
@@ -84,10 +81,8 @@ pub(crate) fn check_validity_len(
     ensures { Checks result (validity_len_refusal slot len (option_map shape_of validity.now)) }
 {
     match validity {
-        Some(child) if child.len() != len => {
-            Err(VortexError::InvalidArgument(ArgKind::SlotLen { slot }))
-        }
-        _ => Ok(()),
+        Some(child) => check_that(child.len() == len, ArgKind::SlotLen { slot }),
+        None => Ok(()),
     }
 }
 
@@ -106,9 +101,8 @@ pub(crate) fn check_flat_column(
     ensures refused { IfErr result (λ e. (e ≡ VortexError.OutOfMemory)
         ⊎ (flat_refusal (type_of of_type.now) (type_of dtype.now) len validity.now ≡ Some e)) }
 {
-    if !is_same_type(dtype, &of_type.with_nullability(validity.nullability())?) {
-        return Err(VortexError::InvalidArgument(ArgKind::BadType));
-    }
+    let want = of_type.with_nullability(validity.nullability())?;
+    check_that(is_same_type(dtype, &want), ArgKind::BadType)?;
     check_validity(validity, len)
 }
 

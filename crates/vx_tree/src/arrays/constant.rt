@@ -8,6 +8,7 @@ use crate::array::{Array, ArrayId, ArrayParts, Encoded, Encoding, EncodingVarian
 use crate::arrays::child::no_child;
 use crate::arrays::types::is_same_type;
 use crate::arrays::{into_payload, payload};
+use crate::conditions::check_that;
 use std::alloc::Global;
 use vx_value::{ArgKind, Id, Scalar, VortexError, VortexResult};
 
@@ -53,10 +54,10 @@ impl VTable for Constant {
 
     fn validate(_alloc: Global, parts: &ArrayParts<Constant>) -> VortexResult<()> {
         no_child(&parts.slots)?;
-        if !is_same_type(&parts.dtype, parts.payload.scalar.dtype()) {
-            return Err(VortexError::InvalidArgument(ArgKind::NodeType));
-        }
-        Ok(())
+        check_that(
+            is_same_type(&parts.dtype, parts.payload.scalar.dtype()),
+            ArgKind::NodeType,
+        )
     }
 }
 
@@ -67,7 +68,7 @@ impl ConstantArray {
         ensures err { IfErr result (λ e. e ≡ VortexError.OutOfMemory) }
     {
         let dtype = scalar.dtype().clone()?;
-        Array::of(alloc, dtype, len, ConstantData { scalar }, Vec::new(alloc))
+        Ok(Array::of(alloc, dtype, len, ConstantData { scalar }, Vec::new(alloc))?)
     }
 }
 

@@ -16,6 +16,7 @@ ghost use Rattle.vx_tree.specs.Validities.{child_of, decimal_refusal};
 use crate::array::{Array, ArrayId, ArrayParts, Encoded, Encoding, EncodingVariant, VTable};
 use crate::arrays::column::{FlatEncoding, check_column, check_flat_column, flat_column};
 use crate::arrays::{into_payload, payload};
+use crate::conditions::check_that;
 use crate::validity::Validity;
 use std::alloc::{AllocError, Global};
 use std::ops::Range;
@@ -53,7 +54,7 @@ impl VTable for Decimal {
     fn validate(_alloc: Global, parts: &ArrayParts<Decimal>) -> VortexResult<()> {
         let values = &parts.payload.values;
         check_column(parts, &decimal_type(&parts.dtype), values.len())?;
-        check_decimals(&parts.dtype, values)
+        check_that(are_decimals_of(&parts.dtype, values), ArgKind::BadValue)
     }
 }
 
@@ -71,18 +72,7 @@ pub fn decimal_type(dtype: &DType) -> DType
     DType::Decimal(decimal, Nullability::NonNullable)
 }
 
-/// Checks that `values` are numbers of type `dtype`: their width is its narrowest, and none has more digits.
-fn check_decimals(dtype: &DType, values: &DecimalValues) -> VortexResult<()>
-    ensures { Checks result (unless (are_decimals_of (storage_of (type_of dtype.now)) (decimal_type_of values.now) (numbers_of values.now)) (VortexError.InvalidArgument ArgKind.BadValue)) }
-{
-    if are_decimals_of(dtype, values) {
-        Ok(())
-    } else {
-        Err(VortexError::InvalidArgument(ArgKind::BadValue))
-    }
-}
-
-/// Checks whether `values` are numbers of type `dtype`.
+/// Returns whether `values` are numbers of type `dtype`: their width is its narrowest, and none has more digits.
 fn are_decimals_of(dtype: &DType, values: &DecimalValues) -> bool
     ensures { result ≡ are_decimals_of (storage_of (type_of dtype.now)) (decimal_type_of values.now) (numbers_of values.now) }
 {
@@ -117,7 +107,7 @@ impl DecimalArray {
             ⊎ (decimal_refusal (type_of dtype) (decimal_type_of values) (numbers_of values) validity.now ≡ Some e)) }
     {
         check_flat_column(&dtype, &decimal_type(&dtype), values.len(), validity)?;
-        check_decimals(&dtype, &values)?;
+        check_that(are_decimals_of(&dtype, &values), ArgKind::BadValue)?;
         DecimalArray::new_unchecked(alloc, dtype, values, validity)
     }
 

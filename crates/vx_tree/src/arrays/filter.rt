@@ -12,6 +12,7 @@ use crate::array::{
 use crate::arrays::child::only_child;
 use crate::arrays::types::is_same_type;
 use crate::arrays::{into_payload, payload};
+use crate::conditions::check_that;
 use std::alloc::Global;
 use vx_mask::Mask;
 use vx_value::{ArgKind, Id, VortexError, VortexResult};
@@ -84,17 +85,12 @@ impl VTable for Filter {
         Filter
     }
 
-    #[tactic(auto, using(crate::proofs::RefusalsLemmas::by_child))]
+    #[tactic(auto, using(crate::proofs::RefusalsLemmas::by_child, crate::proofs::ConditionsLemmas::in_turn))]
     fn validate(_alloc: Global, parts: &ArrayParts<Filter>) -> VortexResult<()> {
         let child = only_child(&parts.slots)?;
-        if !is_same_type(&parts.dtype, child.dtype()) {
-            return Err(VortexError::InvalidArgument(ArgKind::NodeType));
-        }
+        check_that(is_same_type(&parts.dtype, child.dtype()), ArgKind::NodeType)?;
         check_mask(child.len(), &parts.payload.mask)?;
-        if parts.len != parts.payload.mask.true_count() {
-            return Err(VortexError::InvalidArgument(ArgKind::NodeLen));
-        }
-        Ok(())
+        check_that(parts.len == parts.payload.len(), ArgKind::NodeLen)
     }
 }
 

@@ -15,6 +15,7 @@ use crate::array::{
 use crate::arrays::column::{check_validity_len, check_validity_type};
 use crate::arrays::types::is_same_type;
 use crate::arrays::{into_payload, payload};
+use crate::conditions::check_that;
 use crate::validity::{Validity, validity_to_child};
 use std::alloc::Global;
 use vx_value::{ArgKind, Id, Nullability, VortexError, VortexResult};
@@ -41,16 +42,15 @@ impl VTable for Masked {
         Masked
     }
 
-    #[tactic(auto, using(crate::proofs::RefusalsLemmas::masked_by_slots))]
+    #[tactic(auto, using(crate::proofs::RefusalsLemmas::masked_by_slots, crate::proofs::ConditionsLemmas::in_turn))]
     fn validate(_alloc: Global, parts: &ArrayParts<Masked>) -> VortexResult<()> {
         let (child, validity) = child_and_validity(&parts.slots)?;
-        if !is_same_type(&parts.dtype, &child.dtype().as_nullable()?) {
-            return Err(VortexError::InvalidArgument(ArgKind::NodeType));
-        }
+        check_that(
+            is_same_type(&parts.dtype, &child.dtype().as_nullable()?),
+            ArgKind::NodeType,
+        )?;
         check_validity_type(Nullability::Nullable, validity, 1)?;
-        if parts.len != child.len() {
-            return Err(VortexError::InvalidArgument(ArgKind::NodeLen));
-        }
+        check_that(parts.len == child.len(), ArgKind::NodeLen)?;
         check_validity_len(parts.len, validity, 1)
     }
 }
@@ -89,7 +89,7 @@ impl MaskedArray {
         let len = child.len();
         let validity = validity_to_child(alloc, validity, len)?;
         let slots = vec![in alloc; Some(child), validity]?;
-        Array::of(alloc, dtype, len, MaskedData, slots)
+        Ok(Array::of(alloc, dtype, len, MaskedData, slots)?)
     }
 }
 

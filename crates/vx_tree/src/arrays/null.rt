@@ -11,6 +11,7 @@ use crate::arrays::child::no_child;
 use crate::arrays::scalar_fn_validity::EmptyArrayData;
 use crate::arrays::types::is_same_type;
 use crate::arrays::{into_payload, payload};
+use crate::conditions::check_that;
 use std::alloc::Global;
 use std::ops::Range;
 use vx_value::{ArgKind, DType, Id, VortexError, VortexResult};
@@ -35,11 +36,7 @@ impl VTable for Null {
 
     fn validate(_alloc: Global, parts: &ArrayParts<Null>) -> VortexResult<()> {
         no_child(&parts.slots)?;
-        if is_same_type(&parts.dtype, &DType::Null) {
-            Ok(())
-        } else {
-            Err(VortexError::InvalidArgument(ArgKind::BadType))
-        }
+        check_that(is_same_type(&parts.dtype, &DType::Null), ArgKind::BadType)
     }
 }
 
@@ -49,7 +46,7 @@ impl NullArray {
         ensures ok { IfOk result (λ a. a ≡ nulls_of len) }
         ensures err { IfErr result (λ e. e ≡ VortexError.OutOfMemory) }
     {
-        Array::of(alloc, DType::Null, len, EmptyArrayData, Vec::new(alloc))
+        Ok(Array::of(alloc, DType::Null, len, EmptyArrayData, Vec::new(alloc))?)
     }
 
     /// Returns the rows in `range`, which must be in order and in bounds. The only error is `OutOfMemory`. (own)

@@ -3,9 +3,10 @@
 ghost use Rattle.std.specs.Prelude.{◌≡◌, ◌⊎◌, ◌++◌, map, IfOk, IfErr, OnOk, Some, None, true, false, refl};
 ghost use Rattle.vx_value.specs.View.{type_of};
 ghost use Rattle.vx_tree.specs.Tree.{function, slots_of, filled_slots, is_function};
+ghost use Rattle.vx_tree.specs.Conditions.{Checks};
 ghost use Rattle.vx_tree.specs.Well.{shapes};
-ghost use Rattle.vx_tree.specs.Refusals.{arity_refusal, slots_refusal, types_refusal, lengths_refusal, result_refusal};
-ghost use Rattle.vx_tree.specs.Refusals.{all_present, all_long, types_in, is_present, is_long, type_in};
+ghost use Rattle.vx_tree.specs.Refusals.{arity_refusal, slots_refusal, types_refusal, result_refusal};
+ghost use Rattle.vx_tree.specs.Refusals.{all_present, all_long, types_in, is_long, type_in};
 ghost use Rattle.vx_tree.specs.Calls.{call_refusal, inferred_refusal, called, inferred};
 ghost use Rattle.vx_fn.specs.ReturnTypes.{return_type};
 
@@ -14,6 +15,7 @@ use crate::array::{
 };
 use crate::arrays::types::is_same_type;
 use crate::arrays::{into_payload, payload};
+use crate::conditions::check_that;
 use std::alloc::{AllocError, Global};
 use vx_fn::{Arity, ScalarFnRef};
 use vx_value::{ArgKind, DType, VortexError, VortexResult};
@@ -68,19 +70,16 @@ impl VTable for ScalarFn {
         let function = &parts.payload.scalar_fn;
         check_slots(function, &parts.slots)?;
         check_types(alloc, parts.vtable.id, function, &parts.dtype, &parts.slots)?;
-        check_lengths(parts.len, &parts.slots)
+        check_that(are_long(parts.len, &parts.slots), ArgKind::ChildLen)
     }
 }
 
 /// Checks that each slot has a tree and that `function` takes that many arguments.
-#[tactic(auto, using(crate::proofs::RefusalsLemmas::slots_missing, crate::proofs::RefusalsLemmas::slots_there, crate::proofs::RefusalsLemmas::count_slots))]
+#[tactic(auto, using(crate::proofs::ConditionsLemmas::in_turn, crate::proofs::RefusalsLemmas::count_slots))]
 fn check_slots(function: &ScalarFnRef, slots: &[Option<ArrayRef>]) -> VortexResult<()>
-    ensures valid { OnOk result (slots_refusal function.now (shapes (slots_of slots.now)) ≡ None) }
-    ensures refused { IfErr result (λ e. slots_refusal function.now (shapes (slots_of slots.now)) ≡ Some e) }
+    ensures { Checks result (slots_refusal function.now (shapes (slots_of slots.now))) }
 {
-    if !are_present(slots) {
-        return Err(VortexError::InvalidArgument(ArgKind::FnSlotMissing));
-    }
+    check_that(are_present(slots), ArgKind::FnSlotMissing)?;
     check_arity(function, slots.len())
 }
 
@@ -89,23 +88,11 @@ fn are_present(slots: &[Option<ArrayRef>]) -> bool
     ensures { result ≡ all_present (shapes (slots_of slots.now)) }
 {
     for slot in slots {
-        if !is_present(slot) {
+        if slot.is_none() {
             return false;
         }
     }
     true
-}
-
-/// Checks that each tree in the slots has `len` rows.
-fn check_lengths(len: usize, slots: &[Option<ArrayRef>]) -> VortexResult<()>
-    ensures valid { OnOk result (lengths_refusal len (shapes (slots_of slots.now)) ≡ None) }
-    ensures refused { IfErr result (λ e. lengths_refusal len (shapes (slots_of slots.now)) ≡ Some e) }
-{
-    if are_long(len, slots) {
-        Ok(())
-    } else {
-        Err(VortexError::InvalidArgument(ArgKind::ChildLen))
-    }
 }
 
 /// Returns whether each tree in the slots has `len` rows.
@@ -120,16 +107,6 @@ fn are_long(len: usize, slots: &[Option<ArrayRef>]) -> bool
     true
 }
 
-/// Returns whether `slot` has a tree.
-fn is_present(slot: &Option<ArrayRef>) -> bool
-    ensures { result ≡ is_present slot.now }
-{
-    match slot {
-        Some(_) => true,
-        None => false,
-    }
-}
-
 /// Returns whether `slot` has no tree, or one with `len` rows.
 fn has_length(slot: &Option<ArrayRef>, len: usize) -> bool
     ensures { result ≡ is_long len slot.now }
@@ -142,15 +119,10 @@ fn has_length(slot: &Option<ArrayRef>, len: usize) -> bool
 
 /// Checks that `function` takes `count` arguments.
 fn check_arity(function: &ScalarFnRef, count: usize) -> VortexResult<()>
-    ensures valid { OnOk result (arity_refusal function.now count ≡ None) }
-    ensures refused { IfErr result (λ e. arity_refusal function.now count ≡ Some e) }
+    ensures { Checks result (arity_refusal function.now count) }
 {
     let Arity::Exact(want) = function.arity();
-    if count == want {
-        Ok(())
-    } else {
-        Err(VortexError::InvalidArgument(ArgKind::Arity { want, got: count }))
-    }
+    check_that(count == want, ArgKind::Arity { want, got: count })
 }
 
 /// Returns the types of the trees in the slots.
@@ -175,6 +147,7 @@ fn push_type(types: &mut Vec<DType>, slot: &Option<ArrayRef>) -> Result<(), Allo
 }
 
 /// Checks that `tag` is the function's id, and that `function` gives `dtype` on arguments of the slots' types.
+#[tactic(auto, using(crate::proofs::ConditionsLemmas::in_turn))]
 fn check_types(
     alloc: Global,
     tag: ArrayId,
@@ -186,9 +159,7 @@ fn check_types(
     ensures refused { IfErr result (λ e. (e ≡ VortexError.OutOfMemory)
         ⊎ (types_refusal tag (type_of dtype.now) function.now (shapes (slots_of slots.now)) ≡ Some e)) }
 {
-    if tag != function.id() {
-        return Err(VortexError::InvalidArgument(ArgKind::NodeType));
-    }
+    check_that(tag == function.id(), ArgKind::NodeType)?;
     let types = types_of(alloc, slots)?;
     check_result(function, dtype, types.as_slice())
 }
@@ -199,11 +170,10 @@ fn check_result(function: &ScalarFnRef, dtype: &DType, types: &[DType]) -> Vorte
     ensures refused { IfErr result (λ e. (e ≡ VortexError.OutOfMemory)
         ⊎ (result_refusal (type_of dtype.now) (return_type function.now (map type_of types.now)) ≡ Some e)) }
 {
-    if is_same_type(dtype, &function.return_dtype(types)?) {
-        Ok(())
-    } else {
-        Err(VortexError::InvalidArgument(ArgKind::NodeType))
-    }
+    check_that(
+        is_same_type(dtype, &function.return_dtype(types)?),
+        ArgKind::NodeType,
+    )
 }
 
 /// Puts each tree in a slot.
@@ -257,10 +227,10 @@ impl ScalarFnArray {
     {
         check_arity(&scalar_fn, children.len())?;
         let slots = fill_slots(alloc, children)?;
-        check_lengths(len, slots.as_slice())?;
+        check_that(are_long(len, slots.as_slice()), ArgKind::ChildLen)?;
         let types = types_of(alloc, slots.as_slice())?;
         let dtype = scalar_fn.return_dtype(types.as_slice())?;
-        Array::of(alloc, dtype, len, ScalarFnData { scalar_fn }, slots)
+        Ok(Array::of(alloc, dtype, len, ScalarFnData { scalar_fn }, slots)?)
     }
 }
 

@@ -10,6 +10,7 @@ use crate::array::{
 use crate::arrays::child::only_child;
 use crate::arrays::types::{BOOLEANS, is_same_type};
 use crate::arrays::{into_payload, payload};
+use crate::conditions::check_that;
 use std::alloc::Global;
 use std::fmt;
 use vx_value::{ArgKind, DType, Id, Nullability, VortexError, VortexResult};
@@ -43,16 +44,11 @@ impl VTable for ScalarFnValidity {
         ScalarFnValidity
     }
 
-    #[tactic(auto, using(crate::proofs::RefusalsLemmas::by_child))]
+    #[tactic(auto, using(crate::proofs::RefusalsLemmas::by_child, crate::proofs::ConditionsLemmas::in_turn))]
     fn validate(_alloc: Global, parts: &ArrayParts<ScalarFnValidity>) -> VortexResult<()> {
         let child = only_child(&parts.slots)?;
-        if !is_same_type(&parts.dtype, &BOOLEANS) {
-            return Err(VortexError::InvalidArgument(ArgKind::NodeType));
-        }
-        if parts.len != child.len() {
-            return Err(VortexError::InvalidArgument(ArgKind::NodeLen));
-        }
-        Ok(())
+        check_that(is_same_type(&parts.dtype, &BOOLEANS), ArgKind::NodeType)?;
+        check_that(parts.len == child.len(), ArgKind::NodeLen)
     }
 }
 

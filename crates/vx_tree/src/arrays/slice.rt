@@ -10,6 +10,7 @@ use crate::array::{
 use crate::arrays::child::only_child;
 use crate::arrays::types::is_same_type;
 use crate::arrays::{into_payload, payload};
+use crate::conditions::check_that;
 use std::alloc::Global;
 use std::ops::Range;
 use vx_value::{ArgKind, DType, Id, VortexError, VortexResult};
@@ -82,25 +83,22 @@ impl VTable for Slice {
         Slice
     }
 
-    #[tactic(auto, using(crate::proofs::RefusalsLemmas::by_child))]
+    #[tactic(auto, using(crate::proofs::RefusalsLemmas::by_child, crate::proofs::ConditionsLemmas::in_turn))]
     fn validate(_alloc: Global, parts: &ArrayParts<Slice>) -> VortexResult<()> {
         let child = only_child(&parts.slots)?;
-        if !is_same_type(&parts.dtype, child.dtype()) {
-            return Err(VortexError::InvalidArgument(ArgKind::NodeType));
-        }
-        let (start, end) = (parts.payload.range.start, parts.payload.range.end);
-        if parts.len != end.saturating_sub(start) {
-            return Err(VortexError::InvalidArgument(ArgKind::NodeLen));
-        }
-        check_range(start, end, child.len())
+        check_that(is_same_type(&parts.dtype, child.dtype()), ArgKind::NodeType)?;
+        check_that(parts.len == parts.payload.len(), ArgKind::NodeLen)?;
+        check_range(&parts.payload.range, child.len())
     }
 }
 
-/// Checks that a range is in order and in bounds. `OutOfBounds` unless `start` <= `stop` <= `len`.
-fn check_range(start: usize, stop: usize, len: usize) -> VortexResult<()>
-    ensures ok { OnOk result ((start ≤ stop) × (stop ≤ len)) }
-    ensures refused { IfErr result (λ e. (e ≡ VortexError.OutOfBounds start stop len) × (¬ ((start ≤ stop) × (stop ≤ len)))) }
+/// Checks that `range` is in order and in bounds. `OutOfBounds` unless start <= end <= `len`.
+fn check_range(range: &Range<usize>, len: usize) -> VortexResult<()>
+    ensures ok { OnOk result ((range.now.start ≤ range.now.end) × (range.now.end ≤ len)) }
+    ensures refused { IfErr result (λ e. (e ≡ VortexError.OutOfBounds range.now.start range.now.end len)
+        × (¬ ((range.now.start ≤ range.now.end) × (range.now.end ≤ len)))) }
 {
+    let (start, stop) = (range.start, range.end);
     if start <= stop && stop <= len {
         Ok(())
     } else {
@@ -128,7 +126,7 @@ impl SliceArray {
         ensures refused { IfErr result (λ e. (e ≡ VortexError.OutOfMemory)
             ⊎ ((e ≡ VortexError.OutOfBounds range.start range.end (len child)) × (¬ ((range.start ≤ range.end) × (range.end ≤ len child))))) }
     {
-        check_range(range.start, range.end, child.len())?;
+        check_range(&range, child.len())?;
         SliceArray::new(alloc, child, range)
     }
 }

@@ -12,6 +12,7 @@ ghost use Rattle.vx_tree.specs.Validities.{child_of, bytes_refusal};
 use crate::array::{Array, ArrayId, ArrayParts, Encoded, Encoding, EncodingVariant, VTable};
 use crate::arrays::column::{FlatEncoding, check_column, check_flat_column, flat_column};
 use crate::arrays::{into_payload, payload};
+use crate::conditions::check_that;
 use crate::validity::Validity;
 use std::alloc::{AllocError, Global};
 use std::ops::Range;
@@ -47,7 +48,7 @@ impl VTable for VarBinView {
         let storage = parts.dtype.storage();
         let rows = &parts.payload.rows;
         check_column(parts, &bytes_type(storage), rows.len())?;
-        check_bytes(storage, rows)
+        check_that(are_bytes_of(storage, rows), ArgKind::BadValue)
     }
 }
 
@@ -61,18 +62,7 @@ pub fn bytes_type(storage: Storage) -> DType
     }
 }
 
-/// Checks that `rows` are values that are stored so: that each is UTF-8 if they are text.
-fn check_bytes(storage: Storage, rows: &BinaryViews) -> VortexResult<()>
-    ensures { Checks result (unless (are_bytes_of storage rows.now) (VortexError.InvalidArgument ArgKind.BadValue)) }
-{
-    if are_bytes_of(storage, rows) {
-        Ok(())
-    } else {
-        Err(VortexError::InvalidArgument(ArgKind::BadValue))
-    }
-}
-
-/// Checks whether `rows` are values that are stored so.
+/// Returns whether `rows` are values that are stored so: whether each is UTF-8 if they are text.
 fn are_bytes_of(storage: Storage, rows: &BinaryViews) -> bool
     ensures { result ≡ are_bytes_of storage rows.now }
 {
@@ -103,7 +93,7 @@ impl VarBinViewArray {
     {
         let storage = dtype.storage();
         check_flat_column(&dtype, &bytes_type(storage), rows.len(), validity)?;
-        check_bytes(storage, &rows)?;
+        check_that(are_bytes_of(storage, &rows), ArgKind::BadValue)?;
         VarBinViewArray::new_unchecked(alloc, dtype, rows, validity)
     }
 

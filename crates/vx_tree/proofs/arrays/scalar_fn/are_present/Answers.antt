@@ -4,8 +4,8 @@ use Rattle.vx_tree.specs.Refusals.{is_present}
 use Rattle.vx_tree.proofs.RefusalsLemmas.{present_more, missing_there}
 use Rattle.vx_tree.proofs.arrays.scalar_fn.are_present.Goals as goal
 
-pub returns-then-not-is_present : goal.returns-then-not-is_present
-returns-then-not-is_present c =
+pub returns-then-is_none : goal.returns-then-is_none
+returns-then-is_none c =
     let missing : is_present c.slot-item.result ≡ false = search rules in
     sym (missing_there c.args.slots.now c.loop-slot.slot-index c.slot-item.result c.loop-slot-test.true (ap is_present (sym c.slot-item.is) ∙ missing))
 

@@ -1,5 +1,4 @@
 use Rattle.std.proofs.Common.{◌≡◌, rules, length, map, None, Some, Result, Ok, Err, IfErr, sym, ap, subst, ◌∙◌, inr}
-use Rattle.std.proofs.lemmas.Result.{IfOk-weaker}
 use Rattle.vx_value.specs.View.{type_of}
 use Rattle.vx_fn.specs.ReturnTypes.{return_type}
 use Rattle.std.specs.Prelude.{IsErrAnd}
@@ -15,13 +14,13 @@ handed_on : (r : Result Tree VortexError) (e : VortexError) (P : VortexError →
 handed_on (Ok t) e P h p = tt
 handed_on (Err x) e P h p = subst P (sym h) p
 
-pub returns-in_err-check_lengths-clause-refused : goal.returns-in_err-check_lengths-clause-refused
-returns-in_err-check_lengths-clause-refused c =
+pub returns-in_err-check_that-clause-refused : goal.returns-in_err-check_that-clause-refused
+returns-in_err-check_that-clause-refused c =
     let ss = slots_of c.in_ok-slots.slots.items in
-    let e = c.in_err-check_lengths.field-0.0 in
+    let e = c.in_err-check_that.field-0.0 in
     let count : arity_refusal c.args.scalar_fn (length c.args.children.items) ≡ None = search rules in
     let long : lengths_refusal c.args.len (shapes ss) ≡ Some e = search rules in
-    handed_on c.from_residual-in_err-check_lengths.result e _ c.from_residual-in_err-check_lengths.ensures.1
+    handed_on c.from_residual-in_err-check_that.result e _ c.from_residual-in_err-check_that.ensures.1
     (inr (call_lengths_refused c.args.scalar_fn c.args.children.items c.args.len ss c.in_ok-slots.ensures e count long))
 
 pub returns-clause-ok : goal.returns-clause-ok
@@ -31,7 +30,7 @@ returns-clause-ok c =
     let typed : tys ≡ types_in (shapes ss) = search rules in
     let row : return_type c.args.scalar_fn tys ≡ Some (type_of c.in_ok-dtype.dtype) = search rules in
     let made = call_made c.args.scalar_fn c.args.children.items c.args.len ss c.in_ok-slots.ensures tys typed (type_of c.in_ok-dtype.dtype) row in
-    IfOk-weaker c.of.result _ _ (λ a is. made ∙ ap Some (sym is)) c.of.ensures.ok
+    made ∙ ap Some (sym c.in_ok-of.ensures)
 
 pub returns-clause-valid : goal.returns-clause-valid
 returns-clause-valid c =
@@ -41,8 +40,7 @@ returns-clause-valid c =
     let long : lengths_refusal c.args.len (shapes ss) ≡ None = search rules in
     let typed : tys ≡ types_in (shapes ss) = search rules in
     let row : return_type c.args.scalar_fn tys ≡ Some (type_of c.in_ok-dtype.dtype) = search rules in
-    let taken = call_taken c.args.scalar_fn c.args.children.items c.args.len ss c.in_ok-slots.ensures tys typed (type_of c.in_ok-dtype.dtype) count long row in
-    IfOk-weaker c.of.result _ _ (λ a is. taken) c.of.ensures.ok
+    call_taken c.args.scalar_fn c.args.children.items c.args.len ss c.in_ok-slots.ensures tys typed (type_of c.in_ok-dtype.dtype) count long row
 
 pub of-requires : goal.of-requires
 of-requires c =
