@@ -58,7 +58,7 @@ fn descend_slots(
 /// Returns whether the child in `slot`, counted from 0, is to be optimized so: if there is one, and it has children itself or a row fits
 /// it. The only error is `OutOfMemory`.
 fn is_open(alloc: Global, array: &ArrayRef, slot: usize) -> VortexResult<bool>
-    ensures open { IfOk result (λ b. b ≡ true → IsPresent slot array.now) }
+    ensures present { IfOk result (λ b. b ≡ true → IsPresent slot array.now) }
     ensures done { IfOk result (λ b. b ≡ false → IsSunk slot array.now array.now) }
     ensures err { IfErr result (λ e. e ≡ OutOfMemory) }
 {

@@ -44,7 +44,7 @@ fn present_slots(alloc: Global, slots: &[Option<ArrayRef>]) -> VortexResult<Vec<
     ensures ok { IfOk result (λ v. v.items ≡ present_from 0 (slots_of slots.now)) }
     ensures err { IfErr result (λ e. e ≡ OutOfMemory) }
 {
-    let mut present = Vec::with_capacity(alloc, slots.len())?;
+    let mut present = Vec::new(alloc);
     for index in 0..slots.len() {
         if slots[index].is_some() {
             present.push(index)?;
