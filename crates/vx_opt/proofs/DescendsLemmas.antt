@@ -1,26 +1,14 @@
 -- Every slot, in order.
-use Rattle.std.proofs.Common.{◌≡◌, ℕ, zero, suc, ◌+◌, ◌<◌, List, [], arith, refl, sym, subst, inl, inr, add-one}
+use Rattle.std.proofs.Common.{◌≡◌, ℕ, zero, suc, ◌+◌, ◌<◌, List, arith, refl, sym, subst, inl, inr, add-one}
 use Rattle.vx_value.specs.Types.{DataType}
 use Rattle.vx_tree.specs.Tree.{Tree, Slots, Data, node, no_slots, absent, slot, slots}
-use Rattle.vx_tree.specs.Slots.{HoldsAt, HasSlot, put, set_slot, IsHole, IsPresentAt, IsPresent, count_slots}
-use Rattle.vx_tree.proofs.SlotsLemmas.{put_hole, put_same, put_twice}
+use Rattle.vx_tree.specs.Slots.{HoldsAt, put, set_slot, IsHole, IsPresentAt, count_slots}
+use Rattle.vx_tree.proofs.SlotsLemmas.{put_hole, put_twice}
 use Rattle.vx_rule.specs.Rules.{IsSettled}
 use Rattle.vx_opt.specs.Derives.{Step, Derives}
 use Rattle.vx_opt.specs.Limits.{call_limit, IsMade}
 use Rattle.vx_opt.specs.Descends.{Descends, DescendSlots, DescendsUpTo, IsDescended, HaveDescended, IsSunk, IsSinking}
 use Rattle.vx_opt.proofs.LimitsLemmas.{made_refl, made_trans}
-
--- a tree without children that no row fits has descended
-none_below : (ss : Slots) → ((j : ℕ) → IsPresentAt j ss → ⊥) → DescendSlots ss ss
-none_below no_slots h = tt
-none_below (absent ss) h = none_below ss (λ j p. h (suc j) p)
-none_below (slot t ss) h = absurd (h zero tt)
-
-leaf_descends : (t : Tree) → IsSettled t → ((j : ℕ) → IsPresent j t → ⊥) → Descends t t
-leaf_descends (node ty n d ss) s h = (ss, [], refl, s, none_below ss h)
-
-pub leaf_sunk : (i : ℕ) (c t : Tree) → HasSlot i c t → IsSettled c → ((j : ℕ) → IsPresent j c → ⊥) → IsSunk i t t
-leaf_sunk i c t h s g = inr (c, c, h, leaf_descends c s g, sym (put_same i c t h))
 
 upto_put : (i : ℕ) (rs us : Slots) (c d : Tree) → DescendsUpTo i rs us → HoldsAt i c us → Descends c d → DescendsUpTo (suc i) rs (set_slot i d us)
 upto_put i rs no_slots c d h g k = absurd g

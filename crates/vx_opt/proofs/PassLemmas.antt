@@ -1,14 +1,12 @@
 -- A pass over a root.
-use Rattle.std.proofs.Common.{◌≡◌, ℕ, zero, suc, ◌+◌, ◌<◌, List, length, get_or, drop, Option, Some, None, false, sym, ◌∙◌, ap, subst, arith, below_more}
-use Rattle.std.specs.Prelude.{is_some}
+use Rattle.std.proofs.Common.{◌≡◌, ℕ, zero, suc, ◌+◌, ◌<◌, List, length, get_or, drop, Some, None, sym, ◌∙◌, ap, subst, arith, below_more}
 use Rattle.std.proofs.Math.Seq.{drop-cons, drop-length}
 use Rattle.vx_tree.specs.Tree.{Tree, Slots, node, no_slots, absent, slot, slots}
 use Rattle.vx_tree.specs.Slots.{HasSlot, put, IsPresent, IsPresentAt, count_slots}
 use Rattle.vx_tree.proofs.SlotsLemmas.{put_twice}
 use Rattle.vx_rule.specs.Rules.{Rewrites, IsSettled, IsQuiet}
 use Rattle.vx_rule.proofs.LighterLemmas.{row_asked}
-use Rattle.vx_rule.specs.declared.raw_node.RawNode.{RawNode}
-use Rattle.vx_opt.specs.Pass.{IsFirst, IsPass, Optimizes, OptimizesIn, HasOptimized, no_more, next}
+use Rattle.vx_opt.specs.Pass.{IsFirst, Optimizes, OptimizesIn, HasOptimized, no_more, next}
 
 below_count : (j : ℕ) (ss : Slots) → IsPresentAt j ss → j < count_slots ss
 below_count j no_slots h = absurd h
@@ -17,7 +15,7 @@ below_count zero (slot t ss) h = omega arith
 below_count (suc j) (absent ss) h = omega (arith, below_count j ss h)
 below_count (suc j) (slot t ss) h = omega (arith, below_count j ss h)
 
-pub present_below : (j : ℕ) (t : Tree) → IsPresent j t → j < count_slots (slots t)
+present_below : (j : ℕ) (t : Tree) → IsPresent j t → j < count_slots (slots t)
 present_below j (node ty n d ss) h = below_count j ss h
 
 pub quiet_all : (t : Tree) (n : ℕ) → n ≡ count_slots (slots t) → IsQuiet None t → ((j : ℕ) → j < n → IsQuiet (Some j) t) → IsSettled t
@@ -26,10 +24,6 @@ quiet_all t n e h g (Some j) = λ u os r. let b : j < count_slots (slots t) = pr
 
 pub quiet_more : (t : Tree) (i : ℕ) → ((j : ℕ) → j < i → IsQuiet (Some j) t) → IsQuiet (Some i) t → (j : ℕ) → j < i + 1 → IsQuiet (Some j) t
 quiet_more t i h g = below_more (λ j. IsQuiet (Some j) t) i h g
-
-pub settled_unless : (t : Tree) (o : Option RawNode) → IsPass t o → is_some o ≡ false → IsSettled t
-settled_unless t None h e = h
-settled_unless t (Some raw) h e = absurd (cc)
 
 pub first_row : (t u : Tree) (os : List ℕ) → IsFirst t u os → Rewrites t u os
 first_row t u os h = (h.0, h.1)

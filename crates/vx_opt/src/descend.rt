@@ -1,14 +1,11 @@
 //! Optimizing a tree at each place.
 
-ghost use Rattle.std.specs.Prelude.{◌≡◌, ◌<◌, ℕ, IfOk, IfErr, true, false};
-ghost use Rattle.vx_value.specs.declared.error.VortexError.TheVariants.{OutOfMemory};
-ghost use Rattle.vx_tree.specs.Slots.{IsPresent};
+ghost use Rattle.std.specs.Prelude.{◌≡◌, ◌<◌, ℕ, IfOk, IfErr};
 ghost use Rattle.vx_opt.specs.Limits.{call_limit, IsMade, IsWithin, IsLimited};
 ghost use Rattle.vx_opt.specs.Descends.{Descends, HaveDescended, IsSunk};
 
-use crate::pass::first_answer;
 use crate::root::optimize_root;
-use crate::slots::{child_in, has_children, number_of_slots};
+use crate::slots::{has_child, number_of_slots};
 use std::alloc::Global;
 use vx_tree::ArrayRef;
 use vx_value::{VortexError, VortexResult};
@@ -55,22 +52,6 @@ fn descend_slots(
     Ok(current)
 }
 
-/// Returns whether the child in `slot`, counted from 0, is to be optimized so: if there is one, and it has children itself or a row fits
-/// it. The only error is `OutOfMemory`.
-fn is_open(alloc: Global, array: &ArrayRef, slot: usize) -> VortexResult<bool>
-    ensures present { IfOk result (λ b. b ≡ true → IsPresent slot array.now) }
-    ensures done { IfOk result (λ b. b ≡ false → IsSunk slot array.now array.now) }
-    ensures err { IfErr result (λ e. e ≡ OutOfMemory) }
-{
-    let Some(child) = child_in(array, slot) else {
-        return Ok(false);
-    };
-    if has_children(child) {
-        return Ok(true);
-    }
-    Ok(first_answer(alloc, child)?.is_some())
-}
-
 /// Optimizes the child in `slot`, counted from 0, so, if there is one.
 #[cycle(descend)]
 fn descend_slot(
@@ -86,7 +67,7 @@ fn descend_slot(
     ensures room { IfOk result (λ u. total.new < call_limit) }
     ensures limited { IfErr result (IsLimited array total.old) }
 {
-    if !is_open(alloc, &array, slot)? {
+    if !has_child(&array, slot) {
         return Ok(array);
     }
     let (parent, child) = array.take_slot(slot)?;

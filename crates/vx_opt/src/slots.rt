@@ -1,6 +1,6 @@
 //! The slots of a root, by number.
 
-ghost use Rattle.std.specs.Prelude.{◌≡◌, ℕ, MatchOption, true, false};
+ghost use Rattle.std.specs.Prelude.{◌≡◌, MatchOption, true, false};
 ghost use Rattle.vx_tree.specs.Tree.{slots};
 ghost use Rattle.vx_tree.specs.Slots.{HasSlot, IsPresent, count_slots};
 
@@ -30,18 +30,6 @@ pub(crate) fn has_child(array: &ArrayRef, slot: usize) -> bool
         Some(_child) => true,
         None => false,
     }
-}
-
-/// Returns whether there is a child.
-pub(crate) fn has_children(array: &ArrayRef) -> bool
-    ensures { result ≡ false → (j : ℕ) → ¬ IsPresent j array.now }
-{
-    for slot in 0..number_of_slots(array) {
-        if has_child(array, slot) {
-            return true;
-        }
-    }
-    false
 }
 
 /// Returns the number of slots.

@@ -59,5 +59,5 @@ descend_slots-loop-slot-preserved t c =
 pub descend_slots-returns-clause-descended : goal.descend_slots-returns-clause-descended
 descend_slots-returns-clause-descended t c = sink_end c.loop-slot.slot c.args.array c.loop-slot.current (let e : c.loop-slot.slot ≡ c.number_of_slots-slot-end.result = omega (arith, c.loop-slot.auto.slot-end) in e ∙ c.number_of_slots-slot-end.ensures) c.loop-slot.invariant.sunk
 
-pub descend_slot-returns-then-not-branch-clause-made : goal.descend_slot-returns-then-not-branch-clause-made
-descend_slot-returns-then-not-branch-clause-made t c = made_refl c.args.array c.args.total.now
+pub descend_slot-returns-then-not-has_child-clause-made : goal.descend_slot-returns-then-not-has_child-clause-made
+descend_slot-returns-then-not-has_child-clause-made t c = made_refl c.args.array c.args.total.now
