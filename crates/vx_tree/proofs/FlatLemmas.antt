@@ -1,5 +1,5 @@
 -- Ranges of columns that hold their rows themselves.
-use Rattle.std.proofs.Common.{◌≡◌, ◌≢◌, None, ◌≤◌, ℕ, ◌-◌, List, [], ◌∷◌, length, slice_range, true, Option, refl, ap, ◌∙◌, subst}
+use Rattle.std.proofs.Common.{◌≡◌, ◌≢◌, None, ◌≤◌, ℕ, ◌-◌, List, [], ◌∷◌, slice_range, true, Option, refl, ap, ◌∙◌, subst}
 use Rattle.std.proofs.lemmas.Bool.{and_from}
 use Rattle.vx_value.specs.Types as type
 use Rattle.vx_value.specs.Types.{DataType}
@@ -11,7 +11,7 @@ use Rattle.vx_value.specs.declared.dtype.Storage.TheVariants.{Nulls}
 use Rattle.vx_tree.specs.ColumnTypes.{decimal_type, scale_of, bytes_type}
 use Rattle.vx_tree.specs.Tree as enc
 use Rattle.vx_tree.specs.Tree.{Tree, Data, node, dtype, len, datum, slots, slots_of, column, slice_of, is_flat}
-use Rattle.vx_tree.specs.Well.{Shape, IsFlat, IsNode, IsWell, shapes}
+use Rattle.vx_tree.specs.Well.{IsFlat, IsNode, IsWell, shapes}
 use Rattle.vx_tree.specs.Columns.{count_in, data_range, no_rows, empty_of}
 use Rattle.vx_tree.specs.Keeps.{KeepsExactly}
 use Rattle.vx_tree.specs.Validities.{HasRange, IsValidityPart}

@@ -13,7 +13,7 @@ use Rattle.vx_value.specs.Cell.{Cell, value, fault}
 use Rattle.vx_value.specs.declared.dtype.Nullability.{Nullability}
 use Rattle.vx_value.specs.declared.dtype.Nullability.TheVariants.{NonNullable, Nullable}
 use Rattle.vx_tree.specs.Tree as enc
-use Rattle.vx_tree.specs.Tree.{Tree, Data, node, no_slots, slots_of, dtype, len, datum, column, constant_of, slice_of}
+use Rattle.vx_tree.specs.Tree.{Tree, Data, node, slots_of, dtype, len, datum, column, constant_of, slice_of}
 use Rattle.vx_tree.specs.Well.{Shape, shape, shape_of, shapes, IsWell, AreWell, IsValidity, IsFlat, IsNode}
 use Rattle.vx_tree.specs.Cells.{rows, slots_rows, node_cells, cells_at, valid_cell, valid_cells, HasNoFault, IsClean, AreClean}
 use Rattle.vx_tree.specs.Keeps.{KeepsExactly}
