@@ -1,9 +1,9 @@
 -- Columns of text and bytes, by how their type's values are stored.
-use Rattle.std.proofs.Common.{◌≡◌, ◌↔◌, ℕ, zero, suc, ◌-◌, List, [], ◌∷◌, take, drop, slice_range, Bool, true, false, IsTrue, Option, length, refl, sym, ap, subst, ◌∙◌}
+use Rattle.std.proofs.Common.{◌≡◌, ◌↔◌, ℕ, ◌-◌, List, take, drop, slice_range, Bool, true, false, ◌&&◌, IsTrue, Option, length, refl, sym, ap, subst, ◌∙◌, take-append-drop}
 use Rattle.std.specs.List.{AllPass, list_all}
 use Rattle.std.specs.Str.{is_utf8}
 use Rattle.std.proofs.lemmas.List.Sums.{AllPass-from_list_all, list_all-from_AllPass}
-use Rattle.std.proofs.lemmas.Bool.{and_from}
+use Rattle.std.proofs.lemmas.List.Folds.{list_all-append}
 use Rattle.std.specs.Cmp.{first_so, second_so}
 use Rattle.vx_value.specs.Types.{DataType, nullability_of}
 use Rattle.vx_value.specs.Nullabilities.{with_nullability}
@@ -35,19 +35,15 @@ bytes_node s rows h ty n ss flat =
     (subst (λ r. IsFlat r (length rows) ty n ss) (sym again.0) flat, again.1 ∙ h)
 
 module _ {A : Type 0} (test : A → Bool) where
-  all_dropped : (k : ℕ) (xs : List A) → list_all test xs ≡ true → list_all test (drop k xs) ≡ true
-  all_dropped zero xs h = h
-  all_dropped (suc k) [] h = refl
-  all_dropped (suc k) (x ∷ xs) h = all_dropped k xs (second_so (test x) _ h)
-
-  all_taken : (k : ℕ) (xs : List A) → list_all test xs ≡ true → list_all test (take k xs) ≡ true
-  all_taken zero xs h = refl
-  all_taken (suc k) [] h = refl
-  all_taken (suc k) (x ∷ xs) h = and_from (test x) _ (first_so (test x) _ h) (all_taken k xs (second_so (test x) _ h))
+  parts_pass : (k : ℕ) (xs : List A) → list_all test xs ≡ true → (list_all test (take k xs) ≡ true) × (list_all test (drop k xs) ≡ true)
+  parts_pass k xs h =
+      let both : (list_all test (take k xs) && list_all test (drop k xs)) ≡ true =
+      sym (list_all-append test (take k xs) (drop k xs)) ∙ ap (list_all test) (take-append-drop k xs) ∙ h in
+      (first_so _ _ both, second_so _ _ both)
 
   -- what each of a list's items passes, each of a range's does
   pub range_passes : (xs : List A) (a b : ℕ) → list_all test xs ≡ true → list_all test (slice_range xs a b) ≡ true
-  range_passes xs a b h = all_taken (b - a) (drop a xs) (all_dropped a xs h)
+  range_passes xs a b h = (parts_pass (b - a) (drop a xs) (parts_pass a xs h).1).0
 
 -- a range of rows of a type is of it too
 pub bytes_part : (s : Storage) (xs ys : List (List ℕ)) (a b : ℕ) → are_bytes_of s xs ≡ true → ys ≡ slice_range xs a b → are_bytes_of s ys ≡ true

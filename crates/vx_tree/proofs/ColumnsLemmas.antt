@@ -8,7 +8,7 @@ use Rattle.vx_value.specs.Storage.{storage_of}
 use Rattle.vx_value.specs.Typed.{Typed}
 use Rattle.vx_value.specs.Cell.{value}
 use Rattle.vx_tree.specs.Tree as enc
-use Rattle.vx_tree.specs.Tree.{Tree, Data, Slots, node, column, datum, id_of, constant_of, slice_of}
+use Rattle.vx_tree.specs.Tree.{Tree, Data, Slots, node, column, datum, id_of, constant_of}
 use Rattle.vx_tree.specs.Tree.{is_constant, is_canonical, is_columnar}
 use Rattle.vx_tree.specs.Well.{IsWell}
 use Rattle.vx_tree.specs.Columns.{IsColumn, canonical_id}

@@ -1,5 +1,5 @@
 -- Ranges of columns that hold their rows themselves.
-use Rattle.std.proofs.Common.{◌≡◌, ◌≢◌, None, ◌≤◌, ℕ, ◌-◌, List, [], ◌∷◌, length, slice_range, true, Option, refl, ap, ◌∙◌, subst}
+use Rattle.std.proofs.Common.{◌≡◌, ◌≢◌, None, ◌≤◌, ℕ, ◌-◌, List, [], ◌∷◌, slice_range, true, Option, refl, ap, ◌∙◌, subst}
 use Rattle.std.proofs.lemmas.Bool.{and_from}
 use Rattle.vx_value.specs.Types as type
 use Rattle.vx_value.specs.Types.{DataType}
@@ -10,11 +10,12 @@ use Rattle.vx_value.specs.declared.dtype.Nullability.TheVariants.{NonNullable}
 use Rattle.vx_value.specs.declared.dtype.Storage.TheVariants.{Nulls}
 use Rattle.vx_tree.specs.ColumnTypes.{decimal_type, scale_of, bytes_type}
 use Rattle.vx_tree.specs.Tree as enc
-use Rattle.vx_tree.specs.Tree.{Tree, Data, Slots, node, dtype, len, datum, slots, slots_of, column, slice_of, is_flat}
-use Rattle.vx_tree.specs.Well.{Shape, IsFlat, IsNode, IsNodeOf, IsWell, shapes}
+use Rattle.vx_tree.specs.Tree.{Tree, Data, node, dtype, len, datum, slots, slots_of, column, slice_of, is_flat}
+use Rattle.vx_tree.specs.Well.{IsFlat, IsNode, IsWell, shapes}
 use Rattle.vx_tree.specs.Columns.{count_in, data_range, no_rows, empty_of}
 use Rattle.vx_tree.specs.Keeps.{KeepsExactly}
 use Rattle.vx_tree.specs.Validities.{HasRange, IsValidityPart}
+use Rattle.vx_tree.proofs.KindsLemmas.{flat_node}
 use Rattle.vx_tree.proofs.SlotsLemmas.{only_slot}
 use Rattle.vx_tree.proofs.BytesLemmas.{bytes_node, bytes_part}
 use Rattle.vx_tree.proofs.DecimalsLemmas.{decimals_node, decimals_part}
@@ -42,42 +43,25 @@ flat_range_kept (node ty n (enc.views rs) ss) v w a b well h s within part =
     refl (λ ss h. h.0) (bytes_node stored (slice_range rs a b) (bytes_part stored rs (slice_range rs a b) a b well.0.1 refl)) w part
 flat_range_kept _ v w a b well h s within part = absurd (cc)
 
-range_in : (of_type ty : DataType) (k n a b : ℕ) (v : Option Tree) (ss : Slots) → IsFlat of_type k ty n (shapes ss) → ss ≡ slots_of (v ∷ []) → a ≤ b → b ≤ n
-    → HasRange a b v
-range_in of_type ty k n a b v ss h s p q = flat_range of_type ty k n a b v (subst (λ x. IsFlat of_type k ty n (shapes x)) s h) p q
+-- its root is a column of values of some type
+flat_root : (t : Tree) → IsWell t → is_flat (datum t) ≡ true → (of_type : DataType) × IsFlat of_type (count_in (datum t)) (dtype t) (len t) (shapes (slots t))
+flat_root (node ty n d ss) w h = flat_node ty n d (shapes ss) h w.0
 
--- its validity has the range of its rows: a line for each
+-- its validity has the range of its rows
 pub flat_has_range : (t : Tree) (v : Option Tree) (a b : ℕ) → IsWell t → is_flat (datum t) ≡ true → slots t ≡ slots_of (v ∷ []) → a ≤ b → b ≤ len t → HasRange a b v
-flat_has_range (node ty n (enc.bool bs) ss) v a b w h s p q = range_in (type.bool NonNullable) ty (length bs) n a b v ss w.0 s p q
-flat_has_range (node ty n (enc.primitive k zs) ss) v a b w h s p q = range_in (type.primitive k NonNullable) ty (length zs) n a b v ss w.0 s p q
-flat_has_range (node ty n (enc.decimals d zs) ss) v a b w h s p q = range_in (decimal_type (storage_of ty)) ty (length zs) n a b v ss w.0.0 s p q
-flat_has_range (node ty n (enc.views rs) ss) v a b w h s p q = range_in (bytes_type (storage_of ty)) ty (length rs) n a b v ss w.0.0 s p q
-flat_has_range _ v a b w h s p q = absurd (cc)
+flat_has_range t v a b w h s p q =
+    let flat = flat_root t w h in
+    flat_range flat.0 (dtype t) (count_in (datum t)) (len t) a b v (subst (λ ss. IsFlat flat.0 (count_in (datum t)) (dtype t) (len t) (shapes ss)) s flat.1) p q
 
--- it has as many values as rows: a line for each
+-- it has as many values as rows
 pub flat_counted : (t : Tree) → IsWell t → is_flat (datum t) ≡ true → len t ≡ count_in (datum t)
-flat_counted (node ty n (enc.bool bs) ss) w h = w.0.2
-flat_counted (node ty n (enc.primitive p zs) ss) w h = w.0.2
-flat_counted (node ty n (enc.decimals d zs) ss) w h = w.0.0.2
-flat_counted (node ty n (enc.views rs) ss) w h = w.0.0.2
-flat_counted _ w h = absurd (cc)
+flat_counted t w h = (flat_root t w h).1.2
 
--- it has one slot: a line for each
-flat_shape : (t : Tree) → IsNodeOf t → is_flat (datum t) ≡ true → (x : Option Shape) × (shapes (slots t) ≡ x ∷ [])
-flat_shape (node ty n (enc.bool bs) ss) w h = (w.0, w.3)
-flat_shape (node ty n (enc.primitive p zs) ss) w h = (w.0, w.3)
-flat_shape (node ty n (enc.decimals d zs) ss) w h = (w.0.0, w.0.3)
-flat_shape (node ty n (enc.views rs) ss) w h = (w.0.0, w.0.3)
-flat_shape _ w h = absurd (cc)
-
-well_node : (t : Tree) → IsWell t → IsNodeOf t
-well_node (node ty n d ss) w = w.0
-
+-- it has one slot
 pub flat_slot : (t : Tree) (xs : List (Option Tree)) → IsWell t → is_flat (datum t) ≡ true → slots_of xs ≡ slots t → (v : Option Tree) × (xs ≡ v ∷ [])
 flat_slot t xs w h e =
-    let shape = flat_shape t (well_node t w) h in
-    let found = only_slot xs shape.0 (ap shapes e ∙ shape.1) in
-    (found.0, found.1)
+    let flat = (flat_root t w h).1 in
+    only_slot xs flat.0 (ap shapes e ∙ flat.3)
 
 -- the one without rows: a line for each type
 pub no_rows_node : (ty : DataType) → storage_of ty ≢ Nulls → IsNode ty 0 (no_rows (storage_of ty)) (None ∷ [])

@@ -2,9 +2,7 @@
 use Rattle.std.proofs.Common.{◌≡◌, ℕ, zero, suc, ◌-◌, Bool, true, false, List, [], ◌∷◌, take, drop, map, replicate, get_or, refl, ◌∙◌, ap, subst}
 use Rattle.std.specs.List.{range_with_len}
 use Rattle.vx_value.specs.Types.{DataType}
-use Rattle.vx_value.specs.Values.{Value, null, boolean, integer, bytes, decimal}
-use Rattle.vx_value.specs.Storage.{storage_of}
-use Rattle.vx_tree.specs.ColumnTypes.{scale_of}
+use Rattle.vx_value.specs.Values.{Value, null, boolean}
 use Rattle.vx_tree.specs.Tree as enc
 use Rattle.vx_tree.specs.Tree.{Tree, Data, Slots, node, no_slots, absent, slot, dtype, len}
 use Rattle.vx_value.specs.Cell.{Cell, value, fault}
@@ -143,7 +141,7 @@ shown_keep [] (d ∷ ds) h = absurd h
 shown_keep (c ∷ cs) [] h = absurd h
 shown_keep (c ∷ cs) (d ∷ ds) h = (shown_cell_keep c d h.0, shown_keep cs ds h.1)
 
--- a node keeps what its slots keep: a line for each encoding
+-- a node keeps what its slots keep: a line for each encoding, and one for those that hold their rows themselves
 pub node_mono : (ty : DataType) (n : ℕ) (d : Data) (css dss : List (List Cell)) → AllKeep css dss → RowsKeep (node_cells ty n d css) (node_cells ty n d dss)
 node_mono ty n (enc.constant v) css dss h = rows_refl (replicate n (value v.value))
 node_mono ty n (enc.slice a b) css dss h = take_keep (b - a) _ _ (drop_keep a _ _ (at_keep css dss 0 h))
@@ -153,10 +151,7 @@ node_mono ty n enc.is_valid css dss h = shown_keep _ _ (at_keep css dss 0 h)
 node_mono ty n (enc.function f) css dss h =
     map_keep _ _ (range_with_len 0 n) (λ i. values_keep (value_of f ty) _ _ (row_keep i css dss h))
 node_mono ty n enc.nulls css dss h = rows_refl (replicate n (value null))
-node_mono ty n (enc.bool bs) css dss h = column_keep css dss (map (λ b. value (boolean b)) bs) h
-node_mono ty n (enc.primitive p zs) css dss h = column_keep css dss (map (λ z. value (integer z)) zs) h
-node_mono ty n (enc.decimals w zs) css dss h = column_keep css dss (map (λ z. value (decimal z (scale_of (storage_of ty)))) zs) h
-node_mono ty n (enc.views rs) css dss h = column_keep css dss (map (λ r. value (bytes r)) rs) h
+node_mono ty n _ css dss h = column_keep css dss _ h
 
 -- the laws, whatever the encodings
 

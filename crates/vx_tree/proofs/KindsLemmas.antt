@@ -1,16 +1,18 @@
 -- A node, opened.
-use Rattle.std.proofs.Common.{◌≡◌, ℕ, ℤ, Bool, true, ◌≤◌, List, [], ◌∷◌, length, get_or, Option, Some, sym, ◌∙◌, ap, subst}
+use Rattle.std.proofs.Common.{◌≡◌, ℕ, Bool, true, ◌≤◌, List, [], ◌∷◌, length, get_or, Option, Some, sym, ◌∙◌, ap, subst}
+use Rattle.vx_value.specs.Types as type
 use Rattle.vx_value.specs.Types.{DataType}
 use Rattle.vx_value.specs.Nullabilities.{with_nullability}
-use Rattle.vx_value.specs.declared.dtype.Nullability.TheVariants.{Nullable}
+use Rattle.vx_value.specs.declared.dtype.Nullability.TheVariants.{NonNullable, Nullable}
 use Rattle.vx_value.specs.Typed.{Typed}
 use Rattle.vx_value.specs.View.{type_of}
 use Rattle.vx_value.specs.IsOf.{is_of}
-use Rattle.vx_value.specs.declared.dtype.PType.{PType}
-use Rattle.vx_value.specs.declared.decimal.DecimalType.{DecimalType}
+use Rattle.vx_value.specs.Storage.{storage_of}
+use Rattle.vx_tree.specs.ColumnTypes.{decimal_type, bytes_type}
 use Rattle.vx_tree.specs.Tree as enc
-use Rattle.vx_tree.specs.Tree.{Tree, Data, node, slots_of, dtype, len, column, nulls_of, constant_of, slice_of, filter_of, masked_of, validity_in}
-use Rattle.vx_tree.specs.Well.{Shape, shape, shapes, IsNode, IsNodeOf}
+use Rattle.vx_tree.specs.Tree.{Tree, Data, node, slots_of, dtype, len, column, nulls_of, constant_of, slice_of, filter_of, masked_of, validity_in, is_flat}
+use Rattle.vx_tree.specs.Columns.{count_in}
+use Rattle.vx_tree.specs.Well.{Shape, shape, shapes, IsFlat, IsNode, IsNodeOf}
 use Rattle.vx_tree.specs.TreeView.{data_of, tree_of}
 use Rattle.vx_tree.specs.declared.array.node.Node.{Node}
 use Rattle.vx_tree.proofs.SlotsLemmas.{one_slot, only_slot, two_slots, none_there}
@@ -20,6 +22,15 @@ type_in (shape ty n) = ty
 
 abbrev pub len_in : Shape → ℕ
 len_in (shape ty n) = n
+
+-- a node that holds its rows itself is a column of values of some type: a line for each such encoding
+pub flat_node : (ty : DataType) (n : ℕ) (d : Data) (ss : List (Option Shape)) → is_flat d ≡ true → IsNode ty n d ss
+    → (of_type : DataType) × IsFlat of_type (count_in d) ty n ss
+flat_node ty n (enc.bool bs) ss is h = (type.bool NonNullable, h)
+flat_node ty n (enc.primitive p zs) ss is h = (type.primitive p NonNullable, h)
+flat_node ty n (enc.decimals w zs) ss is h = (decimal_type (storage_of ty), h.0)
+flat_node ty n (enc.views rs) ss is h = (bytes_type (storage_of ty), h.0)
+flat_node ty n _ ss is h = absurd (cc)
 
 -- n is a node that meets the conditions of its encoding
 module _ (n : Node) (well : IsNodeOf (tree_of n)) where
@@ -82,25 +93,10 @@ module _ (n : Node) (well : IsNodeOf (tree_of n)) where
       ((λ j. node ((h.3 ∙ ap (with_nullability Nullable) (sym typed)) j) (sym counted j) (e j) (slots_of (slots_are j))), well)
 
   -- a column has one slot, for its validity
-  column_is : (d : Data) (s v : Option Tree) (x : Option Shape) → data_of n.encoding ≡ d → shapes (slots_of n.slots.items) ≡ x ∷ []
-      → v ≡ get_or n.slots.items 0 s → tree_of n ≡ column (type_of n.dtype) n.len d v
-  column_is d s v x e h g =
-      let o = only_slot n.slots.items x h in
+  pub kind_flat : (d : Data) (s v : Option Tree) → is_flat d ≡ true → data_of n.encoding ≡ d → v ≡ get_or n.slots.items 0 s →
+      (tree_of n ≡ column (type_of n.dtype) n.len d v) × IsNodeOf (tree_of n)
+  kind_flat d s v is e g =
+      let h = (flat_node (type_of n.dtype) n.len d (shapes (slots_of n.slots.items)) is (of_data d e)).1 in
+      let o = only_slot n.slots.items h.0 h.3 in
       let same : o.0 ≡ v = sym (g ∙ ap (λ l. get_or l 0 s) o.1) in
-      λ j. node (type_of n.dtype) n.len (e j) (slots_of ((o.1 ∙ ap (λ z. z ∷ []) same) j))
-
-  pub kind_bool : (bs : List Bool) (s v : Option Tree) → data_of n.encoding ≡ enc.bool bs → v ≡ get_or n.slots.items 0 s →
-      (tree_of n ≡ column (type_of n.dtype) n.len (enc.bool bs) v) × IsNodeOf (tree_of n)
-  kind_bool bs s v e g = let h = of_data (enc.bool bs) e in (column_is (enc.bool bs) s v h.0 e h.3 g, well)
-
-  pub kind_primitive : (p : PType) (zs : List ℤ) (s v : Option Tree) → data_of n.encoding ≡ enc.primitive p zs → v ≡ get_or n.slots.items 0 s →
-      (tree_of n ≡ column (type_of n.dtype) n.len (enc.primitive p zs) v) × IsNodeOf (tree_of n)
-  kind_primitive p zs s v e g = let h = of_data (enc.primitive p zs) e in (column_is (enc.primitive p zs) s v h.0 e h.3 g, well)
-
-  pub kind_decimals : (w : DecimalType) (zs : List ℤ) (s v : Option Tree) → data_of n.encoding ≡ enc.decimals w zs → v ≡ get_or n.slots.items 0 s →
-      (tree_of n ≡ column (type_of n.dtype) n.len (enc.decimals w zs) v) × IsNodeOf (tree_of n)
-  kind_decimals w zs s v e g = let h = of_data (enc.decimals w zs) e in (column_is (enc.decimals w zs) s v h.0.0 e h.0.3 g, well)
-
-  pub kind_views : (rs : List (List ℕ)) (s v : Option Tree) → data_of n.encoding ≡ enc.views rs → v ≡ get_or n.slots.items 0 s →
-      (tree_of n ≡ column (type_of n.dtype) n.len (enc.views rs) v) × IsNodeOf (tree_of n)
-  kind_views rs s v e g = let h = of_data (enc.views rs) e in (column_is (enc.views rs) s v h.0.0 e h.0.3 g, well)
+      ((λ j. node (type_of n.dtype) n.len (e j) (slots_of ((o.1 ∙ ap (λ z. z ∷ []) same) j))), well)

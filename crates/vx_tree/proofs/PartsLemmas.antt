@@ -3,7 +3,7 @@ use Rattle.std.proofs.Common.{◌≡◌, ◌≤◌, ℕ, ◌-◌, [], ◌∷◌,
 use Rattle.std.specs.Prelude.{option_map}
 use Rattle.vx_value.specs.Types.{DataType}
 use Rattle.vx_tree.specs.Tree as enc
-use Rattle.vx_tree.specs.Tree.{Tree, Data, Slots, node, slots, slots_of, dtype, len, datum, column, slice_of, constant_of, is_flat}
+use Rattle.vx_tree.specs.Tree.{Tree, Data, node, slots, slots_of, dtype, len, datum, column, slice_of, constant_of, is_flat}
 use Rattle.vx_tree.specs.Slots.{map_slots}
 use Rattle.vx_tree.specs.Well.{IsWell, AreWell, IsNode, shapes}
 use Rattle.vx_tree.specs.Columns.{data_range}

@@ -12,7 +12,7 @@ use Rattle.vx_mask.specs.Places.{true_count, chosen}
 use Rattle.vx_mask.proofs.ChosenLemmas.{chosen_map, chosen-replicate}
 use Rattle.vx_native.proofs.NativesLemmas.{map_copies}
 use Rattle.vx_tree.specs.Tree as enc
-use Rattle.vx_tree.specs.Tree.{Tree, Data, node, slot, slots_of, dtype, len, datum, column, constant_of, slice_of, filter_of, masked_of, validity_in}
+use Rattle.vx_tree.specs.Tree.{Tree, Data, slot, slots_of, dtype, len, datum, column, constant_of, slice_of, filter_of, masked_of, validity_in}
 use Rattle.vx_tree.specs.Well.{shape, shape_of, IsValidity, IsWell, AreWell}
 use Rattle.vx_tree.specs.Cells.{rows, valid_cells, shown_cell, HasNoFault, IsClean, AreClean}
 use Rattle.vx_tree.specs.Keeps.{CellKeeps, RowsKeep}

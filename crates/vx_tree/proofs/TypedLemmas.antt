@@ -366,16 +366,16 @@ column_fits ty m n None (vs ∷ css) cs is h k all = subst (λ l. AllFit ty (val
 column_fits ty NonNullable n (Some s) (vs ∷ css) cs is h k all = absurd h
 column_fits ty Nullable n (Some s) (vs ∷ css) cs is h k all = valid_fit vs cs ty (ap is_nullable is) all
 
+pub fit_at : (ty : DataType) (cs : List Cell) (i : ℕ) → AllFit ty cs → CellFits ty (get_or cs i fault)
+fit_at ty [] i h = tt
+fit_at ty (c ∷ cs) zero h = h.0
+fit_at ty (c ∷ cs) (suc i) h = fit_at ty cs i h.1
+
 row_fits : (css : List (List Cell)) (tys : List DataType) (n i : ℕ) → SlotsFit css (map (λ s. Some (shape s n)) tys) → RowFits tys (row_at css i)
 row_fits [] [] n i h = tt
 row_fits [] (s ∷ tys) n i h = absurd h
 row_fits (cs ∷ css) [] n i h = absurd h
-row_fits (cs ∷ css) (s ∷ tys) n i h = (cell_at i cs h.0, row_fits css tys n i h.1)
-  where
-    cell_at : (i : ℕ) (cs : List Cell) → AllFit s cs → CellFits s (get_or cs i fault)
-    cell_at i [] h = tt
-    cell_at zero (c ∷ cs) h = h.0
-    cell_at (suc i) (c ∷ cs) h = cell_at i cs h.1
+row_fits (cs ∷ css) (s ∷ tys) n i h = (fit_at s cs i h.0, row_fits css tys n i h.1)
 
 bytes_other : (s : Storage) → is_other (bytes_type s) ≡ true
 bytes_other Text = refl

@@ -13,7 +13,7 @@ use Rattle.vx_value.specs.Cell.{Cell, value, fault}
 use Rattle.vx_value.specs.declared.dtype.Nullability.{Nullability}
 use Rattle.vx_value.specs.declared.dtype.Nullability.TheVariants.{NonNullable, Nullable}
 use Rattle.vx_tree.specs.Tree as enc
-use Rattle.vx_tree.specs.Tree.{Tree, Data, node, no_slots, slots_of, dtype, len, datum, column, constant_of, slice_of}
+use Rattle.vx_tree.specs.Tree.{Tree, Data, node, slots_of, dtype, len, datum, column, constant_of, slice_of}
 use Rattle.vx_tree.specs.Well.{Shape, shape, shape_of, shapes, IsWell, AreWell, IsValidity, IsFlat, IsNode}
 use Rattle.vx_tree.specs.Cells.{rows, slots_rows, node_cells, cells_at, valid_cell, valid_cells, HasNoFault, IsClean, AreClean}
 use Rattle.vx_tree.specs.Keeps.{KeepsExactly}
@@ -22,6 +22,7 @@ use Rattle.vx_tree.specs.declared.validity.Validity.{Validity}
 use Rattle.vx_tree.specs.declared.validity.Validity.TheVariants as validity
 use Rattle.vx_tree.proofs.CellsLemmas.{rows_counted}
 use Rattle.vx_tree.proofs.ConditionsLemmas.{first_none, second_none, unless_none}
+use Rattle.vx_tree.proofs.KindsLemmas.{type_in, len_in}
 use Rattle.vx_tree.proofs.KeepsLemmas.{column_exactly, rows_equal}
 use Rattle.vx_native.proofs.NativesLemmas.{map_part}
 use Rattle.vx_tree.proofs.SlotsLemmas.{one_shape}
@@ -92,14 +93,10 @@ valid_take (suc k) (v ∷ vs) (c ∷ cs) h = ap (λ l. valid_cell v c ∷ l) (va
 flat_long : (of_type ty : DataType) (k n : ℕ) (t : Tree) → IsFlat of_type k ty n (shapes (slots_of (Some t ∷ []))) → len t ≡ n
 flat_long of_type ty k n t h = by_nullability (nullability_of ty) h.0 (sym h.3) h.4
   where
-    len_in : Option Shape → ℕ
-    len_in None = 0
-    len_in (Some (shape s m)) = m
-
     by_nullability : (m : Nullability) (s : Option Shape) → s ∷ [] ≡ Some (shape_of t) ∷ [] → IsValidity m n s → len t ≡ n
     by_nullability m None e h = absurd (cc)
     by_nullability NonNullable (Some s) e h = absurd h
-    by_nullability Nullable (Some s) e h = let same : Some s ≡ Some (shape_of t) = cc in ap len_in (sym same ∙ ap Some h)
+    by_nullability Nullable (Some s) e h = let same : s ≡ shape_of t = cc in ap len_in (sym same ∙ h)
 
 valid_part : (a b : ℕ) (vs cs : List Cell) → length vs ≡ length cs → slice_range (valid_cells vs cs) a b ≡ valid_cells (slice_range vs a b) (slice_range cs a b)
 valid_part a b vs cs h =
@@ -170,9 +167,6 @@ module _ (a b : ℕ) where
   typed_part : (m : Nullability) (n : ℕ) (s : Shape) (t : Tree) → s ≡ shape_of t → IsValidity m n (Some s) → dtype t ≡ type.bool NonNullable
   typed_part NonNullable n s t e h = absurd h
   typed_part Nullable n s t e h = ap type_in (sym e ∙ h)
-    where
-      type_in : Shape → DataType
-      type_in (shape ty n) = ty
 
   -- it meets the conditions of a column of the range's rows
   pub part_flat : (of_type ty : DataType) (k n : ℕ) (v w : Option Tree) (xs : List (Option Tree)) → IsFlat of_type k ty n (shapes (slots_of (v ∷ [])))

@@ -2,7 +2,7 @@
 
 ghost use Rattle.std.specs.Prelude.{◌≡◌, ◌==◌, true, is_ok, IfOk, IfErr, option_map};
 ghost use Rattle.vx_value.specs.View.{type_of};
-ghost use Rattle.vx_tree.specs.Tree.{Tree, dtype, len, datum, is_canonical};
+ghost use Rattle.vx_tree.specs.Tree.{dtype, len, datum, is_canonical};
 ghost use Rattle.vx_tree.specs.Columns.{canonical_tree, null_column, bool_column, primitive_column, decimal_column, varbinview_column, empty_of};
 
 use crate::array::{Array, ArrayRef, Encoding, IntoArray};

@@ -2,7 +2,7 @@
 
 ghost use Rattle.std.specs.Prelude.{◌≡◌, ◌==◌, true, is_ok, IfOk, IfErr};
 ghost use Rattle.vx_value.specs.View.{type_of};
-ghost use Rattle.vx_tree.specs.Tree.{Tree, dtype, len, datum, is_columnar, constant_of};
+ghost use Rattle.vx_tree.specs.Tree.{dtype, len, datum, is_columnar, constant_of};
 ghost use Rattle.vx_tree.specs.Columns.{columnar_tree};
 
 use crate::array::{ArrayRef, IntoArray};

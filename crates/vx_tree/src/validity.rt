@@ -1,7 +1,6 @@
 //! Which rows of a column are null.
 
 ghost use Rattle.std.specs.Prelude.{◌≡◌, ℕ, IfOk, IfErr, Some, None, length, option_map};
-ghost use Rattle.vx_value.specs.View.{type_of};
 ghost use Rattle.vx_mask.specs.Masks.{bits_in};
 ghost use Rattle.vx_tree.specs.Tree.{constant_of};
 ghost use Rattle.vx_tree.specs.Validities.{nullability_by, without_nulls, child_of, child_by, count_children, validity_of, array_refusal, HasRange};

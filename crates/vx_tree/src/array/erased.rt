@@ -1,6 +1,6 @@
 //! The readers of an untyped reference.
 
-ghost use Rattle.std.specs.Prelude.{◌≡◌, ◌==◌, true, is_some, IfSome, length, option_map, slice_get};
+ghost use Rattle.std.specs.Prelude.{◌≡◌, ◌==◌, is_some, IfSome, length, option_map, slice_get};
 ghost use Rattle.vx_value.specs.View.{type_of};
 ghost use Rattle.vx_tree.specs.Tree.{dtype, len, datum, slots, slots_of, id_of};
 ghost use Rattle.vx_tree.specs.Names.{slot_names};

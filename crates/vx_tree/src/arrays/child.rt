@@ -1,14 +1,13 @@
 //! What the nodes with one child share, and those with none.
 
-ghost use Rattle.std.specs.Prelude.{◌≡◌, ℕ, [], ◌∷◌, MatchResult, IfOk, IfErr, Option, Some};
+ghost use Rattle.std.specs.Prelude.{◌≡◌, ℕ, [], ◌∷◌, MatchResult, Option, Some};
 ghost use Rattle.vx_value.specs.Types.{DataType};
 ghost use Rattle.vx_value.specs.declared.error.VortexError.{VortexError as VortexErrorOf};
 ghost use Rattle.vx_tree.specs.Tree.{slots_of};
-ghost use Rattle.vx_tree.specs.Well.{IsNode, shape_of, shapes};
+ghost use Rattle.vx_tree.specs.Well.{shape_of, shapes};
 ghost use Rattle.vx_tree.specs.Refusals.{of_child, without_slots};
 
 use crate::array::ArrayRef;
-use std::alloc::{AllocError, Global};
 use vx_value::{ArgKind, VortexError, VortexResult};
 
 /// Returns the child of a node with these slots. `InvalidArgument` with `SlotCount` or `SlotMissing` if they aren't one

@@ -1,7 +1,7 @@
 //! What all flat columns share: a value in each row, and a slot for their validity.
 
 ghost use Rattle.std.specs.Prelude.{◌≡◌, ◌≢◌, ◌⊎◌, ◌≤◌, true, ℕ, List, [], ◌∷◌, Option, IfOk, IfErr, OnOk, Some, None, option_map};
-ghost use Rattle.vx_value.specs.Types.{DataType, nullability_of};
+ghost use Rattle.vx_value.specs.Types.{DataType};
 ghost use Rattle.vx_value.specs.View.{type_of};
 ghost use Rattle.vx_value.specs.Storage.{storage_of};
 ghost use Rattle.vx_value.specs.declared.dtype.Storage.TheVariants.{Nulls};

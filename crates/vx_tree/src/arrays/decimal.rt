@@ -2,15 +2,11 @@
 
 ghost use Rattle.std.specs.Prelude.{◌≡◌, ◌⊎◌, IfOk, IfErr, OnOk, Some, None, length, refl};
 ghost use Rattle.vx_value.specs.View.{type_of};
-ghost use Rattle.vx_value.specs.Types as type;
-ghost use Rattle.vx_value.specs.Types.{nullability_of};
 ghost use Rattle.vx_value.specs.Storage.{storage_of};
-ghost use Rattle.vx_value.specs.declared.dtype.Storage.TheVariants.{Decimals};
 ghost use Rattle.vx_value.specs.declared.id.Id.TheVariants as id;
 ghost use Rattle.vx_native.specs.DecimalNumbers.{numbers_of, decimal_type_of};
 ghost use Rattle.vx_tree.specs.ColumnTypes.{decimal_type, are_decimals_of};
 ghost use Rattle.vx_tree.specs.Tree.{decimals, is_decimals, column};
-ghost use Rattle.vx_tree.specs.Conditions.{Checks, unless};
 ghost use Rattle.vx_tree.specs.Validities.{child_of, decimal_refusal};
 
 use crate::array::{Array, ArrayId, ArrayParts, Encoded, Encoding, EncodingVariant, VTable};

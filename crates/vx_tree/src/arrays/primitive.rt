@@ -16,7 +16,7 @@ use crate::validity::Validity;
 use std::alloc::{AllocError, Global};
 use std::ops::Range;
 use vx_native::PrimitiveValues;
-use vx_value::{DType, Id, Nullability, PType, VortexError, VortexResult};
+use vx_value::{DType, Id, Nullability, VortexError, VortexResult};
 
 /// The tag of the primitive encoding.
 #[derive(Clone, Copy, Debug)]

@@ -13,7 +13,7 @@ use crate::arrays::{into_payload, payload};
 use crate::conditions::check_that;
 use std::alloc::Global;
 use std::ops::Range;
-use vx_value::{ArgKind, DType, Id, VortexError, VortexResult};
+use vx_value::{ArgKind, Id, VortexError, VortexResult};
 
 /// The tag of the slice encoding.
 #[derive(Clone, Copy, Debug)]

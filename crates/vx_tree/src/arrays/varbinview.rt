@@ -2,11 +2,9 @@
 
 ghost use Rattle.std.specs.Prelude.{◌≡◌, ◌⊎◌, IfOk, IfErr, OnOk, Some, None, length, refl};
 ghost use Rattle.vx_value.specs.View.{type_of};
-ghost use Rattle.vx_value.specs.Storage.{storage_of};
 ghost use Rattle.vx_value.specs.declared.id.Id.TheVariants as id;
 ghost use Rattle.vx_tree.specs.ColumnTypes.{bytes_type, are_bytes_of};
 ghost use Rattle.vx_tree.specs.Tree.{views, is_views, column};
-ghost use Rattle.vx_tree.specs.Conditions.{Checks, unless};
 ghost use Rattle.vx_tree.specs.Validities.{child_of, bytes_refusal};
 
 use crate::array::{Array, ArrayId, ArrayParts, Encoded, Encoding, EncodingVariant, VTable};

@@ -1,9 +1,10 @@
-use Rattle.std.proofs.Common.{ap}
+use Rattle.std.proofs.Common.{ap, refl}
 use Rattle.vx_mask.specs.Masks.{bits_in}
 use Rattle.vx_native.specs.Natives.{values_of, ptype_of}
 use Rattle.vx_native.specs.DecimalNumbers.{numbers_of, decimal_type_of}
+use Rattle.vx_tree.specs.Tree.{bool, primitive, decimals, views}
 use Rattle.vx_tree.specs.TreeView.{data_of}
-use Rattle.vx_tree.proofs.KindsLemmas.{kind_constant, kind_slice, kind_filter, kind_validity, kind_masked, kind_nulls, kind_bool, kind_primitive, kind_decimals, kind_views}
+use Rattle.vx_tree.proofs.KindsLemmas.{kind_constant, kind_slice, kind_filter, kind_validity, kind_masked, kind_nulls, kind_flat}
 use Rattle.vx_tree.proofs.array.kind.kind_of.Goals as goal
 
 pub returns-in-Constant : goal.returns-in-Constant
@@ -38,21 +39,21 @@ returns-in-Null c = kind_nulls c.args.node.now c.requires (ap data_of c.in-Null.
 pub returns-in-Bool : goal.returns-in-Bool
 returns-in-Bool c =
     let validity = c.index-in-Bool.result.now in
-    kind_bool c.args.node.now c.requires c.in-Bool.data.bits validity validity (ap data_of c.in-Bool.is) c.index-in-Bool.ensures
+    kind_flat c.args.node.now c.requires (bool c.in-Bool.data.bits) validity validity refl (ap data_of c.in-Bool.is) c.index-in-Bool.ensures
 
 pub returns-in-Primitive : goal.returns-in-Primitive
 returns-in-Primitive c =
     let values = c.in-Primitive.data.values in
     let validity = c.index-in-Primitive.result.now in
-    kind_primitive c.args.node.now c.requires (ptype_of values) (values_of values) validity validity (ap data_of c.in-Primitive.is) c.index-in-Primitive.ensures
+    kind_flat c.args.node.now c.requires (primitive (ptype_of values) (values_of values)) validity validity refl (ap data_of c.in-Primitive.is) c.index-in-Primitive.ensures
 
 pub returns-in-Decimal : goal.returns-in-Decimal
 returns-in-Decimal c =
-    let validity = c.index-in-Decimal.result.now in
     let values = c.in-Decimal.data.values in
-    kind_decimals c.args.node.now c.requires (decimal_type_of values) (numbers_of values) validity validity (ap data_of c.in-Decimal.is) c.index-in-Decimal.ensures
+    let validity = c.index-in-Decimal.result.now in
+    kind_flat c.args.node.now c.requires (decimals (decimal_type_of values) (numbers_of values)) validity validity refl (ap data_of c.in-Decimal.is) c.index-in-Decimal.ensures
 
 pub returns-in-VarBinView : goal.returns-in-VarBinView
 returns-in-VarBinView c =
     let validity = c.index-in-VarBinView.result.now in
-    kind_views c.args.node.now c.requires c.in-VarBinView.data.rows validity validity (ap data_of c.in-VarBinView.is) c.index-in-VarBinView.ensures
+    kind_flat c.args.node.now c.requires (views c.in-VarBinView.data.rows) validity validity refl (ap data_of c.in-VarBinView.is) c.index-in-VarBinView.ensures
