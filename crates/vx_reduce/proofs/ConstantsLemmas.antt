@@ -11,6 +11,7 @@ use Rattle.vx_fn.specs.declared.function.ScalarFnRef.TheVariants as fn_of
 use Rattle.vx_tree.specs.Tree as enc
 use Rattle.vx_tree.specs.Tree.{Tree, Data, Slots, node, no_slots, absent, slot, slots_of, dtype, datum, constant_of}
 use Rattle.vx_tree.specs.Well.{shape, shapes, IsNode, IsWell, AreWell}
+use Rattle.vx_tree.proofs.SlotsLemmas.{no_shapes}
 use Rattle.vx_rule.specs.Rules.{Row, IsQuiet, constants, M1, K1, K2, K3, K4}
 use Rattle.vx_reduce.specs.Constants.{folds, data_value, slot_value, with_value, constant_values, IsFolded}
 use Rattle.vx_reduce.proofs.FitsLemmas.{row_by}
@@ -22,11 +23,6 @@ value_is : (d : Data) (o : Option (List Typed)) (vs : List Typed) → with_value
 value_is (enc.constant v) (Some ws) vs e = let h : v ∷ ws ≡ vs = cc in (v, ws, refl, refl, sym h)
 value_is (enc.constant v) None vs e = absurd (cc)
 value_is _ o vs e = absurd (cc)
-
-no_shapes : (ss : Slots) → shapes ss ≡ [] → ss ≡ no_slots
-no_shapes no_slots e = refl
-no_shapes (absent ss) e = absurd (cc)
-no_shapes (slot t ss) e = absurd (cc)
 
 -- a constant has no slots
 constant_tree : (t : Tree) (v : Typed) → IsWell t → datum t ≡ enc.constant v → (s : DataType) × (k : ℕ) × (t ≡ node s k (enc.constant v) no_slots)

@@ -1,5 +1,5 @@
 -- Each row of the table, up to equations.
-use Rattle.std.proofs.Common.{◌≡◌, ℕ, ◌+◌, ◌-◌, ◌<◌, ◌≤◌, List, [], ◌∷◌, length, Option, Some, None, Result, Ok, Err, Bool, true, false, refl, sym, subst, ap, ◌∙◌, arith}
+use Rattle.std.proofs.Common.{◌≡◌, ℕ, ◌+◌, ◌-◌, ◌<◌, List, [], ◌∷◌, Option, Some, None, Result, Ok, Err, Bool, true, false, refl, sym, subst, ap, ◌∙◌}
 use Rattle.std.specs.Prelude.{option_map}
 use Rattle.vx_value.specs.Types.{DataType, nullability_of}
 use Rattle.vx_value.specs.View.{type_of}
@@ -8,7 +8,6 @@ use Rattle.vx_value.specs.declared.dtype.Nullability.TheVariants.{NonNullable}
 use Rattle.vx_value.specs.declared.error.VortexError.{VortexError}
 use Rattle.vx_mask.specs.Masks.{is_all_true}
 use Rattle.vx_mask.specs.Places.{true_count, combined, IsRun}
-use Rattle.vx_mask.proofs.ChosenLemmas.{run_within}
 use Rattle.vx_fn.specs.declared.function.ScalarFnRef.{ScalarFnRef}
 use Rattle.vx_fn.specs.declared.function.ScalarFnRef.TheVariants as fn_of
 use Rattle.vx_tree.specs.Tree as enc
@@ -41,9 +40,6 @@ raw_row w t u (Ok (Some x)) h k = k x.tree x.optimize.items h.0 (h.1 ∙ ap (λ 
 raw_row w t u (Err e) h k = h
 
 -- ---- of a filter by its mask alone
-
-pub run_range : (bits : List Bool) (a b n : ℕ) → IsRun bits a b → length bits ≡ n → (a ≤ b) × (b ≤ n)
-run_range bits a b n run counted = (omega (arith, run.0), omega (arith, run_within bits a b run, counted))
 
 pub fit_F1 : (bits : List Bool) (c u : Tree) (os : List ℕ) → is_all_true bits ≡ true → u ≡ c → os ≡ [] → Row None (filter_of bits c) u os
 fit_F1 bits c u os e f g = row_for None (filter_of bits c) c u [] os (F1 (dtype c) (true_count bits) bits c e) f g

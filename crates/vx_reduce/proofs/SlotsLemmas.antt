@@ -1,6 +1,6 @@
 -- The slots of answers.
-use Rattle.std.proofs.Common.{◌≡◌, ℕ, zero, suc, ◌+◌, ◌-◌, ◌<◌, ◌≤◌, List, [], ◌∷◌, ◌++◌, length, map, get_or, Option, Some, None, Bool, true, false, refl, sym, subst, ap, ◌∙◌, arith}
-use Rattle.std.specs.Prelude.{option_map, is_some, IfSome, ◌==◌, ◌&&◌}
+use Rattle.std.proofs.Common.{◌≡◌, ℕ, zero, suc, ◌-◌, ◌<◌, ◌≤◌, List, [], ◌∷◌, ◌++◌, length, map, get_or, Option, Some, None, Bool, true, refl, sym, subst, ap, ◌∙◌, arith}
+use Rattle.std.specs.Prelude.{option_map, IfSome, ◌==◌, ◌&&◌}
 use Rattle.std.specs.Cmp.{unsigned_Decides}
 use Rattle.std.proofs.lemmas.Bool.{and_parts}
 use Rattle.vx_value.specs.Types as type
@@ -12,9 +12,8 @@ use Rattle.vx_fn.specs.Functions.{meaning, arity}
 use Rattle.vx_fn.specs.declared.function.ScalarFnRef.{ScalarFnRef}
 use Rattle.vx_tree.specs.Tree as enc
 use Rattle.vx_tree.specs.Tree.{Tree, Data, Slots, node, no_slots, absent, slot, slots_of, dtype, len, datum, slice_of, filter_of, masked_of}
-use Rattle.vx_tree.specs.Slots.{map_slots, present_from}
+use Rattle.vx_tree.specs.Slots.{map_slots}
 use Rattle.vx_tree.specs.Parts.{part_of, part_by, choice_of, choice_by, HasLen}
-use Rattle.vx_tree.specs.Validities.{HasRange}
 use Rattle.vx_tree.specs.Well.{shape, shape_of, shapes, IsNode, IsNodeOf, IsWell, AreWell, IsValidity}
 use Rattle.vx_tree.specs.Refusals.{all_long}
 
@@ -195,10 +194,6 @@ masked_mapped_node g c s v w h ok typed e =
     let told = validity_mapped g (len s) (len c) v h (well_second c v ok.1) (masked_parts c v ok.0) in
     (dtype s, option_map shape_of w, two_shapes s w, ap (with_nullability Nullable) (sym typed), subst (λ x. IsValidity Nullable (len s) (option_map shape_of x)) (sym e) told)
 
-range_by : (n a b : ℕ) (v : Option Tree) → a ≤ b → b ≤ n → IsValidity Nullable n (option_map shape_of v) → HasRange a b v
-range_by n a b None order h k = tt
-range_by n a b (Some t) order h k = let e : len t ≡ n = cc (k) in (order, omega (arith, h, e))
-
 len_by : (k n : ℕ) (v : Option Tree) → k ≡ n → IsValidity Nullable n (option_map shape_of v) → HasLen k v
 len_by k n None h w = tt
 len_by k n (Some t) h w = let e : len t ≡ n = cc (w) in h ∙ sym e
@@ -222,9 +217,6 @@ module _ (x c s : Tree) (v w : Option Tree) (well : IsWell x) (is : x ≡ masked
       subst (λ y. IsNode (dtype y) (len s) enc.masked (shapes (slots_of (Some s ∷ w ∷ [])))) (sym is)
       (subst (λ y. IsNode (dtype (masked_of c v)) (len y) enc.masked (shapes (slots_of (Some y ∷ w ∷ [])))) (sym filters) here)
 
-  -- the rows of the validity
-  pub told_range : (a b : ℕ) → a ≤ b → b ≤ len x → HasRange a b v
-  told_range a b order h = range_by (len c) a b v order (let e : len x ≡ len c = ap len is in omega (arith, h, e)) (masked_parts c v (known.0))
-
+  -- the validity has as many rows
   pub told_len : (n : ℕ) → n ≡ len x → HasLen n v
   told_len n h = len_by n (len c) v (let e : len x ≡ len c = ap len is in h ∙ e) (masked_parts c v (known.0))

@@ -59,6 +59,9 @@ choice_of_clean bits t c = filter_clean bits t c
 
 -- ---- all rows, none, and consecutive ones
 
+pub run_range : (bits : List Bool) (a b n : ℕ) → IsRun bits a b → length bits ≡ n → (a ≤ b) × (b ≤ n)
+run_range bits a b n run counted = (omega (arith, run.0), omega (arith, run_within bits a b run, counted))
+
 -- of c, which has as many rows as there are bits
 module _ (bits : List Bool) (c : Tree) (counted_bits : length bits ≡ len c) (counted_rows : length (rows c) ≡ len c) where
   pub whole_exactly : is_all_true bits ≡ true → KeepsExactly (filter_of bits c) c

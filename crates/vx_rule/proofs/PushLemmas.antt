@@ -27,7 +27,7 @@ use Rattle.vx_rule.specs.Pushes.{IsPushed, IsConstantLike}
 use Rattle.vx_rule.proofs.PicksLemmas.{IsSecond, masked_slots}
 use Rattle.vx_rule.proofs.RangesLemmas.{S_whole_keeps, S_empty_keeps, S1_keeps, S2_keeps, S4_keeps, S5_keeps}
 
-canonical_cost : (c : Tree) → is_canonical (datum c) ≡ true → cost c ≡ 1
+pub canonical_cost : (c : Tree) → is_canonical (datum c) ≡ true → cost c ≡ 1
 canonical_cost (node ty n d ss) h = column_cost ty n d ss h
 
 empty_canonical : (ty : DataType) → is_canonical (datum (empty_of ty)) ≡ true

@@ -11,7 +11,7 @@ pub mod scalar_fns;
 pub use laws::rule_laws;
 pub use nodes::{
     column_slice, constant_like, empty_column, function_node, function_parts, masked_node,
-    masked_parts, two_slots,
+    masked_parts,
 };
 pub use push::push_slice;
 pub use raw_node::RawNode;

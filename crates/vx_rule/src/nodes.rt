@@ -76,24 +76,9 @@ pub fn masked_node(
     ensures err { IfErr result (λ e. e ≡ OutOfMemory) }
 {
     let len = child.len();
-    let slots = two_slots(alloc, child, validity)?;
+    let slots = vec![in alloc; Some(child), validity]?;
     let parts = ArrayParts::new(Masked, like.dtype().clone()?, len, MaskedData, slots);
     Ok(Array::from_parts_unchecked(alloc, parts)?.into_array())
-}
-
-/// Makes a vector of two slots. The only error is `OutOfMemory`.
-pub fn two_slots(
-    alloc: Global,
-    first: ArrayRef,
-    second: Option<ArrayRef>,
-) -> VortexResult<Vec<Option<ArrayRef>>>
-    ensures ok { IfOk result (λ v. v.items ≡ Some first ∷ second ∷ []) }
-    ensures err { IfErr result (λ e. e ≡ OutOfMemory) }
-{
-    let mut slots = Vec::with_capacity(alloc, 2)?;
-    slots.push(Some(first))?;
-    slots.push(second)?;
-    Ok(slots)
 }
 
 /// Returns the constant of `len` rows that has the value of `array`, which must be one. The only error is `OutOfMemory`.

@@ -1,27 +1,22 @@
 -- The step of a masked node whose child is a column.
 use Rattle.std.proofs.Common.{◌≡◌, ◌⊎◌, inl, inr, ℕ, Option, Some, None, true, refl, sym, ap, subst}
-use Rattle.vx_value.specs.Types.{DataType, null, bool}
+use Rattle.vx_value.specs.Types.{null, bool}
 use Rattle.vx_value.specs.declared.error.VortexError.{VortexError}
 use Rattle.vx_value.specs.declared.error.VortexError.TheVariants.{OutOfMemory}
 use Rattle.vx_value.specs.declared.dtype.Nullability.TheVariants.{NonNullable, Nullable}
 use Rattle.vx_tree.specs.Tree.{Tree, dtype, datum, len, masked_of, is_canonical}
 use Rattle.vx_tree.specs.Cells.{rows, IsClean}
 use Rattle.vx_tree.proofs.CellsLemmas.{no_fault_at}
+use Rattle.vx_tree.proofs.KindsLemmas.{type_in, len_in}
 use Rattle.vx_tree.proofs.ValiditiesLemmas.{whole}
 use Rattle.vx_rows.specs.Arguments.{AreUnread}
-use Rattle.vx_tree.specs.Well.{Shape, shape, shape_of, IsWell, IsValidity}
+use Rattle.vx_tree.specs.Well.{shape, shape_of, IsWell, IsValidity}
 use Rattle.vx_tree.specs.Columns.{IsColumn}
 use Rattle.vx_tree.specs.Keeps.{KeepsExactly}
 use Rattle.vx_tree.specs.Validities.{HasRows, nullability_by, child_of}
 use Rattle.vx_step.specs.Steps.{IsDone, IsStopped}
 use Rattle.vx_step.specs.Told.{told_by}
 use Rattle.vx_step.proofs.StepsLemmas.{masked_done}
-
-type_in : Shape → DataType
-type_in (shape ty n) = ty
-
-len_in : Shape → ℕ
-len_in (shape ty n) = n
 
 pub told_nullable : (v : Option Tree) → nullability_by (told_by v) ≡ Nullable
 told_nullable None = refl
@@ -33,7 +28,6 @@ told_child (Some t) n = refl
 
 -- the tree in the slot tells of each row
 rows_told : (c v : Tree) → IsWell (masked_of c (Some v)) → HasRows (told_by (Some v)) (len c)
-unfolding type_in len_in
 rows_told c v w =
     let h = w.0 in
     let second : h.1 ≡ Some (shape_of v) = cc (h.2) in

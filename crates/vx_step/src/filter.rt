@@ -64,7 +64,7 @@ fn choose_or_wait(
 }
 
 /// Chooses rows of `column`, as a range of it if they are consecutive. The only error is `OutOfMemory`.
-#[tactic(auto, using(crate::proofs::FilterLemmas::run_range, crate::proofs::FilterLemmas::run_kept))]
+#[tactic(auto, using(vx_rule::proofs::FiltersLemmas::run_range, crate::proofs::FilterLemmas::run_kept))]
 fn filter_column(alloc: Global, column: &Canonical, mask: &Mask) -> VortexResult<Canonical>
     requires { length (bits_in mask.now) ≡ len (canonical_tree column.now) }
     ensures ok { IfOk result (λ c. KeepsExactly (filter_of (bits_in mask.now) (canonical_tree column.now)) (canonical_tree c)) }
@@ -79,7 +79,7 @@ fn filter_column(alloc: Global, column: &Canonical, mask: &Mask) -> VortexResult
 
 /// Replaces the filter of `child`, which isn't a column yet, by its slice, pushed down, if the chosen rows are consecutive. Otherwise requests
 /// `child` as a canonical column.
-#[tactic(auto, using(crate::proofs::FilterLemmas::run_range, crate::proofs::FilterLemmas::run_done, crate::proofs::FilterLemmas::filter_waits))]
+#[tactic(auto, using(vx_rule::proofs::FiltersLemmas::run_range, crate::proofs::FilterLemmas::run_done, crate::proofs::FilterLemmas::filter_waits))]
 fn slice_or_wait(
     alloc: Global,
     array: &ArrayRef,

@@ -5,7 +5,7 @@ ghost use Rattle.vx_value.specs.declared.error.VortexError.TheVariants.{OutOfMem
 ghost use Rattle.vx_mask.specs.Masks.{bits_in};
 ghost use Rattle.vx_tree.specs.Tree.{datum, slots_of, slice_of, filter_of, is_constant};
 ghost use Rattle.vx_rule.specs.Rules.{IsPartOf};
-ghost use Rattle.vx_rule.specs.Tags.{applies, is_cast, is_not, is_between, is_fill_null};
+ghost use Rattle.vx_rule.specs.Tags.{applies};
 ghost use Rattle.vx_reduce.specs.Constants.{folds, slot_value, constant_values};
 ghost use Rattle.vx_rule.specs.Answers.{Answers};
 ghost use Rattle.vx_reduce.specs.SliceLaws.{constant_lets};
@@ -66,27 +66,30 @@ impl FilterReduce for Constant {
 }
 
 impl CastReduce for Constant {
+    /// Row K1: a cast of a constant is a constant, if the cast has a value.
     fn cast(
         alloc: Global,
         _array: &ArrayView<'_, Constant>,
         parent: &ArrayRef,
         _dtype: &DType,
     ) -> VortexResult<Option<RawNode>> {
-        k1(alloc, parent)
+        fold_row(alloc, parent)
     }
 }
 
 impl NotReduce for Constant {
+    /// Row K2: a negation of a constant is a constant.
     fn invert(
         alloc: Global,
         _array: &ArrayView<'_, Constant>,
         parent: &ArrayRef,
     ) -> VortexResult<Option<RawNode>> {
-        k2(alloc, parent)
+        fold_row(alloc, parent)
     }
 }
 
 impl BetweenReduce for Constant {
+    /// Row K3: bounds of a constant by two constants are a constant.
     fn between(
         alloc: Global,
         _array: &ArrayView<'_, Constant>,
@@ -95,18 +98,19 @@ impl BetweenReduce for Constant {
         _upper: &ArrayRef,
         _options: &BetweenOptions,
     ) -> VortexResult<Option<RawNode>> {
-        k3(alloc, parent)
+        fold_row(alloc, parent)
     }
 }
 
 impl FillNullReduce for Constant {
+    /// Row K4: a constant whose nulls a constant fills is a constant.
     fn fill_null(
         alloc: Global,
         _array: &ArrayView<'_, Constant>,
         parent: &ArrayRef,
         _fill_value: &ArrayRef,
     ) -> VortexResult<Option<RawNode>> {
-        k4(alloc, parent)
+        fold_row(alloc, parent)
     }
 }
 
@@ -131,40 +135,8 @@ fn f6(alloc: Global, child: &ArrayRef, mask: &Mask) -> VortexResult<Option<RawNo
     Ok(Some(RawNode::done(alloc, constant)))
 }
 
-/// Row K1: a cast of a constant is a constant, if the cast has a value.
-fn k1(alloc: Global, parent: &ArrayRef) -> VortexResult<Option<RawNode>>
-    requires { applies is_cast (datum parent.now) ≡ true }
-    ensures { Answers (Some 0) parent.now result }
-{
-    fold_row(alloc, parent)
-}
-
-/// Row K2: a negation of a constant is a constant.
-fn k2(alloc: Global, parent: &ArrayRef) -> VortexResult<Option<RawNode>>
-    requires { applies is_not (datum parent.now) ≡ true }
-    ensures { Answers (Some 0) parent.now result }
-{
-    fold_row(alloc, parent)
-}
-
-/// Row K3: bounds of a constant by two constants are a constant.
-fn k3(alloc: Global, parent: &ArrayRef) -> VortexResult<Option<RawNode>>
-    requires { applies is_between (datum parent.now) ≡ true }
-    ensures { Answers (Some 0) parent.now result }
-{
-    fold_row(alloc, parent)
-}
-
-/// Row K4: a constant whose nulls a constant fills is a constant.
-fn k4(alloc: Global, parent: &ArrayRef) -> VortexResult<Option<RawNode>>
-    requires { applies is_fill_null (datum parent.now) ≡ true }
-    ensures { Answers (Some 0) parent.now result }
-{
-    fold_row(alloc, parent)
-}
-
-/// Returns what stands for `parent`, which applies one of the functions that are folded: `None` exactly if a slot holds no constant, or if
-/// the row has no value. The only error is `OutOfMemory`.
+/// Rows K1 to K4: a function of constants is a constant, if it has a value. `parent` must apply one of the functions that are folded; the
+/// answer is `None` exactly if a slot holds no constant, or if the row has no value. The only error is `OutOfMemory`.
 fn fold_row(alloc: Global, parent: &ArrayRef) -> VortexResult<Option<RawNode>>
     requires { applies folds (datum parent.now) ≡ true }
     ensures { Answers (Some 0) parent.now result }

@@ -121,7 +121,7 @@ fn f2(alloc: Global, child: &ArrayRef, mask: &Mask) -> VortexResult<Option<RawNo
 }
 
 /// Row F3: a filter of consecutive rows is a slice.
-#[tactic(auto, using(crate::proofs::FitsLemmas::fit_F3, crate::proofs::FitsLemmas::run_range))]
+#[tactic(auto, using(crate::proofs::FitsLemmas::fit_F3, vx_rule::proofs::FiltersLemmas::run_range))]
 fn f3(
     alloc: Global,
     child: &ArrayRef,

@@ -21,9 +21,7 @@ use std::alloc::Global;
 use std::ops::Range;
 use vx_fn::ScalarFnRef;
 use vx_mask::Mask;
-use vx_rule::{
-    DynArrayParentReduceRule, RawNode, function_node, masked_node, masked_parts, two_slots,
-};
+use vx_rule::{DynArrayParentReduceRule, RawNode, function_node, masked_node, masked_parts};
 use vx_tree::{
     ArrayRef, ArrayView, FilterArray, IntoArray, Masked, SliceArray, VTable, and_lazily,
     choose_validity, slice_validity,
@@ -123,7 +121,7 @@ fn m1(
     let len = parent.len();
     let validity = told(alloc, validity, len)?;
     let both = and_lazily(alloc, mask.clone()?, validity, len)?;
-    let slots = two_slots(alloc, child.clone()?, Some(both))?;
+    let slots = vec![in alloc; Some(child.clone()?), Some(both)]?;
     let call = function_node(alloc, parent, &ScalarFnRef::Mask, len, slots)?;
     Ok(Some(RawNode::done(alloc, call)))
 }

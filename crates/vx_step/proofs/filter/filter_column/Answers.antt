@@ -1,5 +1,5 @@
 use Rattle.vx_mask.specs.Masks.{bits_in}
-use Rattle.vx_step.proofs.FilterLemmas.{run_range}
+use Rattle.vx_rule.proofs.FiltersLemmas.{run_range}
 use Rattle.vx_step.proofs.filter.filter_column.Goals as goal
 
 pub slice_canonical-requires : goal.slice_canonical-requires

@@ -1,5 +1,6 @@
 use Rattle.vx_mask.specs.Masks.{bits_in}
-use Rattle.vx_step.proofs.FilterLemmas.{run_range, run_done, filter_waits}
+use Rattle.vx_rule.proofs.FiltersLemmas.{run_range}
+use Rattle.vx_step.proofs.FilterLemmas.{run_done, filter_waits}
 use Rattle.vx_step.proofs.filter.slice_or_wait.Goals as goal
 
 pub push_slice-requires : goal.push_slice-requires

@@ -1,7 +1,7 @@
 use Rattle.std.proofs.Common.{◌≡◌, ap, sym, ◌∙◌}
 use Rattle.vx_mask.specs.Masks.{bits_in}
 use Rattle.vx_tree.specs.Tree.{len}
-use Rattle.vx_reduce.proofs.FitsLemmas.{run_range}
+use Rattle.vx_rule.proofs.FiltersLemmas.{run_range}
 use Rattle.vx_reduce.proofs.encodings.filter.f3.Goals as goal
 
 pub new-requires : goal.new-requires

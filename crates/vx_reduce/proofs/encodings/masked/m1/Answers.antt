@@ -25,7 +25,7 @@ function_node-requires c =
     let m = c.in_ok-clone.field-0 in
     let y = c.in_ok-validity.validity in
     let both : c.in_ok-both.both ≡ both_of (len t) m y = c.in_ok-both.ensures.ok ∙ (λ i. both_of (c.len-len.ensures i) m y) in
-    let items = c.in_ok-slots.ensures.ok ∙ (λ i. Some (c.in_ok-clone-2.ensures.cases i) ∷ Some c.in_ok-both.both ∷ []) in
+    let items = c.in_ok-slots.ensures.items ∙ (λ i. Some (c.in_ok-clone-2.ensures.cases i) ∷ Some c.in_ok-both.both ∷ []) in
     let made = both_node (dtype t) (len t) t c.args.input.now c.args.mask.now p.result.0.now p.result.1.now c.well.ensures.formed
     c.requires.call.0 c.requires.call.1 p.ensures.shape m y c.in_ok-both.both both in
     subst (λ x. x) (λ i. IsNode (dtype t) (sym c.len-len.ensures i) (function fn_of.Mask) (shapes (slots_of (sym items i)))) made
@@ -40,7 +40,7 @@ returns c =
     c.in_ok-validity.ensures.ok ∙ (λ i. told (c.len-len.ensures i) (slots_of (p.result.1.now ∷ []))) in
     let both : c.in_ok-both.both ≡ both_of (len t) c.args.mask.now y =
     c.in_ok-both.ensures.ok ∙ (λ i. both_of (c.len-len.ensures i) (c.in_ok-clone.ensures.cases i) y) in
-    let items = c.in_ok-slots.ensures.ok ∙ (λ i. Some (c.in_ok-clone-2.ensures.cases i) ∷ Some c.in_ok-both.both ∷ []) in
+    let items = c.in_ok-slots.ensures.items ∙ (λ i. Some (c.in_ok-clone-2.ensures.cases i) ∷ Some c.in_ok-both.both ∷ []) in
     let made = c.done.ensures.tree ∙ c.in_ok-call.ensures.ok ∙ (λ i. node (dtype t) (c.len-len.ensures i) (function fn_of.Mask) (slots_of (items i))) in
     fit_M1 (dtype t) (len t) t c.args.input.now p.result.0.now c.args.mask.now y c.in_ok-both.both c.done.result.tree
     p.result.1.now c.done.result.optimize.items c.requires.call.0 p.ensures.shape is both made c.done.ensures.optimize

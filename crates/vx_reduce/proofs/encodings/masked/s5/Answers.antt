@@ -1,6 +1,7 @@
 use Rattle.std.proofs.Common.{◌≡◌, Some, ap, arith, ◌∙◌}
 use Rattle.vx_tree.specs.Tree.{slice_of, len}
-use Rattle.vx_reduce.proofs.SlotsLemmas.{told_range, sliced_masked}
+use Rattle.vx_rule.proofs.PushLemmas.{masked_range}
+use Rattle.vx_reduce.proofs.SlotsLemmas.{sliced_masked}
 use Rattle.vx_reduce.proofs.FitsLemmas.{fit_S5, raw_row}
 use Rattle.vx_reduce.proofs.encodings.masked.s5.Goals as goal
 
@@ -16,7 +17,7 @@ pub slice_validity-requires : goal.slice_validity-requires
 slice_validity-requires c =
     let x = c.args.child.now in
     let v = c.masked_parts.result.1.now in
-    told_range x c.masked_parts.result.0.now x v v c.masked_parts.ensures.well c.masked_parts.ensures.shape c.args.range.start c.args.range.end
+    masked_range c.args.range.start c.args.range.end x c.masked_parts.result.0.now v c.masked_parts.ensures.shape c.masked_parts.ensures.well
     (omega (arith, c.requires.part.0.some_rows)) c.requires.part.1
 
 pub masked_node-requires : goal.masked_node-requires
