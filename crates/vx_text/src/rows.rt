@@ -7,7 +7,7 @@ ghost use Rattle.serde_json.specs.Data.{string};
 ghost use Rattle.serde_json.specs.Written.{compact_text};
 ghost use Rattle.std.specs.Str.{is_utf8};
 ghost use Rattle.std.specs.List.{list_any};
-ghost use Rattle.vx_json.specs.RowText.{has_escape, in_quotes, row_text};
+ghost use Rattle.vx_text.specs.RowText.{has_escape, in_quotes, row_text};
 
 use crate::printed::PrintedNumber;
 use itoa::Buffer;
@@ -64,7 +64,6 @@ fn push_quoted(text: &mut String, inner: &str) -> Result<(), AllocError>
 
 /// Appends `bytes`, which must be UTF-8, as a JSON string. One without an escape is written as it is.
 #[inline(never)]
-#[tactic(auto, using(vx_value::proofs::BytesLemmas::is_no_text, crate::proofs::RowTextLemmas::plain_text))]
 fn push_utf8(text: &mut String, bytes: &[u8]) -> Result<(), AllocError>
     requires { is_utf8 bytes.now ≡ true }
     ensures { OnOk result (string_bytes text.new ≡ string_bytes text.old ++ compact_text (string bytes.now)) }
