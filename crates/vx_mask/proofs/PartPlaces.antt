@@ -57,8 +57,13 @@ count_part bits from w part =
 
 -- with those of the k-th word, which is within the bits, they are no more than all
 pub count_within : (bits : List Bool) (k w : ℕ) → IsWordFrom bits (64 * k) w → 64 * k + 64 ≤ length bits
-    → (true_count (take (64 * k) bits) + true_count (low_bits 64 w) ≤ true_count bits) × (true_count bits ≤ length bits)
-count_within bits k w is within = (count_part bits (64 * k) w (part_within bits (64 * k) w is within), true_count-le-length bits)
+    → true_count (take (64 * k) bits) + true_count (low_bits 64 w) ≤ true_count bits
+count_within bits k w is within = count_part bits (64 * k) w (part_within bits (64 * k) w is within)
+
+-- and so they can be counted
+pub count_fits : (bits : List Bool) (k w : ℕ) → IsWordFrom bits (64 * k) w → 64 * k + 64 ≤ length bits
+    → true_count (take (64 * k) bits) + true_count (low_bits 64 w) ≤ length bits
+count_fits bits k w is within = omega (arith, count_within bits k w is within, true_count-le-length bits)
 
 -- ---- places
 pub place_in_part : (bits : List Bool) (from w k left place : ℕ) → IsPart bits from w → from ≤ length bits → left + true_count (take from bits) ≡ k
