@@ -86,17 +86,6 @@ module _ {A : Type 0} (m : Nullability) (zero : A) (read : Data → Option A) (v
     are_told = h.are_told;
   }
 
--- the same of values and of a `zero` that are equal
-pub read_as : {A : Type 0} (m : Nullability) (zero : A) (read : Data → Option A) (ds : Items) (values : List A) (valid : List Bool) →
-    AreRead m zero read ds values valid →
-    (other : A) → zero ≡ other → (now : List A) → now ≡ values → AreRead m other read ds now valid
-read_as m zero read ds values valid h other z now same = record {
-  rows = h.rows;
-  are_read = h.are_read;
-  held = same ∙ h.held ∙ ap (λ y. map (item_or y) h.rows) z;
-  are_told = h.are_told;
-}
-
 -- rows of which none may be null are the values
 pub none_null : {A : Type 0} (zero : A) (read : Data → Option A) (ds : Items) (values : List A) (valid : List Bool) →
     AreRead NonNullable zero read ds values valid → all_read read ds ≡ Some values

@@ -16,4 +16,3 @@ pub mod SpelledNulls
 pub mod SpelledColumns
 pub mod SpelledNodes
 pub mod Spelled
-pub mod RowText

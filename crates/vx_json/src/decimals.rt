@@ -80,8 +80,7 @@ fn native_decimals<T: NativeDecimalType, N: RowNulls>(
     ensures ok { IfOk result (λ v. AreRead N.mode (pos 0) (decimal_spelled digits.precision) (items_view list.now.items) (numbers_of v) (N.told nulls.new)) }
     ensures err { IfErr result (IsRefused (all_read (or_null N.mode (decimal_spelled digits.precision)) (items_view list.now.items) ≡ None)) }
 {
-    let zero: T = narrowed(0);
-    Ok(T::wrap_decimals(numbers(alloc, zero, &digits, nulls, list)?))
+    Ok(T::wrap_decimals(numbers(alloc, &digits, nulls, list)?))
 }
 
 /// Reads a list of numbers of type `decimal`, without their points, as `native_decimals` does.

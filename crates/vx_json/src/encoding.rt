@@ -2,7 +2,7 @@
 
 ghost use Rattle.std.specs.Prelude.{◌≡◌};
 ghost use Rattle.serde_json.specs.View.{view};
-ghost use Rattle.vx_json.specs.Encodings.{encoding_named, encoding_at};
+ghost use Rattle.vx_json.specs.Encodings.{encoding_at};
 
 use crate::fields::text;
 use serde_json::Value;
@@ -21,27 +21,20 @@ pub(crate) enum Encoding {
     Function,
 }
 
-/// Returns the encoding named `name`.
-fn encoding_named(name: &str) -> Option<Encoding>
-    ensures { result ≡ encoding_named name.now }
-{
-    match name {
-        "col" => Some(Encoding::Column),
-        "flat" => Some(Encoding::Flat),
-        "constant" => Some(Encoding::Constant),
-        "null" => Some(Encoding::Null),
-        "slice" => Some(Encoding::Slice),
-        "filter" => Some(Encoding::Filter),
-        "masked" => Some(Encoding::Masked),
-        "is_valid" => Some(Encoding::IsValid),
-        "fn" => Some(Encoding::Function),
-        _ => None,
-    }
-}
-
 /// Returns the encoding named under `enc`.
 pub(crate) fn encoding_at(value: &Value) -> Option<Encoding>
     ensures { result ≡ encoding_at (view value.now) }
 {
-    encoding_named(text(value, "enc")?)
+    Some(match text(value, "enc")? {
+        "col" => Encoding::Column,
+        "flat" => Encoding::Flat,
+        "constant" => Encoding::Constant,
+        "null" => Encoding::Null,
+        "slice" => Encoding::Slice,
+        "filter" => Encoding::Filter,
+        "masked" => Encoding::Masked,
+        "is_valid" => Encoding::IsValid,
+        "fn" => Encoding::Function,
+        _ => return None,
+    })
 }

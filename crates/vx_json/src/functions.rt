@@ -3,7 +3,7 @@
 ghost use Rattle.std.specs.Prelude.{◌≡◌, Some};
 ghost use Rattle.serde_json.specs.View.{view};
 ghost use Rattle.vx_json.specs.Fields.{keyed};
-ghost use Rattle.vx_json.specs.SpelledFunctions.{without_options, operator_named, strictness_at, between_options, between, cast, other_named, function_named, function_at};
+ghost use Rattle.vx_json.specs.SpelledFunctions.{without_options, operator_named, strictness_at, between_options, between, cast, other_named, function_at};
 
 use crate::fields::{boolean, count, text};
 use crate::types::type_at;
@@ -101,19 +101,13 @@ fn other_named(value: &Value, name: &str) -> Option<ScalarFnRef>
     }
 }
 
-/// Returns the function named `name`, with the options that the object has for it.
-fn function_named(value: &Value, name: &str) -> Option<ScalarFnRef>
-    ensures { result ≡ function_named (view value.now) name.now }
+/// Returns the function named under `fn`, with its options, if the object has exactly its keys.
+pub(crate) fn function_at(value: &Value) -> Option<ScalarFnRef>
+    ensures { result ≡ function_at (view value.now) }
 {
+    let name = text(value, "fn")?;
     match operator_named(name) {
         Some(operator) => without_options(value, ScalarFnRef::Binary(operator)),
         None => other_named(value, name),
     }
-}
-
-/// Returns the function named under `fn`, if the object has exactly its keys.
-pub(crate) fn function_at(value: &Value) -> Option<ScalarFnRef>
-    ensures { result ≡ function_at (view value.now) }
-{
-    function_named(value, text(value, "fn")?)
 }

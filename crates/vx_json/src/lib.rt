@@ -1,4 +1,4 @@
-//! Reads trees from JSON, and writes rows as text.
+//! Reads trees from JSON.
 #![tactic(auto)]
 
 mod bytes;
@@ -12,15 +12,11 @@ mod key;
 mod nodes;
 mod nulls;
 mod numbers;
-mod printed;
 mod row_nulls;
-mod rows;
 mod tree;
 mod types;
 mod values;
 
-pub use printed::PrintedNumber;
-pub use rows::{push_integer, push_row, row_text};
 pub use tree::{tree_of, tree_of_bytes};
 use vx_value::{ArgKind, VortexError};
 

@@ -1,6 +1,6 @@
 //! Lists of numbers of a native type.
 
-ghost use Rattle.std.specs.Prelude.{◌≡◌, ℤ, [], map, Option, None, option_map, IfOk, IfErr};
+ghost use Rattle.std.specs.Prelude.{◌≡◌, ℤ, pos, [], map, Option, None, option_map, IfOk, IfErr};
 ghost use Rattle.serde_json.specs.Data.{Data};
 ghost use Rattle.serde_json.specs.View.{view, items_view};
 ghost use Rattle.vx_json.specs.ReadRows.{read_unless, AreRead};
@@ -29,42 +29,40 @@ pub(crate) trait NumberReader<T: NativeNumber> {
         ensures { option_map T.value result ≡ spelled self.now (view value.now) };
 }
 
-/// Reads a number by `reader`, or returns `zero` for a null row.
+/// Reads a number by `reader`, or returns 0 for a null row.
 #[inline]
-fn number_or<T: NativeNumber, R: NumberReader<T>>(
+fn number_or_zero<T: NativeNumber, R: NumberReader<T>>(
     null: bool,
-    zero: T,
     reader: &R,
     value: &Value,
 ) -> Option<T>
     requires { R.fits reader.now }
-    ensures { option_map T.value result ≡ read_unless null (T.value zero) (R.spelled reader.now (view value.now)) }
+    ensures { option_map T.value result ≡ read_unless null (pos 0) (R.spelled reader.now (view value.now)) }
 {
     if null {
-        Some(zero)
+        Some(T::zero())
     } else {
         reader.number(value)
     }
 }
 
-/// Reads a list of numbers by `reader`, and tells `nulls` which rows aren't null. Returns the numbers, `zero` for null.
+/// Reads a list of numbers by `reader`, and tells `nulls` which rows aren't null. Returns the numbers, 0 for null.
 /// `InvalidArgument(BadValue)` if an item is neither a number nor a null row.
 pub(crate) fn numbers<T: NativeNumber, R: NumberReader<T>, N: RowNulls>(
     alloc: Global,
-    zero: T,
     reader: &R,
     nulls: &mut N,
     list: &Vec<Value>,
 ) -> VortexResult<Buffer<T>>
     requires fits { R.fits reader.now }
     requires untold { N.told nulls.old ≡ [] }
-    ensures ok { IfOk result (λ v. AreRead N.mode (T.value zero) (R.spelled reader.now) (items_view list.now.items) (map T.value v) (N.told nulls.new)) }
+    ensures ok { IfOk result (λ v. AreRead N.mode (pos 0) (R.spelled reader.now) (items_view list.now.items) (map T.value v) (N.told nulls.new)) }
     ensures err { IfErr result (IsRefused (all_read (or_null N.mode (R.spelled reader.now)) (items_view list.now.items) ≡ None)) }
 {
     let mut numbers: Vec<T> = Vec::with_capacity(alloc, list.len())?;
     for value in list {
         let null = N::is_null_row(value);
-        let Some(number) = number_or(null, zero, reader, value) else {
+        let Some(number) = number_or_zero(null, reader, value) else {
             return Err(BAD_VALUE);
         };
         numbers.push_reserved(number);

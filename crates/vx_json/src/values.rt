@@ -18,7 +18,7 @@ use crate::row_nulls::RowNulls;
 use serde_json::Value;
 use std::alloc::Global;
 use vx_mask::{BitBuffer, BitBuilder};
-use vx_native::{NativeInteger, PrimitiveValues, native_of};
+use vx_native::{NativeInteger, PrimitiveValues};
 use vx_value::{DType, PType, Scalar, ScalarValue, VortexResult};
 
 /// Checks whether each item of `list` is null.
@@ -50,7 +50,6 @@ impl<T: NativeInteger> NumberReader<T> for InRange {
 
 /// Reads a list of integers in the range of `T`, and tells `nulls` which rows aren't null. Returns the integers, 0 for null.
 /// `InvalidArgument(BadValue)` if an item is neither such an integer nor a null row.
-#[tactic(auto, using(vx_value::proofs::DefaultsLemmas::zero_in_range))]
 fn natives<T: NativeInteger, N: RowNulls>(
     alloc: Global,
     nulls: &mut N,
@@ -61,8 +60,7 @@ fn natives<T: NativeInteger, N: RowNulls>(
     ensures ok { IfOk result (λ v. AreRead N.mode (pos 0) (integer_spelled T.kind) (items_view list.now.items) (values_of v) (N.told nulls.new)) }
     ensures err { IfErr result (IsRefused (all_read (or_null N.mode (integer_spelled T.kind)) (items_view list.now.items) ≡ None)) }
 {
-    let zero: T = native_of(0);
-    Ok(T::wrap(numbers(alloc, zero, &InRange, nulls, list)?))
+    Ok(T::wrap(numbers(alloc, &InRange, nulls, list)?))
 }
 
 /// Reads a list of integers in the range of `ptype`, as `natives` does.

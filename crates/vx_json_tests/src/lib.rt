@@ -1,4 +1,4 @@
-//! Tests of vx_stream and vx_json: streams that come in pieces and fail, and a row by itself, which the program never asks for.
+//! Tests of vx_stream and vx_text: streams that come in pieces and fail, and a row by itself, which the program never asks for.
 #![tactic(auto)]
 
 #[cfg(test)]

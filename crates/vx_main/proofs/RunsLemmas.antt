@@ -1,5 +1,6 @@
 -- The answer of a run.
 use Rattle.std.proofs.Common.{◌≡◌, ◌⊎◌, inl, inr, ℕ, ◌≤◌, ◌<◌, List, Option, Some, None, true, arith, sym, subst, ◌∙◌}
+use Rattle.std.proofs.lemmas.Option.{same_Some}
 use Rattle.vx_value.specs.declared.error.VortexError.{VortexError}
 use Rattle.vx_value.specs.declared.error.VortexError.TheVariants as error
 use Rattle.vx_tree.specs.Tree.{Tree, dtype, datum, id_of}
@@ -88,9 +89,13 @@ unexecuted c bytes t s limit e spelled from is (inl m) h =
     subst (λ x. HasNoAnswer c bytes (status_of x)) (sym m) (overrun c bytes t s limit spelled from is over.0 over.1)
 unexecuted c bytes t s limit e spelled from is (inr m) h = stopped c bytes t s e spelled from m
 
--- the text of an answer for the bytes that were taken of the source is owed
-pub owed : (c d : Command) (old new : Option (List ℕ)) (bytes text : List ℕ) → c ≡ d → reads_tree (Some c) ≡ true → TakesAll old new bytes → Answers c bytes text → Owes d old text
-owed c d old new bytes text same reads taken a = subst (λ x. Owes x old text) same (by c old new taken a reads)
+-- the text of an answer for the bytes that were taken of the source is owed, for the command that is named
+pub owed : (named : Option Command) (c d : Command) (old new : Option (List ℕ)) (bytes read text written : List ℕ) → named ≡ Some c → named ≡ Some d
+    → reads_tree (Some c) ≡ true → TakesAll old new bytes → read ≡ bytes → Answers c read text → written ≡ text → Owes d old written
+owed named c d old new bytes read text written is_c is_d reads taken is_read a is_written =
+    let same = same_Some c d (sym is_c ∙ is_d) in
+    let answered = subst (λ bs. Answers c bs text) is_read a in
+    subst (λ x. Owes x old written) same (subst (Owes c old) (sym is_written) (by c old new taken answered reads))
   where
     by : (c : Command) (old new : Option (List ℕ)) → TakesAll old new bytes → Answers c bytes text → reads_tree (Some c) ≡ true → Owes c old text
     by Help old new t a r = absurd (cc (r))

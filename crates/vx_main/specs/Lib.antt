@@ -4,7 +4,7 @@ pub use Rattle.vx_tree.specs.Cells
 pub use Rattle.vx_tree.specs.Keeps
 pub use Rattle.vx_tree.specs.Cost
 pub use Rattle.vx_tree.specs.Columns
-pub use Rattle.vx_json.specs.RowText
+pub use Rattle.vx_text.specs.RowText
 pub use Rattle.vx_json.specs.Spelled
 pub use Rattle.vx_stream.specs.Limits
 pub use Rattle.vx_stream.specs.Causes

@@ -6,7 +6,7 @@ use Rattle.std.proofs.lemmas.List.{take-append-drop, take-append-le, take_all, l
 use Rattle.vx_mask.specs.Places.{true_count, true_place}
 use Rattle.vx_mask.specs.Words.{low_bits}
 use Rattle.vx_mask.proofs.Parts.{IsWordFrom, next_word}
-use Rattle.vx_mask.proofs.PlacesLemmas.{true_count-append, true_count-falses, true_place-left, true_place-right}
+use Rattle.vx_mask.proofs.PlacesLemmas.{true_count-append, true_count-falses, true_count-le-length, true_place-left, true_place-right}
 
 -- the word is the part from `from` on, and false past the end
 abbrev pub IsPart : List Bool → ℕ → ℕ → Type 0
@@ -54,6 +54,16 @@ count_part bits from w part =
       true_count-take-le part.1 (bits ++ replicate part.0 false),
       true_count-padded bits part.0,
     )
+
+-- with those of the k-th word, which is within the bits, they are no more than all
+pub count_within : (bits : List Bool) (k w : ℕ) → IsWordFrom bits (64 * k) w → 64 * k + 64 ≤ length bits
+    → true_count (take (64 * k) bits) + true_count (low_bits 64 w) ≤ true_count bits
+count_within bits k w is within = count_part bits (64 * k) w (part_within bits (64 * k) w is within)
+
+-- and so they can be counted
+pub count_fits : (bits : List Bool) (k w : ℕ) → IsWordFrom bits (64 * k) w → 64 * k + 64 ≤ length bits
+    → true_count (take (64 * k) bits) + true_count (low_bits 64 w) ≤ length bits
+count_fits bits k w is within = omega (arith, count_within bits k w is within, true_count-le-length bits)
 
 -- ---- places
 pub place_in_part : (bits : List Bool) (from w k left place : ℕ) → IsPart bits from w → from ≤ length bits → left + true_count (take from bits) ≡ k

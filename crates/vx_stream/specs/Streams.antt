@@ -7,11 +7,6 @@ pub record Told : Type 0 where
   pub bytes : List ℕ
   pub faults : ℕ
 
--- the bytes that a stream has left or holds, if they are known, and its count of faults
-pub record MayTell : Type 0 where
-  pub bytes : Option (List ℕ)
-  pub faults : ℕ
-
 -- all bytes left were taken, and they are bs
 abbrev pub TakesAll : Option (List ℕ) → Option (List ℕ) → List ℕ → Type 0
 TakesAll None new bs = ⊤

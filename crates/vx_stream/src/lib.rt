@@ -11,6 +11,6 @@ mod write;
 pub use mem::{MemSink, MemSource};
 pub use plain::{PlainSink, PlainSource};
 pub use read::{INPUT_LIMIT, ReadError, read_all};
-pub use system::{StdinSource, StdoutSink};
+pub use system::{StdinSource, StdoutSink, SystemStream};
 pub use traits::{Failed, Sink, Source};
 pub use write::write_all;

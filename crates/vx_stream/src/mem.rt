@@ -1,8 +1,9 @@
 //! Streams in memory that move few bytes a call, and fail at chosen calls.
 
-ghost use Rattle.std.specs.Prelude.{◌≡◌, ℕ, [], Some};
+ghost use Rattle.std.specs.Prelude.{◌≡◌, ◌≤◌, [], drop, length, Some};
+ghost use Rattle.vx_stream.specs.Streams.{Told};
 
-use crate::{Failed, Sink, Source};
+use crate::{Failed, PlainSink, Sink, Source};
 use std::alloc::Global;
 use std::marker::Model;
 
@@ -18,9 +19,6 @@ pub struct MemSource {
 }
 
 impl Model for MemSource {
-    ghost use Rattle.std.specs.Prelude.{◌≤◌, drop, length};
-    ghost use Rattle.vx_stream.specs.Streams.{Told};
-
     ghost Value = { Told };
 
     ghost view = { λ s. record { bytes = drop s.at s.bytes.items; faults = s.faults } };
@@ -54,8 +52,7 @@ impl Source for MemSource {
         let call = self.calls;
         self.calls = self.calls.saturating_add(1);
         if self.fails.contains(&call) {
-            self.faults = self.faults.saturating_add(1);
-            return Err(Failed);
+            return Err(Failed::counted(&mut self.faults));
         }
         let left = &self.bytes[self.at..];
         let count = room.len().min(left.len()).min(self.most.max(1));
@@ -68,19 +65,16 @@ impl Source for MemSource {
 /// A sink in memory that fails at chosen calls of `write`. (own)
 #[derive(Drop)]
 pub struct MemSink {
-    bytes: Vec<u8>,
+    sink: PlainSink,
     most: usize,
     fails: Vec<u64>,
     calls: u64,
-    faults: u64,
 }
 
 impl Model for MemSink {
-    ghost use Rattle.vx_stream.specs.Streams.{Told};
-
     ghost Value = { Told };
 
-    ghost view = { λ s. record { bytes = s.bytes.items; faults = s.faults } };
+    ghost view = { λ s. s.sink };
 }
 
 impl MemSink {
@@ -90,11 +84,10 @@ impl MemSink {
         ensures { result ≡ record { bytes = []; faults = 0 } }
     {
         MemSink {
-            bytes: Vec::new(alloc),
+            sink: PlainSink::new(alloc),
             most,
             fails,
             calls: 0,
-            faults: 0,
         }
     }
 
@@ -102,7 +95,7 @@ impl MemSink {
     pub fn held(&self) -> &[u8]
         ensures { result.now ≡ self.now.bytes }
     {
-        &self.bytes
+        self.sink.held()
     }
 }
 
@@ -114,11 +107,10 @@ impl Sink for MemSink {
     fn write(&mut self, piece: &[u8]) -> Result<usize, Failed> {
         let call = self.calls;
         self.calls = self.calls.saturating_add(1);
-        let count = piece.len().min(self.most.max(1));
-        if !self.fails.contains(&call) && self.bytes.extend_from_slice(&piece[..count]).is_ok() {
-            return Ok(count);
+        if self.fails.contains(&call) {
+            return Err(self.sink.fail());
         }
-        self.faults = self.faults.saturating_add(1);
-        Err(Failed)
+        let count = piece.len().min(self.most.max(1));
+        self.sink.write(&piece[..count])
     }
 }

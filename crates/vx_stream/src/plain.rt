@@ -1,6 +1,8 @@
 //! Streams in memory that move as many bytes as they can.
 
-ghost use Rattle.std.specs.Prelude.{◌≡◌, ℕ, List, [], Some};
+ghost use Rattle.std.specs.Prelude.{◌≡◌, ◌≤◌, ℕ, List, [], Some};
+ghost use Rattle.vx_stream.specs.Causes.{Rose};
+ghost use Rattle.vx_stream.specs.Streams.{Told};
 
 use crate::{Failed, Sink, Source};
 use std::alloc::Global;
@@ -49,8 +51,6 @@ pub struct PlainSink {
 }
 
 impl Model for PlainSink {
-    ghost use Rattle.vx_stream.specs.Streams.{Told};
-
     ghost Value = { Told };
 
     ghost view = { λ s. record { bytes = s.bytes.items; faults = s.faults } };
@@ -73,6 +73,15 @@ impl PlainSink {
     {
         &self.bytes
     }
+
+    /// Counts a fault and returns the error.
+    pub(crate) fn fail(&mut self) -> Failed
+        ensures kept { self.new.bytes ≡ self.old.bytes }
+        ensures later { self.old.faults ≤ self.new.faults }
+        ensures rose { Rose self.old.faults self.new.faults }
+    {
+        Failed::counted(&mut self.faults)
+    }
 }
 
 impl Sink for PlainSink {
@@ -83,10 +92,7 @@ impl Sink for PlainSink {
     fn write(&mut self, piece: &[u8]) -> Result<usize, Failed> {
         match self.bytes.extend_from_slice(piece) {
             Ok(()) => Ok(piece.len()),
-            Err(_) => {
-                self.faults = self.faults.saturating_add(1);
-                Err(Failed)
-            }
+            Err(_) => Err(self.fail()),
         }
     }
 }

@@ -1,89 +1,56 @@
 //! Readers and writers as streams that count their faults.
 
-ghost use Rattle.std.specs.Prelude.{◌≡◌, ℕ};
+ghost use Rattle.std.specs.Prelude.{◌≡◌};
 
 use crate::{Failed, Sink, Source};
 use std::io::{Read, Write};
-use std::marker::Model;
 
 /// A source over a reader, such as standard input. A contract sees the bytes left if it sees the reader's, which it
 /// doesn't for a real stream. (own)
+pub type StdinSource<R> = SystemStream<R>;
+
+/// A sink over a writer, such as standard output. A write that takes none of a piece's bytes counts as a fault. A
+/// contract sees the bytes held if it sees the writer's, which it doesn't for a real stream. (own)
+pub type StdoutSink<W> = SystemStream<W>;
+
+/// A reader or a writer, and its count of faults. (own)
 #[derive(Drop)]
-pub struct StdinSource<R: Read> {
-    reader: R,
+pub struct SystemStream<T> {
+    stream: T,
     faults: u64,
 }
 
-impl<R: Read> Model for StdinSource<R> {
-    ghost use Rattle.vx_stream.specs.Streams.{MayTell};
-
-    ghost Value = { MayTell };
-
-    ghost view = { λ s. record { bytes = R.remaining s.reader; faults = s.faults } };
-}
-
-impl<R: Read> StdinSource<R> {
-    /// Creates a source over `reader`.
-    pub fn new(reader: R) -> StdinSource<R>
-        ensures { result ≡ record { bytes = R.remaining reader; faults = 0 } }
+impl<T> SystemStream<T> {
+    /// Creates a source over the reader `stream`, or a sink over the writer.
+    pub fn new(stream: T) -> SystemStream<T>
+        ensures { result ≡ record { stream = stream; faults = 0 } }
     {
-        StdinSource { reader, faults: 0 }
+        SystemStream { stream, faults: 0 }
     }
 }
 
-impl<R: Read> Source for StdinSource<R> {
-    ghost left = { λ s. s.bytes };
+impl<R: Read> Source for SystemStream<R> {
+    ghost left = { λ s. R.remaining s.stream };
 
     ghost faults = { λ s. s.faults };
 
     fn read(&mut self, room: &mut [u8]) -> Result<usize, Failed> {
-        match self.reader.read(room) {
+        match self.stream.read(room) {
             Ok(count) => Ok(count),
-            Err(_) => {
-                self.faults = self.faults.saturating_add(1);
-                Err(Failed)
-            }
+            Err(_) => Err(Failed::counted(&mut self.faults)),
         }
     }
 }
 
-/// A sink over a writer, such as standard output. A write that takes none of a piece's bytes counts as a fault. A
-/// contract sees the bytes held if it sees the writer's, which it doesn't for a real stream. (own)
-#[derive(Drop)]
-pub struct StdoutSink<W: Write> {
-    writer: W,
-    faults: u64,
-}
-
-impl<W: Write> Model for StdoutSink<W> {
-    ghost use Rattle.vx_stream.specs.Streams.{MayTell};
-
-    ghost Value = { MayTell };
-
-    ghost view = { λ s. record { bytes = W.contents s.writer; faults = s.faults } };
-}
-
-impl<W: Write> StdoutSink<W> {
-    /// Creates a sink over `writer`.
-    pub fn new(writer: W) -> StdoutSink<W>
-        ensures { result ≡ record { bytes = W.contents writer; faults = 0 } }
-    {
-        StdoutSink { writer, faults: 0 }
-    }
-}
-
-impl<W: Write> Sink for StdoutSink<W> {
-    ghost held = { λ s. s.bytes };
+impl<W: Write> Sink for SystemStream<W> {
+    ghost held = { λ s. W.contents s.stream };
 
     ghost faults = { λ s. s.faults };
 
     fn write(&mut self, piece: &[u8]) -> Result<usize, Failed> {
-        if let Ok(count) = self.writer.write(piece)
-            && (count > 0 || piece.is_empty())
-        {
-            return Ok(count);
+        match self.stream.write(piece) {
+            Ok(count) if count > 0 || piece.is_empty() => Ok(count),
+            _ => Err(Failed::counted(&mut self.faults)),
         }
-        self.faults = self.faults.saturating_add(1);
-        Err(Failed)
     }
 }

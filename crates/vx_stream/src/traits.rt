@@ -1,13 +1,24 @@
 //! Sources, to read bytes from, and sinks, to write bytes to.
 
-ghost use Rattle.std.specs.Prelude.{ℕ, ◌<◌, List, length, Option, IfOk};
+ghost use Rattle.std.specs.Prelude.{ℕ, ◌<◌, ◌≤◌, List, length, Option, IfOk};
 ghost use Rattle.std.specs.Io.{ReadsAtMost, WritesAtMost};
 ghost use Rattle.std.specs.Io.KnownBytes.{ReadConsumes, WriteAppends};
-ghost use Rattle.vx_stream.specs.Causes.{HasCause};
+ghost use Rattle.vx_stream.specs.Causes.{HasCause, Rose};
 
 /// The error of a read or write that failed and moved no byte. (own)
 #[derive(Clone, Copy, Debug, PartialEq, Eq)]
 pub struct Failed;
+
+impl Failed {
+    /// Counts a fault in `faults` and returns the error.
+    pub(crate) fn counted(faults: &mut u64) -> Failed
+        ensures later { faults.old ≤ faults.new }
+        ensures rose { Rose faults.old faults.new }
+    {
+        *faults = faults.saturating_add(1);
+        Failed
+    }
+}
 
 /// A source of bytes. It counts its faults, up to `u64::MAX`. A contract sees the bytes left if they are known. (own)
 pub trait Source {

@@ -1,1 +1,2 @@
 mod OutputLemmas
+pub mod RowTextLemmas

@@ -8,7 +8,7 @@ use Rattle.vx_value.specs.declared.error.VortexError.{VortexError}
 use Rattle.vx_value.specs.declared.id.Id.{Id}
 use Rattle.vx_value.specs.Cell.{Cell, value, fault}
 use Rattle.vx_tree.specs.Cells.{rows}
-use Rattle.vx_json.specs.RowText.{row_text}
+use Rattle.vx_text.specs.RowText.{row_text}
 use Rattle.vx_tree.specs.Tree.{Tree, dtype, datum, id_of, len}
 use Rattle.vx_tree.specs.Columns.{columnar_tree}
 use Rattle.vx_tree.specs.declared.columnar.Columnar.{Columnar}

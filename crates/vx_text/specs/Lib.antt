@@ -2,6 +2,6 @@ pub use Rattle.vx_value.specs.Cell
 pub use Rattle.vx_tree.specs.Tree
 pub use Rattle.vx_tree.specs.Cells
 pub use Rattle.vx_tree.specs.Columns
-pub use Rattle.vx_json.specs.RowText
+pub mod RowText
 pub mod Output
 pub mod Lines

@@ -5,7 +5,7 @@ use Rattle.vx_rows.specs.Arguments.{type_of_argument, value_at}
 use Rattle.vx_rows.specs.ValidRows.{is_valid}
 use Rattle.vx_rows.specs.declared.argument.Argument.{Argument}
 use Rattle.vx_rows.specs.declared.valid.ValidRows.{ValidRows}
-use Rattle.vx_json.specs.RowText.{row_text}
+use Rattle.vx_text.specs.RowText.{row_text}
 use Rattle.vx_text.specs.Output.{line}
 
 -- the text of a row that is null unless it is valid

@@ -10,7 +10,7 @@ use Rattle.vx_value.specs.declared.error.VortexError.{VortexError}
 use Rattle.vx_value.specs.declared.error.VortexError.TheVariants.{OutOfMemory, Fault}
 use Rattle.vx_tree.specs.Tree.{Tree}
 use Rattle.vx_tree.specs.Cells.{rows, HasNoFault}
-use Rattle.vx_json.specs.RowText.{row_text}
+use Rattle.vx_text.specs.RowText.{row_text}
 
 -- a line of text, with its newline
 abbrev pub line : List ℕ → List ℕ

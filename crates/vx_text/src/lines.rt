@@ -6,10 +6,11 @@ ghost use Rattle.vx_mask.specs.Logic.{bit_row};
 ghost use Rattle.vx_native.specs.Natives.{values_of, ptype_of};
 ghost use Rattle.vx_rows.specs.Arguments.{IsSized};
 ghost use Rattle.vx_rows.specs.ValidRows.{is_valid, HasValidity};
-ghost use Rattle.vx_json.specs.RowText.{boolean_text};
+ghost use Rattle.vx_text.specs.RowText.{boolean_text};
 ghost use Rattle.vx_text.specs.Lines.{lines, integer_lines, row_text_at, row_lines, unless_null};
 
-use vx_json::{PrintedNumber, push_integer, push_row};
+use crate::printed::PrintedNumber;
+use crate::rows::{boolean_text, push_integer, push_row};
 use vx_mask::{BitBuffer, BitOperand};
 use vx_native::{NativeInteger, PrimitiveValues, by_type};
 use vx_rows::{Argument, ArgumentRows, IntegerOperand, IntegerRows, ValidRows};
@@ -38,8 +39,7 @@ impl TextRows for BitBuffer {
 
     #[inline]
     fn push_text(&self, text: &mut String, index: usize) -> VortexResult<()> {
-        let row = if self.value(index) { "true" } else { "false" };
-        Ok(text.push_str(row)?)
+        Ok(text.push_str(boolean_text(self.value(index)))?)
     }
 }
 

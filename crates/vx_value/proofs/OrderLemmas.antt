@@ -5,6 +5,7 @@ use Rattle.std.specs.declared.cmp.Ordering.TheVariants.{Less, Equal, Greater}
 use Rattle.std.specs.Ordering.{is_eq, ordering_then}
 use Rattle.vx_value.specs.Types.{same_type, same_type_Decides}
 use Rattle.vx_value.specs.Typed.{Typed}
+use Rattle.vx_value.specs.Values as value
 use Rattle.vx_value.specs.View.{value_of}
 use Rattle.vx_value.specs.contracts.scalar.ScalarValueOrd.TheImpl.{ghosts}
 use Rattle.vx_value.specs.declared.scalar.ScalarValue.{ScalarValue}
@@ -20,6 +21,15 @@ derived_order (scalar.Integer y) (scalar.Integer z) = refl
 derived_order (scalar.Decimal d) (scalar.Decimal e) = refl
 derived_order (scalar.Bytes bs) (scalar.Bytes cs) = refl
 derived_order _ _ = refl
+
+-- null comes before each other value, and so it is none of them
+pub null_first : (w : ScalarValue) → Less ≡ value_cmp value.null (value_of w)
+null_first (scalar.Bool b) = refl
+null_first _ = refl
+
+pub null_last : (v : ScalarValue) → Greater ≡ value_cmp (value_of v) value.null
+null_last (scalar.Bool b) = refl
+null_last _ = refl
 
 -- an order of two parts finds no difference exactly where neither does
 pub then_ties : (o p : Ordering) → is_eq (ordering_then o p) ≡ (is_eq o && is_eq p)

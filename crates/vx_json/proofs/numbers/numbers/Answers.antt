@@ -1,4 +1,4 @@
-use Rattle.std.proofs.Common.{◌+◌, ◌∙◌, ap, sym, refl, inr, map, arith, rules}
+use Rattle.std.proofs.Common.{◌+◌, ◌∙◌, ap, sym, refl, inr, map, pos, arith, rules}
 use Rattle.std.proofs.lemmas.List.{map-append}
 use Rattle.serde_json.specs.View.{view}
 use Rattle.vx_json.specs.ReadRows.{read_unless}
@@ -17,7 +17,7 @@ returns-in_default-clause-err g c =
     let within = rw c.deref-value-items.ensures.value at c.loop-value-test.true in
     let item = rw c.deref-value-items.ensures.value at c.value-item.is in
     let spelled = g.R.NumberReader.spelled c.args.reader.now (view c.value-item.result) in
-    let none = sym {b = read_unless c.is_null_row-null.result (g.T.Number.value c.args.zero) spelled} c.in_default.ensures in
+    let none = sym {b = read_unless c.is_null_row-null.result (pos 0) spelled} c.in_default.ensures in
     inr (refl, not_read _ _ _ _ _ _ _ c.loop-value.invariant.read c.value-item.result c.is_null_row-null.result within item c.is_null_row-null.ensures none)
 
 pub loop-value-preserved : goal.loop-value-preserved

@@ -1,4 +1,4 @@
-use Rattle.std.proofs.Common.{◌≡◌, ◌≤◌, length, map, vec_len, vec_capacity}
+use Rattle.std.proofs.Common.{◌≡◌, ◌≤◌, length, map, pos, vec_len, vec_capacity}
 use Rattle.vx_json.proofs.ReadRowsLemmas.{AreReadTo}
 use Rattle.vx_json.proofs.numbers.numbers.Given as goal
 
@@ -7,6 +7,6 @@ abbrev pub invariant-loop-value : goal.invariant-loop-value
 invariant-loop-value g l = record {
   counted : vec_len l.numbers ≡ l.value-index;
   room : length l.list.items ≤ vec_capacity l.numbers;
-  read : AreReadTo g.N.RowNulls.mode (g.T.Number.value l.zero) (g.R.NumberReader.spelled l.reader) l.list.items l.value-index
+  read : AreReadTo g.N.RowNulls.mode (pos 0) (g.R.NumberReader.spelled l.reader) l.list.items l.value-index
       (map g.T.Number.value l.numbers.items) (g.N.RowNulls.told l.nulls);
 }

@@ -1,5 +1,4 @@
-use Rattle.vx_json.proofs.ReadRowsLemmas.{read_as}
 use Rattle.vx_json.proofs.values.natives.Goals as goal
 
 pub returns-clause-ok : goal.returns-clause-ok
-returns-clause-ok g c = read_as _ _ _ _ _ _ c.in_ok-numbers.ensures.ok _ c.native_of-zero.ensures _ c.wrap.ensures.values
+returns-clause-ok g c = rw c.wrap.ensures.values c.in_ok-numbers.ensures.ok

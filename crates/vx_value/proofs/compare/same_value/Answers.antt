@@ -1,29 +1,19 @@
-use Rattle.std.proofs.Common.{◌≡◌, refl, ap, sym, ◌∙◌, Option, Some, None, false, rules}
+use Rattle.std.proofs.Common.{◌≡◌, refl, ap, sym, ◌∙◌, Option, Some, None, rules}
 use denote.Bor.{Bor}
 use Rattle.std.specs.Prelude.{◌&&◌}
 use Rattle.std.specs.Cmp.{unsigned_ties}
-use Rattle.std.specs.Ordering.{int_cmp, int_eq, nat_cmp}
+use Rattle.std.specs.Ordering.{int_cmp, int_eq, nat_cmp, is_eq}
 use Rattle.std.specs.Option.{option_eq}
 use Rattle.vx_value.specs.contracts.scalar.ScalarValuePartialEq.TheImpl.{ghosts}
 use Rattle.vx_value.specs.declared.scalar.ScalarValue.{ScalarValue}
 use Rattle.vx_value.specs.declared.scalar.ScalarValue.TheVariants as scalar
 use Rattle.vx_value.specs.Order.{same_value}
-use Rattle.vx_value.specs.Values as value
 use Rattle.vx_value.specs.View.{value_of, cell_seen}
 use Rattle.vx_value.proofs.BytesLemmas.{bytes_eq_by_cmp}
-use Rattle.vx_value.proofs.OrderLemmas.{then_ties}
+use Rattle.vx_value.proofs.OrderLemmas.{then_ties, null_first, null_last}
 use Rattle.vx_value.proofs.compare.same_value.Goals as goal
 
--- null is no other value: a line for each place
-null_before : (w : ScalarValue) → false ≡ same_value value.null (value_of w)
-null_before (scalar.Bool b) = refl
-null_before _ = refl
-
-null_after : (v : ScalarValue) → false ≡ same_value (value_of v) value.null
-null_after (scalar.Bool b) = refl
-null_after _ = refl
-
--- and the rest as the derived equality has it: a line for each kind of value
+-- as the derived equality has it: a line for each kind of value
 derived : (v w : ScalarValue) → ghosts.eq v w ≡ same_value (value_of v) (value_of w)
 derived (scalar.Bool a) (scalar.Bool b) = search rules
 derived (scalar.Integer y) (scalar.Integer z) = search rules
@@ -33,10 +23,11 @@ derived (scalar.Decimal d) (scalar.Decimal e) =
 derived (scalar.Bytes bs) (scalar.Bytes cs) = bytes_eq_by_cmp bs cs
 derived _ _ = refl
 
+-- and null is no other value
 seen : (v w : Option (Bor ScalarValue)) → option_eq (λ x y. ghosts.eq x.now y.now) v w ≡ same_value (cell_seen v) (cell_seen w)
 seen None None = refl
-seen None (Some w) = null_before w.now
-seen (Some v) None = null_after v.now
+seen None (Some w) = ap is_eq (null_first w.now)
+seen (Some v) None = ap is_eq (null_last v.now)
 seen (Some v) (Some w) = derived v.now w.now
 
 pub returns : goal.returns

@@ -1,7 +1,6 @@
-use Rattle.std.proofs.Common.{rules, ◌≡◌, ℕ, List, Some, true, string_bytes, sym, subst}
+use Rattle.std.proofs.Common.{rules, ◌≡◌, ◌∙◌, Some, true, sym}
 use Rattle.vx_stream.proofs.StreamsLemmas.{taken_to_the_end}
 use Rattle.vx_main.specs.Commands.{reads_tree}
-use Rattle.vx_main.specs.Runs.{Answers}
 use Rattle.vx_main.proofs.RunsLemmas.{owed}
 use Rattle.vx_main.proofs.top.run.run.Goals as goal
 
@@ -10,13 +9,11 @@ returns-in-Ok-answer-clause-read_whole g c = λ reads done. taken_to_the_end _ _
 
 pub returns-in-Ok-answer-clause-write_fault : goal.returns-in-Ok-answer-clause-write_fault
 returns-in-Ok-answer-clause-write_fault g c = λ d named fault.
-    let command = c.in-Some.command in
-    let same : command ≡ d = cc (c.read_command.ensures, c.in-Some.is, named) in
-    let reads : reads_tree (Some command) ≡ true = search rules in
-    let text = string_bytes c.in-Ok-answer.text in
-    let answers : Answers command c.in-Ok.bytes.items text = subst (λ (bs : List ℕ). Answers command bs text) c.as_slice.ensures.value c.in-Ok-answer.ensures.ok in
+    let reads : reads_tree (Some c.in-Some.command) ≡ true = search rules in
+    let owes = owed _ _ d _ _ _ _ _ _ (sym c.read_command.ensures ∙ c.in-Some.is) named reads c.in-Ok.ensures.all c.as_slice.ensures.value
+    c.in-Ok-answer.ensures.ok c.as_bytes-in-Ok-answer.ensures.value in
     let told = c.finish-in-Ok-answer.ensures.fault fault in
-    (told.0, (_, owed command d _ _ c.in-Ok.bytes.items _ same reads c.in-Ok.ensures.all (subst (Answers command c.in-Ok.bytes.items) (sym c.as_bytes-in-Ok-answer.ensures.value) answers), told.1))
+    (told.0, (_, owes, told.1))
 
 pub returns-in-None-clause-sink_kept : goal.returns-in-None-clause-sink_kept
 returns-in-None-clause-sink_kept g c = search rules
@@ -26,12 +23,7 @@ returns-in-None-clause-unwritten g c = search rules
 
 pub returns-in-Ok-answer-clause-headline : goal.returns-in-Ok-answer-clause-headline
 returns-in-Ok-answer-clause-headline g c = λ d named done.
-    let command = c.in-Some.command in
-    let same : command ≡ d = cc (c.read_command.ensures, c.in-Some.is, named) in
-    let reads : reads_tree (Some command) ≡ true = search rules in
-    let text = string_bytes c.in-Ok-answer.text in
-    let answers : Answers command c.in-Ok.bytes.items text = subst (λ (bs : List ℕ). Answers command bs text) c.as_slice.ensures.value c.in-Ok-answer.ensures.ok in (
-      _,
-      owed command d _ _ c.in-Ok.bytes.items _ same reads c.in-Ok.ensures.all (subst (Answers command c.in-Ok.bytes.items) (sym c.as_bytes-in-Ok-answer.ensures.value) answers),
-      c.finish-in-Ok-answer.ensures.done done,
-    )
+    let reads : reads_tree (Some c.in-Some.command) ≡ true = search rules in
+    let owes = owed _ _ d _ _ _ _ _ _ (sym c.read_command.ensures ∙ c.in-Some.is) named reads c.in-Ok.ensures.all c.as_slice.ensures.value
+    c.in-Ok-answer.ensures.ok c.as_bytes-in-Ok-answer.ensures.value in
+    (_, owes, c.finish-in-Ok-answer.ensures.done done)

@@ -2,9 +2,9 @@ use Rattle.std.proofs.Common.{◌≡◌, ◌+◌, ◌-◌, ◌*◌, ◌/◌, ◌
 use Rattle.vx_mask.specs.Bits.{bits_of}
 use Rattle.vx_mask.specs.Places.{combined}
 use Rattle.vx_mask.specs.Words.{low_bits}
-use Rattle.vx_mask.proofs.PlacesLemmas.{true_count-nil, true_count-le-length}
+use Rattle.vx_mask.proofs.PlacesLemmas.{true_count-nil}
 use Rattle.vx_mask.proofs.Parts.{next_word}
-use Rattle.vx_mask.proofs.PartPlaces.{count_more, count_last, true_count-take-le}
+use Rattle.vx_mask.proofs.PartPlaces.{count_more, count_last, count_fits, count_within}
 use Rattle.vx_mask.proofs.CombinedWords.{combine_none, combine_more, combine_end}
 use Rattle.vx_mask.proofs.bit_slice.BitSlice.combined.Goals as goal
 
@@ -17,18 +17,10 @@ loop-k-init c = record {
 }
 
 pub spread_over-word-requires : goal.spread_over-word-requires
-spread_over-word-requires c =
-    let bits = c.args.self.now in
-    let next = 64 * (c.loop-k.k + 1) in
-    let more = count_more bits (64 * c.loop-k.k) next c.full_word.result c.full_word.ensures (omega arith) (omega arith) in
-    omega (arith, more, true_count-take-le next bits)
+spread_over-word-requires c = omega (arith, count_within c.args.self.now c.loop-k.k c.full_word.result c.full_word.ensures (omega arith))
 
 pub overflow_add-used : goal.overflow_add-used
-overflow_add-used c =
-    let bits = c.args.self.now in
-    let next = 64 * (c.loop-k.k + 1) in
-    let more = count_more bits (64 * c.loop-k.k) next c.full_word.result c.full_word.ensures (omega arith) (omega arith) in
-    record { fits = omega (arith, more, true_count-take-le next bits, true_count-le-length bits) }
+overflow_add-used c = record { fits = omega (arith, count_fits c.args.self.now c.loop-k.k c.full_word.result c.full_word.ensures (omega arith)) }
 
 pub loop-k-preserved : goal.loop-k-preserved
 loop-k-preserved c =

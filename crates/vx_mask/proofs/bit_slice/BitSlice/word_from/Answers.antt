@@ -1,4 +1,4 @@
-use Rattle.std.proofs.Common.{◌+◌, ◌*◌, ◌/◌, ◌%◌, arith, sym}
+use Rattle.std.proofs.Common.{◌+◌, ◌/◌, ◌%◌, arith, sym}
 use Rattle.vx_mask.proofs.Words.{row_of_part}
 use Rattle.vx_mask.proofs.bit_slice.BitSlice.word_from.Goals as goal
 

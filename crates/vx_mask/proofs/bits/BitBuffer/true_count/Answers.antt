@@ -1,17 +1,13 @@
 use Rattle.std.proofs.Common.{◌+◌, ◌*◌, arith}
 use Rattle.vx_mask.proofs.PlacesLemmas.{true_count-nil, true_count-le-length}
-use Rattle.vx_mask.proofs.PartPlaces.{count_more, count_last, true_count-take-le}
+use Rattle.vx_mask.proofs.PartPlaces.{count_more, count_last, count_fits}
 use Rattle.vx_mask.proofs.bits.BitBuffer.true_count.Goals as goal
 
 pub loop-k-init : goal.loop-k-init
 loop-k-init c = true_count-nil
 
 pub overflow_add-count : goal.overflow_add-count
-overflow_add-count c =
-    let bits = c.args.self.now in
-    let next = 64 * (c.loop-k.k + 1) in
-    let more = count_more bits (64 * c.loop-k.k) next c.full_word.result c.full_word.ensures (omega arith) (omega arith) in
-    record { fits = omega (arith, more, true_count-take-le next bits, true_count-le-length bits) }
+overflow_add-count c = record { fits = omega (arith, count_fits c.args.self.now c.loop-k.k c.full_word.result c.full_word.ensures (omega arith)) }
 
 pub loop-k-preserved : goal.loop-k-preserved
 loop-k-preserved c =

@@ -6,7 +6,7 @@ use Rattle.std.specs.Cmp.{unsigned_Decides}
 use Rattle.json.specs.Print.{escape_letter, escape_byte, escape}
 use Rattle.serde_json.specs.Data.{string}
 use Rattle.serde_json.specs.Written.{compact_text}
-use Rattle.vx_json.specs.RowText.{has_escape, in_quotes}
+use Rattle.vx_text.specs.RowText.{has_escape, in_quotes}
 
 none_first : (a b : Bool) → (a || b) ≡ false → a ≡ false
 none_first false b h = refl

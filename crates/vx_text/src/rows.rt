@@ -7,7 +7,7 @@ ghost use Rattle.serde_json.specs.Data.{string};
 ghost use Rattle.serde_json.specs.Written.{compact_text};
 ghost use Rattle.std.specs.Str.{is_utf8};
 ghost use Rattle.std.specs.List.{list_any};
-ghost use Rattle.vx_json.specs.RowText.{has_escape, in_quotes, row_text};
+ghost use Rattle.vx_text.specs.RowText.{boolean_text, has_escape, in_quotes, row_text};
 
 use crate::printed::PrintedNumber;
 use itoa::Buffer;
@@ -23,8 +23,7 @@ pub fn push_row(text: &mut String, scalar: &Scalar) -> Result<(), AllocError>
 {
     match scalar.value() {
         None => text.push_str("null"),
-        Some(ScalarValue::Bool(true)) => text.push_str("true"),
-        Some(ScalarValue::Bool(false)) => text.push_str("false"),
+        Some(ScalarValue::Bool(value)) => text.push_str(boolean_text(*value)),
         Some(ScalarValue::Integer(number)) => push_integer(text, *number),
         Some(ScalarValue::Decimal(decimal)) => push_decimal(text, decimal.unscaled),
         Some(ScalarValue::Bytes(bytes)) => match scalar.dtype() {
@@ -32,6 +31,14 @@ pub fn push_row(text: &mut String, scalar: &Scalar) -> Result<(), AllocError>
             _ => push_hex(text, bytes.as_slice()),
         },
     }
+}
+
+/// Returns `true` or `false`.
+#[inline]
+pub(crate) fn boolean_text(value: bool) -> &'static str
+    ensures { result.now ≡ boolean_text value }
+{
+    if value { "true" } else { "false" }
 }
 
 /// Appends `number` in decimal. If memory runs out, part of it may have been appended. (own)
@@ -64,7 +71,6 @@ fn push_quoted(text: &mut String, inner: &str) -> Result<(), AllocError>
 
 /// Appends `bytes`, which must be UTF-8, as a JSON string. One without an escape is written as it is.
 #[inline(never)]
-#[tactic(auto, using(vx_value::proofs::BytesLemmas::is_no_text, crate::proofs::RowTextLemmas::plain_text))]
 fn push_utf8(text: &mut String, bytes: &[u8]) -> Result<(), AllocError>
     requires { is_utf8 bytes.now ≡ true }
     ensures { OnOk result (string_bytes text.new ≡ string_bytes text.old ++ compact_text (string bytes.now)) }
