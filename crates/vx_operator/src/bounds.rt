@@ -6,10 +6,10 @@ ghost use Rattle.vx_mask.specs.Operands.{HasBits};
 ghost use Rattle.vx_fn.specs.Comparisons.{is_ordered};
 ghost use Rattle.vx_fn.specs.declared.function.ScalarFnRef.TheVariants.{Between};
 ghost use Rattle.vx_tree.specs.Columns.{canonical_tree};
-ghost use Rattle.vx_rows.specs.Arguments.{ptype_in, types_of, plain_type, IsSized, HasStored, AreIntegers, AreDecimals};
+ghost use Rattle.vx_rows.specs.Arguments.{ptype_in, plain_type, HasStored, AreIntegers, AreDecimals};
 ghost use Rattle.vx_operator.specs.Bounds.{bound_by, is_between, is_bounded, AreBetween};
 ghost use Rattle.vx_operator.specs.Checks.{checked_rows};
-ghost use Rattle.vx_kernel.specs.Computed.{IsTaken, IsComputed};
+ghost use Rattle.vx_kernel.specs.Computed.{Takes, IsComputed};
 ghost use Rattle.vx_rows.specs.ValidRows.{is_valid, HasValidity};
 ghost use Rattle.vx_rows.specs.declared.argument.ArgumentRows.TheVariants.{Bits, Integers, Decimals};
 
@@ -37,10 +37,7 @@ pub fn between(
     upper: &Argument<'_>,
     len: usize,
 ) -> VortexResult<Canonical>
-    requires array { IsSized len array.now }
-    requires lower { IsSized len lower.now }
-    requires upper { IsSized len upper.now }
-    requires taken { IsTaken (Between options) (types_of (array.now ∷ lower.now ∷ upper.now ∷ [])) }
+    requires { Takes (Between options) (array.now ∷ lower.now ∷ upper.now ∷ []) len }
     ensures ok { IfOk result (λ c. IsComputed (Between options) (array.now ∷ lower.now ∷ upper.now ∷ []) len (canonical_tree c)) }
     ensures err { IfErr result (λ e. e ≡ VortexError.OutOfMemory) }
 {

@@ -4,8 +4,8 @@ ghost use Rattle.std.specs.Prelude.{◌≡◌, ◌∷◌, [], IfOk, IfErr, IsSom
 ghost use Rattle.vx_fn.specs.Binary.{operator_type};
 ghost use Rattle.vx_fn.specs.declared.function.ScalarFnRef.TheVariants.{Binary};
 ghost use Rattle.vx_tree.specs.Columns.{canonical_tree};
-ghost use Rattle.vx_rows.specs.Arguments.{ptype_in, types_of, plain_type, IsSized, HasStored, AreShown, AreIntegers};
-ghost use Rattle.vx_kernel.specs.Computed.{IsTaken, IsComputed, IsNotComputed};
+ghost use Rattle.vx_rows.specs.Arguments.{ptype_in, plain_type, HasStored, AreShown, AreIntegers};
+ghost use Rattle.vx_kernel.specs.Computed.{Takes, IsComputed, IsNotComputed};
 ghost use Rattle.vx_operator.specs.Filled.{IsOperated, IsNotOperated};
 ghost use Rattle.vx_rows.specs.ValidRows.{HasValidity};
 ghost use Rattle.vx_rows.specs.declared.argument.ArgumentRows.TheVariants.{Integers};
@@ -34,9 +34,7 @@ pub fn operate(
     rhs: &Argument<'_>,
     len: usize,
 ) -> VortexResult<Canonical>
-    requires lhs { IsSized len lhs.now }
-    requires rhs { IsSized len rhs.now }
-    requires taken { IsTaken (Binary operator) (types_of (lhs.now ∷ rhs.now ∷ [])) }
+    requires { Takes (Binary operator) (lhs.now ∷ rhs.now ∷ []) len }
     ensures ok { IfOk result (λ c. IsComputed (Binary operator) (lhs.now ∷ rhs.now ∷ []) len (canonical_tree c)) }
     ensures err { IfErr result (IsNotComputed (Binary operator) (lhs.now ∷ rhs.now ∷ []) len) }
 {

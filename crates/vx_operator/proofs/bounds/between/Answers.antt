@@ -8,16 +8,16 @@ use Rattle.vx_operator.proofs.bounds.between.Goals as goal
 
 pub between_rows-requires-clause-same_lower : goal.between_rows-requires-clause-same_lower
 between_rows-requires-clause-same_lower c =
-    same_lower c.args.options c.args.len c.args.array.now c.args.lower.now c.args.upper.now c.requires.array c.requires.lower c.requires.upper c.requires.taken
+    same_lower c.args.options c.args.len c.args.array.now c.args.lower.now c.args.upper.now c.requires
 
 pub between_rows-requires-clause-same_upper : goal.between_rows-requires-clause-same_upper
 between_rows-requires-clause-same_upper c =
-    same_upper c.args.options c.args.len c.args.array.now c.args.lower.now c.args.upper.now c.requires.array c.requires.lower c.requires.upper c.requires.taken
+    same_upper c.args.options c.args.len c.args.array.now c.args.lower.now c.args.upper.now c.requires
 
 pub between_rows-requires-clause-ordered : goal.between_rows-requires-clause-ordered
 between_rows-requires-clause-ordered c =
     array_ordered c.args.options c.args.len c.args.array.now c.args.lower.now c.args.upper.now
-    c.requires.array c.requires.lower c.requires.upper c.requires.taken
+    c.requires
 
 pub returns-clause-ok : goal.returns-clause-ok
 returns-clause-ok c =
@@ -25,7 +25,7 @@ returns-clause-ok c =
     let bounds = c.in_ok-bounds_valid.ensures in
     let valid = c.in_ok-valid in
     IfOk-weaker c.valid_bools.result _ _
-    (λ u h. between_computed c.args.options c.args.len a c.args.lower.now c.args.upper.now c.requires.array c.requires.lower c.requires.upper c.requires.taken
+    (λ u h. between_computed c.args.options c.args.len a c.args.lower.now c.args.upper.now c.requires
     valid.valid c.in_ok-bits.bits (canonical_tree u)
     (λ i lt. valid.ensures.rows i lt ∙ ap (λ b. is_valid a.valid i && b) (bounds.rows i lt))
     (valid.ensures.nullability ∙ ap (union (nullability_in a.valid)) bounds.nullability)

@@ -11,36 +11,36 @@ use Rattle.vx_operator.proofs.operators.operate.Goals as goal
 pub truths_of-requires : goal.truths_of-requires
 truths_of-requires c =
     logic_bits c.args.operator c.args.lhs.now.rows (sym c.is_logical.ensures ∙ c.if-is_logical.true)
-    (operands_taken c.args.operator c.args.len c.args.lhs.now c.args.rhs.now c.requires.lhs c.requires.rhs c.requires.taken)
+    (operands_taken c.args.operator c.args.len c.args.lhs.now c.args.rhs.now c.requires)
 
 pub truths_of-requires-then-is_logical : goal.truths_of-requires-then-is_logical
 truths_of-requires-then-is_logical c =
-    let same = operands_same c.args.operator c.args.len c.args.lhs.now c.args.rhs.now c.requires.lhs c.requires.rhs c.requires.taken in
+    let same = operands_same c.args.operator c.args.len c.args.lhs.now c.args.rhs.now c.requires in
     logic_bits c.args.operator c.args.rhs.now.rows (sym c.is_logical.ensures ∙ c.if-is_logical.true)
     (subst (λ t. IsSome (operator_type c.args.operator t)) same
-    (operands_taken c.args.operator c.args.len c.args.lhs.now c.args.rhs.now c.requires.lhs c.requires.rhs c.requires.taken))
+    (operands_taken c.args.operator c.args.len c.args.lhs.now c.args.rhs.now c.requires))
 
 pub join-requires-clause-lhs : goal.join-requires-clause-lhs
-join-requires-clause-lhs c = truths_sized c.args.len c.truths_of.result c.args.lhs.now c.truths_of.ensures c.requires.lhs
+join-requires-clause-lhs c = truths_sized c.args.len c.truths_of.result c.args.lhs.now c.truths_of.ensures c.requires.sized.0
 
 pub join-requires-clause-rhs : goal.join-requires-clause-rhs
-join-requires-clause-rhs c = truths_sized c.args.len c.truths_of-then-is_logical.result c.args.rhs.now c.truths_of-then-is_logical.ensures c.requires.rhs
+join-requires-clause-rhs c = truths_sized c.args.len c.truths_of-then-is_logical.result c.args.rhs.now c.truths_of-then-is_logical.ensures c.requires.sized.1.0
 
 pub operate_rows-requires-clause-same : goal.operate_rows-requires-clause-same
-operate_rows-requires-clause-same c = operands_same c.args.operator c.args.len c.args.lhs.now c.args.rhs.now c.requires.lhs c.requires.rhs c.requires.taken
+operate_rows-requires-clause-same c = operands_same c.args.operator c.args.len c.args.lhs.now c.args.rhs.now c.requires
 
 pub operate_rows-requires-clause-taken : goal.operate_rows-requires-clause-taken
-operate_rows-requires-clause-taken c = operands_taken c.args.operator c.args.len c.args.lhs.now c.args.rhs.now c.requires.lhs c.requires.rhs c.requires.taken
+operate_rows-requires-clause-taken c = operands_taken c.args.operator c.args.len c.args.lhs.now c.args.rhs.now c.requires
 
 pub operate_rows-requires-clause-shown : goal.operate_rows-requires-clause-shown
 operate_rows-requires-clause-shown c =
-    operands_shown c.args.operator c.args.len c.args.lhs.now c.args.rhs.now c.requires.lhs c.requires.rhs c.requires.taken
+    operands_shown c.args.operator c.args.len c.args.lhs.now c.args.rhs.now c.requires
     (sym c.is_logical.ensures ∙ c.if-is_logical.false) c.in_ok-valid.valid c.in_ok-valid.ensures.rows c.in_ok-valid.ensures.nullability
 
 pub returns-clause-ok : goal.returns-clause-ok
 returns-clause-ok c =
     IfOk-weaker c.operate_rows.result _ _
-    (λ t. operands_computed c.args.operator c.args.len c.args.lhs.now c.args.rhs.now c.requires.lhs c.requires.rhs c.requires.taken
+    (λ t. operands_computed c.args.operator c.args.len c.args.lhs.now c.args.rhs.now c.requires
     (sym c.is_logical.ensures ∙ c.if-is_logical.false) c.in_ok-valid.valid c.in_ok-valid.ensures.rows c.in_ok-valid.ensures.nullability
     (canonical_tree t))
     c.operate_rows.ensures.ok
@@ -48,6 +48,6 @@ returns-clause-ok c =
 pub returns-clause-err : goal.returns-clause-err
 returns-clause-err c =
     IfErr-weaker c.operate_rows.result _ _
-    (operands_not_computed c.args.operator c.args.len c.args.lhs.now c.args.rhs.now c.requires.lhs c.requires.rhs c.requires.taken
+    (operands_not_computed c.args.operator c.args.len c.args.lhs.now c.args.rhs.now c.requires
     (sym c.is_logical.ensures ∙ c.if-is_logical.false) c.in_ok-valid.valid c.in_ok-valid.ensures.rows c.in_ok-valid.ensures.nullability)
     c.operate_rows.ensures.err
