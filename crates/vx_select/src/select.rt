@@ -7,9 +7,9 @@ ghost use Rattle.vx_value.specs.Nullabilities.{union};
 ghost use Rattle.vx_value.specs.Decimals.{smallest_width};
 ghost use Rattle.vx_fn.specs.declared.function.ScalarFnRef.TheVariants.{Zip, FillNull};
 ghost use Rattle.vx_tree.specs.Columns.{canonical_tree};
-ghost use Rattle.vx_rows.specs.Arguments.{types_of, plain_type, ptype_in, bytes_in};
-ghost use Rattle.vx_rows.specs.Arguments.{IsSized, HasStored, AreIntegers, AreDecimals, AreBytes};
-ghost use Rattle.vx_kernel.specs.Computed.{IsTaken, IsComputed};
+ghost use Rattle.vx_rows.specs.Arguments.{plain_type, ptype_in, bytes_in};
+ghost use Rattle.vx_rows.specs.Arguments.{HasStored, AreIntegers, AreDecimals, AreBytes};
+ghost use Rattle.vx_kernel.specs.Computed.{Takes, IsComputed};
 ghost use Rattle.vx_kernel.specs.Operands.{number_in, HasRow, HasRows};
 ghost use Rattle.vx_select.specs.Selected.{selected, selected_rows, AreSelected, IsSelected};
 ghost use Rattle.vx_rows.specs.declared.argument.ArgumentRows.TheVariants.{Integers, Decimals};
@@ -37,10 +37,7 @@ pub fn zip(
     mask: &Argument<'_>,
     len: usize,
 ) -> VortexResult<Canonical>
-    requires if_true { IsSized len if_true.now }
-    requires if_false { IsSized len if_false.now }
-    requires mask { IsSized len mask.now }
-    requires taken { IsTaken Zip (types_of (if_true.now ∷ if_false.now ∷ mask.now ∷ [])) }
+    requires { Takes Zip (if_true.now ∷ if_false.now ∷ mask.now ∷ []) len }
     ensures ok { IfOk result (λ c. IsComputed Zip (if_true.now ∷ if_false.now ∷ mask.now ∷ []) len (canonical_tree c)) }
     ensures err { IfErr result (λ e. e ≡ VortexError.OutOfMemory) }
 {
@@ -63,9 +60,7 @@ pub fn fill_null(
     fill_value: &Argument<'_>,
     len: usize,
 ) -> VortexResult<Canonical>
-    requires input { IsSized len input.now }
-    requires fill_value { IsSized len fill_value.now }
-    requires taken { IsTaken FillNull (types_of (input.now ∷ fill_value.now ∷ [])) }
+    requires { Takes FillNull (input.now ∷ fill_value.now ∷ []) len }
     ensures ok { IfOk result (λ c. IsComputed FillNull (input.now ∷ fill_value.now ∷ []) len (canonical_tree c)) }
     ensures err { IfErr result (λ e. e ≡ VortexError.OutOfMemory) }
 {
