@@ -45,7 +45,8 @@ pub fn mask_validity_canonical(
     mask_column(alloc, array, child)
 }
 
-/// Returns the rows of `array`, a canonical column, null where the tree in the slot `child` of a validity says so.
+/// Returns the rows of `array`, a canonical column, null where `child`, the slot of a validity, says so. `Fault` if the column is one of nulls and
+/// a row of `child` has no value.
 fn mask_column(alloc: Global, array: &ArrayRef, child: Option<ArrayRef>) -> VortexResult<Canonical>
     requires canonical { is_canonical (datum array.now) ≡ true }
     requires child { TellsAll (len array.now) child }
