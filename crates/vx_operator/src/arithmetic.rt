@@ -1,18 +1,17 @@
 //! Arithmetic on integers.
 
-ghost use Rattle.std.specs.Prelude.{◌≡◌, ℤ, false, IfOk, IfErr, IfSome, IsSome, MatchOption};
+ghost use Rattle.std.specs.Prelude.{◌≡◌, ℤ, false, IfOk, IfErr, IfSome, MatchOption};
 ghost use Rattle.vx_value.specs.Values.{integer};
 ghost use Rattle.vx_value.specs.Cell.{Cell, fault};
-ghost use Rattle.vx_fn.specs.Binary.{is_comparison, operator_type};
+ghost use Rattle.vx_fn.specs.Binary.{is_comparison};
 ghost use Rattle.vx_fn.specs.Arithmetic.{calculated, calculated_by};
 ghost use Rattle.vx_fn.specs.declared.function.Operator.{Operator as OperatorOf};
 ghost use Rattle.vx_fn.specs.declared.function.Operator.TheVariants.{Add, Sub, Mul, Div};
 ghost use Rattle.vx_tree.specs.Columns.{canonical_tree};
-ghost use Rattle.vx_rows.specs.Arguments.{ptype_in, AreIntegers, plain_type};
+ghost use Rattle.vx_rows.specs.Arguments.{ptype_in};
 ghost use Rattle.vx_operator.specs.Digits.{IsWithin};
-ghost use Rattle.vx_operator.specs.Filled.{IsOperated, IsNotOperated};
+ghost use Rattle.vx_operator.specs.Filled.{Operates, IsOperated, IsNotOperated};
 ghost use Rattle.vx_kernel.specs.Operands.{number_in, HasRow};
-ghost use Rattle.vx_rows.specs.ValidRows.{HasValidity};
 ghost use Rattle.vx_rows.specs.declared.argument.ArgumentRows.TheVariants.{Integers};
 
 use crate::checked::CheckedNumber;
@@ -125,10 +124,7 @@ pub(crate) fn calculate<T: NativeInteger + CheckedNumber, A: Arithmetic>(
 ) -> VortexResult<Canonical>
     requires operator { is_comparison A.operator ≡ false }
     requires kind { T.kind ≡ ptype_in lhs }
-    requires lhs { AreIntegers (ptype_in lhs) lhs len }
-    requires rhs { AreIntegers (ptype_in lhs) rhs len }
-    requires valid { HasValidity valid.now len }
-    requires taken { IsSome (operator_type A.operator (plain_type (Integers lhs))) }
+    requires operands { Operates A.operator (Integers lhs) (Integers rhs) valid.now len }
     ensures ok { IfOk result (λ c. IsOperated A.operator (Integers lhs.entry) (Integers rhs.entry) valid.now len (canonical_tree c)) }
     ensures err { IfErr result (IsNotOperated A.operator (Integers lhs.entry) (Integers rhs.entry) valid.now len) }
 {

@@ -1,16 +1,14 @@
 //! Operators applied to decimals of one type.
 
-ghost use Rattle.std.specs.Prelude.{◌≡◌, false, IfOk, IfErr, IsSome};
+ghost use Rattle.std.specs.Prelude.{◌≡◌, false, IfOk, IfErr};
 ghost use Rattle.vx_value.specs.Casts.{sized};
 ghost use Rattle.vx_value.specs.Decimals.{smallest_width};
 ghost use Rattle.vx_value.specs.Values.{decimal};
 ghost use Rattle.vx_fn.specs.Arithmetic.{calculated_by};
-ghost use Rattle.vx_fn.specs.Binary.{is_comparison, operator_type};
+ghost use Rattle.vx_fn.specs.Binary.{is_comparison};
 ghost use Rattle.vx_tree.specs.Columns.{canonical_tree};
-ghost use Rattle.vx_rows.specs.Arguments.{AreDecimals, plain_type};
-ghost use Rattle.vx_rows.specs.ValidRows.{HasValidity};
 ghost use Rattle.vx_rows.specs.declared.argument.ArgumentRows.TheVariants.{Decimals};
-ghost use Rattle.vx_operator.specs.Filled.{IsOperated, IsNotOperated};
+ghost use Rattle.vx_operator.specs.Filled.{Operates, IsOperated, IsNotOperated};
 ghost use Rattle.vx_operator.specs.Digits.{is_within, AreLimits, HasLimits};
 ghost use Rattle.vx_kernel.specs.Operands.{number_in, HasRow};
 
@@ -39,11 +37,7 @@ pub(crate) fn operate_decimals<T: NativeDecimalType + CheckedNumber>(
     len: usize,
 ) -> VortexResult<Canonical>
     requires kind { T.kind ≡ smallest_width lhs.decimal.precision }
-    requires lhs { AreDecimals lhs len }
-    requires rhs { AreDecimals rhs len }
-    requires same { plain_type (Decimals lhs) ≡ plain_type (Decimals rhs) }
-    requires valid { HasValidity valid.now len }
-    requires taken { IsSome (operator_type operator (plain_type (Decimals lhs))) }
+    requires operands { Operates operator (Decimals lhs) (Decimals rhs) valid.now len }
     ensures ok { IfOk result (λ c. IsOperated operator (Decimals lhs.entry) (Decimals rhs.entry) valid.now len (canonical_tree c)) }
     ensures err { IfErr result (IsNotOperated operator (Decimals lhs.entry) (Decimals rhs.entry) valid.now len) }
 {
@@ -138,11 +132,7 @@ fn calculate_decimals<T: NativeDecimalType + CheckedNumber, A: Arithmetic>(
 ) -> VortexResult<Canonical>
     requires operator { is_comparison A.operator ≡ false }
     requires kind { T.kind ≡ smallest_width lhs.decimal.precision }
-    requires lhs { AreDecimals lhs len }
-    requires rhs { AreDecimals rhs len }
-    requires same { plain_type (Decimals lhs) ≡ plain_type (Decimals rhs) }
-    requires valid { HasValidity valid.now len }
-    requires taken { IsSome (operator_type A.operator (plain_type (Decimals lhs))) }
+    requires operands { Operates A.operator (Decimals lhs) (Decimals rhs) valid.now len }
     ensures ok { IfOk result (λ c. IsOperated A.operator (Decimals lhs.entry) (Decimals rhs.entry) valid.now len (canonical_tree c)) }
     ensures err { IfErr result (IsNotOperated A.operator (Decimals lhs.entry) (Decimals rhs.entry) valid.now len) }
 {

@@ -3,6 +3,7 @@ use Rattle.std.specs.Prelude.{IsSome}
 use Rattle.std.proofs.lemmas.Result.{IfOk-weaker, IfErr-weaker}
 use Rattle.vx_fn.specs.Binary.{operator_type}
 use Rattle.vx_tree.specs.Columns.{canonical_tree}
+use Rattle.vx_kernel.proofs.ArgumentsLemmas.{has_stored}
 use Rattle.vx_operator.proofs.LogicLemmas.{logic_bits, truths_sized}
 use Rattle.vx_operator.proofs.OperatorLemmas.{operands_same, operands_taken}
 use Rattle.vx_operator.proofs.PassingLemmas.{operands_shown, operands_computed, operands_not_computed}
@@ -26,11 +27,14 @@ join-requires-clause-lhs c = truths_sized c.args.len c.truths_of.result c.args.l
 pub join-requires-clause-rhs : goal.join-requires-clause-rhs
 join-requires-clause-rhs c = truths_sized c.args.len c.truths_of-then-is_logical.result c.args.rhs.now c.truths_of-then-is_logical.ensures c.requires.sized.1.0
 
-pub operate_rows-requires-clause-same : goal.operate_rows-requires-clause-same
-operate_rows-requires-clause-same c = operands_same c.args.operator c.args.len c.args.lhs.now c.args.rhs.now c.requires
-
-pub operate_rows-requires-clause-taken : goal.operate_rows-requires-clause-taken
-operate_rows-requires-clause-taken c = operands_taken c.args.operator c.args.len c.args.lhs.now c.args.rhs.now c.requires
+pub operate_rows-requires-clause-operands : goal.operate_rows-requires-clause-operands
+operate_rows-requires-clause-operands c = record {
+  left = has_stored c.args.len c.args.lhs.now c.requires.sized.0;
+  right = has_stored c.args.len c.args.rhs.now c.requires.sized.1.0;
+  same = operands_same c.args.operator c.args.len c.args.lhs.now c.args.rhs.now c.requires;
+  taken = operands_taken c.args.operator c.args.len c.args.lhs.now c.args.rhs.now c.requires;
+  sized = c.in_ok-valid.ensures.sized;
+}
 
 pub operate_rows-requires-clause-shown : goal.operate_rows-requires-clause-shown
 operate_rows-requires-clause-shown c =
