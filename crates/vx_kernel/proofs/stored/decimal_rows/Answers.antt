@@ -1,11 +1,9 @@
-use Rattle.std.proofs.Common.{◌≡◌, FitsSigned, pos, refl, subst, ◌∙◌, rules}
-use Rattle.std.proofs.Math.Facts.{to_z-of_z}
-use Rattle.std.specs.Int.{w128}
+use Rattle.std.proofs.Common.{◌≡◌, pos, refl, subst, ◌∙◌, rules}
 use Rattle.std.proofs.lemmas.Result.{IfOk-weaker}
 use Rattle.vx_native.specs.DecimalNumbers.{numbers_of, decimal_type_of}
 use Rattle.vx_rows.specs.Arguments.{unscaled_at, HasDecimals}
 use Rattle.vx_rows.proofs.CellsLemmas.{IfOk-both}
-use Rattle.vx_kernel.proofs.RowsLemmas.{rows_shared, value_repeated}
+use Rattle.vx_kernel.proofs.RowsLemmas.{rows_shared, number_repeated}
 use Rattle.vx_kernel.proofs.UnscaledLemmas.{row_digits, numbers_stored}
 use Rattle.vx_kernel.proofs.stored.decimal_rows.Goals as goal
 
@@ -19,9 +17,8 @@ returns-in_ok-clone-in-Rows-clause-values c =
 
 pub returns-in-Value-clause-values : goal.returns-in-Value-clause-values
 returns-in-Value-clause-values c =
-    let fits : FitsSigned w128 c.in-Value.unscaled = search rules in
     IfOk-weaker c.repeat.result _ _
-    (λ v made. value_repeated unscaled_at c.args.decimals.rows c.args.len _ c.in-Value.unscaled _ (numbers_of v) c.in-Value.is made (to_z-of_z fits) (λ i. refl))
+    (λ v made. number_repeated unscaled_at c.args.decimals.rows _ c.args.len c.in-Value.unscaled (numbers_of v) (search rules) c.in-Value.is made (λ i. refl))
     c.repeat.ensures.values
 
 pub returns-in-Value-clause-stored : goal.returns-in-Value-clause-stored

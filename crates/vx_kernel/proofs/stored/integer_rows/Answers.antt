@@ -1,10 +1,8 @@
-use Rattle.std.proofs.Common.{◌≡◌, FitsSigned, pos, refl, subst, rules}
-use Rattle.std.proofs.Math.Facts.{to_z-of_z}
-use Rattle.std.specs.Int.{w128}
+use Rattle.std.proofs.Common.{◌≡◌, pos, refl, subst, rules}
 use Rattle.std.proofs.lemmas.Result.{IfOk-weaker}
 use Rattle.vx_native.specs.Natives.{values_of}
 use Rattle.vx_rows.specs.Arguments.{integer_at, HasIntegers}
-use Rattle.vx_kernel.proofs.RowsLemmas.{rows_shared, value_repeated}
+use Rattle.vx_kernel.proofs.RowsLemmas.{rows_shared, number_repeated}
 use Rattle.vx_kernel.proofs.stored.integer_rows.Goals as goal
 
 pub returns-in_ok-clone-in-Rows-clause-values : goal.returns-in_ok-clone-in-Rows-clause-values
@@ -16,7 +14,6 @@ returns-in_ok-clone-in-Rows-clause-values c =
 
 pub returns-in-Value-clause-values : goal.returns-in-Value-clause-values
 returns-in-Value-clause-values c =
-    let fits : FitsSigned w128 c.in-Value.wide = search rules in
     IfOk-weaker c.repeat.result _ _
-    (λ v made. value_repeated integer_at c.args.integers.rows c.args.len _ c.in-Value.wide _ (values_of v) c.in-Value.is made (to_z-of_z fits) (λ i. refl))
+    (λ v made. number_repeated integer_at c.args.integers.rows _ c.args.len c.in-Value.wide (values_of v) (search rules) c.in-Value.is made (λ i. refl))
     c.repeat.ensures.values
