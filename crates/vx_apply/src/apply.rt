@@ -1,11 +1,9 @@
 //! Functions applied to whole columns.
 
 ghost use Rattle.std.specs.Prelude.{map, IfOk, IfErr};
-ghost use Rattle.std.specs.List.{AllByRecursion};
 ghost use Rattle.vx_tree.specs.Columns.{columnar_tree, canonical_tree};
 ghost use Rattle.vx_apply.specs.Applied.{IsCall, IsApplied, IsUnapplied};
-ghost use Rattle.vx_rows.specs.Arguments.{types_of, IsSized};
-ghost use Rattle.vx_kernel.specs.Computed.{IsTaken, IsComputed, IsNotComputed};
+ghost use Rattle.vx_kernel.specs.Computed.{Takes, IsComputed, IsNotComputed};
 
 use crate::constant::{apply_constants, constants};
 use std::alloc::Global;
@@ -51,8 +49,7 @@ fn apply_to_columns(
     arguments: &[Argument<'_>],
     len: usize,
 ) -> VortexResult<Canonical>
-    requires sized { AllByRecursion (IsSized len) arguments.now }
-    requires taken { IsTaken function.now (types_of arguments.now) }
+    requires { Takes function.now arguments.now len }
     ensures ok { IfOk result (λ c. IsComputed function.now arguments.now len (canonical_tree c)) }
     ensures err { IfErr result (IsNotComputed function.now arguments.now len) }
 {

@@ -1,7 +1,8 @@
 -- Casts of an argument: the targets that it has, and its rows.
 use Rattle.std.proofs.Common.{◌≡◌, ◌==◌, ◌<◌, ◌+◌, ℕ, suc, ℤ, Bool, true, false, List, [], ◌∷◌, length, map, get_or, pos}
 use Rattle.std.proofs.Common.{Option, Some, None, inl, inr, refl, sym, ap, ◌∙◌, subst, if◌then◌else◌, arith}
-use Rattle.std.specs.Prelude.{is_some, nat_lt, MatchOption, option_map}
+use Rattle.std.specs.Prelude.{is_some, nat_lt, MatchOption, option_map, Result, IfOk, IfErr}
+use Rattle.std.proofs.lemmas.Result.{IfOk-weaker, IfErr-weaker}
 use Rattle.std.proofs.lemmas.Bool.Decides.{nat_tests}
 use Rattle.std.proofs.lemmas.Bool.{and_from, false≢true}
 use Rattle.std.specs.Cmp.{unsigned_Decides, second_so}
@@ -39,11 +40,13 @@ use Rattle.vx_fn.specs.declared.function.ScalarFnRef.TheVariants.{Cast}
 use Rattle.vx_fn.proofs.CastLemmas.{cast_taken}
 use Rattle.vx_tree.specs.ColumnTypes.{bytes_type}
 use Rattle.vx_tree.specs.Tree.{Tree, dtype}
+use Rattle.vx_tree.specs.Columns.{canonical_tree}
+use Rattle.vx_tree.specs.declared.canonical.Canonical.{Canonical}
 use Rattle.vx_tree.specs.Cells.{HasNoFault}
 use Rattle.vx_rows.specs.Arguments.{type_of_argument, type_of_rows, types_of, row_of, plain_type, value_at, unscaled_in}
 use Rattle.vx_rows.specs.Arguments.{IsSized, IsRepeated, HasStored, AreStored, AreShown, AreDecimals}
 use Rattle.vx_cast.specs.Casts.{converted, rescaled_row, rescaled_item, IsCastTarget}
-use Rattle.vx_kernel.specs.Computed.{IsTaken, IsMade, IsComputed, IsNotComputed, cells_of}
+use Rattle.vx_kernel.specs.Computed.{Takes, IsMade, IsComputed, IsNotComputed, cells_of}
 use Rattle.vx_kernel.specs.Operands.{IsFaultyRow, AreCalculated}
 use Rattle.vx_rows.specs.ValidRows.{is_valid, nullability_in, null_unless, HasValidity}
 use Rattle.vx_rows.specs.declared.argument.Argument.{Argument}
@@ -131,17 +134,22 @@ module _ (cell : ℤ → Cell) (z : ℕ → ℤ) (zs : List ℤ) (valid : ValidR
 -- so with numbers that are cast to decimals
 module _ (x : Rescaling) (d : DecimalDType) (r : ℕ) (target : x.target ≡ d) (scale : x.scale ≡ r) (z : ℕ → ℤ) (zs : List ℤ) (valid : ValidRows) (n : ℕ)
     (are : zs ≡ map z (range_with_len 0 n)) where
-  pub decimals_cast : (u : Tree) → AreCalculated x.target valid (rescaled_item x zs) n u → AreCalculated d valid (rescaled_row d r z) n u
-  decimals_cast u h =
+  same_column : (u : Tree) → AreCalculated x.target valid (rescaled_item x zs) n u → AreCalculated d valid (rescaled_row d r z) n u
+  same_column u h =
       subst (λ (s : ℕ). AreCalculated d valid (rescaled_row d s z) n u) scale
       (subst (λ (t : DecimalDType). AreCalculated t valid (rescaled_row t x.scale z) n u) target
       (h.0, rows_cast (λ (y : ℤ). rescaled x.target.precision x.target.scale y x.scale) z zs valid n are u h.1))
 
-  pub decimals_not_cast : (e : VortexError) → IsFaultyRow (is_valid valid) (rescaled_item x zs) n e → IsFaultyRow (is_valid valid) (rescaled_row d r z) n e
-  decimals_not_cast e h =
+  same_fault : (e : VortexError) → IsFaultyRow (is_valid valid) (rescaled_item x zs) n e → IsFaultyRow (is_valid valid) (rescaled_row d r z) n e
+  same_fault e h =
       subst (λ (s : ℕ). IsFaultyRow (is_valid valid) (rescaled_row d s z) n e) scale
       (subst (λ (t : DecimalDType). IsFaultyRow (is_valid valid) (rescaled_row t x.scale z) n e) target
       (rows_not_cast (λ (y : ℤ). rescaled x.target.precision x.target.scale y x.scale) z zs valid n are e h))
+
+  pub decimals_cast : (found : Result Canonical VortexError) → IfOk found (λ c. AreCalculated x.target valid (rescaled_item x zs) n (canonical_tree c))
+      → IfErr found (IsFaultyRow (is_valid valid) (rescaled_item x zs) n)
+      → IfOk found (λ c. AreCalculated d valid (rescaled_row d r z) n (canonical_tree c)) × IfErr found (IsFaultyRow (is_valid valid) (rescaled_row d r z) n)
+  decimals_cast found ok err = (IfOk-weaker found _ _ (λ c. same_column (canonical_tree c)) ok, IfErr-weaker found _ _ same_fault err)
 
 -- of rows that are all null none is shown, whatever is stored
 shown_null : (r : ArgumentRows) (valid : ValidRows) (n : ℕ) → AreShown stored.Nulls valid n → AreShown r valid n
@@ -189,14 +197,16 @@ bits_kept (stored.Decimals ds) bs t valid n u is target nullability h = absurd (
 bits_kept (stored.Bytes ys) bs t valid n u is target nullability h = absurd (cc)
 
 -- what is cast to a type by name
-pub cast_made : (ty : Nullability → DataType) (r s : ArgumentRows) (t : DataType) (k : Nullability) (valid : ValidRows) (n : ℕ) (u : Tree) → r ≡ s → t ≡ ty k
-    → nullability_of (ty k) ≡ k → nullability_in valid ≡ nullability_of t
-    → (dtype u ≡ ty (nullability_in valid)) × IsMade valid (λ i. cast_to (ty k) (value_at s i)) n u
-    → (dtype u ≡ t) × IsMade valid (λ i. cast_to t (value_at r i)) n u
-cast_made ty r s t k valid n u is typed own nullability h = (
-  h.0 ∙ ap ty (nullability ∙ ap nullability_of typed ∙ own) ∙ sym typed,
-  made_by valid _ _ n u (λ i lt here. λ j. cast_to (sym typed j) (value_at (sym is j) i)) h.1,
-)
+pub cast_made : (ty : Nullability → DataType) (r s : ArgumentRows) (t : DataType) (k : Nullability) (valid : ValidRows) (n : ℕ)
+    (found : Result Canonical VortexError) → r ≡ s → t ≡ ty k → nullability_of (ty k) ≡ k → nullability_in valid ≡ nullability_of t
+    → IfOk found (λ c. (dtype (canonical_tree c) ≡ ty (nullability_in valid)) × IsMade valid (λ i. cast_to (ty k) (value_at s i)) n (canonical_tree c))
+    → IfOk found (λ c. (dtype (canonical_tree c) ≡ t) × IsMade valid (λ i. cast_to t (value_at r i)) n (canonical_tree c))
+cast_made ty r s t k valid n found is typed own nullability =
+    IfOk-weaker found _ _
+    (λ c h. (
+      h.0 ∙ ap ty (nullability ∙ ap nullability_of typed ∙ own) ∙ sym typed,
+      made_by valid _ _ n (canonical_tree c) (λ i lt here. λ j. cast_to (sym typed j) (value_at (sym is j) i)) h.1,
+    ))
 
 -- an integer in another type
 pub converted_row : {U : Type 0} (read : U → ℤ) (p : PType) (wide z : ℤ) (r : Option U)
@@ -265,16 +275,16 @@ cast_cell target t false x h = sym (ap (λ m. if is_nullable m then value null e
 
 -- ---- the column of a cast
 
-module _ (n : ℕ) (a : Argument) (target : DType) (sized : IsSized n a) (taken : IsTaken (Cast target) (types_of (a ∷ []))) where
+module _ (n : ℕ) (a : Argument) (target : DType) (takes : Takes (Cast target) (a ∷ []) n) where
   found : (has_cast (type_of_argument a) (type_of target) ≡ true) × (return_type (Cast target) (types_of (a ∷ [])) ≡ Some (type_of target))
-  found = cast_taken (type_of target) (type_of_argument a) (ap is_some taken.1)
+  found = cast_taken (type_of target) (type_of_argument a) (ap is_some takes.types.1)
 
   same_type : (t : DataType) → return_type (Cast target) (types_of (a ∷ [])) ≡ Some t → t ≡ type_of target
   same_type t h = let typed = found.1 in cc (typed, h)
 
   pub is_cast_target : IsCastTarget a.rows (type_of target)
   is_cast_target =
-      cast_target a.rows (nullability_in a.valid) (type_of target) (ap (λ s. has_cast s (type_of target)) (sym (argument_type n a sized)) ∙ found.0)
+      cast_target a.rows (nullability_in a.valid) (type_of target) (ap (λ s. has_cast s (type_of target)) (sym (argument_type n a takes.sized.0)) ∙ found.0)
 
   pub null_not_computed : (i : ℕ) → i < n → is_valid a.valid i ≡ false → nullability_of (type_of target) ≡ NonNullable → (t : DataType)
       → return_type (Cast target) (types_of (a ∷ [])) ≡ Some t → ¬ (HasNoFault (cells_of (Cast target) t (row_of (a ∷ [])) n))

@@ -10,10 +10,10 @@ ghost use Rattle.vx_fn.specs.declared.function.ScalarFnRef.TheVariants.{Cast};
 ghost use Rattle.vx_native.specs.Natives.{values_of};
 ghost use Rattle.vx_tree.specs.Columns.{canonical_tree};
 ghost use Rattle.vx_tree.specs.Tree.{dtype};
-ghost use Rattle.vx_rows.specs.Arguments.{types_of, value_at, ptype_in, integer_in, IsSized, HasStored, AreShown, AreIntegers};
+ghost use Rattle.vx_rows.specs.Arguments.{value_at, ptype_in, integer_in, HasStored, AreShown, AreIntegers};
 ghost use Rattle.vx_rows.specs.declared.argument.ArgumentRows.TheVariants.{Nulls};
 ghost use Rattle.vx_cast.specs.Casts.{converted, IsCastTarget, HasRowsToConvert, IsConverted, IsNotConverted};
-ghost use Rattle.vx_kernel.specs.Computed.{IsTaken, IsMade, IsComputed, IsNotComputed};
+ghost use Rattle.vx_kernel.specs.Computed.{Takes, IsMade, IsComputed, IsNotComputed};
 ghost use Rattle.vx_kernel.specs.Operands.{number_in, HasRow, IsFaultyRow, IsCalculated};
 ghost use Rattle.vx_rows.specs.ValidRows.{is_valid, HasValidity, nullability_in};
 
@@ -39,8 +39,7 @@ pub fn cast(
     input: &Argument<'_>,
     len: usize,
 ) -> VortexResult<Canonical>
-    requires input { IsSized len input.now }
-    requires taken { IsTaken (Cast target.now) (types_of (input.now ∷ [])) }
+    requires { Takes (Cast target.now) (input.now ∷ []) len }
     ensures ok { IfOk result (λ c. IsComputed (Cast target.now) (input.now ∷ []) len (canonical_tree c)) }
     ensures err { IfErr result (IsNotComputed (Cast target.now) (input.now ∷ []) len) }
 {

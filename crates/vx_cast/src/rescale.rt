@@ -25,6 +25,7 @@ use vx_value::{DecimalDType, DecimalType, Rescaling, VortexError, VortexResult};
 
 /// Casts the `valid` rows of `integers`, `len` rows, to decimals of type `target`; the others are null. `Fault` if the type doesn't
 /// have one.
+#[tactic(auto, using(vx_rows::proofs::ValidRowsLemmas::counted))]
 pub(crate) fn integers_to_decimals(
     alloc: Global,
     target: DecimalDType,
@@ -44,6 +45,7 @@ pub(crate) fn integers_to_decimals(
 
 /// Casts the `valid` rows of `decimals`, `len` rows, to decimals of type `target`; the others are null. Shares their numbers if they are
 /// of that type. `Fault` if the type doesn't have one.
+#[tactic(auto, using(vx_rows::proofs::ValidRowsLemmas::counted))]
 pub(crate) fn cast_decimals(
     alloc: Global,
     target: DecimalDType,

@@ -174,20 +174,14 @@ module _ {X : Type 0} (read : X → Value) (of_items : List X → Data) (of_type
       (subst (λ x. KeepsExactly (masked_of x c) (column (with_nullability Nullable of_type) (length xs) (of_items xs) (child_of w (length xs)))) (sym whole_is)
       (masked_exactly xs v c (child_of w (length xs)) m (subst (λ n. IsBoth n v c (child_of w n)) flat.2 both)))
 
-  -- of a column `t` as an array of n rows, and of the child x of the validity that is joined to its own
-  pub canonical_masked : {E : Type 0} (found : Result Canonical E) (xs : List X) (own x : Option Tree) (given w : Validity) (n : ℕ) (t a s : Tree)
-      → t ≡ a → n ≡ len t → x ≡ child_of given n → t ≡ column (dtype t) (len t) (of_items xs) own
-      → IsFlat of_type (length xs) (dtype t) (len t) (shapes (slots_of (own ∷ []))) → nullability_by w ≡ Nullable → IsBoth n own x (child_of w n)
-      → s ≡ column (with_nullability (nullability_by w) of_type) (length xs) (of_items xs) (child_of w (length xs))
-      → IfOk found (λ c. canonical_tree c ≡ s) → IfOk found (λ c. KeepsExactly (masked_of a (child_of given (len a))) (canonical_tree c))
-  canonical_masked found xs own x given w n t a s of sized slot is flat nullable both stored =
-      let child = child_of given (len a) in
-      let same : x ≡ child = slot ∙ ap (child_of given) (sized ∙ ap len of) in
-      let both_told : IsBoth (len t) own child (child_of w (len t)) =
-      subst (λ k. IsBoth k own child (child_of w k)) sized (subst (λ y. IsBoth n own y (child_of w n)) same both) in
+  -- of a column `t` of n rows
+  pub canonical_masked : {E : Type 0} (found : Result Canonical E) (xs : List X) (own x : Option Tree) (w : Validity) (n : ℕ) (t s : Tree) → n ≡ len t
+      → t ≡ column (dtype t) (len t) (of_items xs) own → IsFlat of_type (length xs) (dtype t) (len t) (shapes (slots_of (own ∷ []))) → nullability_by w ≡ Nullable
+      → IsBoth n own x (child_of w n) → s ≡ column (with_nullability (nullability_by w) of_type) (length xs) (of_items xs) (child_of w (length xs))
+      → IfOk found (λ c. canonical_tree c ≡ s) → IfOk found (λ c. KeepsExactly (masked_of t x) (canonical_tree c))
+  canonical_masked found xs own x w n t s sized is flat nullable both stored =
       IfOk-weaker found _ _
-      (λ c made. subst (λ b. KeepsExactly (masked_of b child) (canonical_tree c)) of
-      (column_masked xs own child w t (canonical_tree c) is flat nullable both_told (made ∙ stored)))
+      (λ c made. column_masked xs own x w t (canonical_tree c) is flat nullable (subst (λ k. IsBoth k own x (child_of w k)) sized both) (made ∙ stored))
 
 -- text and bytes keep their type, whatever the nullability
 pub bytes_set : (st : Storage) (m : Nullability) → with_nullability Nullable (with_nullability m (bytes_type st)) ≡ with_nullability Nullable (bytes_type st)

@@ -38,7 +38,8 @@ fn repeat(alloc: Global, scalar: &Scalar, len: usize) -> VortexResult<Canonical>
     ensures err { IfErr result (λ e. e ≡ VortexError.OutOfMemory) }
 {
     let validity = repeated_validity(scalar);
-    match scalar.dtype().storage() {
+    let storage = scalar.dtype().storage();
+    match storage {
         Storage::Bits => {
             let bit = scalar.as_bool().unwrap_or(false);
             let bits = BitBuffer::repeat(alloc, bit, len)?;
@@ -60,7 +61,7 @@ fn repeat(alloc: Global, scalar: &Scalar, len: usize) -> VortexResult<Canonical>
         Storage::Text | Storage::Bytes => {
             let bytes = ByteBuffer::copy_from(alloc, scalar.as_bytes().unwrap_or(&[]))?;
             let rows = BinaryViews::repeat(alloc, bytes, len)?;
-            varbinview_column(alloc, scalar.dtype().storage(), rows, &validity)
+            varbinview_column(alloc, storage, rows, &validity)
         }
         Storage::Nulls => Ok(Canonical::Null(NullArray::new(alloc, len)?)),
     }

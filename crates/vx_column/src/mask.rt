@@ -1,11 +1,11 @@
 //! Columns with some of their rows made null.
 
-ghost use Rattle.std.specs.Prelude.{◌≡◌, ◌⊎◌, ◌∷◌, [], Some, map, IfOk, IfErr, IfSome};
+ghost use Rattle.std.specs.Prelude.{◌≡◌, ◌⊎◌, ◌∷◌, [], Some, true, map, IfOk, IfErr, IfSome};
 ghost use Rattle.vx_value.specs.Types.{bool, null};
 ghost use Rattle.vx_value.specs.Values.{boolean};
 ghost use Rattle.vx_value.specs.Cell.{value};
 ghost use Rattle.vx_fn.specs.declared.function.ScalarFnRef.TheVariants.{Binary};
-ghost use Rattle.vx_tree.specs.Tree.{dtype, len, nulls_of, call_of, masked_of};
+ghost use Rattle.vx_tree.specs.Tree.{dtype, len, datum, nulls_of, call_of, masked_of, is_canonical};
 ghost use Rattle.vx_tree.specs.Cells.{rows};
 ghost use Rattle.vx_tree.specs.Keeps.{KeepsExactly};
 ghost use Rattle.vx_tree.specs.Columns.{canonical_tree};
@@ -41,9 +41,20 @@ pub fn mask_validity_canonical(
         × AreUnread (len (canonical_tree column.now)) (child_of validity.now (len (canonical_tree column.now))) e)) }
 {
     let array = column.as_array();
+    let child = validity_to_child(alloc, validity, array.len())?;
+    mask_column(alloc, array, child)
+}
+
+/// Returns the rows of `array`, a canonical column, null where `child`, the slot of a validity, says so. `Fault` if the column is one of nulls and
+/// a row of `child` has no value.
+fn mask_column(alloc: Global, array: &ArrayRef, child: Option<ArrayRef>) -> VortexResult<Canonical>
+    requires canonical { is_canonical (datum array.now) ≡ true }
+    requires child { TellsAll (len array.now) child }
+    ensures ok { IfOk result (λ c. KeepsExactly (masked_of array.now child) (canonical_tree c)) }
+    ensures err { IfErr result (λ e. (e ≡ VortexError.OutOfMemory) ⊎ ((dtype array.now ≡ null) × AreUnread (len array.now) child e)) }
+{
     array.well();
     let len = array.len();
-    let child = validity_to_child(alloc, validity, len)?;
     match array.kind() {
         ArrayKind::Null => mask_nulls(alloc, &child, len),
         ArrayKind::Bool(bits, own) => {

@@ -2,7 +2,9 @@
 use Rattle.std.proofs.Common.{◌≡◌, ◌<◌, ℕ, ℤ, Bool, true, false, if◌then◌else◌, List, [], ◌∷◌, length, map, get_or, Some, refl, sym, ap, ◌∙◌, subst, arith}
 use Rattle.std.specs.List.{range_with_len}
 use Rattle.std.proofs.lemmas.List.FromFn.{get_or-map-range_with_len, length-map-range_with_len}
+use Rattle.std.proofs.lemmas.Result.{IfOk-weaker}
 use Rattle.std.proofs.lemmas.Simd.{map-map}
+use Rattle.std.specs.Prelude.{Result, IfOk}
 use Rattle.vx_value.specs.Types.{DataType, bool, primitive, decimal}
 use Rattle.vx_value.specs.Nullabilities.{with_nullability}
 use Rattle.vx_value.specs.Values as of
@@ -13,6 +15,7 @@ use Rattle.vx_value.specs.declared.decimal.DecimalType.{DecimalType}
 use Rattle.vx_value.specs.declared.dtype.PType.{PType}
 use Rattle.vx_value.specs.declared.dtype.Nullability.{Nullability}
 use Rattle.vx_value.specs.declared.dtype.Storage.{Storage}
+use Rattle.vx_value.specs.declared.error.VortexError.{VortexError}
 use Rattle.vx_mask.proofs.Lists.{same_below, all_below}
 use Rattle.vx_fn.specs.Apply.{apply}
 use Rattle.vx_fn.specs.ReturnTypes.{return_type}
@@ -20,15 +23,18 @@ use Rattle.vx_fn.specs.declared.function.ScalarFnRef.{ScalarFnRef}
 use Rattle.vx_tree.specs.ColumnTypes.{bytes_type}
 use Rattle.vx_tree.specs.Tree as enc
 use Rattle.vx_tree.specs.Tree.{Tree, Data, dtype, slots_of, column, nulls_of, is_canonical}
+use Rattle.vx_tree.specs.Columns.{canonical_tree}
+use Rattle.vx_tree.specs.declared.canonical.Canonical.{Canonical}
 use Rattle.vx_tree.specs.Cells.{slots_rows, node_cells, cells_at, valid_cells}
 use Rattle.vx_tree.specs.Validities.{nullability_by, child_of}
 use Rattle.vx_tree.specs.declared.validity.Validity.{Validity}
-use Rattle.vx_rows.specs.Arguments.{types_of, row_of}
+use Rattle.vx_rows.specs.Arguments.{types_of, row_of, plain_type, value_at}
 use Rattle.vx_kernel.specs.Computed.{IsMade, IsComputed}
 use Rattle.vx_rows.specs.Stored.{boolean_column, integer_column, decimal_column, bytes_column}
 use Rattle.vx_rows.specs.Nulls.{validity_cells}
 use Rattle.vx_rows.specs.ValidRows.{is_valid, HasValidity, nullability_in, child_in, IsValidityOf, null_unless}
 use Rattle.vx_rows.specs.declared.argument.Argument.{Argument}
+use Rattle.vx_rows.specs.declared.argument.ArgumentRows.{ArgumentRows}
 use Rattle.vx_rows.specs.declared.valid.ValidRows.{ValidRows}
 use Rattle.vx_rows.proofs.ValidRowsLemmas.{filled_rows, filled_clean, one_slot}
 
@@ -60,6 +66,20 @@ made_stored read d g f valid n xs u are same h =
     (λ i lt here. ap (λ zs. value (read (get_or zs i d))) are
     ∙ ap (λ z. value (read z)) (get_or-map-range_with_len g 0 n i i d lt (omega arith))
     ∙ ap value (same i)) h
+
+-- the rows of an argument, by items that stand for them
+pub rows_made : {X : Type 0} (read : X → Value) (d : X) (g : ℕ → X) (rows stored : ArgumentRows) (valid : ValidRows) (n : ℕ) (xs : List X) (ty : DataType)
+    (r : Result Canonical VortexError) → rows ≡ stored → xs ≡ map g (range_with_len 0 n) → ((i : ℕ) → read (g i) ≡ value_at stored i)
+    → ty ≡ with_nullability (nullability_in valid) (plain_type stored)
+    → IfOk r (λ c. (dtype (canonical_tree c) ≡ ty) × IsMade valid (λ i. value (read (get_or xs i d))) n (canonical_tree c))
+    → IfOk r (λ c. (dtype (canonical_tree c) ≡ with_nullability (nullability_in valid) (plain_type rows))
+    × IsMade valid (λ i. value (value_at rows i)) n (canonical_tree c))
+rows_made read d g rows stored valid n xs ty r is are same typed =
+    IfOk-weaker r _ _
+    (λ c h. (
+      h.0 ∙ typed ∙ ap (λ q. with_nullability (nullability_in valid) (plain_type q)) (sym is),
+      made_stored read d g (value_at rows) valid n xs (canonical_tree c) are (λ i. same i ∙ ap (λ q. value_at q i) (sym is)) h.1,
+    ))
 
 null_always : (b : Bool) → null_unless b (value null) ≡ value null
 null_always true = refl

@@ -1,6 +1,6 @@
 -- What a function gives, row by row.
 use Rattle.std.specs.Prelude.{◌≡◌, ◌⊎◌, ℕ, List, map, Some, true}
-use Rattle.std.specs.List.{range_with_len}
+use Rattle.std.specs.List.{range_with_len, AllByRecursion}
 use Rattle.vx_value.specs.Types.{DataType}
 use Rattle.vx_value.specs.Cell.{Cell}
 use Rattle.vx_value.specs.declared.error.VortexError.{VortexError}
@@ -10,7 +10,7 @@ use Rattle.vx_fn.specs.ReturnTypes.{return_type}
 use Rattle.vx_fn.specs.declared.function.ScalarFnRef.{ScalarFnRef}
 use Rattle.vx_tree.specs.Tree.{Tree, dtype, len, datum, slots, is_canonical}
 use Rattle.vx_tree.specs.Cells.{rows, HasNoFault, AreClean}
-use Rattle.vx_rows.specs.Arguments.{types_of, row_of}
+use Rattle.vx_rows.specs.Arguments.{types_of, row_of, IsSized}
 use Rattle.vx_rows.specs.ValidRows.{is_valid, null_unless}
 use Rattle.vx_rows.specs.declared.argument.Argument.{Argument}
 use Rattle.vx_rows.specs.declared.valid.ValidRows.{ValidRows}
@@ -49,3 +49,8 @@ IsNotComputed f args n e = IsNoResult f (types_of args) (row_of args) n e
 -- f takes arguments of these types
 abbrev pub IsTaken : ScalarFnRef → List DataType → Type 0
 IsTaken f tys = (ty : DataType) × (return_type f tys ≡ Some ty)
+
+-- f takes these arguments, n rows of each
+pub record Takes (f : ScalarFnRef) (args : List Argument) (n : ℕ) : Type 0 where
+  pub sized : AllByRecursion (IsSized n) args
+  pub types : IsTaken f (types_of args)

@@ -1,15 +1,51 @@
--- Division at a native type.
+-- Arithmetic at a native type.
 use Rattle.std.proofs.Common.{◌≡◌, ◌≢◌, ◌↔◌, ℤ, zero, suc, pos, negsuc, Bool, if◌then◌else◌, true, false, Option, Some, None, MatchOption, int_div, inl}
-use Rattle.std.proofs.Common.{inr, refl, sym, ap, ◌∙◌, arith}
+use Rattle.std.proofs.Common.{inr, refl, sym, ap, subst, ◌∙◌, arith}
+use Rattle.std.specs.Prelude.{IfSome}
 use Rattle.std.specs.Ordering.{int_cmp, is_eq}
 use Rattle.std.proofs.lemmas.Bool.Decides.{nat_tests}
 use Rattle.std.proofs.lemmas.Int.{ints}
-use Rattle.num_traits.specs.Laws.{Divides}
+use Rattle.num_traits.specs.Laws.{Checks, Divides}
 use Rattle.vx_value.specs.Values.{integer}
-use Rattle.vx_value.specs.Cell.{value, fault}
+use Rattle.vx_value.specs.Cell.{Cell, value, fault}
 use Rattle.vx_value.specs.IsOf.{in_range}
 use Rattle.vx_value.specs.declared.dtype.PType.{PType}
-use Rattle.vx_fn.specs.Arithmetic.{number, quotient}
+use Rattle.vx_fn.specs.Arithmetic.{number, divided, calculated, calculated_by}
+use Rattle.vx_fn.specs.declared.function.Operator.{Operator}
+use Rattle.vx_operator.specs.Digits.{IsWithin}
+
+-- ---- a number that the type is asked for
+
+module _ {T : Type 0} (read : T → ℤ) (fits : ℤ → Type 0) where
+  pub fitted : (z : ℤ) (r : Option T) → Checks read fits z r → (fit : ℤ → Cell) → IsWithin fits fit → MatchOption r (fit z ≡ fault) (λ v. fit z ≡ fit (read v))
+  fitted z None h fit within = within z h
+  fitted z (Some v) h fit within = ap fit (sym h.1)
+
+  pub own_fits : (z : ℤ) (r : Option T) → Checks read fits z r → IfSome r (λ v. fits (read v))
+  own_fits z None h = tt
+  own_fits z (Some v) h = subst fits (sym h.1) h.0
+
+  -- of a division, if the divisor isn't 0
+  pub quotient_checks : (nonzero : Type 0) (z : ℤ) (r : Option T) → nonzero → Divides read fits nonzero z z r → Checks read fits z r
+  quotient_checks nonzero z None can h =
+      elim h [
+        | inl n ↦ absurd (n can)
+        | inr n ↦ n
+      ]
+  quotient_checks nonzero z (Some v) can h = (h.1, h.2)
+
+not_zero : (y : ℤ) → y ≢ pos 0 → is_eq (int_cmp y (pos 0)) ≡ false
+not_zero (pos zero) h = absurd (h refl)
+not_zero (pos (suc n)) h = grind (arith, nat_tests, ints)
+not_zero (negsuc n) h = grind (arith, nat_tests, ints)
+
+pub quotient_fitted : {T : Type 0} (read : T → ℤ) (fits : ℤ → Type 0) (x y : ℤ) → y ≢ pos 0 → (r : Option T) → Checks read fits (int_div x y) r
+    → (fit : ℤ → Cell) → IsWithin fits fit → MatchOption r (divided fit x y ≡ fault) (λ v. divided fit x y ≡ fit (read v))
+quotient_fitted read fits x y other r h fit within =
+    subst (λ c. MatchOption r (c ≡ fault) (λ v. c ≡ fit (read v))) (sym (ap (λ b. if b then fault else fit (int_div x y)) (not_zero y other)))
+    (fitted read fits (int_div x y) r h fit within)
+
+-- ---- the integers of a type
 
 number_yes : (p : PType) (z : ℤ) → in_range p z ≡ true → number p z ≡ value (integer z)
 number_yes p z h = ap (λ b. if b then value (integer z) else fault) h
@@ -21,22 +57,17 @@ not_true false h = refl
 number_no : (p : PType) (z : ℤ) → ¬ (in_range p z ≡ true) → number p z ≡ fault
 number_no p z h = ap (λ b. if b then value (integer z) else fault) (not_true (in_range p z) h)
 
-not_zero : (y : ℤ) → y ≢ pos 0 → is_eq (int_cmp y (pos 0)) ≡ false
-not_zero (pos zero) h = absurd (h refl)
-not_zero (pos (suc n)) h = grind (arith, nat_tests, ints)
-not_zero (negsuc n) h = grind (arith, nat_tests, ints)
+-- the cell of a row, from what the operator gives of any cells of the type's numbers
+pub integer_calculated : {T : Type 0} (read : T → ℤ) (fits : ℤ → Type 0) (p : PType) → ((z : ℤ) → fits z ↔ (in_range p z ≡ true)) → (op : Operator) (x y u v : ℤ)
+    → x ≡ u → y ≡ v → (r : Option T)
+    → ((fit : ℤ → Cell) → IsWithin fits fit → MatchOption r (calculated_by op fit x y ≡ fault) (λ w. calculated_by op fit x y ≡ fit (read w)))
+    → IfSome r (λ w. fits (read w)) → MatchOption r (calculated op p u v ≡ fault) (λ w. calculated op p u v ≡ value (integer (read w)))
+integer_calculated {T = T} read fits p law op x y u v left right r h own = by_option r (h (number p) (λ z no. number_no p z (λ t. no ((law z).1 t)))) own
+  where
+    same : calculated op p u v ≡ calculated op p x y
+    same = λ j. calculated op p (sym left j) (sym right j)
 
-divided : (p : PType) (x y : ℤ) → y ≢ pos 0 → quotient p x y ≡ number p (int_div x y)
-divided p x y h = ap (λ b. if b then fault else number p (int_div x y)) (not_zero y h)
-
--- a division where the divisor isn't 0
-pub quotient_is : {T : Type 0} (read : T → ℤ) (p : PType) (fits : ℤ → Type 0) (nonzero : Type 0) (x y : ℤ) (r : Option T)
-    → ((z : ℤ) → fits z ↔ (in_range p z ≡ true)) → y ≢ pos 0 → nonzero → Divides read fits nonzero (int_div x y) (int_div x y) r
-    → MatchOption r (quotient p x y ≡ fault) (λ v. quotient p x y ≡ value (integer (read v)))
-quotient_is read p fits nonzero x y None law other can h =
-    elim h [
-      | inl n ↦ absurd (n can)
-      | inr n ↦ divided p x y other ∙ number_no p (int_div x y) (λ t. n ((law (int_div x y)).1 t))
-    ]
-quotient_is read p fits nonzero x y (Some v) law other can h =
-    divided p x y other ∙ number_yes p (int_div x y) ((law (int_div x y)).0 h.1) ∙ ap (λ z. value (integer z)) (sym h.2)
+    by_option : (r : Option T) → MatchOption r (calculated op p x y ≡ fault) (λ w. calculated op p x y ≡ number p (read w)) → IfSome r (λ w. fits (read w))
+        → MatchOption r (calculated op p u v ≡ fault) (λ w. calculated op p u v ≡ value (integer (read w)))
+    by_option None k own = same ∙ k
+    by_option (Some w) k own = same ∙ k ∙ number_yes p (read w) ((law (read w)).0 own)

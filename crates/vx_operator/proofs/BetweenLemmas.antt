@@ -26,11 +26,11 @@ use Rattle.vx_fn.specs.declared.functions.between.StrictComparison.{StrictCompar
 use Rattle.vx_fn.specs.declared.functions.between.StrictComparison.TheVariants.{Strict, NonStrict}
 use Rattle.vx_fn.proofs.MeaningsLemmas.{union_with_plain}
 use Rattle.vx_tree.specs.Tree.{Tree, dtype}
-use Rattle.vx_rows.specs.Arguments.{IsSized, types_of, value_at, plain_type, type_of_argument}
+use Rattle.vx_rows.specs.Arguments.{types_of, value_at, plain_type, type_of_argument}
 use Rattle.vx_operator.specs.Bits.{bit_by}
 use Rattle.vx_operator.specs.Bounds.{bound_by, is_between, AreBetween}
 use Rattle.vx_operator.specs.Checks.{checked_rows}
-use Rattle.vx_kernel.specs.Computed.{IsTaken, IsMade, IsComputed}
+use Rattle.vx_kernel.specs.Computed.{Takes, IsMade, IsComputed}
 use Rattle.vx_rows.specs.ValidRows.{is_valid, nullability_in, null_unless}
 use Rattle.vx_rows.specs.declared.argument.Argument.{Argument}
 use Rattle.vx_rows.specs.declared.argument.ArgumentRows.{ArgumentRows}
@@ -104,50 +104,49 @@ kept_cell : (v b : Bool) → null_unless v (value (boolean (v && b))) ≡ null_u
 kept_cell true b = refl
 kept_cell false b = refl
 
-module _ (options : BetweenOptions) (n : ℕ) (a l u : Argument) (first : IsSized n a) (second : IsSized n l) (third : IsSized n u)
-    (taken : IsTaken (Between options) (types_of (a ∷ l ∷ u ∷ []))) where
+module _ (options : BetweenOptions) (n : ℕ) (a l u : Argument) (takes : Takes (Between options) (a ∷ l ∷ u ∷ []) n) where
   same_types : (same_but_nullability (type_of_argument a) (type_of_argument l) && same_but_nullability (type_of_argument a) (type_of_argument u)) ≡ true
-  same_types = by_test _ taken.1
+  same_types = by_test _ takes.types.1
     where
       by_test : (t : Bool)
           → widened (type_of_argument a) (widened (type_of_argument l) (widened (type_of_argument u) (if t then ordered_type (type_of_argument a) else None)))
-          ≡ Some taken.0
+          ≡ Some takes.types.0
           → t ≡ true
       by_test true e = refl
       by_test false e = absurd (cc)
 
   pub array_ordered : is_ordered (plain_type a.rows) ≡ true
   array_ordered =
-      sym (ap is_ordered (argument_type n a first) ∙ ordered_again (nullability_in a.valid) (plain_type a.rows))
-      ∙ by_tests _ _ taken.1
+      sym (ap is_ordered (argument_type n a takes.sized.0) ∙ ordered_again (nullability_in a.valid) (plain_type a.rows))
+      ∙ by_tests _ _ takes.types.1
     where
       by_tests : (t o : Bool)
           → widened (type_of_argument a) (widened (type_of_argument l) (widened (type_of_argument u)
           (if t then (if o then Some (bool NonNullable) else None) else None)))
-          ≡ Some taken.0
+          ≡ Some takes.types.0
           → o ≡ true
       by_tests true true e = refl
       by_tests true false e = absurd (cc)
       by_tests false o e = absurd (cc)
 
   pub same_lower : plain_type a.rows ≡ plain_type l.rows
-  same_lower = plain_same n a l first second (first_so _ _ same_types)
+  same_lower = plain_same n a l takes.sized.0 takes.sized.1.0 (first_so _ _ same_types)
 
   pub same_upper : plain_type a.rows ≡ plain_type u.rows
-  same_upper = plain_same n a u first third (second_so (same_but_nullability (type_of_argument a) (type_of_argument l)) _ same_types)
+  same_upper = plain_same n a u takes.sized.0 takes.sized.1.1.0 (second_so (same_but_nullability (type_of_argument a) (type_of_argument l)) _ same_types)
 
   between_typed : return_type (Between options) (types_of (a ∷ l ∷ u ∷ []))
       ≡ Some (bool (union (nullability_in a.valid) (union (nullability_in l.valid) (nullability_in u.valid))))
   between_typed =
-      let of_array = argument_nullability n a first in
-      let of_lower = argument_nullability n l second in
-      let of_upper = argument_nullability n u third in
+      let of_array = argument_nullability n a takes.sized.0 in
+      let of_lower = argument_nullability n l takes.sized.1.0 in
+      let of_upper = argument_nullability n u takes.sized.1.1.0 in
       let A = type_of_argument a in
       let L = type_of_argument l in
       let U = type_of_argument u in
       ap (λ t. widened A (widened L (widened U (if t then ordered_type A else None)))) same_types
       ∙ ap (λ b. widened A (widened L (widened U (if b then Some (bool NonNullable) else None))))
-      (ap is_ordered (argument_type n a first) ∙ ordered_again (nullability_in a.valid) (plain_type a.rows) ∙ array_ordered)
+      (ap is_ordered (argument_type n a takes.sized.0) ∙ ordered_again (nullability_in a.valid) (plain_type a.rows) ∙ array_ordered)
       ∙ ap (λ m. Some (bool (union (nullability_of A) (union (nullability_of L) m)))) (union_with_plain (nullability_of U) NonNullable refl)
       ∙ (λ j. Some (bool (union (of_array j) (union (of_lower j) (of_upper j)))))
 

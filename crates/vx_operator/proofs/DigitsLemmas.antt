@@ -1,12 +1,11 @@
 -- Numbers of so many digits.
-use Rattle.std.proofs.Common.{◌≡◌, ◌≤◌, ◌^◌, ℕ, ℤ, pos, Bool, true, false, if◌then◌else◌, Option, Some, None}
-use Rattle.std.proofs.Common.{MatchOption, FitsSigned, to_z, of_z, nat_abs, rules, refl, sym, ap, ◌∙◌, arith}
+use Rattle.std.proofs.Common.{◌≡◌, ◌≤◌, ◌^◌, ℕ, ℤ, pos, Bool, true, false, if◌then◌else◌}
+use Rattle.std.proofs.Common.{FitsSigned, to_z, of_z, nat_abs, rules, refl, sym, ap, ◌∙◌, arith}
 use Rattle.std.specs.Prelude.{◌-ℤ◌, nat_lt}
 use Rattle.std.proofs.Math.Facts.{to_z-of_z}
 use Rattle.std.specs.Int.{w128}
 use Rattle.std.proofs.lemmas.Bool.Decides.{nat_tests}
 use Rattle.std.proofs.lemmas.Int.{ints}
-use Rattle.num_traits.specs.Laws.{Checks}
 use Rattle.vx_value.specs.Casts.{sized}
 use Rattle.vx_value.specs.Cell.{Cell, value, fault}
 use Rattle.vx_value.specs.Decimals.{has_digits, smallest_width}
@@ -80,12 +79,6 @@ sized_within t p s fits narrow few law z not_fits = by_test (has_digits p z) ref
     by_test : (b : Bool) → has_digits p z ≡ b → (if b then value (decimal z s) else fault) ≡ fault
     by_test true e = absurd (not_fits (law z (digits_fit t p z narrow few e)))
     by_test false e = refl
-
--- a number that the type is asked for
-pub fitted : {T : Type 0} (read : T → ℤ) (fits : ℤ → Type 0) (z : ℤ) (r : Option T) → Checks read fits z r → (fit : ℤ → Cell) → IsWithin fits fit
-    → MatchOption r (fit z ≡ fault) (λ v. fit z ≡ fit (read v))
-fitted read fits z None h fit within = within z h
-fitted read fits z (Some v) h fit within = ap fit (sym h.1)
 
 -- a row of an operation, from what the operator gives of any cells of the type's numbers
 module _ (t : DecimalType) (op : Operator) (d : DecimalDType) (least greatest : ℤ) (has : HasLimits t d.precision least greatest) (fits : ℤ → Type 0)

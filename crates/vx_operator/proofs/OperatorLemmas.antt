@@ -23,8 +23,8 @@ use Rattle.vx_value.specs.declared.dtype.Storage.{Storage}
 use Rattle.vx_value.specs.declared.dtype.Storage.TheVariants.{Text}
 use Rattle.vx_tree.specs.ColumnTypes.{bytes_type}
 use Rattle.vx_operator.specs.Bits.{bit_by}
-use Rattle.vx_rows.specs.Arguments.{type_of_argument, plain_type, types_of, ptype_in, IsSized}
-use Rattle.vx_kernel.specs.Computed.{IsTaken}
+use Rattle.vx_rows.specs.Arguments.{type_of_argument, plain_type, types_of, ptype_in}
+use Rattle.vx_kernel.specs.Computed.{Takes}
 use Rattle.vx_rows.specs.ValidRows.{nullability_in}
 use Rattle.vx_kernel.proofs.ArgumentsLemmas.{argument_type, argument_nullability, plain_same}
 use Rattle.vx_rows.specs.declared.argument.Argument.{Argument}
@@ -170,28 +170,28 @@ taken_before : {A B : Type 0} (f : A → B) (o : Option A) (b : B) → option_ma
 taken_before f None b e = absurd (cc)
 taken_before f (Some a) b e = refl
 
-module _ (op : Operator) (n : ℕ) (a b : Argument) (first : IsSized n a) (second : IsSized n b) (taken : IsTaken (Binary op) (types_of (a ∷ b ∷ []))) where
+module _ (op : Operator) (n : ℕ) (a b : Argument) (takes : Takes (Binary op) (a ∷ b ∷ []) n) where
   same_types : same_but_nullability (type_of_argument a) (type_of_argument b) ≡ true
-  same_types = by_test (same_but_nullability (type_of_argument a) (type_of_argument b)) taken.1
+  same_types = by_test (same_but_nullability (type_of_argument a) (type_of_argument b)) takes.types.1
     where
       by_test : (t : Bool) → widened (type_of_argument a) (widened (type_of_argument b) (if t then operator_type op (type_of_argument a) else None))
-          ≡ Some taken.0
+          ≡ Some takes.types.0
           → t ≡ true
       by_test true e = refl
       by_test false e = absurd (cc)
 
   pub operands_same : plain_type a.rows ≡ plain_type b.rows
-  operands_same = plain_same n a b first second same_types
+  operands_same = plain_same n a b takes.sized.0 takes.sized.1.0 same_types
 
   pub operands_typed : return_type (Binary op) (types_of (a ∷ b ∷ []))
       ≡ option_map (with_nullability (union (nullability_in a.valid) (nullability_in b.valid))) (operator_type op (plain_type a.rows))
   operands_typed =
-      let left = argument_nullability n a first in
-      let right = argument_nullability n b second in
+      let left = argument_nullability n a takes.sized.0 in
+      let right = argument_nullability n b takes.sized.1.0 in
       result_type op (type_of_argument a) (type_of_argument b) same_types
       ∙ (λ i. option_map (with_nullability (union (left i) (right i))) (operator_type op (type_of_argument a)))
       ∙ ap (option_map (with_nullability (union (nullability_in a.valid) (nullability_in b.valid))))
-      (ap (operator_type op) (argument_type n a first) ∙ operator_again op (nullability_in a.valid) a.rows)
+      (ap (operator_type op) (argument_type n a takes.sized.0) ∙ operator_again op (nullability_in a.valid) a.rows)
 
   pub operands_taken : IsSome (operator_type op (plain_type a.rows))
-  operands_taken = taken_before _ _ taken.0 (sym operands_typed ∙ taken.1)
+  operands_taken = taken_before _ _ takes.types.0 (sym operands_typed ∙ takes.types.1)

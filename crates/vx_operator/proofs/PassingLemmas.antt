@@ -18,8 +18,8 @@ use Rattle.vx_fn.specs.declared.function.ScalarFnRef.TheVariants.{Binary, Not}
 use Rattle.vx_fn.proofs.MeaningsLemmas.{union_with_plain}
 use Rattle.vx_tree.specs.Cells.{HasNoFault}
 use Rattle.vx_tree.specs.Tree.{Tree, dtype}
-use Rattle.vx_rows.specs.Arguments.{IsSized, AreShown, types_of, plain_type, pair_at, row_of, value_at}
-use Rattle.vx_kernel.specs.Computed.{IsTaken, IsComputed, IsNotComputed}
+use Rattle.vx_rows.specs.Arguments.{AreShown, types_of, plain_type, pair_at, row_of, value_at}
+use Rattle.vx_kernel.specs.Computed.{Takes, IsComputed, IsNotComputed}
 use Rattle.vx_operator.specs.Filled.{IsFilled, IsNotFilled}
 use Rattle.vx_rows.specs.ValidRows.{is_valid, nullability_in, null_unless}
 use Rattle.vx_rows.specs.declared.argument.Argument.{Argument}
@@ -43,7 +43,7 @@ null_pair op ty false true x y h = ap (λ b. null_rule b null (null_rule b y (op
 null_pair op ty false false x y h = ap (λ b. null_rule b null (null_rule b null (operated op ty null null))) h
 
 -- an operator that a null passes through
-module _ (op : Operator) (n : ℕ) (a b : Argument) (first : IsSized n a) (second : IsSized n b) (taken : IsTaken (Binary op) (types_of (a ∷ b ∷ [])))
+module _ (op : Operator) (n : ℕ) (a b : Argument) (takes : Takes (Binary op) (a ∷ b ∷ []) n)
     (plain : is_logical op ≡ false) (valid : ValidRows) (rows : (i : ℕ) → i < n → is_valid valid i ≡ is_valid a.valid i && is_valid b.valid i)
     (nullability : nullability_in valid ≡ union (nullability_in a.valid) (nullability_in b.valid)) where
   same_cell : (ty : DataType) (i : ℕ) → i < n
@@ -53,7 +53,7 @@ module _ (op : Operator) (n : ℕ) (a b : Argument) (first : IsSized n a) (secon
       ∙ sym (null_pair op ty (is_valid a.valid i) (is_valid b.valid i) (value_at a.rows i) (value_at b.rows i) plain)
 
   pub operands_shown : AreShown a.rows valid n
-  operands_shown = by_rows a.rows first.2
+  operands_shown = by_rows a.rows takes.sized.0.2
     where
       by_rows : (r : ArgumentRows) → AreShown r a.valid n → AreShown r valid n
       by_rows Nulls h = λ i lt. rows i lt ∙ ap (λ v. v && is_valid b.valid i) (h i lt)
@@ -64,7 +64,7 @@ module _ (op : Operator) (n : ℕ) (a b : Argument) (first : IsSized n a) (secon
 
   same_type : return_type (Binary op) (types_of (a ∷ b ∷ [])) ≡ option_map (with_nullability (nullability_in valid)) (operator_type op (plain_type a.rows))
   same_type =
-      operands_typed op n a b first second taken
+      operands_typed op n a b takes
       ∙ ap (λ m. option_map (with_nullability m) (operator_type op (plain_type a.rows))) (sym nullability)
 
   pub operands_computed : (u : Tree) → IsFilled (Binary op) (operator_type op (plain_type a.rows)) (pair_at a.rows b.rows) valid n u

@@ -9,8 +9,8 @@ use Rattle.vx_fn.specs.declared.function.Operator.TheVariants.{Lt, Lte}
 use Rattle.vx_fn.specs.declared.functions.between.StrictComparison.{StrictComparison}
 use Rattle.vx_fn.specs.declared.functions.between.StrictComparison.TheVariants.{Strict, NonStrict}
 use Rattle.vx_fn.specs.declared.functions.between.BetweenOptions.{BetweenOptions}
-use Rattle.vx_rows.specs.Arguments.{value_at}
-use Rattle.vx_rows.specs.ValidRows.{is_valid}
+use Rattle.vx_rows.specs.Arguments.{value_at, plain_type, HasStored}
+use Rattle.vx_rows.specs.ValidRows.{is_valid, HasValidity}
 use Rattle.vx_rows.specs.declared.argument.ArgumentRows.{ArgumentRows}
 use Rattle.vx_rows.specs.declared.valid.ValidRows.{ValidRows}
 use Rattle.vx_operator.specs.Checks.{checked_rows}
@@ -19,6 +19,15 @@ use Rattle.vx_operator.specs.Checks.{checked_rows}
 abbrev pub bound_by : StrictComparison → Operator
 bound_by Strict = Lt
 bound_by NonStrict = Lte
+
+-- an array and its bounds, n rows each, which are of one type; these are valid
+pub record AreBounded (array lower upper : ArgumentRows) (valid : ValidRows) (n : ℕ) : Type 0 where
+  pub array_stored : HasStored array n
+  pub lower_stored : HasStored lower n
+  pub upper_stored : HasStored upper n
+  pub same_lower : plain_type array ≡ plain_type lower
+  pub same_upper : plain_type array ≡ plain_type upper
+  pub sized : HasValidity valid n
 
 -- row i of `array` lies between row i of the bounds
 abbrev pub is_between : BetweenOptions → (array lower upper : ℕ → Value) → ℕ → Bool

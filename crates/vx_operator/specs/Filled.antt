@@ -1,5 +1,5 @@
 -- What a function gives on the valid rows.
-use Rattle.std.specs.Prelude.{◌≡◌, ◌⊎◌, ℕ, List, map, Option, Some, option_map}
+use Rattle.std.specs.Prelude.{◌≡◌, ◌⊎◌, ℕ, List, map, Option, Some, IsSome, option_map}
 use Rattle.std.specs.List.{range_with_len}
 use Rattle.vx_value.specs.Types.{DataType}
 use Rattle.vx_value.specs.Nullabilities.{with_nullability}
@@ -13,9 +13,9 @@ use Rattle.vx_fn.specs.declared.function.ScalarFnRef.{ScalarFnRef}
 use Rattle.vx_fn.specs.declared.function.ScalarFnRef.TheVariants.{Binary}
 use Rattle.vx_tree.specs.Tree.{Tree, dtype}
 use Rattle.vx_tree.specs.Cells.{HasNoFault}
-use Rattle.vx_rows.specs.Arguments.{plain_type, pair_at}
+use Rattle.vx_rows.specs.Arguments.{plain_type, pair_at, HasStored}
 use Rattle.vx_rows.specs.declared.argument.ArgumentRows.{ArgumentRows}
-use Rattle.vx_rows.specs.ValidRows.{is_valid, nullability_in, null_unless}
+use Rattle.vx_rows.specs.ValidRows.{is_valid, nullability_in, null_unless, HasValidity}
 use Rattle.vx_rows.specs.declared.valid.ValidRows.{ValidRows}
 use Rattle.vx_kernel.specs.Computed.{IsMade}
 
@@ -36,6 +36,14 @@ pub record IsFilled (f : ScalarFnRef) (of_type : Option DataType) (row : ℕ →
 abbrev pub IsNotFilled : ScalarFnRef → Option DataType → (ℕ → List Cell) → ValidRows → ℕ → VortexError → Type 0
 IsNotFilled f of_type row valid n e =
     (e ≡ OutOfMemory) ⊎ ((e ≡ Fault) × ((ty : DataType) → filled_type valid of_type ≡ Some ty → ¬ (HasNoFault (filled_cells f ty row valid n))))
+
+-- op takes the rows of two arguments of one type, n rows each, of which these are valid
+pub record Operates (op : Operator) (lhs rhs : ArgumentRows) (valid : ValidRows) (n : ℕ) : Type 0 where
+  pub left : HasStored lhs n
+  pub right : HasStored rhs n
+  pub same : plain_type lhs ≡ plain_type rhs
+  pub taken : IsSome (operator_type op (plain_type lhs))
+  pub sized : HasValidity valid n
 
 -- u is the canonical column of an operator on the rows of two arguments of one type: null in those that aren't valid
 abbrev pub IsOperated : Operator → (lhs rhs : ArgumentRows) → ValidRows → ℕ → Tree → Type 0

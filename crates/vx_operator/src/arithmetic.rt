@@ -1,17 +1,17 @@
 //! Arithmetic on integers.
 
-ghost use Rattle.std.specs.Prelude.{◌≡◌, false, IfOk, IfErr, IsSome, MatchOption};
+ghost use Rattle.std.specs.Prelude.{◌≡◌, ℤ, false, IfOk, IfErr, IfSome, MatchOption};
 ghost use Rattle.vx_value.specs.Values.{integer};
-ghost use Rattle.vx_value.specs.Cell.{value, fault};
-ghost use Rattle.vx_fn.specs.Binary.{is_comparison, operator_type};
-ghost use Rattle.vx_fn.specs.Arithmetic.{calculated};
+ghost use Rattle.vx_value.specs.Cell.{Cell, fault};
+ghost use Rattle.vx_fn.specs.Binary.{is_comparison};
+ghost use Rattle.vx_fn.specs.Arithmetic.{calculated, calculated_by};
 ghost use Rattle.vx_fn.specs.declared.function.Operator.{Operator as OperatorOf};
 ghost use Rattle.vx_fn.specs.declared.function.Operator.TheVariants.{Add, Sub, Mul, Div};
 ghost use Rattle.vx_tree.specs.Columns.{canonical_tree};
-ghost use Rattle.vx_rows.specs.Arguments.{ptype_in, AreIntegers, plain_type};
-ghost use Rattle.vx_operator.specs.Filled.{IsOperated, IsNotOperated};
+ghost use Rattle.vx_rows.specs.Arguments.{ptype_in};
+ghost use Rattle.vx_operator.specs.Digits.{IsWithin};
+ghost use Rattle.vx_operator.specs.Filled.{Operates, IsOperated, IsNotOperated};
 ghost use Rattle.vx_kernel.specs.Operands.{number_in, HasRow};
-ghost use Rattle.vx_rows.specs.ValidRows.{HasValidity};
 ghost use Rattle.vx_rows.specs.declared.argument.ArgumentRows.TheVariants.{Integers};
 
 use crate::checked::CheckedNumber;
@@ -28,11 +28,12 @@ pub(crate) trait Arithmetic {
     // its variant of `Operator`
     ghost operator: { OperatorOf };
 
-    /// Computes one row; `None` if its value isn't in the range of `T`, or the divisor is 0.
-    fn calculate_row<T: NativeInteger + CheckedNumber>(lhs: T, rhs: T) -> Option<T>
-        ensures { MatchOption result
-            (calculated operator T.kind (T.value lhs) (T.value rhs) ≡ fault)
-            (λ r. calculated operator T.kind (T.value lhs) (T.value rhs) ≡ value (integer (T.value r))) };
+    /// Computes one row; `None` if `T` doesn't have its value, or the divisor is 0.
+    fn calculate_row<T: CheckedNumber>(lhs: T, rhs: T) -> Option<T>
+        ensures calculated { (fit : ℤ → Cell) → IsWithin T.fits fit → MatchOption result
+            (calculated_by operator fit (T.value lhs) (T.value rhs) ≡ fault)
+            (λ r. calculated_by operator fit (T.value lhs) (T.value rhs) ≡ fit (T.value r)) }
+        ensures fits { IfSome result (λ r. T.fits (T.value r)) };
 }
 
 /// `x + y`.
@@ -42,7 +43,7 @@ impl Arithmetic for Sum {
     ghost operator = { Add };
 
     #[inline]
-    fn calculate_row<T: NativeInteger + CheckedNumber>(lhs: T, rhs: T) -> Option<T> {
+    fn calculate_row<T: CheckedNumber>(lhs: T, rhs: T) -> Option<T> {
         lhs.checked_add(&rhs)
     }
 }
@@ -54,7 +55,7 @@ impl Arithmetic for Difference {
     ghost operator = { Sub };
 
     #[inline]
-    fn calculate_row<T: NativeInteger + CheckedNumber>(lhs: T, rhs: T) -> Option<T> {
+    fn calculate_row<T: CheckedNumber>(lhs: T, rhs: T) -> Option<T> {
         lhs.checked_sub(&rhs)
     }
 }
@@ -66,7 +67,7 @@ impl Arithmetic for Product {
     ghost operator = { Mul };
 
     #[inline]
-    fn calculate_row<T: NativeInteger + CheckedNumber>(lhs: T, rhs: T) -> Option<T> {
+    fn calculate_row<T: CheckedNumber>(lhs: T, rhs: T) -> Option<T> {
         lhs.checked_mul(&rhs)
     }
 }
@@ -78,8 +79,8 @@ impl Arithmetic for Quotient {
     ghost operator = { Div };
 
     #[inline]
-    fn calculate_row<T: NativeInteger + CheckedNumber>(lhs: T, rhs: T) -> Option<T> {
-        if rhs.to_wide() == 0 {
+    fn calculate_row<T: CheckedNumber>(lhs: T, rhs: T) -> Option<T> {
+        if rhs.widened() == 0 {
             return None;
         }
         lhs.checked_div(&rhs)
@@ -123,10 +124,7 @@ pub(crate) fn calculate<T: NativeInteger + CheckedNumber, A: Arithmetic>(
 ) -> VortexResult<Canonical>
     requires operator { is_comparison A.operator ≡ false }
     requires kind { T.kind ≡ ptype_in lhs }
-    requires lhs { AreIntegers (ptype_in lhs) lhs len }
-    requires rhs { AreIntegers (ptype_in lhs) rhs len }
-    requires valid { HasValidity valid.now len }
-    requires taken { IsSome (operator_type A.operator (plain_type (Integers lhs))) }
+    requires operands { Operates A.operator (Integers lhs) (Integers rhs) valid.now len }
     ensures ok { IfOk result (λ c. IsOperated A.operator (Integers lhs.entry) (Integers rhs.entry) valid.now len (canonical_tree c)) }
     ensures err { IfErr result (IsNotOperated A.operator (Integers lhs.entry) (Integers rhs.entry) valid.now len) }
 {

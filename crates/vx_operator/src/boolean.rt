@@ -9,9 +9,9 @@ ghost use Rattle.vx_operator.specs.Bits.{bit_by};
 ghost use Rattle.vx_value.specs.Cell.{value};
 ghost use Rattle.vx_fn.specs.declared.function.ScalarFnRef.TheVariants.{Not};
 ghost use Rattle.vx_tree.specs.Columns.{canonical_tree};
-ghost use Rattle.vx_rows.specs.Arguments.{types_of, value_at, IsSized};
-ghost use Rattle.vx_kernel.specs.Computed.{IsTaken, IsComputed};
-ghost use Rattle.vx_operator.specs.Filled.{IsFilled, IsOperated};
+ghost use Rattle.vx_rows.specs.Arguments.{value_at};
+ghost use Rattle.vx_kernel.specs.Computed.{Takes, IsComputed};
+ghost use Rattle.vx_operator.specs.Filled.{Operates, IsFilled, IsOperated};
 ghost use Rattle.vx_rows.specs.ValidRows.{HasValidity};
 ghost use Rattle.vx_rows.specs.declared.argument.ArgumentRows.TheVariants.{Bits};
 
@@ -62,10 +62,7 @@ pub(crate) fn operate_bools(
     valid: &ValidRows,
     len: usize,
 ) -> VortexResult<Canonical>
-    requires lhs { HasBits lhs len }
-    requires rhs { HasBits rhs len }
-    requires valid { HasValidity valid.now len }
-    requires taken { IsSome (operator_type operator (bool Nullability.NonNullable)) }
+    requires { Operates operator (Bits lhs) (Bits rhs) valid.now len }
     ensures ok { IfOk result (λ c. IsOperated operator (Bits lhs.entry) (Bits rhs.entry) valid.now len (canonical_tree c)) }
     ensures err { IfErr result (λ e. e ≡ VortexError.OutOfMemory) }
 {
@@ -76,8 +73,7 @@ pub(crate) fn operate_bools(
 
 /// Negates each row of `input`, `len` booleans; null stays null. The only error is `OutOfMemory`. (own)
 pub fn negate(alloc: Global, input: &Argument<'_>, len: usize) -> VortexResult<Canonical>
-    requires input { IsSized len input.now }
-    requires taken { IsTaken Not (types_of (input.now ∷ [])) }
+    requires { Takes Not (input.now ∷ []) len }
     ensures ok { IfOk result (λ c. IsComputed Not (input.now ∷ []) len (canonical_tree c)) }
     ensures err { IfErr result (λ e. e ≡ VortexError.OutOfMemory) }
 {

@@ -2,14 +2,13 @@
 
 ghost use Rattle.std.specs.Prelude.{◌≡◌, ◌<◌, ◌∷◌, [], ℕ, true, IfOk, IfErr};
 ghost use Rattle.vx_value.specs.Decimals.{smallest_width};
-ghost use Rattle.vx_mask.specs.Operands.{HasBits};
 ghost use Rattle.vx_fn.specs.Comparisons.{is_ordered};
 ghost use Rattle.vx_fn.specs.declared.function.ScalarFnRef.TheVariants.{Between};
 ghost use Rattle.vx_tree.specs.Columns.{canonical_tree};
-ghost use Rattle.vx_rows.specs.Arguments.{ptype_in, types_of, plain_type, IsSized, HasStored, AreIntegers, AreDecimals};
-ghost use Rattle.vx_operator.specs.Bounds.{bound_by, is_between, is_bounded, AreBetween};
+ghost use Rattle.vx_rows.specs.Arguments.{ptype_in, plain_type};
+ghost use Rattle.vx_operator.specs.Bounds.{AreBounded, bound_by, is_between, is_bounded, AreBetween};
 ghost use Rattle.vx_operator.specs.Checks.{checked_rows};
-ghost use Rattle.vx_kernel.specs.Computed.{IsTaken, IsComputed};
+ghost use Rattle.vx_kernel.specs.Computed.{Takes, IsComputed};
 ghost use Rattle.vx_rows.specs.ValidRows.{is_valid, HasValidity};
 ghost use Rattle.vx_rows.specs.declared.argument.ArgumentRows.TheVariants.{Bits, Integers, Decimals};
 
@@ -37,10 +36,7 @@ pub fn between(
     upper: &Argument<'_>,
     len: usize,
 ) -> VortexResult<Canonical>
-    requires array { IsSized len array.now }
-    requires lower { IsSized len lower.now }
-    requires upper { IsSized len upper.now }
-    requires taken { IsTaken (Between options) (types_of (array.now ∷ lower.now ∷ upper.now ∷ [])) }
+    requires { Takes (Between options) (array.now ∷ lower.now ∷ upper.now ∷ []) len }
     ensures ok { IfOk result (λ c. IsComputed (Between options) (array.now ∷ lower.now ∷ upper.now ∷ []) len (canonical_tree c)) }
     ensures err { IfErr result (λ e. e ≡ VortexError.OutOfMemory) }
 {
@@ -62,13 +58,8 @@ fn between_rows(
     valid: &ValidRows,
     len: usize,
 ) -> Result<BitBuffer, AllocError>
-    requires array { HasStored array len }
-    requires lower { HasStored lower len }
-    requires upper { HasStored upper len }
-    requires same_lower { plain_type array ≡ plain_type lower }
-    requires same_upper { plain_type array ≡ plain_type upper }
+    requires rows { AreBounded array lower upper valid.now len }
     requires ordered { is_ordered (plain_type array) ≡ true }
-    requires valid { HasValidity valid.now len }
     ensures { IfOk result (AreBetween options valid.now array.entry lower.entry upper.entry len) }
 {
     match (array, lower, upper) {
@@ -119,10 +110,7 @@ fn between_bits(
     valid: &ValidRows,
     len: usize,
 ) -> Result<BitBuffer, AllocError>
-    requires array { HasBits array len }
-    requires lower { HasBits lower len }
-    requires upper { HasBits upper len }
-    requires valid { HasValidity valid.now len }
+    requires { AreBounded (Bits array) (Bits lower) (Bits upper) valid.now len }
     ensures { IfOk result (AreBetween options valid.now (Bits array.entry) (Bits lower.entry) (Bits upper.entry) len) }
 {
     let above = operate_bits(
@@ -155,10 +143,7 @@ fn between_natives<T: NativeInteger>(
     len: usize,
 ) -> Result<BitBuffer, AllocError>
     requires kind { T.kind ≡ ptype_in array }
-    requires array { AreIntegers (ptype_in array) array len }
-    requires lower { AreIntegers (ptype_in array) lower len }
-    requires upper { AreIntegers (ptype_in array) upper len }
-    requires valid { HasValidity valid.now len }
+    requires rows { AreBounded (Integers array) (Integers lower) (Integers upper) valid.now len }
     ensures { IfOk result (AreBetween options valid.now (Integers array.entry) (Integers lower.entry) (Integers upper.entry) len) }
 {
     let array: Operand<'_, T> = operand_of(array);
@@ -178,12 +163,7 @@ fn between_unscaled<T: NativeDecimalType>(
     len: usize,
 ) -> Result<BitBuffer, AllocError>
     requires kind { T.kind ≡ smallest_width array.decimal.precision }
-    requires array { AreDecimals array len }
-    requires lower { AreDecimals lower len }
-    requires upper { AreDecimals upper len }
-    requires same_lower { plain_type (Decimals array) ≡ plain_type (Decimals lower) }
-    requires same_upper { plain_type (Decimals array) ≡ plain_type (Decimals upper) }
-    requires valid { HasValidity valid.now len }
+    requires rows { AreBounded (Decimals array) (Decimals lower) (Decimals upper) valid.now len }
     ensures { IfOk result (AreBetween options valid.now (Decimals array.entry) (Decimals lower.entry) (Decimals upper.entry) len) }
 {
     let array: Operand<'_, T> = decimal_operand_of(array);

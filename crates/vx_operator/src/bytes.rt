@@ -1,11 +1,8 @@
 //! Comparisons of text and bytes.
 
-ghost use Rattle.std.specs.Prelude.{◌≡◌, IfOk, IfErr, IsSome};
-ghost use Rattle.vx_fn.specs.Binary.{operator_type};
+ghost use Rattle.std.specs.Prelude.{◌≡◌, IfOk, IfErr};
 ghost use Rattle.vx_tree.specs.Columns.{canonical_tree};
-ghost use Rattle.vx_rows.specs.Arguments.{AreBytes, plain_type};
-ghost use Rattle.vx_operator.specs.Filled.{IsOperated};
-ghost use Rattle.vx_rows.specs.ValidRows.{HasValidity};
+ghost use Rattle.vx_operator.specs.Filled.{Operates, IsOperated};
 ghost use Rattle.vx_rows.specs.declared.argument.ArgumentRows.TheVariants.{Bytes};
 
 use crate::comparison::compare_ordered;
@@ -26,10 +23,7 @@ pub(crate) fn operate_bytes(
     valid: &ValidRows,
     len: usize,
 ) -> VortexResult<Canonical>
-    requires lhs { AreBytes lhs len }
-    requires rhs { AreBytes rhs len }
-    requires valid { HasValidity valid.now len }
-    requires taken { IsSome (operator_type operator (plain_type (Bytes lhs))) }
+    requires { Operates operator (Bytes lhs) (Bytes rhs) valid.now len }
     ensures ok { IfOk result (λ c. IsOperated operator (Bytes lhs.entry) (Bytes rhs.entry) valid.now len (canonical_tree c)) }
     ensures err { IfErr result (λ e. e ≡ VortexError.OutOfMemory) }
 {

@@ -1,18 +1,15 @@
 //! Operators applied to decimals of one type.
 
-ghost use Rattle.std.specs.Prelude.{◌≡◌, ℤ, false, IfOk, IfErr, IsSome, MatchOption};
+ghost use Rattle.std.specs.Prelude.{◌≡◌, false, IfOk, IfErr};
 ghost use Rattle.vx_value.specs.Casts.{sized};
-ghost use Rattle.vx_value.specs.Cell.{Cell, fault};
 ghost use Rattle.vx_value.specs.Decimals.{smallest_width};
 ghost use Rattle.vx_value.specs.Values.{decimal};
 ghost use Rattle.vx_fn.specs.Arithmetic.{calculated_by};
-ghost use Rattle.vx_fn.specs.Binary.{is_comparison, operator_type};
+ghost use Rattle.vx_fn.specs.Binary.{is_comparison};
 ghost use Rattle.vx_tree.specs.Columns.{canonical_tree};
-ghost use Rattle.vx_rows.specs.Arguments.{AreDecimals, plain_type};
-ghost use Rattle.vx_rows.specs.ValidRows.{HasValidity};
 ghost use Rattle.vx_rows.specs.declared.argument.ArgumentRows.TheVariants.{Decimals};
-ghost use Rattle.vx_operator.specs.Filled.{IsOperated, IsNotOperated};
-ghost use Rattle.vx_operator.specs.Digits.{is_within, AreLimits, HasLimits, IsWithin};
+ghost use Rattle.vx_operator.specs.Filled.{Operates, IsOperated, IsNotOperated};
+ghost use Rattle.vx_operator.specs.Digits.{is_within, AreLimits, HasLimits};
 ghost use Rattle.vx_kernel.specs.Operands.{number_in, HasRow};
 
 use crate::arithmetic::{Arithmetic, Difference, Sum};
@@ -40,11 +37,7 @@ pub(crate) fn operate_decimals<T: NativeDecimalType + CheckedNumber>(
     len: usize,
 ) -> VortexResult<Canonical>
     requires kind { T.kind ≡ smallest_width lhs.decimal.precision }
-    requires lhs { AreDecimals lhs len }
-    requires rhs { AreDecimals rhs len }
-    requires same { plain_type (Decimals lhs) ≡ plain_type (Decimals rhs) }
-    requires valid { HasValidity valid.now len }
-    requires taken { IsSome (operator_type operator (plain_type (Decimals lhs))) }
+    requires operands { Operates operator (Decimals lhs) (Decimals rhs) valid.now len }
     ensures ok { IfOk result (λ c. IsOperated operator (Decimals lhs.entry) (Decimals rhs.entry) valid.now len (canonical_tree c)) }
     ensures err { IfErr result (IsNotOperated operator (Decimals lhs.entry) (Decimals rhs.entry) valid.now len) }
 {
@@ -55,29 +48,6 @@ pub(crate) fn operate_decimals<T: NativeDecimalType + CheckedNumber>(
             let left: Operand<'_, T> = decimal_operand_of(lhs);
             compare_ordered(alloc, operator, left, decimal_operand_of(rhs), valid, len)
         }
-    }
-}
-
-/// An arithmetic operator on decimals of one type.
-trait DecimalArithmetic: Arithmetic {
-    /// Computes one row whatever its digits; `None` if `T` doesn't have its value.
-    fn calculate_number<T: CheckedNumber>(lhs: T, rhs: T) -> Option<T>
-        ensures { (fit : ℤ → Cell) → IsWithin T.fits fit → MatchOption result
-            (calculated_by Self.operator fit (T.value lhs) (T.value rhs) ≡ fault)
-            (λ r. calculated_by Self.operator fit (T.value lhs) (T.value rhs) ≡ fit (T.value r)) };
-}
-
-impl DecimalArithmetic for Sum {
-    #[inline]
-    fn calculate_number<T: CheckedNumber>(lhs: T, rhs: T) -> Option<T> {
-        lhs.checked_add(&rhs)
-    }
-}
-
-impl DecimalArithmetic for Difference {
-    #[inline]
-    fn calculate_number<T: CheckedNumber>(lhs: T, rhs: T) -> Option<T> {
-        lhs.checked_sub(&rhs)
     }
 }
 
@@ -120,7 +90,7 @@ struct DecimalOperation<'a, T, A> {
     operator: PhantomData<A>,
 }
 
-impl<'a, T: NativeDecimalType + CheckedNumber, A: DecimalArithmetic> Calculation<T>
+impl<'a, T: NativeDecimalType + CheckedNumber, A: Arithmetic> Calculation<T>
     for DecimalOperation<'a, T, A> {
     ghost has_row = { λ s i. HasRow s.left i × HasRow s.right i
         × HasLimits T.kind s.decimal.precision (T.value s.limits.least) (T.value s.limits.greatest) };
@@ -131,7 +101,7 @@ impl<'a, T: NativeDecimalType + CheckedNumber, A: DecimalArithmetic> Calculation
 
     #[inline]
     fn calculate_row(&self, index: usize) -> Option<T> {
-        let Some(number) = A::calculate_number(self.left.row(index), self.right.row(index)) else {
+        let Some(number) = A::calculate_row(self.left.row(index), self.right.row(index)) else {
             return None;
         };
         if self.limits.contains(number) {
@@ -142,7 +112,7 @@ impl<'a, T: NativeDecimalType + CheckedNumber, A: DecimalArithmetic> Calculation
     }
 }
 
-impl<'a, T: NativeDecimalType + CheckedNumber, A: DecimalArithmetic> DecimalCalculation<T>
+impl<'a, T: NativeDecimalType + CheckedNumber, A: Arithmetic> DecimalCalculation<T>
     for DecimalOperation<'a, T, A> {
     ghost of_type = { λ s. s.decimal };
 
@@ -153,7 +123,7 @@ impl<'a, T: NativeDecimalType + CheckedNumber, A: DecimalArithmetic> DecimalCalc
 
 /// Applies `A` to the `valid` rows of `lhs` and `rhs`, `len` rows each, which must be of one type and stored in the width of `T`.
 /// The other rows are null. `Fault` if a row has no value.
-fn calculate_decimals<T: NativeDecimalType + CheckedNumber, A: DecimalArithmetic>(
+fn calculate_decimals<T: NativeDecimalType + CheckedNumber, A: Arithmetic>(
     alloc: Global,
     lhs: DecimalOperand<'_>,
     rhs: DecimalOperand<'_>,
@@ -162,11 +132,7 @@ fn calculate_decimals<T: NativeDecimalType + CheckedNumber, A: DecimalArithmetic
 ) -> VortexResult<Canonical>
     requires operator { is_comparison A.operator ≡ false }
     requires kind { T.kind ≡ smallest_width lhs.decimal.precision }
-    requires lhs { AreDecimals lhs len }
-    requires rhs { AreDecimals rhs len }
-    requires same { plain_type (Decimals lhs) ≡ plain_type (Decimals rhs) }
-    requires valid { HasValidity valid.now len }
-    requires taken { IsSome (operator_type A.operator (plain_type (Decimals lhs))) }
+    requires operands { Operates A.operator (Decimals lhs) (Decimals rhs) valid.now len }
     ensures ok { IfOk result (λ c. IsOperated A.operator (Decimals lhs.entry) (Decimals rhs.entry) valid.now len (canonical_tree c)) }
     ensures err { IfErr result (IsNotOperated A.operator (Decimals lhs.entry) (Decimals rhs.entry) valid.now len) }
 {

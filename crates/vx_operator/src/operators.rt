@@ -1,13 +1,11 @@
 //! Operators applied to two columns.
 
-ghost use Rattle.std.specs.Prelude.{◌≡◌, ◌∷◌, [], IfOk, IfErr, IsSome};
-ghost use Rattle.vx_fn.specs.Binary.{operator_type};
+ghost use Rattle.std.specs.Prelude.{◌≡◌, ◌∷◌, [], IfOk, IfErr};
 ghost use Rattle.vx_fn.specs.declared.function.ScalarFnRef.TheVariants.{Binary};
 ghost use Rattle.vx_tree.specs.Columns.{canonical_tree};
-ghost use Rattle.vx_rows.specs.Arguments.{ptype_in, types_of, plain_type, IsSized, HasStored, AreShown, AreIntegers};
-ghost use Rattle.vx_kernel.specs.Computed.{IsTaken, IsComputed, IsNotComputed};
-ghost use Rattle.vx_operator.specs.Filled.{IsOperated, IsNotOperated};
-ghost use Rattle.vx_rows.specs.ValidRows.{HasValidity};
+ghost use Rattle.vx_rows.specs.Arguments.{ptype_in, AreShown};
+ghost use Rattle.vx_kernel.specs.Computed.{Takes, IsComputed, IsNotComputed};
+ghost use Rattle.vx_operator.specs.Filled.{Operates, IsOperated, IsNotOperated};
 ghost use Rattle.vx_rows.specs.declared.argument.ArgumentRows.TheVariants.{Integers};
 
 use crate::arithmetic::{Difference, Product, Quotient, Sum, calculate};
@@ -34,9 +32,7 @@ pub fn operate(
     rhs: &Argument<'_>,
     len: usize,
 ) -> VortexResult<Canonical>
-    requires lhs { IsSized len lhs.now }
-    requires rhs { IsSized len rhs.now }
-    requires taken { IsTaken (Binary operator) (types_of (lhs.now ∷ rhs.now ∷ [])) }
+    requires { Takes (Binary operator) (lhs.now ∷ rhs.now ∷ []) len }
     ensures ok { IfOk result (λ c. IsComputed (Binary operator) (lhs.now ∷ rhs.now ∷ []) len (canonical_tree c)) }
     ensures err { IfErr result (IsNotComputed (Binary operator) (lhs.now ∷ rhs.now ∷ []) len) }
 {
@@ -57,12 +53,8 @@ fn operate_rows(
     valid: &ValidRows,
     len: usize,
 ) -> VortexResult<Canonical>
-    requires lhs { HasStored lhs len }
-    requires rhs { HasStored rhs len }
-    requires valid { HasValidity valid.now len }
+    requires operands { Operates operator lhs rhs valid.now len }
     requires shown { AreShown lhs valid.now len }
-    requires same { plain_type lhs ≡ plain_type rhs }
-    requires taken { IsSome (operator_type operator (plain_type lhs)) }
     ensures ok { IfOk result (λ c. IsOperated operator lhs.entry rhs.entry valid.now len (canonical_tree c)) }
     ensures err { IfErr result (IsNotOperated operator lhs.entry rhs.entry valid.now len) }
 {
@@ -104,10 +96,7 @@ fn operate_natives<T: NativeInteger + CheckedNumber>(
     len: usize,
 ) -> VortexResult<Canonical>
     requires kind { T.kind ≡ ptype_in lhs }
-    requires lhs { AreIntegers (ptype_in lhs) lhs len }
-    requires rhs { AreIntegers (ptype_in lhs) rhs len }
-    requires valid { HasValidity valid.now len }
-    requires taken { IsSome (operator_type operator (plain_type (Integers lhs))) }
+    requires operands { Operates operator (Integers lhs) (Integers rhs) valid.now len }
     ensures ok { IfOk result (λ c. IsOperated operator (Integers lhs.entry) (Integers rhs.entry) valid.now len (canonical_tree c)) }
     ensures err { IfErr result (IsNotOperated operator (Integers lhs.entry) (Integers rhs.entry) valid.now len) }
 {

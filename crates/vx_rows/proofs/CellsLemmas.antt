@@ -1,9 +1,11 @@
 -- One row of a node.
-use Rattle.std.proofs.Common.{◌≡◌, ℕ, zero, suc, ◌+◌, ◌-◌, ◌≤◌, ◌<◌, List, [], ◌∷◌, length, map, replicate, get_or, take, drop, ◌++◌, Bool, Option, Some, None, refl, sym, ◌∙◌, ap, subst, arith, true, false, ℤ}
+use Rattle.std.proofs.Common.{◌≡◌, inl, inr, ℕ, zero, suc, ◌+◌, ◌-◌, ◌≤◌, ◌<◌, List, [], ◌∷◌, length, map, replicate, get_or, take, drop, ◌++◌, Bool, Option, Some, None, refl, sym, ◌∙◌, ap, subst, arith, true, false, ℤ}
 use Rattle.std.specs.Prelude.{slice_get, slice_index_or, is_some, IsSome, Result, Ok, Err}
 use Rattle.std.specs.List.{AllZip, range_with_len, list_all}
 use Rattle.std.proofs.Math.Bool.{not}
 use Rattle.std.specs.Option.{option_map, option_and_then}
+use Rattle.std.proofs.lemmas.Result.{IfOk-weaker}
+use Rattle.vx_value.specs.declared.error.VortexError.{VortexError}
 use Rattle.std.proofs.lemmas.List.{take_all, take_more, map-append, length-replicate, get_or-replicate}
 use Rattle.std.proofs.lemmas.List.FromFn.{get_or-map-range_with_len, length-map-range_with_len}
 use Rattle.std.proofs.lemmas.Option.{slice_get-get_or, slice_get-map, get_or_from_slice_get}
@@ -26,6 +28,7 @@ use Rattle.vx_tree.specs.Refusals.{types_in}
 use Rattle.vx_tree.proofs.RefusalsLemmas.{types_back}
 use Rattle.vx_rows.specs.Arguments.{types_of_scalars, cells_of_scalars}
 use Rattle.vx_rows.specs.Nulls.{IsRowBy, validity_cells}
+use Rattle.vx_rows.specs.Read.{IsRow, IsUnreadRow}
 use Rattle.vx_rows.specs.ValidRows.{null_unless}
 use Rattle.vx_rows.proofs.ValidRowsLemmas.{filled_cell, one_slot}
 use Rattle.vx_native.proofs.NativesLemmas.{map_copies}
@@ -129,7 +132,7 @@ pub null_row : {X : Type 0} (read : X → Value) (of_items : List X → Data) (d
     → ((n : ℕ) (xs : List X) (css : List (List Cell)) → node_cells (dtype t) n (of_items xs) css ≡ valid_cells (cells_at css 0) (map (λ x. value (read x)) xs))
     → (v : Option Tree) (xs : List X) (i : ℕ) (b : Bool) (s : Typed) → t ≡ column (dtype t) (len t) (of_items xs) v → length xs ≡ len t → i < len t
     → ((w : Value) → IsRowBy v i (value w) (null_unless b (value w))) → b ≡ false → s ≡ record { of_type = dtype t; value = null }
-    → (slice_get (rows t) i ≡ Some (value s.value)) × (s.of_type ≡ dtype t)
+    → IsRow t i s
 null_row read of_items d t cells v xs i b s is long lt told none made =
     let stored = map (λ x. value (read x)) xs in
     let w = read (get_or xs i d) in
@@ -140,6 +143,15 @@ null_row read of_items d t cells v xs i b s is long lt told none made =
       ap (λ cs. slice_get cs i) shown ∙ told w stored there ∙ ap (λ x. Some (null_unless x (value w))) none ∙ ap (λ x. Some (value x.value)) (sym made),
       ap (λ x. x.of_type) made,
     )
+
+-- a row that another tree's row tells
+module _ (t c : Tree) (i j : ℕ) where
+  pub row_by : slice_get (rows t) i ≡ slice_get (rows c) j → dtype t ≡ dtype c → (r : Result Typed VortexError) → IfOk r (IsRow c j) → IfOk r (IsRow t i)
+  row_by same typed r = IfOk-weaker r _ _ (λ s h. (same ∙ h.0, h.1 ∙ sym typed))
+
+  pub unread_by : (slice_get (rows c) j ≡ Some fault → slice_get (rows t) i ≡ Some fault) → (e : VortexError) → IsUnreadRow c j e → IsUnreadRow t i e
+  unread_by faulted e (inl m) = inl m
+  unread_by faulted e (inr m) = inr (m.0, faulted m.1)
 
 -- two facts of an answer, put together
 pub IfOk-both : {X Y : Type 0} (r : Result X Y) {P Q R : X → Type 0} → ((x : X) → P x → Q x → R x) → IfOk r P → IfOk r Q → IfOk r R
@@ -198,7 +210,7 @@ truths_more t i v bits b well lt there is h =
 -- the slot holds a tree of which s is row i
 abbrev pub IsRead : ℕ → Option Tree → Typed → Type 0
 IsRead i None s = ⊥
-IsRead i (Some t) s = (slice_get (rows t) i ≡ Some (value s.value)) × (s.of_type ≡ dtype t)
+IsRead i (Some t) s = IsRow t i s
 
 -- the slot holds a tree of n rows, lower than h
 abbrev pub IsBelow : ℕ → ℕ → Option Tree → Type 0
@@ -215,9 +227,6 @@ slot_below n (Some t ∷ xs) (ty ∷ tys) zero d h e l lt = let same : len t ≡
 slot_below n (Some t ∷ xs) (ty ∷ tys) (suc k) d h e l lt =
     let later : shapes (slots_of xs) ≡ map (λ s. Some (shape s n)) tys = cc in
     slot_below n xs tys k d h later (omega arith) (omega arith)
-
-pub all_read : (i k : ℕ) (xs : List (Option Tree)) (ss us : List Typed) → length xs ≤ k → us ≡ ss → AllZip (IsRead i) (take k xs) ss → AllZip (IsRead i) xs us
-all_read i k xs ss us le e h = rw (sym (take_all k xs le), e) h
 
 read_types : (i : ℕ) (xs : List (Option Tree)) (ss : List Typed) → AllZip (IsRead i) xs ss → types_in (shapes (slots_of xs)) ≡ types_of_scalars ss
 read_types i [] [] h = refl
@@ -267,7 +276,11 @@ module _ (t : Tree) (f : ScalarFnRef) (xs : List (Option Tree)) (i : ℕ)
       → slice_get (rows t) i ≡ Some fault
   child_faulted k c lt there e h = row_is lt ∙ ap Some (argument_fault i xs k c (value_of f (dtype t)) there e h)
 
-  module _ (ss : List Typed) (read : AllZip (IsRead i) xs ss) where
+  -- once all slots are read
+  module _ (k : ℕ) (scalars ss : List Typed) (all : length xs ≤ k) (same : ss ≡ scalars) (first : AllZip (IsRead i) (take k xs) scalars) where
+    read : AllZip (IsRead i) xs ss
+    read = rw (sym (take_all k xs all), same) first
+
     types_are : return_type f (types_of_scalars ss) ≡ Some (dtype t)
     types_are = ap (return_type f) (sym (read_types i xs ss read)) ∙ typed
 
@@ -278,12 +291,11 @@ module _ (t : Tree) (f : ScalarFnRef) (xs : List (Option Tree)) (i : ℕ)
     cells_are lt = row_is lt ∙ ap (λ cs. Some (apply f (dtype t) cs)) (read_cells i xs ss read)
 
     pub function_row : (s : Typed) → i < len t → return_type f (types_of_scalars ss) ≡ Some s.of_type
-        → apply f s.of_type (cells_of_scalars ss) ≡ value s.value →
-        (slice_get (rows t) i ≡ Some (value s.value)) × (s.of_type ≡ dtype t)
+        → apply f s.of_type (cells_of_scalars ss) ≡ value s.value → IsRow t i s
     function_row s lt r given =
-        let all = types_are in
-        let same : s.of_type ≡ dtype t = cc in
-        (cells_are lt ∙ ap (λ ty. Some (apply f ty (cells_of_scalars ss))) (sym same) ∙ ap Some given, same)
+        let known = types_are in
+        let typed : s.of_type ≡ dtype t = cc in
+        (cells_are lt ∙ ap (λ ty. Some (apply f ty (cells_of_scalars ss))) (sym typed) ∙ ap Some given, typed)
 
     pub function_faulted : i < len t → ((ty : DataType) → return_type f (types_of_scalars ss) ≡ Some ty → apply f ty (cells_of_scalars ss) ≡ fault) →
         slice_get (rows t) i ≡ Some fault

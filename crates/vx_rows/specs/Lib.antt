@@ -5,5 +5,6 @@ pub use Rattle.vx_tree.specs.Columns
 pub use Rattle.vx_tree.specs.Validities
 pub mod Arguments
 pub mod Nulls
+pub mod Read
 pub mod Stored
 pub mod ValidRows

@@ -16,6 +16,7 @@ ghost use Rattle.vx_tree.specs.Cells.{rows};
 ghost use Rattle.vx_tree.specs.Well.{IsNode, shapes};
 ghost use Rattle.vx_rows.specs.Arguments.{IsUnread};
 ghost use Rattle.vx_rows.specs.Nulls.{TellsRow, IsRowBy};
+ghost use Rattle.vx_rows.specs.Read.{IsRow, IsUnreadRow};
 ghost use Rattle.vx_rows.specs.ValidRows.{null_unless};
 
 use std::alloc::{AllocError, Global};
@@ -35,12 +36,10 @@ use vx_views::BinaryViews;
 /// `OutOfBounds` if `array` has no such row; `Fault` if that row has no value; `OutOfMemory`.
 #[inline]
 pub fn execute_scalar(alloc: Global, array: &ArrayRef, index: usize) -> VortexResult<Scalar>
-    ensures ok { IfOk result (λ s. (slice_get (rows array.now) index ≡ Some (value s.value)) × (s.of_type ≡ dtype array.now)) }
+    ensures ok { IfOk result (IsRow array.now index) }
     ensures bounds { OnOk result (index < len array.now) }
     ensures err { IfErr result
-        (λ e. (e ≡ VortexError.OutOfMemory)
-        ⊎ ((e ≡ VortexError.OutOfBounds index index (len array.now)) × (len array.now ≤ index))
-        ⊎ ((e ≡ VortexError.Fault) × (slice_get (rows array.now) index ≡ Some fault))) }
+        (λ e. ((e ≡ VortexError.OutOfBounds index index (len array.now)) × (len array.now ≤ index)) ⊎ IsUnreadRow array.now index e) }
 {
     let len = array.len();
     if index >= len {
@@ -62,10 +61,8 @@ pub fn execute_scalar(alloc: Global, array: &ArrayRef, index: usize) -> VortexRe
 #[inline(never)]
 fn row_at(alloc: Global, array: &ArrayRef, index: usize) -> VortexResult<Scalar>
     requires { index < len array.now }
-    ensures ok { IfOk result (λ s. (slice_get (rows array.now) index ≡ Some (value s.value)) × (s.of_type ≡ dtype array.now)) }
-    ensures err { IfErr result
-        (λ e. (e ≡ VortexError.OutOfMemory)
-        ⊎ ((e ≡ VortexError.Fault) × (slice_get (rows array.now) index ≡ Some fault))) }
+    ensures ok { IfOk result (IsRow array.now index) }
+    ensures err { IfErr result (IsUnreadRow array.now index) }
 {
     let dtype = array.dtype();
     match array.kind() {
@@ -110,10 +107,8 @@ fn stored_validity(dtype: &DType, validity: &Option<ArrayRef>, index: usize) -> 
 #[cycle(scalar_at)]
 fn scalar_at(alloc: Global, array: &ArrayRef, index: usize) -> VortexResult<Scalar>
     requires { index < len array.now }
-    ensures ok { IfOk result (λ s. (slice_get (rows array.now) index ≡ Some (value s.value)) × (s.of_type ≡ dtype array.now)) }
-    ensures err { IfErr result
-        (λ e. (e ≡ VortexError.OutOfMemory)
-        ⊎ ((e ≡ VortexError.Fault) × (slice_get (rows array.now) index ≡ Some fault))) }
+    ensures ok { IfOk result (IsRow array.now index) }
+    ensures err { IfErr result (IsUnreadRow array.now index) }
 {
     let dtype = array.dtype();
     match array.kind() {
@@ -218,10 +213,8 @@ fn function_at(
     requires index { index < len array.now }
     requires shape { array.now ≡ node (dtype array.now) (len array.now) (function scalar_fn.now) (slots_of slots.now) }
     requires well { IsNode (dtype array.now) (len array.now) (function scalar_fn.now) (shapes (slots_of slots.now)) }
-    ensures ok { IfOk result (λ s. (slice_get (rows array.now) index ≡ Some (value s.value)) × (s.of_type ≡ dtype array.now)) }
-    ensures err { IfErr result
-        (λ e. (e ≡ VortexError.OutOfMemory)
-        ⊎ ((e ≡ VortexError.Fault) × (slice_get (rows array.now) index ≡ Some fault))) }
+    ensures ok { IfOk result (IsRow array.now index) }
+    ensures err { IfErr result (IsUnreadRow array.now index) }
 {
     let mut scalars = Vec::with_capacity(alloc, slots.len())?;
     for slot in slots {

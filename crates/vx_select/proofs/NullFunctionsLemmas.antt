@@ -18,7 +18,7 @@ use Rattle.vx_fn.specs.declared.function.ScalarFnRef.{ScalarFnRef}
 use Rattle.vx_fn.specs.declared.function.ScalarFnRef.TheVariants.{Mask}
 use Rattle.vx_tree.specs.Tree.{Tree, dtype}
 use Rattle.vx_rows.specs.Arguments.{types_of, type_of_argument, plain_type, value_at, cell_at, IsSized, AreShown}
-use Rattle.vx_kernel.specs.Computed.{IsMade, IsComputed, IsTaken}
+use Rattle.vx_kernel.specs.Computed.{Takes, IsMade, IsComputed}
 use Rattle.vx_rows.specs.ValidRows.{is_valid, nullability_in, null_unless}
 use Rattle.vx_rows.specs.declared.argument.Argument.{Argument}
 use Rattle.vx_rows.specs.declared.argument.ArgumentRows.{ArgumentRows}
@@ -71,18 +71,18 @@ of_mask s (bool NonNullable) ty e = refl
 of_mask s (bool Nullable) ty e = absurd (cc)
 of_mask s _ ty e = absurd (cc)
 
-module _ (n : ℕ) (a k : Argument) (first : IsSized n a) (second : IsSized n k) (taken : IsTaken Mask (types_of (a ∷ k ∷ []))) where
+module _ (n : ℕ) (a k : Argument) (takes : Takes Mask (a ∷ k ∷ []) n) where
   mask_typed : type_of_argument k ≡ bool NonNullable
-  mask_typed = of_mask (type_of_argument a) (type_of_argument k) taken.0 taken.1
+  mask_typed = of_mask (type_of_argument a) (type_of_argument k) takes.types.0 takes.types.1
 
   pub masked : (keep : BitOperand) (bits : List Bool) (u : Tree) → k.rows ≡ stored.Bits keep
       → bits ≡ map (λ i. is_valid a.valid i && bit_in keep i) (range_with_len 0 n)
       → (dtype u ≡ with_nullability Nullable (plain_type a.rows)) × IsMade (rows_valid.Bits bits) (λ i. value (value_at a.rows i)) n u
       → IsComputed Mask (a ∷ k ∷ []) n u
   masked keep bits u is made h =
-      let plain : nullability_in k.valid ≡ NonNullable = sym (argument_nullability n k second) ∙ ap nullability_of mask_typed in
+      let plain : nullability_in k.valid ≡ NonNullable = sym (argument_nullability n k takes.sized.1.0) ∙ ap nullability_of mask_typed in
       let typed : return_type Mask (types_of (a ∷ k ∷ [])) ≡ Some (with_nullability Nullable (plain_type a.rows)) =
-      ap (mask_type (type_of_argument a)) mask_typed ∙ ap (λ s. Some (with_nullability Nullable s)) (argument_type n a first)
+      ap (mask_type (type_of_argument a)) mask_typed ∙ ap (λ s. Some (with_nullability Nullable s)) (argument_type n a takes.sized.0)
       ∙ ap Some (set_again Nullable (nullability_in a.valid) a.rows) in
       computed_by Mask (a ∷ k ∷ []) (rows_valid.Bits bits) (λ i. value (value_at a.rows i)) n u (typed ∙ ap Some (sym h.0)) h.1
       (λ i lt. ap (λ b. null_unless b (value (value_at a.rows i))) (bit_made (λ j. is_valid a.valid j && bit_in keep j) bits n i made lt)

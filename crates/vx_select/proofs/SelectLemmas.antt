@@ -24,8 +24,8 @@ use Rattle.vx_tree.specs.Columns.{canonical_tree}
 use Rattle.vx_tree.specs.Tree.{Tree, dtype}
 use Rattle.vx_tree.specs.declared.canonical.Canonical.{Canonical}
 use Rattle.vx_value.specs.declared.error.VortexError.{VortexError}
-use Rattle.vx_rows.specs.Arguments.{IsSized, types_of, row_of, cell_at, value_at, plain_type, type_of_argument}
-use Rattle.vx_kernel.specs.Computed.{IsTaken, IsMade, IsComputed}
+use Rattle.vx_rows.specs.Arguments.{types_of, row_of, cell_at, value_at, plain_type, type_of_argument}
+use Rattle.vx_kernel.specs.Computed.{Takes, IsMade, IsComputed}
 use Rattle.vx_select.specs.Selected.{selected, selected_by, selected_rows, AreSelected, IsSelected}
 use Rattle.vx_rows.specs.ValidRows.{is_valid, nullability_in, null_unless}
 use Rattle.vx_rows.specs.declared.argument.Argument.{Argument}
@@ -144,19 +144,19 @@ zipped_cell ty v w x y k b =
     by_mask p q true false = refl
     by_mask p q false b = refl
 
-module _ (n : ℕ) (a b m : Argument) (first : IsSized n a) (second : IsSized n b) (taken : IsTaken Zip (types_of (a ∷ b ∷ m ∷ []))) where
+module _ (n : ℕ) (a b m : Argument) (takes : Takes Zip (a ∷ b ∷ m ∷ []) n) where
   pub zip_same : plain_type a.rows ≡ plain_type b.rows
-  zip_same = plain_same n a b first second (zip_taken (type_of_argument a) (type_of_argument b) (type_of_argument m) (ap is_some taken.1)).0
+  zip_same = plain_same n a b takes.sized.0 takes.sized.1.0 (zip_taken (type_of_argument a) (type_of_argument b) (type_of_argument m) (ap is_some takes.types.1)).0
 
   zip_typed : return_type Zip (types_of (a ∷ b ∷ m ∷ []))
       ≡ Some (with_nullability (union (nullability_in a.valid) (nullability_in b.valid)) (plain_type a.rows))
   zip_typed =
-      let left = argument_nullability n a first in
-      let right = argument_nullability n b second in
+      let left = argument_nullability n a takes.sized.0 in
+      let right = argument_nullability n b takes.sized.1.0 in
       let either = union (nullability_in a.valid) (nullability_in b.valid) in
-      (zip_taken (type_of_argument a) (type_of_argument b) (type_of_argument m) (ap is_some taken.1)).1
+      (zip_taken (type_of_argument a) (type_of_argument b) (type_of_argument m) (ap is_some takes.types.1)).1
       ∙ (λ j. Some (with_nullability (union (left j) (right j)) (type_of_argument a)))
-      ∙ ap (λ t. Some (with_nullability either t)) (argument_type n a first)
+      ∙ ap (λ t. Some (with_nullability either t)) (argument_type n a takes.sized.0)
       ∙ ap Some (set_again either (nullability_in a.valid) a.rows)
 
   pub zip_computed : (choice bits : BitOperand) (u : Tree) → m.rows ≡ Bits bits → ((i : ℕ) → i < n → bit_in choice i ≡ is_valid m.valid i && bit_in bits i)
@@ -182,17 +182,17 @@ filled_cell ty k w x y h =
     by_value true _ q h = refl
     by_value false x q h = refl
 
-module _ (n : ℕ) (a b : Argument) (first : IsSized n a) (second : IsSized n b) (taken : IsTaken FillNull (types_of (a ∷ b ∷ []))) where
+module _ (n : ℕ) (a b : Argument) (takes : Takes FillNull (a ∷ b ∷ []) n) where
   same_types : same_but_nullability (type_of_argument a) (type_of_argument b) ≡ true
-  same_types = fill_taken (type_of_argument a) (type_of_argument b) (ap is_some taken.1)
+  same_types = fill_taken (type_of_argument a) (type_of_argument b) (ap is_some takes.types.1)
 
   pub fill_same : plain_type a.rows ≡ plain_type b.rows
-  fill_same = plain_same n a b first second same_types
+  fill_same = plain_same n a b takes.sized.0 takes.sized.1.0 same_types
 
   fill_typed : return_type FillNull (types_of (a ∷ b ∷ [])) ≡ Some (with_nullability (nullability_in b.valid) (plain_type a.rows))
   fill_typed =
       ap (λ t. if t then Some (type_of_argument b) else None) same_types
-      ∙ ap Some (argument_type n b second ∙ ap (with_nullability (nullability_in b.valid)) (sym fill_same))
+      ∙ ap Some (argument_type n b takes.sized.1.0 ∙ ap (with_nullability (nullability_in b.valid)) (sym fill_same))
 
   pub fill_computed : (choice : BitOperand) (u : Tree) → ((i : ℕ) → bit_in choice i ≡ is_valid a.valid i)
       → IsSelected choice (record { rows = a.rows; valid = rows_valid.All NonNullable }) b n u → IsComputed FillNull (a ∷ b ∷ []) n u
@@ -200,5 +200,5 @@ module _ (n : ℕ) (a b : Argument) (first : IsSized n a) (second : IsSized n b)
       computed_selected FillNull (a ∷ b ∷ []) choice (record { rows = a.rows; valid = rows_valid.All NonNullable }) b n u fill_typed
       (λ i lt. ap (λ k. if k then value (value_at a.rows i) else cell_at b i) (chosen i)
       ∙ filled_cell (dtype u) (is_valid a.valid i) (is_valid b.valid i) (value_at a.rows i) (value_at b.rows i)
-      (valid_value a.rows a.valid n i first.2 lt))
+      (valid_value a.rows a.valid n i takes.sized.0.2 lt))
       h

@@ -1,5 +1,5 @@
 -- Rows chosen between two arguments by bits.
-use Rattle.std.specs.Prelude.{◌≡◌, ℕ, Bool, true, List, map, if◌then◌else◌}
+use Rattle.std.specs.Prelude.{◌≡◌, ℕ, Bool, true, List, length, map, if◌then◌else◌}
 use Rattle.std.specs.List.{range_with_len}
 use Rattle.vx_value.specs.Cell.{value}
 use Rattle.vx_value.specs.Nullabilities.{with_nullability, union}
@@ -8,8 +8,8 @@ use Rattle.vx_mask.specs.Operands.{bit_in}
 use Rattle.vx_mask.specs.declared.operand.BitOperand.{BitOperand}
 use Rattle.vx_tree.specs.Tree.{Tree, dtype, len, datum, slots, is_canonical}
 use Rattle.vx_tree.specs.Cells.{rows, AreClean}
-use Rattle.vx_rows.specs.Arguments.{plain_type, value_at, cell_at}
-use Rattle.vx_rows.specs.ValidRows.{nullability_in}
+use Rattle.vx_rows.specs.Arguments.{plain_type, value_at, cell_at, HasStored}
+use Rattle.vx_rows.specs.ValidRows.{nullability_in, HasValidity}
 use Rattle.vx_rows.specs.declared.argument.Argument.{Argument}
 use Rattle.vx_rows.specs.declared.argument.ArgumentRows.{ArgumentRows}
 use Rattle.vx_rows.specs.declared.valid.ValidRows.{ValidRows}
@@ -26,6 +26,14 @@ selected_by bits x y i = if bit_row bits i then x i else y i
 -- n rows of them
 abbrev pub selected_rows : {A : Type 0} → List Bool → (ℕ → A) → (ℕ → A) → ℕ → List A
 selected_rows bits x y n = map (selected_by bits x y) (range_with_len 0 n)
+
+-- the rows of two arguments of one type, n each, of which n bits choose; these are valid
+pub record AreSides (bits : List Bool) (x y : ArgumentRows) (valid : ValidRows) (n : ℕ) : Type 0 where
+  pub long : length bits ≡ n
+  pub left : HasStored x n
+  pub right : HasStored y n
+  pub same : plain_type x ≡ plain_type y
+  pub sized : HasValidity valid n
 
 -- u is the canonical column of the stored values, null in those that aren't valid
 pub record AreSelected (bits : List Bool) (x y : ArgumentRows) (valid : ValidRows) (n : ℕ) (u : Tree) : Type 0 where

@@ -3,8 +3,8 @@
 ghost use Rattle.std.specs.Prelude.{◌≡◌, ◌∷◌, [], IfOk, IfErr};
 ghost use Rattle.vx_fn.specs.declared.function.ScalarFnRef.TheVariants.{IsNull, IsNotNull, Mask};
 ghost use Rattle.vx_tree.specs.Columns.{canonical_tree};
-ghost use Rattle.vx_rows.specs.Arguments.{types_of, IsSized};
-ghost use Rattle.vx_kernel.specs.Computed.{IsTaken, IsComputed};
+ghost use Rattle.vx_rows.specs.Arguments.{IsSized};
+ghost use Rattle.vx_kernel.specs.Computed.{Takes, IsComputed};
 
 use std::alloc::Global;
 use vx_kernel::{bit_rows, stored_column, valid_bools};
@@ -46,9 +46,7 @@ pub fn mask(
     mask: &Argument<'_>,
     len: usize,
 ) -> VortexResult<Canonical>
-    requires input { IsSized len input.now }
-    requires mask { IsSized len mask.now }
-    requires taken { IsTaken Mask (types_of (input.now ∷ mask.now ∷ [])) }
+    requires { Takes Mask (input.now ∷ mask.now ∷ []) len }
     ensures ok { IfOk result (λ c. IsComputed Mask (input.now ∷ mask.now ∷ []) len (canonical_tree c)) }
     ensures err { IfErr result (λ e. e ≡ VortexError.OutOfMemory) }
 {

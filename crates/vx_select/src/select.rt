@@ -7,11 +7,11 @@ ghost use Rattle.vx_value.specs.Nullabilities.{union};
 ghost use Rattle.vx_value.specs.Decimals.{smallest_width};
 ghost use Rattle.vx_fn.specs.declared.function.ScalarFnRef.TheVariants.{Zip, FillNull};
 ghost use Rattle.vx_tree.specs.Columns.{canonical_tree};
-ghost use Rattle.vx_rows.specs.Arguments.{types_of, plain_type, ptype_in, bytes_in};
-ghost use Rattle.vx_rows.specs.Arguments.{IsSized, HasStored, AreIntegers, AreDecimals, AreBytes};
-ghost use Rattle.vx_kernel.specs.Computed.{IsTaken, IsComputed};
+ghost use Rattle.vx_rows.specs.Arguments.{plain_type, ptype_in, bytes_in};
+ghost use Rattle.vx_rows.specs.Arguments.{HasStored, AreBytes};
+ghost use Rattle.vx_kernel.specs.Computed.{Takes, IsComputed};
 ghost use Rattle.vx_kernel.specs.Operands.{number_in, HasRow, HasRows};
-ghost use Rattle.vx_select.specs.Selected.{selected, selected_rows, AreSelected, IsSelected};
+ghost use Rattle.vx_select.specs.Selected.{selected, selected_rows, AreSides, AreSelected, IsSelected};
 ghost use Rattle.vx_rows.specs.declared.argument.ArgumentRows.TheVariants.{Integers, Decimals};
 ghost use Rattle.vx_rows.specs.ValidRows.{is_valid, HasValidity, nullability_in};
 
@@ -37,10 +37,7 @@ pub fn zip(
     mask: &Argument<'_>,
     len: usize,
 ) -> VortexResult<Canonical>
-    requires if_true { IsSized len if_true.now }
-    requires if_false { IsSized len if_false.now }
-    requires mask { IsSized len mask.now }
-    requires taken { IsTaken Zip (types_of (if_true.now ∷ if_false.now ∷ mask.now ∷ [])) }
+    requires { Takes Zip (if_true.now ∷ if_false.now ∷ mask.now ∷ []) len }
     ensures ok { IfOk result (λ c. IsComputed Zip (if_true.now ∷ if_false.now ∷ mask.now ∷ []) len (canonical_tree c)) }
     ensures err { IfErr result (λ e. e ≡ VortexError.OutOfMemory) }
 {
@@ -63,9 +60,7 @@ pub fn fill_null(
     fill_value: &Argument<'_>,
     len: usize,
 ) -> VortexResult<Canonical>
-    requires input { IsSized len input.now }
-    requires fill_value { IsSized len fill_value.now }
-    requires taken { IsTaken FillNull (types_of (input.now ∷ fill_value.now ∷ [])) }
+    requires { Takes FillNull (input.now ∷ fill_value.now ∷ []) len }
     ensures ok { IfOk result (λ c. IsComputed FillNull (input.now ∷ fill_value.now ∷ []) len (canonical_tree c)) }
     ensures err { IfErr result (λ e. e ≡ VortexError.OutOfMemory) }
 {
@@ -146,11 +141,7 @@ fn select_rows(
     valid: &ValidRows,
     len: usize,
 ) -> VortexResult<Canonical>
-    requires choice { length choice.now ≡ len }
-    requires if_true { HasStored if_true len }
-    requires if_false { HasStored if_false len }
-    requires valid { HasValidity valid.now len }
-    requires same { plain_type if_true ≡ plain_type if_false }
+    requires { AreSides choice.now if_true if_false valid.now len }
     ensures ok { IfOk result (λ c. AreSelected choice.now if_true.entry if_false.entry valid.now len (canonical_tree c)) }
     ensures err { IfErr result (λ e. e ≡ VortexError.OutOfMemory) }
 {
@@ -218,10 +209,7 @@ fn select_natives<T: NativeInteger>(
     len: usize,
 ) -> VortexResult<Canonical>
     requires kind { T.kind ≡ ptype_in if_true }
-    requires choice { length choice.now ≡ len }
-    requires if_true { AreIntegers (ptype_in if_true) if_true len }
-    requires if_false { AreIntegers (ptype_in if_true) if_false len }
-    requires valid { HasValidity valid.now len }
+    requires sides { AreSides choice.now (Integers if_true) (Integers if_false) valid.now len }
     ensures ok { IfOk result (λ c. AreSelected choice.now (Integers if_true.entry) (Integers if_false.entry) valid.now len (canonical_tree c)) }
     ensures err { IfErr result (λ e. e ≡ VortexError.OutOfMemory) }
 {
@@ -241,11 +229,7 @@ fn select_unscaled<T: NativeDecimalType>(
     len: usize,
 ) -> VortexResult<Canonical>
     requires kind { T.kind ≡ smallest_width if_true.decimal.precision }
-    requires choice { length choice.now ≡ len }
-    requires if_true { AreDecimals if_true len }
-    requires if_false { AreDecimals if_false len }
-    requires valid { HasValidity valid.now len }
-    requires same { plain_type (Decimals if_true) ≡ plain_type (Decimals if_false) }
+    requires sides { AreSides choice.now (Decimals if_true) (Decimals if_false) valid.now len }
     ensures ok { IfOk result (λ c. AreSelected choice.now (Decimals if_true.entry) (Decimals if_false.entry) valid.now len (canonical_tree c)) }
     ensures err { IfErr result (λ e. e ≡ VortexError.OutOfMemory) }
 {

@@ -31,7 +31,7 @@ first_in other (absent ss) = other
 first_in other (slot t ss) = t
 
 -- the filter of c, which has as many rows as there are bits
-module _ (bits : List Bool) (c t : Tree) (shown : t ≡ filter_of bits c) (counted_bits : length bits ≡ len c) (counted_rows : length (rows c) ≡ len c) where
+module _ (bits : List Bool) (c : Tree) (counted_bits : length bits ≡ len c) (counted_rows : length (rows c) ≡ len c) where
   -- ---- it has no shortcut
 
   none_short : 0 < true_count bits → is_all_true bits ≡ false → (is_canonical (datum c) ≡ true) ⊎ ((a b : ℕ) → IsRun bits a b → ⊥) → (u : Tree) → IsShort bits c u → ⊥
@@ -40,57 +40,50 @@ module _ (bits : List Bool) (c t : Tree) (shown : t ≡ filter_of bits c) (count
   none_short some not_all (inl column) u (inr (inr h)) = absurd (cc (column, h.1))
   none_short some not_all (inr no_run) u (inr (inr h)) = no_run h.2 h.3 h.4
 
-  direct : ((u : Tree) → IsShort bits c u → ⊥) → HasNoShortcut t
+  direct : ((u : Tree) → IsShort bits c u → ⊥) → HasNoShortcut (filter_of bits c)
   unfolding bits_in_data first_in
   direct h u k =
-      let same : filter_of bits c ≡ filter_of k.0 k.1 = sym shown ∙ k.2 in
-      let of_bits : bits ≡ k.0 = ap (λ x. bits_in_data (datum x)) same in
-      let of_child : c ≡ k.1 = ap (λ x. first_in c (slots x)) same in
+      let of_bits : bits ≡ k.0 = ap (λ x. bits_in_data (datum x)) k.2 in
+      let of_child : c ≡ k.1 = ap (λ x. first_in c (slots x)) k.2 in
       h u (subst (λ x. IsShort bits x u) (sym of_child) (subst (λ x. IsShort x k.1 u) (sym of_bits) k.3))
 
   -- ---- its steps
 
-  pub nothing_done : (u : Tree) → true_count bits ≡ 0 → u ≡ empty_of (dtype c) → IsColumn u → is_canonical (datum u) ≡ true → IsDone t u
-  nothing_done u none e known canonical =
-      subst (λ x. IsDone x u) (sym shown) (record {
-        by = inl (bits, c, refl, inl (none, e));
-        exactly = subst (KeepsExactly (filter_of bits c)) (sym e) (nothing_exactly bits c counted_bits counted_rows none);
-        falls = omega (arith, top_paid u, known.canonical_settled canonical);
-      })
+  pub nothing_done : (u : Tree) → true_count bits ≡ 0 → u ≡ empty_of (dtype c) → IsColumn u → is_canonical (datum u) ≡ true → IsDone (filter_of bits c) u
+  nothing_done u none e known canonical = record {
+    by = inl (bits, c, refl, inl (none, e));
+    exactly = subst (KeepsExactly (filter_of bits c)) (sym e) (nothing_exactly bits c counted_bits counted_rows none);
+    falls = omega (arith, top_paid u, known.canonical_settled canonical);
+  }
 
-  pub whole_done : 0 < true_count bits → is_all_true bits ≡ true → IsDone t c
-  whole_done some all =
-      subst (λ x. IsDone x c) (sym shown) (record {
-        by = inl (bits, c, refl, inr (inl (some, all, refl)));
-        exactly = whole_exactly bits c counted_bits counted_rows all;
-        falls = by_target (cases_Bool (is_canonical (datum c)));
-      })
+  pub whole_done : 0 < true_count bits → is_all_true bits ≡ true → IsDone (filter_of bits c) c
+  whole_done some all = record {
+    by = inl (bits, c, refl, inr (inl (some, all, refl)));
+    exactly = whole_exactly bits c counted_bits counted_rows all;
+    falls = by_target (cases_Bool (is_canonical (datum c)));
+  }
     where
       by_target : (is_canonical (datum c) ≡ true) ⊎ (is_canonical (datum c) ≡ false) → top c < top (filter_of bits c)
       by_target (inl h) = omega (arith, top_paid c, canonical_cost c h)
       by_target (inr h) = omega (arith, top_paid c, ap (λ b. slot_top b (slot_cost (enc.filter bits) (cost c) (extra c))) h)
 
   pub run_done : (a b : ℕ) (u : Tree) → is_all_true bits ≡ false → is_canonical (datum c) ≡ false → IsRun bits a b
-      → KeepsExactly (slice_of a b c) u → cost u ≤ cost c + 3 * reach c → IsDone t u
-  run_done a b u not_all unready run same bound =
-      subst (λ x. IsDone x u) (sym shown) (record {
-        by = inl (bits, c, refl, inr (inr (not_all, unready, a, b, run, same, bound)));
-        exactly = exactly_trans (filter_of bits c) (slice_of a b c) u (run_exactly bits c counted_bits counted_rows a b run) same;
-        falls = omega (arith, top_paid u, bound, ap (λ x. slot_top x (slot_cost (enc.filter bits) (cost c) (extra c))) unready);
-      })
+      → KeepsExactly (slice_of a b c) u → cost u ≤ cost c + 3 * reach c → IsDone (filter_of bits c) u
+  run_done a b u not_all unready run same bound = record {
+    by = inl (bits, c, refl, inr (inr (not_all, unready, a, b, run, same, bound)));
+    exactly = exactly_trans (filter_of bits c) (slice_of a b c) u (run_exactly bits c counted_bits counted_rows a b run) same;
+    falls = omega (arith, top_paid u, bound, ap (λ x. slot_top x (slot_cost (enc.filter bits) (cost c) (extra c))) unready);
+  }
 
   -- the child is a column, and so is u
   module _ (u : Tree) (some : 0 < true_count bits) (not_all : is_all_true bits ≡ false) (whole : is_canonical (datum c) ≡ true) (known : IsColumn u)
       (canonical : is_canonical (datum u) ≡ true) where
-    pub filter_done : KeepsExactly (filter_of bits c) u → IsDone t u
+    pub filter_done : KeepsExactly (filter_of bits c) u → IsDone (filter_of bits c) u
     filter_done same =
-        let no_shortcut = subst HasNoShortcut shown (direct (none_short some not_all (inl whole))) in
-        subst (λ x. IsDone x u) (sym shown) (canonical_done (filter_of bits c) u known no_shortcut ((λ h. whole), tt) same canonical refl (omega arith))
+        canonical_done (filter_of bits c) u known (direct (none_short some not_all (inl whole))) ((λ h. whole), tt) same canonical refl (omega arith)
 
-  pub filter_waits : 0 < true_count bits → is_all_true bits ≡ false → is_canonical (datum c) ≡ false → ((a b : ℕ) → IsRun bits a b → ⊥) → IsStep t (ExecuteSlot 0 Canonical)
-  filter_waits some not_all unready no_run =
-      let no_shortcut = direct (none_short some not_all (inr no_run)) in
-      subst (λ x. IsStep x (ExecuteSlot 0 Canonical)) (sym shown) (subst HasNoShortcut shown no_shortcut, (refl, unready), refl)
+  pub filter_waits : 0 < true_count bits → is_all_true bits ≡ false → is_canonical (datum c) ≡ false → ((a b : ℕ) → IsRun bits a b → ⊥) → IsStep (filter_of bits c) (ExecuteSlot 0 Canonical)
+  filter_waits some not_all unready no_run = (direct (none_short some not_all (inr no_run)), (refl, unready), refl)
 
 -- ---- consecutive rows
 

@@ -22,14 +22,12 @@ use vx_value::{VortexError, VortexResult};
 #[tactic(auto, using(crate::proofs::FilterLemmas::nothing_done, crate::proofs::FilterLemmas::whole_done))]
 pub(crate) fn filter_or_wait(
     alloc: Global,
-    array: &ArrayRef,
     child: &ArrayRef,
     mask: &Mask,
 ) -> VortexResult<ExecutionStep>
-    requires shape { array.now ≡ filter_of (bits_in mask.now) child.now }
-    requires within { length (bits_in mask.now) ≡ len child.now }
-    ensures ok { IfOk result (λ s. IsStep array.now s) }
-    ensures err { IfErr result (IsStopped array.now) }
+    requires { length (bits_in mask.now) ≡ len child.now }
+    ensures ok { IfOk result (IsStep (filter_of (bits_in mask.now) child.now)) }
+    ensures err { IfErr result (IsStopped (filter_of (bits_in mask.now) child.now)) }
 {
     child.well();
     if mask.true_count() == 0 {
@@ -38,28 +36,22 @@ pub(crate) fn filter_or_wait(
     if mask.all_true() {
         return Ok(ExecutionStep::Done(child.clone()?));
     }
-    choose_or_wait(alloc, array, child, mask)
+    choose_or_wait(alloc, child, mask)
 }
 
 /// Takes the step of a filter whose mask chooses some rows of `child`, but not all.
 #[tactic(auto, using(crate::proofs::FilterLemmas::filter_done))]
-fn choose_or_wait(
-    alloc: Global,
-    array: &ArrayRef,
-    child: &ArrayRef,
-    mask: &Mask,
-) -> VortexResult<ExecutionStep>
-    requires shape { array.now ≡ filter_of (bits_in mask.now) child.now }
+fn choose_or_wait(alloc: Global, child: &ArrayRef, mask: &Mask) -> VortexResult<ExecutionStep>
     requires within { length (bits_in mask.now) ≡ len child.now }
     requires some { 0 < true_count (bits_in mask.now) }
     requires not_all { is_all_true (bits_in mask.now) ≡ false }
-    ensures ok { IfOk result (λ s. IsStep array.now s) }
-    ensures err { IfErr result (IsStopped array.now) }
+    ensures ok { IfOk result (IsStep (filter_of (bits_in mask.now) child.now)) }
+    ensures err { IfErr result (IsStopped (filter_of (bits_in mask.now) child.now)) }
 {
     child.well();
     match Canonical::try_from_array_ref(child.clone()?) {
         Ok(column) => Ok(done(filter_column(alloc, &column, mask)?)),
-        Err(child) => slice_or_wait(alloc, array, child, mask),
+        Err(child) => slice_or_wait(alloc, child, mask),
     }
 }
 
@@ -80,19 +72,13 @@ fn filter_column(alloc: Global, column: &Canonical, mask: &Mask) -> VortexResult
 /// Replaces the filter of `child`, which isn't a column yet, by its slice, pushed down, if the chosen rows are consecutive. Otherwise requests
 /// `child` as a canonical column.
 #[tactic(auto, using(vx_rule::proofs::FiltersLemmas::run_range, crate::proofs::FilterLemmas::run_done, crate::proofs::FilterLemmas::filter_waits))]
-fn slice_or_wait(
-    alloc: Global,
-    array: &ArrayRef,
-    child: ArrayRef,
-    mask: &Mask,
-) -> VortexResult<ExecutionStep>
-    requires shape { array.now ≡ filter_of (bits_in mask.now) child }
+fn slice_or_wait(alloc: Global, child: ArrayRef, mask: &Mask) -> VortexResult<ExecutionStep>
     requires within { length (bits_in mask.now) ≡ len child }
     requires some { 0 < true_count (bits_in mask.now) }
     requires not_all { is_all_true (bits_in mask.now) ≡ false }
     requires unready { is_canonical (datum child) ≡ false }
-    ensures ok { IfOk result (λ s. IsStep array.now s) }
-    ensures err { IfErr result (IsStopped array.now) }
+    ensures ok { IfOk result (IsStep (filter_of (bits_in mask.now) child)) }
+    ensures err { IfErr result (IsStopped (filter_of (bits_in mask.now) child)) }
 {
     child.well();
     match mask.contiguous_range() {

@@ -66,7 +66,7 @@ pub fn step(alloc: Global, array: &ArrayRef) -> VortexResult<ExecutionStep>
             Ok(done(constant_canonicalize(alloc, constant)?))
         }
         ArrayKind::Slice(child, start, stop) => slice_or_wait(alloc, array, child, start..stop),
-        ArrayKind::Filter(child, mask) => filter_or_wait(alloc, array, child, mask),
+        ArrayKind::Filter(child, mask) => filter_or_wait(alloc, child, mask),
         ArrayKind::Masked(child, validity) => mask_or_wait(alloc, array, child, validity),
         ArrayKind::ScalarFnValidity(child) => validity_or_wait(alloc, array, child),
         ArrayKind::ScalarFn(function, slots) => apply_or_wait(alloc, array, function, slots),

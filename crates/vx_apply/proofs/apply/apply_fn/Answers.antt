@@ -32,15 +32,15 @@ returns-in-Some-clause-err c =
     let rows = scalar_rows c.args.function.now c.args.len c.args.arguments.now c.in-Some.scalars.items c.requires all in
     IfErr-weaker c.apply_constants.result _ _ (unapplied c.args.function.now rows) (rw c.as_slice.ensures.value at c.apply_constants.ensures.err)
 
-pub apply_to_columns-requires-clause-sized : goal.apply_to_columns-requires-clause-sized
-apply_to_columns-requires-clause-sized c =
+pub apply_to_columns-requires : goal.apply_to_columns-requires
+apply_to_columns-requires c =
+    let f = c.args.function.now in
+    let n = c.args.len in
+    let xs = c.args.arguments.now in
+    let args = c.in_ok-rows-in-None.rows.items in
+    let rows = argument_rows f n xs args c.requires c.in_ok-rows-in-None.ensures.ok in
     rw c.as_slice-in-None.ensures.value
-    (arguments_sized c.args.function.now c.args.len c.args.arguments.now c.in_ok-rows-in-None.rows.items c.requires c.in_ok-rows-in-None.ensures.ok)
-
-pub apply_to_columns-requires-clause-taken : goal.apply_to_columns-requires-clause-taken
-apply_to_columns-requires-clause-taken c =
-    let rows = argument_rows c.args.function.now c.args.len c.args.arguments.now c.in_ok-rows-in-None.rows.items c.requires c.in_ok-rows-in-None.ensures.ok in
-    rw c.as_slice-in-None.ensures.value (call_taken c.args.function.now rows c.requires)
+    (record { sized = arguments_sized f n xs args c.requires c.in_ok-rows-in-None.ensures.ok; types = call_taken f rows c.requires })
 
 pub returns-in_ok-column-in-None-clause-ok : goal.returns-in_ok-column-in-None-clause-ok
 returns-in_ok-column-in-None-clause-ok c =

@@ -1,9 +1,9 @@
-use Rattle.std.proofs.Common.{◌≡◌, ◌⊎◌, [], ◌∷◌, FitsSigned, pos, replicate, sym, ap, subst, ◌∙◌, rules}
+use Rattle.std.proofs.Common.{◌≡◌, [], ◌∷◌, FitsSigned, pos, replicate, sym, ap, ◌∙◌, rules}
 use Rattle.std.specs.Prelude.{unwrap_or}
 use Rattle.std.proofs.Math.Facts.{to_z-of_z}
 use Rattle.std.specs.Int.{w128}
 use Rattle.vx_value.specs.Storage.{storage_of}
-use Rattle.vx_value.specs.declared.dtype.Storage.TheVariants.{Nulls, Bits, Integers, Text, Bytes}
+use Rattle.vx_value.specs.declared.dtype.Storage.TheVariants.{Nulls, Bits, Integers}
 use Rattle.vx_value.specs.Types.{nullability_of}
 use Rattle.vx_value.specs.IsOf.{is_stored, in_range}
 use Rattle.vx_value.specs.Parts.{bytes_in}
@@ -24,7 +24,7 @@ returns-in-Bits-clause-ok c =
     let s = c.args.scalar.now in
     let typed = c.dtype.ensures.typed in
     let made = c.in_ok-bits-in-Bits in
-    let stored : storage_of s.of_type ≡ Bits = ap storage_of (sym c.dtype.ensures.dtype) ∙ sym c.storage.ensures ∙ c.in-Bits.is in
+    let stored : storage_of s.of_type ≡ Bits = ap storage_of (sym c.dtype.ensures.dtype) ∙ sym c.storage-storage.ensures ∙ c.in-Bits.is in
     bools_repeated s c.args.len typed c.repeated_validity-validity.result c.repeated_validity-validity.ensures c.bool_column.result
     c.unwrap_or-bit.result made.bits stored (cc) made.ensures c.bool_column.ensures.ok
 
@@ -34,7 +34,7 @@ returns-in-Integers-clause-ok c =
     let typed = c.dtype.ensures.typed in
     let made = c.in_ok-values-in-Integers in
     let stored : storage_of s.of_type ≡ Integers c.in-Integers.ptype =
-    ap storage_of (sym c.dtype.ensures.dtype) ∙ sym c.storage.ensures ∙ c.in-Integers.is in
+    ap storage_of (sym c.dtype.ensures.dtype) ∙ sym c.storage-storage.ensures ∙ c.in-Integers.is in
     let fits : FitsSigned w128 c.unwrap_or-wide.result = search rules in
     integers_repeated s c.args.len typed c.repeated_validity-validity.result c.repeated_validity-validity.ensures c.primitive_column.result
     c.in-Integers.ptype (ptype_of made.values) c.unwrap_or-wide.result (values_of made.values) stored (cc) made.ensures.kind
@@ -67,30 +67,23 @@ returns-in-Decimals-clause-ok c =
 pub varbinview_column-requires-clause-stored : goal.varbinview_column-requires-clause-stored
 varbinview_column-requires-clause-stored c =
     let s = c.args.scalar.now in
-    let st = c.storage-in-Text.result in
-    let kind : storage_of s.of_type ≡ st = ap storage_of (sym c.dtype-in-Text.ensures.dtype) ∙ sym c.storage-in-Text.ensures in
-    let same = c.storage.ensures ∙ ap storage_of c.dtype.ensures.dtype ∙ kind in
-    let known = subst (λ x. (x ≡ Text) ⊎ (x ≡ Bytes)) same c.in-Text.is in
+    let st = c.storage-storage.result in
     let valued : c.in_ok-bytes-in-Text.bytes ≡ unwrap_or (bytes_in s.value) [] = search rules in
-    let kept = ap (λ x. is_stored (nullability_of s.of_type) x s.value) (sym kind) ∙ c.dtype.ensures.typed in
-    let one = ap (λ x. are_bytes_of st (x ∷ [])) valued ∙ bytes_kept (nullability_of s.of_type) st s.value known kept in
+    let kept = ap (λ x. is_stored (nullability_of s.of_type) x s.value) (c.storage-storage.ensures ∙ ap storage_of c.dtype.ensures.dtype) ∙ c.dtype.ensures.typed in
+    let one = ap (λ x. are_bytes_of st (x ∷ [])) valued ∙ bytes_kept (nullability_of s.of_type) st s.value c.in-Text.is kept in
     ap (are_bytes_of st) c.in_ok-rows-in-Text.ensures ∙ bytes_copies st c.args.len c.in_ok-bytes-in-Text.bytes one
 
 pub returns-in-Text-clause-ok : goal.returns-in-Text-clause-ok
 returns-in-Text-clause-ok c =
-    let s = c.args.scalar.now in
-    let st = c.storage-in-Text.result in
-    let kind : storage_of s.of_type ≡ st = ap storage_of (sym c.dtype-in-Text.ensures.dtype) ∙ sym c.storage-in-Text.ensures in
-    let same = c.storage.ensures ∙ ap storage_of c.dtype.ensures.dtype ∙ kind in
-    let known = subst (λ x. (x ≡ Text) ⊎ (x ≡ Bytes)) same c.in-Text.is in
-    let valued : c.in_ok-bytes-in-Text.bytes ≡ unwrap_or (bytes_in s.value) [] = search rules in
-    bytes_repeated s c.args.len c.dtype.ensures.typed c.repeated_validity-validity.result c.repeated_validity-validity.ensures c.varbinview_column.result st
-    c.in_ok-bytes-in-Text.bytes c.in_ok-rows-in-Text.rows kind known valued c.in_ok-rows-in-Text.ensures c.varbinview_column.ensures.ok
+    let valued : c.in_ok-bytes-in-Text.bytes ≡ unwrap_or (bytes_in c.args.scalar.now.value) [] = search rules in
+    bytes_repeated c.args.scalar.now c.args.len c.dtype.ensures.typed c.repeated_validity-validity.result c.repeated_validity-validity.ensures
+    c.varbinview_column.result c.storage-storage.result c.in_ok-bytes-in-Text.bytes c.in_ok-rows-in-Text.rows
+    (ap storage_of (sym c.dtype.ensures.dtype) ∙ sym c.storage-storage.ensures) c.in-Text.is valued c.in_ok-rows-in-Text.ensures c.varbinview_column.ensures.ok
 
 pub returns-clause-ok : goal.returns-clause-ok
 returns-clause-ok c =
     let s = c.args.scalar.now in
-    let stored : storage_of s.of_type ≡ Nulls = ap storage_of (sym c.dtype.ensures.dtype) ∙ sym c.storage.ensures ∙ c.in-Nulls.is in
+    let stored : storage_of s.of_type ≡ Nulls = ap storage_of (sym c.dtype.ensures.dtype) ∙ sym c.storage-storage.ensures ∙ c.in-Nulls.is in
     nulls_repeated s c.args.len c.in_ok-new-in-Nulls.field-0 stored c.dtype.ensures.typed c.in_ok-new-in-Nulls.ensures.ok
 
 pub bool_column-requires : goal.bool_column-requires

@@ -1,32 +1,24 @@
-use Rattle.std.proofs.Common.{◌≡◌, FitsSigned, pos, sym, ap, subst, ◌∙◌, map, replicate, rules}
-use Rattle.std.proofs.Math.Facts.{to_z-of_z}
-use Rattle.std.specs.Int.{w128}
-use Rattle.std.specs.List.{range_with_len}
+use Rattle.std.proofs.Common.{◌≡◌, pos, refl, subst, ◌∙◌, rules}
 use Rattle.std.proofs.lemmas.Result.{IfOk-weaker}
-use Rattle.vx_mask.proofs.Lists.{all_below}
 use Rattle.vx_native.specs.DecimalNumbers.{numbers_of, decimal_type_of}
 use Rattle.vx_rows.specs.Arguments.{unscaled_at, HasDecimals}
 use Rattle.vx_rows.proofs.CellsLemmas.{IfOk-both}
-use Rattle.vx_rows.proofs.ValidRowsLemmas.{by_rows}
+use Rattle.vx_kernel.proofs.RowsLemmas.{rows_shared, number_repeated}
 use Rattle.vx_kernel.proofs.UnscaledLemmas.{row_digits, numbers_stored}
 use Rattle.vx_kernel.proofs.stored.decimal_rows.Goals as goal
 
 pub returns-in_ok-clone-in-Rows-clause-values : goal.returns-in_ok-clone-in-Rows-clause-values
 returns-in_ok-clone-in-Rows-clause-values c =
+    let d = c.args.decimals in
     let n = c.args.len in
     let zs = numbers_of c.in-Rows.values.now in
     let same : numbers_of c.in_ok-clone-in-Rows.field-0 ≡ zs = search rules in
-    same ∙ by_rows zs (pos 0) n (subst (λ r. HasDecimals c.args.decimals.decimal r n) c.in-Rows.is c.requires).0
-    ∙ ap (λ r. map (λ i. unscaled_at r i) (range_with_len 0 n)) (sym c.in-Rows.is)
+    rows_shared unscaled_at d.rows n (pos 0) _ zs _ c.in-Rows.is same (subst (λ r. HasDecimals d.decimal r n) c.in-Rows.is c.requires).0 (λ i. refl)
 
 pub returns-in-Value-clause-values : goal.returns-in-Value-clause-values
 returns-in-Value-clause-values c =
-    let n = c.args.len in
-    let z = c.in-Value.unscaled in
-    let fits : FitsSigned w128 z = search rules in
     IfOk-weaker c.repeat.result _ _
-    (λ v made. made ∙ ap (replicate n) (to_z-of_z fits)
-    ∙ sym (all_below n (λ i. unscaled_at c.args.decimals.rows i) z (λ i lt. ap (λ r. unscaled_at r i) c.in-Value.is)))
+    (λ v made. number_repeated unscaled_at c.args.decimals.rows _ c.args.len c.in-Value.unscaled (numbers_of v) (search rules) c.in-Value.is made (λ i. refl))
     c.repeat.ensures.values
 
 pub returns-in-Value-clause-stored : goal.returns-in-Value-clause-stored

@@ -13,5 +13,5 @@ returns g c =
     let here = c.decimal_operand_of-array.ensures.numbers in
     values_between c.args.options c.args.valid.now (Decimals c.args.array) (Decimals c.args.lower) (Decimals c.args.upper)
     (integers x) (integers l) (integers u) c.args.len _
-    (decimals_ordered c.args.lower c.args.array l x c.decimal_operand_of-lower.ensures.numbers here (sym c.requires.same_lower))
-    (decimals_ordered c.args.array c.args.upper x u here c.decimal_operand_of-upper.ensures.numbers c.requires.same_upper) c.between_ordered.ensures
+    (decimals_ordered c.args.lower c.args.array l x c.decimal_operand_of-lower.ensures.numbers here (sym c.requires.rows.same_lower))
+    (decimals_ordered c.args.array c.args.upper x u here c.decimal_operand_of-upper.ensures.numbers c.requires.rows.same_upper) c.between_ordered.ensures

@@ -12,7 +12,7 @@ use Rattle.vx_operator.proofs.decimals.operate_decimals.Goals as goal
 pub compare_ordered-requires-clause-operator : goal.compare_ordered-requires-clause-operator
 compare_ordered-requires-clause-operator g c =
     let d = c.args.lhs.decimal in
-    decimals_compared c.args.operator d.precision d.scale c.requires.taken c.in_default.not-Add c.in_default.not-Sub
+    decimals_compared c.args.operator d.precision d.scale c.requires.operands.taken c.in_default.not-Add c.in_default.not-Sub
 
 pub returns-in_default-clause-ok : goal.returns-in_default-clause-ok
 returns-in_default-clause-ok g c =
@@ -23,6 +23,6 @@ returns-in_default-clause-ok g c =
     IfOk-weaker c.compare_ordered.result _ _
     (λ t made. ordered_filled c.args.operator (Decimals c.args.lhs) (Decimals c.args.rhs) (λ i. value_cmp (integer (l i)) (integer (r i)))
     c.args.valid.now c.args.len (canonical_tree t) refl refl
-    (decimals_compared c.args.operator d.precision d.scale c.requires.taken c.in_default.not-Add c.in_default.not-Sub)
-    (decimals_ordered c.args.lhs c.args.rhs l r c.decimal_operand_of-left.ensures.numbers c.decimal_operand_of.ensures.numbers c.requires.same) made)
+    (decimals_compared c.args.operator d.precision d.scale c.requires.operands.taken c.in_default.not-Add c.in_default.not-Sub)
+    (decimals_ordered c.args.lhs c.args.rhs l r c.decimal_operand_of-left.ensures.numbers c.decimal_operand_of.ensures.numbers c.requires.operands.same) made)
     c.compare_ordered.ensures.ok

@@ -11,7 +11,7 @@ use Rattle.vx_operator.proofs.operators.operate_natives.Goals as goal
 pub compare_ordered-requires-clause-operator : goal.compare_ordered-requires-clause-operator
 compare_ordered-requires-clause-operator g c =
     let other = c.in_default in
-    integers_compared c.args.operator (ptype_in c.args.lhs) c.requires.taken other.not-Add other.not-Sub other.not-Mul other.not-Div
+    integers_compared c.args.operator (ptype_in c.args.lhs) c.requires.operands.taken other.not-Add other.not-Sub other.not-Mul other.not-Div
 
 pub returns-in_default-clause-ok : goal.returns-in_default-clause-ok
 returns-in_default-clause-ok g c =
@@ -20,6 +20,6 @@ returns-in_default-clause-ok g c =
     IfOk-weaker c.compare_ordered.result _ _
     (λ t made. compared_filled c.args.operator (Integers c.args.lhs) (Integers c.args.rhs) (integers (number_in read c.operand_of-left.result))
     (integers (number_in read c.operand_of.result)) c.args.valid.now c.args.len (canonical_tree t) refl refl
-    (integers_compared c.args.operator (ptype_in c.args.lhs) c.requires.taken other.not-Add other.not-Sub other.not-Mul other.not-Div)
+    (integers_compared c.args.operator (ptype_in c.args.lhs) c.requires.operands.taken other.not-Add other.not-Sub other.not-Mul other.not-Div)
     (ap integers c.operand_of-left.ensures.numbers) (ap integers c.operand_of.ensures.numbers) made)
     c.compare_ordered.ensures.ok

@@ -17,6 +17,6 @@ returns-in_ok-bits-in-Nulls-Nulls-clause-ok c =
     nulls_filled (Binary op) (operator_type op (plain_type c.args.lhs)) (pair_at c.args.lhs c.args.rhs) valid c.args.len c.valid_bools.result
     c.in_ok-bits-in-Nulls-Nulls.bits
     (ap (λ r. filled_type valid (operator_type op (plain_type r))) is
-    ∙ nulls_typed op (nullability_in valid) (subst (λ r. IsSome (operator_type op (plain_type r))) is c.requires.taken))
+    ∙ nulls_typed op (nullability_in valid) (subst (λ r. IsSome (operator_type op (plain_type r))) is c.requires.operands.taken))
     (subst (λ r. AreShown r valid c.args.len) is c.requires.shown)
     c.valid_bools.ensures.ok

@@ -8,7 +8,7 @@ use Rattle.vx_value.specs.View.{type_of}
 use Rattle.vx_native.specs.DecimalNumbers.{numbers_of, decimal_type_of}
 use Rattle.vx_tree.specs.Tree.{slots_of, height, slots_height, dtype, len}
 use Rattle.vx_rows.proofs.ArgumentsLemmas.{zipped_more}
-use Rattle.vx_rows.proofs.CellsLemmas.{IsRead, IsBelow, all_read, slice_row, child_below, child_faulted, function_taken, function_row, function_faulted, row_told, row_known, bits_row, nulls_row, constant_row, filter_row, filter_place, shown_row, shown_fault, masked_fault, decimal_row, IfOk-both}
+use Rattle.vx_rows.proofs.CellsLemmas.{row_by, unread_by, IsRead, IsBelow, slice_row, child_below, child_faulted, function_taken, function_row, function_faulted, row_told, row_known, bits_row, nulls_row, constant_row, filter_row, filter_place, shown_row, shown_fault, masked_fault, decimal_row, IfOk-both}
 use Rattle.vx_rows.proofs.probe.+scalar_at.Goals as goal
 
 pub scalar_at-returns-in-Null-clause-ok : goal.scalar_at-returns-in-Null-clause-ok
@@ -18,13 +18,18 @@ scalar_at-returns-in-Null-clause-ok t c =
 
 pub scalar_at-returns-in-Slice-clause-ok : goal.scalar_at-returns-in-Slice-clause-ok
 scalar_at-returns-in-Slice-clause-ok t c =
+    let a = c.args.array.now in
+    let child = c.in-Slice.child.now in
     let e = c.in-Slice.ensures.0 in
-    rw (slice_row c.args.array.now c.in-Slice.child.now c.in-Slice.start c.in-Slice.field-2 c.args.index e c.requires, ap dtype e) c.scalar_at.ensures.ok
+    row_by a child c.args.index _ (slice_row a child c.in-Slice.start c.in-Slice.field-2 c.args.index e c.requires) (ap dtype e) c.scalar_at.result
+    c.scalar_at.ensures.ok
 
 pub scalar_at-returns-in-Slice-clause-err : goal.scalar_at-returns-in-Slice-clause-err
 scalar_at-returns-in-Slice-clause-err t c =
-    let e = c.in-Slice.ensures.0 in
-    rw (slice_row c.args.array.now c.in-Slice.child.now c.in-Slice.start c.in-Slice.field-2 c.args.index e c.requires) c.scalar_at.ensures.err
+    let a = c.args.array.now in
+    let child = c.in-Slice.child.now in
+    let same = slice_row a child c.in-Slice.start c.in-Slice.field-2 c.args.index c.in-Slice.ensures.0 c.requires in
+    IfErr-weaker c.scalar_at.result _ _ (unread_by a child c.args.index _ (λ h. same ∙ h)) c.scalar_at.ensures.err
 
 pub scalar_at-returns-in_ok-clone-in-Constant-clause-ok : goal.scalar_at-returns-in_ok-clone-in-Constant-clause-ok
 scalar_at-returns-in_ok-clone-in-Constant-clause-ok t c =
@@ -47,22 +52,24 @@ scalar_at-scalar_at-requires-in-Filter t c =
 
 pub scalar_at-returns-in-Some-clause-ok : goal.scalar_at-returns-in-Some-clause-ok
 scalar_at-returns-in-Some-clause-ok t c =
+    let a = c.args.array.now in
+    let child = c.in-Filter.child.now in
     let e = c.in-Filter.ensures.0 in
-    rw (filter_row c.args.array.now c.in-Filter.child.now (bits_in c.in-Filter.mask.now) c.args.index c.in-Some.place e (sym c.rank.ensures ∙ c.in-Some.is), ap dtype e)
-    c.scalar_at-in-Filter.ensures.ok
+    let same = filter_row a child (bits_in c.in-Filter.mask.now) c.args.index c.in-Some.place e (sym c.rank.ensures ∙ c.in-Some.is) in
+    row_by a child c.args.index c.in-Some.place same (ap dtype e) c.scalar_at-in-Filter.result c.scalar_at-in-Filter.ensures.ok
 
 pub scalar_at-returns-in-Some-clause-err : goal.scalar_at-returns-in-Some-clause-err
 scalar_at-returns-in-Some-clause-err t c =
-    let e = c.in-Filter.ensures.0 in
-    rw (filter_row c.args.array.now c.in-Filter.child.now (bits_in c.in-Filter.mask.now) c.args.index c.in-Some.place e (sym c.rank.ensures ∙ c.in-Some.is))
-    c.scalar_at-in-Filter.ensures.err
+    let a = c.args.array.now in
+    let child = c.in-Filter.child.now in
+    let same = filter_row a child (bits_in c.in-Filter.mask.now) c.args.index c.in-Some.place c.in-Filter.ensures.0 (sym c.rank.ensures ∙ c.in-Some.is) in
+    IfErr-weaker c.scalar_at-in-Filter.result _ _ (unread_by a child c.args.index c.in-Some.place (λ h. same ∙ h)) c.scalar_at-in-Filter.ensures.err
 
 pub scalar_at-returns-in-Err-clause-err : goal.scalar_at-returns-in-Err-clause-err
 scalar_at-returns-in-Err-clause-err t c =
-    elim c.in-Err.ensures.err [
-      | inl m ↦ inl m
-      | inr m ↦ inr (m.0, masked_fault c.args.array.now c.in-Masked.child.now c.in-Masked.validity.now c.args.index c.in-Masked.ensures.0 m.1)
-    ]
+    let a = c.args.array.now in
+    let child = c.in-Masked.child.now in
+    unread_by a child c.args.index _ (masked_fault a child c.in-Masked.validity.now c.args.index c.in-Masked.ensures.0) c.in-Err.e c.in-Err.ensures.err
 
 pub scalar_at-returns-in-Ok-scalar_at-clause-ok : goal.scalar_at-returns-in-Ok-scalar_at-clause-ok
 scalar_at-returns-in-Ok-scalar_at-clause-ok t c =
@@ -73,10 +80,9 @@ scalar_at-returns-in-Ok-scalar_at-clause-ok t c =
 
 pub scalar_at-returns-in-Err-scalar_at-clause-err : goal.scalar_at-returns-in-Err-scalar_at-clause-err
 scalar_at-returns-in-Err-scalar_at-clause-err t c =
-    elim c.in-Err-scalar_at.ensures.err [
-      | inl m ↦ inl m
-      | inr m ↦ inr (m.0, shown_fault c.args.array.now c.in-ScalarFnValidity.child.now c.args.index c.in-ScalarFnValidity.ensures m.1)
-    ]
+    let a = c.args.array.now in
+    let child = c.in-ScalarFnValidity.child.now in
+    unread_by a child c.args.index _ (shown_fault a child c.args.index c.in-ScalarFnValidity.ensures) c.in-Err-scalar_at.e c.in-Err-scalar_at.ensures.err
 
 pub scalar_at-returns-in-Decimal-clause-ok : goal.scalar_at-returns-in-Decimal-clause-ok
 scalar_at-returns-in-Decimal-clause-ok t c =
@@ -127,10 +133,7 @@ function_at-returns-in-Err-clause-err t c =
     let there = sym c.in-Some.is ∙ c.slot-item.is ∙ ap (get_or c.args.slots.now c.loop-slot.slot-index) c.in-Some.is in
     let faulted = child_faulted c.args.array.now c.args.scalar_fn.now c.args.slots.now c.args.index c.requires.shape c.requires.well c.loop-slot.slot-index
     c.in-Some.child c.requires.index c.loop-slot-test.true there in
-    elim c.in-Err.ensures.err [
-      | inl m ↦ inl m
-      | inr m ↦ inr (m.0, faulted m.1)
-    ]
+    unread_by c.args.array.now c.in-Some.child c.args.index _ faulted c.in-Err.e c.in-Err.ensures.err
 
 pub function_at-loop-slot-preserved : goal.function_at-loop-slot-preserved
 function_at-loop-slot-preserved t c =
@@ -142,33 +145,24 @@ function_at-loop-slot-preserved t c =
 
 pub function_at-apply_row-requires : goal.function_at-apply_row-requires
 function_at-apply_row-requires t c =
-    let xs = c.args.slots.now in
-    let ss = c.as_slice.result.now in
-    let read = all_read c.args.index c.loop-slot.slot-index xs c.loop-slot.scalars.items ss c.loop-slot-test.false c.as_slice.ensures.value
-    c.loop-slot.invariant in
-    function_taken c.args.array.now c.args.scalar_fn.now xs c.args.index c.requires.shape c.requires.well ss read
+    function_taken c.args.array.now c.args.scalar_fn.now c.args.slots.now c.args.index c.requires.shape c.requires.well c.loop-slot.slot-index
+    c.loop-slot.scalars.items c.as_slice.result.now c.loop-slot-test.false c.as_slice.ensures.value c.loop-slot.invariant
 
 pub function_at-returns-clause-ok : goal.function_at-returns-clause-ok
 function_at-returns-clause-ok t c =
-    let xs = c.args.slots.now in
-    let ss = c.as_slice.result.now in
-    let read = all_read c.args.index c.loop-slot.slot-index xs c.loop-slot.scalars.items ss c.loop-slot-test.false c.as_slice.ensures.value
-    c.loop-slot.invariant in
     IfOk-both c.apply_row.result
-    (λ s typed ok. function_row c.args.array.now c.args.scalar_fn.now xs c.args.index c.requires.shape c.requires.well ss read s c.requires.index typed ok)
+    (λ s typed ok. function_row c.args.array.now c.args.scalar_fn.now c.args.slots.now c.args.index c.requires.shape c.requires.well c.loop-slot.slot-index
+    c.loop-slot.scalars.items c.as_slice.result.now c.loop-slot-test.false c.as_slice.ensures.value c.loop-slot.invariant s c.requires.index typed ok)
     c.apply_row.ensures.typed c.apply_row.ensures.ok
 
 pub function_at-returns-clause-err : goal.function_at-returns-clause-err
 function_at-returns-clause-err t c =
-    let xs = c.args.slots.now in
-    let ss = c.as_slice.result.now in
-    let read = all_read c.args.index c.loop-slot.slot-index xs c.loop-slot.scalars.items ss c.loop-slot-test.false c.as_slice.ensures.value
-    c.loop-slot.invariant in
+    let faulted = function_faulted c.args.array.now c.args.scalar_fn.now c.args.slots.now c.args.index c.requires.shape c.requires.well c.loop-slot.slot-index
+    c.loop-slot.scalars.items c.as_slice.result.now c.loop-slot-test.false c.as_slice.ensures.value c.loop-slot.invariant c.requires.index in
     IfErr-weaker c.apply_row.result _ _
     (λ e h. elim h [
-      | inl memory ↦ inl memory
-      | inr m ↦
-          inr (m.0, function_faulted c.args.array.now c.args.scalar_fn.now xs c.args.index c.requires.shape c.requires.well ss read c.requires.index m.1)
+      | inl m ↦ inl m
+      | inr m ↦ inr (m.0, faulted m.1)
     ])
     c.apply_row.ensures.fault
 

@@ -14,5 +14,5 @@ returns-clause-ok c =
     let made = c.in_ok-bits.ensures ∙ same_below c.args.len _ (λ i. is_valid a.valid i && bit_in keep i)
     (λ i lt. ap (λ v. v && bit_in keep i) (c.as_operand.ensures.bits i)) in
     IfOk-weaker c.stored_column.result _ _
-    (λ u h. masked c.args.len a c.args.mask.now c.requires.input c.requires.mask c.requires.taken keep c.in_ok-bits.bits (canonical_tree u) c.in-Bits.is made h)
+    (λ u h. masked c.args.len a c.args.mask.now c.requires keep c.in_ok-bits.bits (canonical_tree u) c.in-Bits.is made h)
     c.stored_column.ensures.ok

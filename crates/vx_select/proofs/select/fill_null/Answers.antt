@@ -4,11 +4,11 @@ use Rattle.vx_select.proofs.SelectLemmas.{fill_same, fill_computed}
 use Rattle.vx_select.proofs.select.fill_null.Goals as goal
 
 pub select-requires-clause-same : goal.select-requires-clause-same
-select-requires-clause-same c = fill_same c.args.len c.args.input.now c.args.fill_value.now c.requires.input c.requires.fill_value c.requires.taken
+select-requires-clause-same c = fill_same c.args.len c.args.input.now c.args.fill_value.now c.requires
 
 pub returns-clause-ok : goal.returns-clause-ok
 returns-clause-ok c =
     IfOk-weaker c.select.result _ _
-    (λ u h. fill_computed c.args.len c.args.input.now c.args.fill_value.now c.requires.input c.requires.fill_value c.requires.taken c.as_operand.result
+    (λ u h. fill_computed c.args.len c.args.input.now c.args.fill_value.now c.requires c.as_operand.result
     (canonical_tree u) c.as_operand.ensures.bits h)
     c.select.ensures.ok

@@ -21,7 +21,7 @@ pub valid_bytes-requires-clause-stored : goal.valid_bytes-requires-clause-stored
 valid_bytes-requires-clause-stored c =
     let arm = c.in-Bytes-Bytes in
     selected_stored c.args.if_true c.args.if_false arm.if_true arm.if_false c.args.choice.now c.in_ok-rows-in-Bytes-Bytes.rows c.args.len arm.is-0 arm.is-1
-    c.requires.same c.requires.if_true c.requires.if_false c.in_ok-rows-in-Bytes-Bytes.ensures
+    c.requires.same c.requires.left c.requires.right c.in_ok-rows-in-Bytes-Bytes.ensures
 
 pub returns-in_ok-rows-in-Bytes-Bytes-clause-ok : goal.returns-in_ok-rows-in-Bytes-Bytes-clause-ok
 returns-in_ok-rows-in-Bytes-Bytes-clause-ok c =

@@ -10,7 +10,7 @@ use Rattle.vx_select.proofs.SelectedLemmas.{same_scale, same_width, selected_dec
 use Rattle.vx_select.proofs.select.select_unscaled.Goals as goal
 
 pub decimal_operand_of-requires-clause-kind : goal.decimal_operand_of-requires-clause-kind
-decimal_operand_of-requires-clause-kind g c = same_width c.args.if_true c.args.if_false c.requires.same g.T.NativeDecimalType.kind c.requires.kind
+decimal_operand_of-requires-clause-kind g c = same_width c.args.if_true c.args.if_false c.requires.sides.same g.T.NativeDecimalType.kind c.requires.kind
 
 pub valid_decimals-requires-clause-values : goal.valid_decimals-requires-clause-values
 valid_decimals-requires-clause-values g c =
@@ -18,8 +18,8 @@ valid_decimals-requires-clause-values g c =
 
 pub valid_decimals-requires-clause-stored : goal.valid_decimals-requires-clause-stored
 valid_decimals-requires-clause-stored g c =
-    selected_decimals c.args.if_true c.args.if_false c.requires.same c.args.choice.now (decimal_type_of c.wrap_decimals-values.result)
-    (numbers_of c.wrap_decimals-values.result) c.args.len c.requires.if_true c.requires.if_false (c.wrap_decimals-values.ensures.same_kind ∙ c.requires.kind)
+    selected_decimals c.args.if_true c.args.if_false c.requires.sides.same c.args.choice.now (decimal_type_of c.wrap_decimals-values.result)
+    (numbers_of c.wrap_decimals-values.result) c.args.len c.requires.sides.left c.requires.sides.right (c.wrap_decimals-values.ensures.same_kind ∙ c.requires.kind)
     (c.wrap_decimals-values.ensures.values ∙ c.in_ok-numbers.ensures
     ∙ (λ j. selected_rows c.args.choice.now (c.decimal_operand_of-left.ensures.numbers j) (c.decimal_operand_of.ensures.numbers j) c.args.len))
 
@@ -28,7 +28,7 @@ returns-clause-ok g c =
     let bits = c.args.choice.now in
     let x = c.args.if_true in
     let y = c.args.if_false in
-    let scale = same_scale x y c.requires.same in
+    let scale = same_scale x y c.requires.sides.same in
     column_selected (λ z. decimal z x.decimal.scale) (pos 0) bits (Decimals x) (Decimals y) (Decimals x) (Decimals y) (unscaled_in x) (unscaled_in y)
     c.args.valid.now c.args.len (numbers_of c.wrap_decimals-values.result) _ c.valid_decimals.result refl refl refl
     (λ j i. decimal (unscaled_in y i) (sym scale j)) refl

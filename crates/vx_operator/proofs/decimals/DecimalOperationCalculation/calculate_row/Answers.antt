@@ -8,7 +8,7 @@ returns-in_default g c =
     row_fault g.T.NativeDecimalType.kind g.A.Arithmetic.operator c.args.self.now.decimal (g.T.Number.value c.args.self.now.limits.least)
     (g.T.Number.value c.args.self.now.limits.greatest) c.requires.2 g.T.Number.fits (λ z. (g.met.T.NativeDecimalType.fits_kind z).1)
     (g.T.Number.value c.row.result) (g.T.Number.value c.row-2.result) (number_in g.T.Number.value c.args.self.now.left c.args.index)
-    (number_in g.T.Number.value c.args.self.now.right c.args.index) c.row.ensures c.row-2.ensures c.in_default.ensures
+    (number_in g.T.Number.value c.args.self.now.right c.args.index) c.row.ensures c.row-2.ensures c.in_default.ensures.calculated
 
 pub returns-then-contains : goal.returns-then-contains
 returns-then-contains g c =
@@ -16,7 +16,7 @@ returns-then-contains g c =
     (g.T.Number.value c.args.self.now.limits.greatest) c.requires.2 g.T.Number.fits (λ z. (g.met.T.NativeDecimalType.fits_kind z).1)
     (g.T.Number.value c.row.result) (g.T.Number.value c.row-2.result) (number_in g.T.Number.value c.args.self.now.left c.args.index)
     (number_in g.T.Number.value c.args.self.now.right c.args.index) c.row.ensures c.row-2.ensures (g.T.Number.value c.in-Some.number)
-    c.in-Some.ensures (sym c.contains.ensures ∙ c.if-contains.true)
+    c.in-Some.ensures.calculated (sym c.contains.ensures ∙ c.if-contains.true)
 
 pub returns-else-contains : goal.returns-else-contains
 returns-else-contains g c =
@@ -24,4 +24,4 @@ returns-else-contains g c =
     (g.T.Number.value c.args.self.now.limits.greatest) c.requires.2 g.T.Number.fits (λ z. (g.met.T.NativeDecimalType.fits_kind z).1)
     (g.T.Number.value c.row.result) (g.T.Number.value c.row-2.result) (number_in g.T.Number.value c.args.self.now.left c.args.index)
     (number_in g.T.Number.value c.args.self.now.right c.args.index) c.row.ensures c.row-2.ensures (g.T.Number.value c.in-Some.number)
-    c.in-Some.ensures (sym c.contains.ensures ∙ c.if-contains.false)
+    c.in-Some.ensures.calculated (sym c.contains.ensures ∙ c.if-contains.false)

@@ -1,0 +1,121 @@
+use Rattle.std.proofs.Common.{◌≡◌, refl, ap, subst, ◌∙◌, rules, true, [], ◌∷◌, length, sym, IfOk}
+use Rattle.vx_value.specs.Types.{bool, primitive}
+use Rattle.vx_value.specs.Values.{boolean, integer, bytes, decimal}
+use Rattle.vx_value.specs.Storage.{storage_of}
+use Rattle.vx_tree.specs.ColumnTypes.{bytes_type, are_bytes_of, decimal_type, are_decimals_of}
+use Rattle.vx_value.specs.declared.dtype.Nullability.TheVariants.{NonNullable}
+use Rattle.vx_native.specs.Natives.{values_of, ptype_of}
+use Rattle.vx_tree.specs.Tree as enc
+use Rattle.vx_tree.specs.Tree.{dtype, len, slots_of}
+use Rattle.vx_tree.specs.Well.{IsNodeOf, IsFlat, shapes}
+use Rattle.vx_tree.specs.Columns.{canonical_tree}
+use Rattle.vx_rows.specs.Stored.{boolean_column, integer_column, bytes_column, decimal_column}
+use Rattle.vx_column.proofs.MaskedLemmas.{bytes_set, canonical_masked}
+use Rattle.vx_value.specs.Types as type
+use Rattle.vx_value.specs.View.{type_of}
+use Rattle.vx_native.specs.DecimalNumbers.{numbers_of, decimal_type_of}
+use Rattle.vx_rows.proofs.StoredLemmas.{decimal_typed}
+use Rattle.vx_rows.specs.Arguments.{stored_decimals}
+use Rattle.vx_tree.specs.Keeps.{KeepsExactly}
+use Rattle.vx_tree.specs.Validities.{HasRows}
+use Rattle.vx_column.proofs.mask.mask_column.Goals as goal
+
+pub returns-in-Null-clause-ok : goal.returns-in-Null-clause-ok
+returns-in-Null-clause-ok c =
+    let same = ap enc.nulls_of c.len-len.ensures ∙ sym c.in-Null.ensures in
+    subst (λ t. IfOk c.mask_nulls.result (λ u. KeepsExactly (enc.masked_of t c.args.child) (canonical_tree u))) same c.mask_nulls.ensures.ok
+
+pub returns-in_ok-clone-in-Bool-clause-ok : goal.returns-in_ok-clone-in-Bool-clause-ok
+returns-in_ok-clone-in-Bool-clause-ok c =
+    let bits = c.in-Bool.bits.now in
+    let both = c.in_ok-both-in-Bool in
+    let flat = subst IsNodeOf c.in-Bool.ensures.0 c.in-Bool.ensures.1 in
+    let shared : c.in_ok-clone-in-Bool.field-0 ≡ bits = search rules in
+    canonical_masked boolean enc.bool (bool NonNullable) (λ m n xs css. refl) (λ m. refl) c.bool_column.result bits c.in-Bool.own.now c.args.child both.both c.len-len.result c.args.array.now _ c.len-len.ensures c.in-Bool.ensures.0 flat
+    both.ensures.nullable both.ensures.both (ap (λ bs. boolean_column bs both.both) shared)
+    c.bool_column.ensures.ok
+
+pub returns-in_ok-clone-in-Primitive-clause-ok : goal.returns-in_ok-clone-in-Primitive-clause-ok
+returns-in_ok-clone-in-Primitive-clause-ok c =
+    let values = c.in-Primitive.values.now in
+    let p = ptype_of values in
+    let both = c.in_ok-both-in-Primitive in
+    let flat = subst IsNodeOf c.in-Primitive.ensures.0 c.in-Primitive.ensures.1 in
+    let shared = c.in_ok-clone-in-Primitive.ensures.cases in
+    canonical_masked integer (enc.primitive p) (primitive p NonNullable) (λ m n xs css. refl) (λ m. refl) c.primitive_column.result (values_of values)
+    c.in-Primitive.own.now c.args.child both.both c.len-len.result c.args.array.now _ c.len-len.ensures c.in-Primitive.ensures.0 flat
+    both.ensures.nullable both.ensures.both (λ i. integer_column (shared.0 i) (shared.1 i) both.both) c.primitive_column.ensures.ok
+
+pub unreachable-requires : goal.unreachable-requires
+unreachable-requires c =
+    let values = c.in-Decimal.values.now in
+    let flat = subst IsNodeOf c.in-Decimal.ensures.0 c.in-Decimal.ensures.1 in
+    decimal_typed c.dtype.result.now (decimal_type_of values) (numbers_of values)
+    (subst (λ ty. are_decimals_of (storage_of ty) (decimal_type_of values) (numbers_of values) ≡ true) (sym c.dtype.ensures) flat.1) c.in_default-dtype.not-Decimal
+
+pub decimal_column-requires-clause-stored : goal.decimal_column-requires-clause-stored
+decimal_column-requires-clause-stored c =
+    let flat = subst IsNodeOf c.in-Decimal.ensures.0 c.in-Decimal.ensures.1 in
+    let stored = ap storage_of (sym c.dtype.ensures ∙ ap type_of c.in-Decimal-dtype.is) in
+    let shared = c.in_ok-clone-in-Decimal.ensures.cases in
+    (λ i. are_decimals_of (stored_decimals c.in-Decimal-dtype.decimal) (shared.0 i) (shared.1 i))
+    ∙ subst (λ st. are_decimals_of st (decimal_type_of c.in-Decimal.values.now) (numbers_of c.in-Decimal.values.now) ≡ true) stored flat.1
+
+pub returns-in_ok-clone-in-Decimal-clause-ok : goal.returns-in_ok-clone-in-Decimal-clause-ok
+returns-in_ok-clone-in-Decimal-clause-ok c =
+    let values = c.in-Decimal.values.now in
+    let d = c.in-Decimal-dtype.decimal in
+    let own = c.in-Decimal.own.now in
+    let t = c.args.array.now in
+    let both = c.in_ok-both-in-Decimal in
+    let flat = subst IsNodeOf c.in-Decimal.ensures.0 c.in-Decimal.ensures.1 in
+    let stored = ap storage_of (sym c.dtype.ensures ∙ ap type_of c.in-Decimal-dtype.is) in
+    let shared = c.in_ok-clone-in-Decimal.ensures.cases in
+    canonical_masked (λ z. decimal z d.scale) (enc.decimals (decimal_type_of values)) (type.decimal d.precision d.scale NonNullable)
+    (λ m n xs css. refl) (λ m. refl) c.decimal_column.result (numbers_of values) own c.args.child both.both c.len-len.result t _ c.len-len.ensures c.in-Decimal.ensures.0
+    (subst (λ st. IsFlat (decimal_type st) (length (numbers_of values)) (dtype t) (len t) (shapes (slots_of (own ∷ [])))) stored flat.0)
+    both.ensures.nullable both.ensures.both (λ i. decimal_column d (shared.0 i) (shared.1 i) both.both) c.decimal_column.ensures.ok
+
+pub varbinview_column-requires-clause-stored : goal.varbinview_column-requires-clause-stored
+varbinview_column-requires-clause-stored c =
+    let flat = subst IsNodeOf c.in-VarBinView.ensures.0 c.in-VarBinView.ensures.1 in
+    let kind = c.storage.ensures ∙ ap storage_of c.dtype-in-VarBinView.ensures in
+    let shared : c.in_ok-clone-in-VarBinView.field-0 ≡ c.in-VarBinView.rows.now = search rules in
+    (λ i. are_bytes_of (kind i) (shared i)) ∙ flat.1
+
+pub returns-in_ok-clone-in-VarBinView-clause-ok : goal.returns-in_ok-clone-in-VarBinView-clause-ok
+returns-in_ok-clone-in-VarBinView-clause-ok c =
+    let rows = c.in-VarBinView.rows.now in
+    let t = c.args.array.now in
+    let st = storage_of (dtype t) in
+    let both = c.in_ok-both-in-VarBinView in
+    let flat = subst IsNodeOf c.in-VarBinView.ensures.0 c.in-VarBinView.ensures.1 in
+    let kind = c.storage.ensures ∙ ap storage_of c.dtype-in-VarBinView.ensures in
+    let shared : c.in_ok-clone-in-VarBinView.field-0 ≡ rows = search rules in
+    canonical_masked bytes enc.views (bytes_type st) (λ m n xs css. refl) (bytes_set st) c.varbinview_column.result rows c.in-VarBinView.own.now
+    c.args.child both.both c.len-len.result t _ c.len-len.ensures c.in-VarBinView.ensures.0 flat.0 both.ensures.nullable both.ensures.both (λ i. bytes_column (kind i) (shared i) both.both)
+    c.varbinview_column.ensures.ok
+
+pub bool_column-requires : goal.bool_column-requires
+bool_column-requires c =
+    let flat = subst IsNodeOf c.in-Bool.ensures.0 c.in-Bool.ensures.1 in
+    subst (HasRows c.in_ok-both-in-Bool.both) (c.len-len.ensures ∙ flat.2 ∙ sym (ap length c.in_ok-clone-in-Bool.ensures.cases))
+    c.in_ok-both-in-Bool.ensures.sized
+
+pub primitive_column-requires : goal.primitive_column-requires
+primitive_column-requires c =
+    let flat = subst IsNodeOf c.in-Primitive.ensures.0 c.in-Primitive.ensures.1 in
+    subst (HasRows c.in_ok-both-in-Primitive.both) (c.len-len.ensures ∙ flat.2 ∙ sym (ap length c.in_ok-clone-in-Primitive.ensures.cases.1))
+    c.in_ok-both-in-Primitive.ensures.sized
+
+pub decimal_column-requires-clause-sized : goal.decimal_column-requires-clause-sized
+decimal_column-requires-clause-sized c =
+    let flat = subst IsNodeOf c.in-Decimal.ensures.0 c.in-Decimal.ensures.1 in
+    subst (HasRows c.in_ok-both-in-Decimal.both) (c.len-len.ensures ∙ flat.0.2 ∙ sym (ap length c.in_ok-clone-in-Decimal.ensures.cases.1))
+    c.in_ok-both-in-Decimal.ensures.sized
+
+pub varbinview_column-requires-clause-sized : goal.varbinview_column-requires-clause-sized
+varbinview_column-requires-clause-sized c =
+    let flat = subst IsNodeOf c.in-VarBinView.ensures.0 c.in-VarBinView.ensures.1 in
+    subst (HasRows c.in_ok-both-in-VarBinView.both) (c.len-len.ensures ∙ flat.0.2 ∙ sym (ap length c.in_ok-clone-in-VarBinView.ensures.cases))
+    c.in_ok-both-in-VarBinView.ensures.sized
