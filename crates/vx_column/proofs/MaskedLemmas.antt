@@ -176,7 +176,8 @@ module _ {X : Type 0} (read : X → Value) (of_items : List X → Data) (of_type
 
   -- of a column `t` of n rows
   pub canonical_masked : {E : Type 0} (found : Result Canonical E) (xs : List X) (own x : Option Tree) (w : Validity) (n : ℕ) (t s : Tree) → n ≡ len t
-      → t ≡ column (dtype t) (len t) (of_items xs) own → IsFlat of_type (length xs) (dtype t) (len t) (shapes (slots_of (own ∷ []))) → nullability_by w ≡ Nullable
+      → t ≡ column (dtype t) (len t) (of_items xs) own → IsFlat of_type (length xs) (dtype t) (len t) (shapes (slots_of (own ∷ [])))
+      → nullability_by w ≡ Nullable
       → IsBoth n own x (child_of w n) → s ≡ column (with_nullability (nullability_by w) of_type) (length xs) (of_items xs) (child_of w (length xs))
       → IfOk found (λ c. canonical_tree c ≡ s) → IfOk found (λ c. KeepsExactly (masked_of t x) (canonical_tree c))
   canonical_masked found xs own x w n t s sized is flat nullable both stored =

@@ -146,7 +146,8 @@ zipped_cell ty v w x y k b =
 
 module _ (n : ℕ) (a b m : Argument) (takes : Takes Zip (a ∷ b ∷ m ∷ []) n) where
   pub zip_same : plain_type a.rows ≡ plain_type b.rows
-  zip_same = plain_same n a b takes.sized.0 takes.sized.1.0 (zip_taken (type_of_argument a) (type_of_argument b) (type_of_argument m) (ap is_some takes.types.1)).0
+  zip_same =
+      plain_same n a b takes.sized.0 takes.sized.1.0 (zip_taken (type_of_argument a) (type_of_argument b) (type_of_argument m) (ap is_some takes.types.1)).0
 
   zip_typed : return_type Zip (types_of (a ∷ b ∷ m ∷ []))
       ≡ Some (with_nullability (union (nullability_in a.valid) (nullability_in b.valid)) (plain_type a.rows))

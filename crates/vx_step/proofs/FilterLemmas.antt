@@ -82,7 +82,8 @@ module _ (bits : List Bool) (c : Tree) (counted_bits : length bits ≡ len c) (c
     filter_done same =
         canonical_done (filter_of bits c) u known (direct (none_short some not_all (inl whole))) ((λ h. whole), tt) same canonical refl (omega arith)
 
-  pub filter_waits : 0 < true_count bits → is_all_true bits ≡ false → is_canonical (datum c) ≡ false → ((a b : ℕ) → IsRun bits a b → ⊥) → IsStep (filter_of bits c) (ExecuteSlot 0 Canonical)
+  pub filter_waits : 0 < true_count bits → is_all_true bits ≡ false → is_canonical (datum c) ≡ false → ((a b : ℕ) → IsRun bits a b → ⊥)
+      → IsStep (filter_of bits c) (ExecuteSlot 0 Canonical)
   filter_waits some not_all unready no_run = (direct (none_short some not_all (inr no_run)), (refl, unready), refl)
 
 -- ---- consecutive rows

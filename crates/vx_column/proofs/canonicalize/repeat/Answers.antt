@@ -69,7 +69,8 @@ varbinview_column-requires-clause-stored c =
     let s = c.args.scalar.now in
     let st = c.storage-storage.result in
     let valued : c.in_ok-bytes-in-Text.bytes ≡ unwrap_or (bytes_in s.value) [] = search rules in
-    let kept = ap (λ x. is_stored (nullability_of s.of_type) x s.value) (c.storage-storage.ensures ∙ ap storage_of c.dtype.ensures.dtype) ∙ c.dtype.ensures.typed in
+    let kept = ap (λ x. is_stored (nullability_of s.of_type) x s.value) (c.storage-storage.ensures ∙ ap storage_of c.dtype.ensures.dtype)
+    ∙ c.dtype.ensures.typed in
     let one = ap (λ x. are_bytes_of st (x ∷ [])) valued ∙ bytes_kept (nullability_of s.of_type) st s.value c.in-Text.is kept in
     ap (are_bytes_of st) c.in_ok-rows-in-Text.ensures ∙ bytes_copies st c.args.len c.in_ok-bytes-in-Text.bytes one
 

@@ -31,7 +31,8 @@ returns-in_ok-clone-in-Bool-clause-ok c =
     let both = c.in_ok-both-in-Bool in
     let flat = subst IsNodeOf c.in-Bool.ensures.0 c.in-Bool.ensures.1 in
     let shared : c.in_ok-clone-in-Bool.field-0 ≡ bits = search rules in
-    canonical_masked boolean enc.bool (bool NonNullable) (λ m n xs css. refl) (λ m. refl) c.bool_column.result bits c.in-Bool.own.now c.args.child both.both c.len-len.result c.args.array.now _ c.len-len.ensures c.in-Bool.ensures.0 flat
+    canonical_masked boolean enc.bool (bool NonNullable) (λ m n xs css. refl) (λ m. refl) c.bool_column.result bits c.in-Bool.own.now c.args.child both.both
+    c.len-len.result c.args.array.now _ c.len-len.ensures c.in-Bool.ensures.0 flat
     both.ensures.nullable both.ensures.both (ap (λ bs. boolean_column bs both.both) shared)
     c.bool_column.ensures.ok
 
@@ -51,7 +52,8 @@ unreachable-requires c =
     let values = c.in-Decimal.values.now in
     let flat = subst IsNodeOf c.in-Decimal.ensures.0 c.in-Decimal.ensures.1 in
     decimal_typed c.dtype.result.now (decimal_type_of values) (numbers_of values)
-    (subst (λ ty. are_decimals_of (storage_of ty) (decimal_type_of values) (numbers_of values) ≡ true) (sym c.dtype.ensures) flat.1) c.in_default-dtype.not-Decimal
+    (subst (λ ty. are_decimals_of (storage_of ty) (decimal_type_of values) (numbers_of values) ≡ true) (sym c.dtype.ensures) flat.1)
+    c.in_default-dtype.not-Decimal
 
 pub decimal_column-requires-clause-stored : goal.decimal_column-requires-clause-stored
 decimal_column-requires-clause-stored c =
@@ -72,7 +74,8 @@ returns-in_ok-clone-in-Decimal-clause-ok c =
     let stored = ap storage_of (sym c.dtype.ensures ∙ ap type_of c.in-Decimal-dtype.is) in
     let shared = c.in_ok-clone-in-Decimal.ensures.cases in
     canonical_masked (λ z. decimal z d.scale) (enc.decimals (decimal_type_of values)) (type.decimal d.precision d.scale NonNullable)
-    (λ m n xs css. refl) (λ m. refl) c.decimal_column.result (numbers_of values) own c.args.child both.both c.len-len.result t _ c.len-len.ensures c.in-Decimal.ensures.0
+    (λ m n xs css. refl) (λ m. refl) c.decimal_column.result (numbers_of values) own c.args.child both.both c.len-len.result t _ c.len-len.ensures
+    c.in-Decimal.ensures.0
     (subst (λ st. IsFlat (decimal_type st) (length (numbers_of values)) (dtype t) (len t) (shapes (slots_of (own ∷ [])))) stored flat.0)
     both.ensures.nullable both.ensures.both (λ i. decimal_column d (shared.0 i) (shared.1 i) both.both) c.decimal_column.ensures.ok
 
@@ -93,7 +96,8 @@ returns-in_ok-clone-in-VarBinView-clause-ok c =
     let kind = c.storage.ensures ∙ ap storage_of c.dtype-in-VarBinView.ensures in
     let shared : c.in_ok-clone-in-VarBinView.field-0 ≡ rows = search rules in
     canonical_masked bytes enc.views (bytes_type st) (λ m n xs css. refl) (bytes_set st) c.varbinview_column.result rows c.in-VarBinView.own.now
-    c.args.child both.both c.len-len.result t _ c.len-len.ensures c.in-VarBinView.ensures.0 flat.0 both.ensures.nullable both.ensures.both (λ i. bytes_column (kind i) (shared i) both.both)
+    c.args.child both.both c.len-len.result t _ c.len-len.ensures c.in-VarBinView.ensures.0 flat.0 both.ensures.nullable both.ensures.both
+    (λ i. bytes_column (kind i) (shared i) both.both)
     c.varbinview_column.ensures.ok
 
 pub bool_column-requires : goal.bool_column-requires

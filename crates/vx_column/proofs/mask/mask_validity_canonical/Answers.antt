@@ -25,5 +25,6 @@ pub returns-clause-err : goal.returns-clause-err
 returns-clause-err c =
     let of = c.as_array-array.ensures.of in
     let slot = c.in_ok-child.ensures.ok ∙ ap (child_of c.args.validity.now) (c.len.ensures ∙ ap len of) in
-    subst (λ (p : Tree × Option Tree). IfErr c.mask_column.result (λ e. (e ≡ OutOfMemory) ⊎ ((dtype p.0 ≡ null) × AreUnread (len p.0) p.1 e))) (λ i. (of i, slot i))
+    subst (λ (p : Tree × Option Tree). IfErr c.mask_column.result (λ e. (e ≡ OutOfMemory) ⊎ ((dtype p.0 ≡ null) × AreUnread (len p.0) p.1 e)))
+    (λ i. (of i, slot i))
     c.mask_column.ensures.err

@@ -19,7 +19,8 @@ valid_decimals-requires-clause-values g c =
 pub valid_decimals-requires-clause-stored : goal.valid_decimals-requires-clause-stored
 valid_decimals-requires-clause-stored g c =
     selected_decimals c.args.if_true c.args.if_false c.requires.sides.same c.args.choice.now (decimal_type_of c.wrap_decimals-values.result)
-    (numbers_of c.wrap_decimals-values.result) c.args.len c.requires.sides.left c.requires.sides.right (c.wrap_decimals-values.ensures.same_kind ∙ c.requires.kind)
+    (numbers_of c.wrap_decimals-values.result) c.args.len c.requires.sides.left c.requires.sides.right
+    (c.wrap_decimals-values.ensures.same_kind ∙ c.requires.kind)
     (c.wrap_decimals-values.ensures.values ∙ c.in_ok-numbers.ensures
     ∙ (λ j. selected_rows c.args.choice.now (c.decimal_operand_of-left.ensures.numbers j) (c.decimal_operand_of.ensures.numbers j) c.args.len))
 
