@@ -10,7 +10,7 @@ ghost use Rattle.vx_text.specs.RowText.{boolean_text};
 ghost use Rattle.vx_text.specs.Lines.{lines, integer_lines, row_text_at, row_lines, unless_null};
 
 use crate::printed::PrintedNumber;
-use crate::rows::{boolean_text, push_integer, push_row};
+use crate::rows::{push_integer, push_row};
 use vx_mask::{BitBuffer, BitOperand};
 use vx_native::{NativeInteger, PrimitiveValues, by_type};
 use vx_rows::{Argument, ArgumentRows, IntegerOperand, IntegerRows, ValidRows};
@@ -39,7 +39,8 @@ impl TextRows for BitBuffer {
 
     #[inline]
     fn push_text(&self, text: &mut String, index: usize) -> VortexResult<()> {
-        Ok(text.push_str(boolean_text(self.value(index)))?)
+        let row = if self.value(index) { "true" } else { "false" };
+        Ok(text.push_str(row)?)
     }
 }
 

@@ -7,7 +7,7 @@ ghost use Rattle.serde_json.specs.Data.{string};
 ghost use Rattle.serde_json.specs.Written.{compact_text};
 ghost use Rattle.std.specs.Str.{is_utf8};
 ghost use Rattle.std.specs.List.{list_any};
-ghost use Rattle.vx_text.specs.RowText.{boolean_text, has_escape, in_quotes, row_text};
+ghost use Rattle.vx_text.specs.RowText.{has_escape, in_quotes, row_text};
 
 use crate::printed::PrintedNumber;
 use itoa::Buffer;
@@ -23,7 +23,8 @@ pub fn push_row(text: &mut String, scalar: &Scalar) -> Result<(), AllocError>
 {
     match scalar.value() {
         None => text.push_str("null"),
-        Some(ScalarValue::Bool(value)) => text.push_str(boolean_text(*value)),
+        Some(ScalarValue::Bool(true)) => text.push_str("true"),
+        Some(ScalarValue::Bool(false)) => text.push_str("false"),
         Some(ScalarValue::Integer(number)) => push_integer(text, *number),
         Some(ScalarValue::Decimal(decimal)) => push_decimal(text, decimal.unscaled),
         Some(ScalarValue::Bytes(bytes)) => match scalar.dtype() {
@@ -31,14 +32,6 @@ pub fn push_row(text: &mut String, scalar: &Scalar) -> Result<(), AllocError>
             _ => push_hex(text, bytes.as_slice()),
         },
     }
-}
-
-/// Returns `true` or `false`.
-#[inline]
-pub(crate) fn boolean_text(value: bool) -> &'static str
-    ensures { result.now ≡ boolean_text value }
-{
-    if value { "true" } else { "false" }
 }
 
 /// Appends `number` in decimal. If memory runs out, part of it may have been appended. (own)
