@@ -11,15 +11,12 @@ use Rattle.vx_value.specs.declared.dtype.Nullability.TheVariants.{Nullable}
 use Rattle.vx_value.specs.declared.dtype.PType.{PType}
 use Rattle.vx_value.specs.declared.error.VortexError.{VortexError}
 use Rattle.vx_value.specs.declared.rescaling.Rescaling.{Rescaling}
-use Rattle.vx_native.specs.DecimalNumbers.{numbers_of}
 use Rattle.vx_native.specs.Natives.{values_of}
 use Rattle.vx_tree.specs.ColumnTypes.{bytes_type}
 use Rattle.vx_tree.specs.Tree.{Tree}
 use Rattle.vx_kernel.specs.Operands.{IsFaultyRow, IsCalculated}
 use Rattle.vx_rows.specs.ValidRows.{is_valid, HasValidity}
 use Rattle.vx_cast.specs.declared.casts.Conversion.{Conversion}
-use Rattle.vx_cast.specs.declared.rescale.Numbers.{Numbers}
-use Rattle.vx_cast.specs.declared.rescale.Numbers.TheVariants as numbers
 use Rattle.vx_rows.specs.declared.argument.ArgumentRows.{ArgumentRows}
 use Rattle.vx_rows.specs.declared.argument.ArgumentRows.TheVariants as stored
 
@@ -34,11 +31,6 @@ rescaled_row d r z i = rescaled d.precision d.scale (z i) r
 -- the same of item i, or of 0 past the last one
 abbrev pub rescaled_item : Rescaling → List ℤ → ℕ → Cell
 rescaled_item x zs = rescaled_row x.target x.scale (λ i. slice_index_or zs i (pos 0))
-
--- numbers that are cast to decimals: those of integers, and of decimals without their points
-abbrev pub all_numbers : Numbers → List ℤ
-all_numbers (numbers.Integers zs) = values_of zs.now
-all_numbers (numbers.Decimals ds) = numbers_of ds.now
 
 -- the bytes that are stored of a row that is cast to text: none if it is null
 abbrev pub none_unless : Bool → List ℕ → List ℕ

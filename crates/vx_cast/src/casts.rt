@@ -25,7 +25,7 @@ use vx_kernel::{
     stored_column,
 };
 use vx_mask::Buffer;
-use vx_native::{NativeInteger, PrimitiveValues, by_buffer, by_type};
+use vx_native::{NativeInteger, NativeNumber, PrimitiveValues, by_native, by_type};
 use vx_rows::{Argument, ArgumentRows, BytesOperand, IntegerOperand, ValidRows, repeated_rows};
 use vx_tree::Canonical;
 use vx_value::{DType, Nullability, PType, Scalar, Storage, VortexError, VortexResult};
@@ -228,15 +228,15 @@ fn convert_into<U: NativeInteger>(
     ensures ok { IfOk result (λ c. IsConverted conversion.now (canonical_tree c)) }
     ensures err { IfErr result (IsNotConverted conversion.now) }
 {
-    by_buffer!(
-        conversion.values,
+    by_native!(
+        conversion.values.buffer(),
         |buffer| convert_buffer::<_, U>(alloc, conversion, buffer)
     )
 }
 
 /// Makes the column of `conversion`, whose target must be `U` and whose values must be those of `buffer`. `Fault` if a valid row
 /// is out of range.
-fn convert_buffer<T: NativeInteger, U: NativeInteger>(
+fn convert_buffer<T: NativeNumber, U: NativeInteger>(
     alloc: Global,
     conversion: &Conversion<'_>,
     buffer: &Buffer<T>,
@@ -258,7 +258,7 @@ struct Converted<'a, T> {
     numbers: Operand<'a, T>,
 }
 
-impl<'a, T: NativeInteger, U: NativeInteger> Calculation<U> for Converted<'a, T> {
+impl<'a, T: NativeNumber, U: NativeInteger> Calculation<U> for Converted<'a, T> {
     ghost has_row = { λ s i. HasRow s.numbers i };
 
     ghost cell = { λ s i. to_integer U.kind (integer (number_in T.value s.numbers i)) };
@@ -267,10 +267,10 @@ impl<'a, T: NativeInteger, U: NativeInteger> Calculation<U> for Converted<'a, T>
 
     #[inline]
     fn calculate_row(&self, index: usize) -> Option<U> {
-        U::from_wide(self.numbers.row(index).to_wide())
+        U::from_wide(self.numbers.row(index).wide())
     }
 }
 
-impl<'a, T: NativeInteger, U: NativeInteger> IntegerCalculation<U> for Converted<'a, T> {
+impl<'a, T: NativeNumber, U: NativeInteger> IntegerCalculation<U> for Converted<'a, T> {
     fn are_integers(&self) {}
 }

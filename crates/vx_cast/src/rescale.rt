@@ -3,10 +3,11 @@
 ghost use Rattle.std.specs.Prelude.{◌≡◌, map, length, IfOk, IfErr};
 ghost use Rattle.vx_value.specs.Decimals.{smallest_width};
 ghost use Rattle.vx_value.specs.Values.{decimal as decimal_value};
+ghost use Rattle.vx_native.specs.Buffers.{numbers_in};
 ghost use Rattle.vx_tree.specs.Columns.{canonical_tree};
 ghost use Rattle.vx_rows.specs.Arguments.{ptype_in, integer_in, unscaled_in, AreIntegers, AreDecimals};
 ghost use Rattle.vx_rows.specs.ValidRows.{is_valid, HasValidity};
-ghost use Rattle.vx_cast.specs.Casts.{rescaled_row, rescaled_item, all_numbers};
+ghost use Rattle.vx_cast.specs.Casts.{rescaled_row, rescaled_item};
 ghost use Rattle.vx_kernel.specs.Operands.{number_in, HasRow, IsFaultyRow, AreCalculated};
 
 use std::alloc::Global;
@@ -15,10 +16,7 @@ use vx_kernel::{
     stored_column,
 };
 use vx_mask::Buffer;
-use vx_native::{
-    DecimalValues, NativeDecimalType, NativeNumber, PrimitiveValues, by_buffer, by_decimal_type,
-    by_decimals,
-};
+use vx_native::{NativeBuffer, NativeDecimalType, NativeNumber, by_decimal_type, by_native};
 use vx_rows::{ArgumentRows, DecimalOperand, IntegerOperand, ValidRows};
 use vx_tree::Canonical;
 use vx_value::{DecimalDType, DecimalType, Rescaling, VortexError, VortexResult};
@@ -40,7 +38,7 @@ pub(crate) fn integers_to_decimals(
 {
     let values = integer_rows(alloc, integers, len)?;
     let rescaling = Rescaling::new(target, 0);
-    rescale_numbers(alloc, rescaling, Numbers::Integers(&values), valid, len)
+    rescale_numbers(alloc, rescaling, values.buffer(), valid, len)
 }
 
 /// Casts the `valid` rows of `decimals`, `len` rows, to decimals of type `target`; the others are null. Shares their numbers if they are
@@ -65,29 +63,21 @@ pub(crate) fn cast_decimals(
     }
     let values = decimal_rows(alloc, decimals, len)?;
     let rescaling = Rescaling::new(target, decimals.decimal.scale());
-    rescale_numbers(alloc, rescaling, Numbers::Decimals(&values), valid, len)
-}
-
-/// Numbers that are cast to decimals.
-#[derive(Clone, Copy)]
-enum Numbers<'a> {
-    Integers(&'a PrimitiveValues),
-    /// Decimals without their points.
-    Decimals(&'a DecimalValues),
+    rescale_numbers(alloc, rescaling, values.buffer(), valid, len)
 }
 
 /// Casts the `valid` rows of `numbers`, `len` rows; the others are null. `Fault` if the type doesn't have one.
 fn rescale_numbers(
     alloc: Global,
     rescaling: Rescaling,
-    numbers: Numbers<'_>,
+    numbers: &NativeBuffer,
     valid: &ValidRows,
     len: usize,
 ) -> VortexResult<Canonical>
-    requires rows { length (all_numbers numbers) ≡ len }
+    requires rows { length (numbers_in numbers.now) ≡ len }
     requires valid { HasValidity valid.now len }
-    ensures ok { IfOk result (λ c. AreCalculated rescaling.target valid.now (rescaled_item rescaling (all_numbers numbers.entry)) len (canonical_tree c)) }
-    ensures err { IfErr result (IsFaultyRow (is_valid valid.now) (rescaled_item rescaling (all_numbers numbers.entry)) len) }
+    ensures ok { IfOk result (λ c. AreCalculated rescaling.target valid.now (rescaled_item rescaling (numbers_in numbers.now)) len (canonical_tree c)) }
+    ensures err { IfErr result (IsFaultyRow (is_valid valid.now) (rescaled_item rescaling (numbers_in numbers.now)) len) }
 {
     let width = DecimalType::smallest_decimal_value_type(&rescaling.target());
     by_decimal_type!(width, rescale_into(alloc, rescaling, numbers, valid, len))
@@ -98,26 +88,20 @@ fn rescale_numbers(
 fn rescale_into<U: NativeDecimalType>(
     alloc: Global,
     rescaling: Rescaling,
-    numbers: Numbers<'_>,
+    numbers: &NativeBuffer,
     valid: &ValidRows,
     len: usize,
 ) -> VortexResult<Canonical>
     requires kind { U.kind ≡ smallest_width rescaling.target.precision }
-    requires rows { length (all_numbers numbers) ≡ len }
+    requires rows { length (numbers_in numbers.now) ≡ len }
     requires valid { HasValidity valid.now len }
-    ensures ok { IfOk result (λ c. AreCalculated rescaling.target valid.now (rescaled_item rescaling (all_numbers numbers.entry)) len (canonical_tree c)) }
-    ensures err { IfErr result (IsFaultyRow (is_valid valid.now) (rescaled_item rescaling (all_numbers numbers.entry)) len) }
+    ensures ok { IfOk result (λ c. AreCalculated rescaling.target valid.now (rescaled_item rescaling (numbers_in numbers.now)) len (canonical_tree c)) }
+    ensures err { IfErr result (IsFaultyRow (is_valid valid.now) (rescaled_item rescaling (numbers_in numbers.now)) len) }
 {
-    match numbers {
-        Numbers::Integers(values) => by_buffer!(
-            values,
-            |buffer| rescale_buffer::<_, U>(alloc, rescaling, buffer, valid, len)
-        ),
-        Numbers::Decimals(values) => by_decimals!(
-            values,
-            |buffer| rescale_buffer::<_, U>(alloc, rescaling, buffer, valid, len)
-        ),
-    }
+    by_native!(
+        numbers,
+        |buffer| rescale_buffer::<_, U>(alloc, rescaling, buffer, valid, len)
+    )
 }
 
 /// Casts the `valid` rows of `buffer`, `len` rows, to decimals that must be stored in the width of `U`; the others are null. `Fault`

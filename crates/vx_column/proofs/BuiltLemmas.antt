@@ -23,9 +23,7 @@ use Rattle.vx_value.specs.declared.dtype.Nullability.TheVariants.{Nullable}
 use Rattle.vx_value.specs.declared.dtype.PType.{PType}
 use Rattle.vx_value.specs.declared.dtype.Storage.TheVariants as storage
 use Rattle.vx_mask.specs.Masks.{is_all_true, is_all_false}
-use Rattle.vx_native.specs.NativeVecs as NativeVecs
-use Rattle.vx_native.specs.NativeVecs.{integers_in}
-use Rattle.vx_native.specs.declared.native_vec.NativeVec.{NativeVec}
+use Rattle.vx_native.specs.Numbers.{Numbers}
 use Rattle.vx_value.specs.Decimals.{has_digits, smallest_width}
 use Rattle.vx_value.specs.declared.decimal.DecimalDType.{DecimalDType}
 use Rattle.vx_value.specs.declared.decimal.DecimalType.{DecimalType}
@@ -109,12 +107,12 @@ module _ {A : Type 0} (read : Value → Option A) (make : A → Value) (d : A) (
 -- ---- the column
 
 -- the width and the digits of decimals, and the bytes of text, by their type
-pub width_known : (zs : NativeVec) (st : Storage) (s : ℕ) (d : DecimalDType) (w : DecimalType) → AreStored st (Decimals zs s) → st ≡ stored_decimals d
-    → NativeVecs.width_in zs ≡ Some w → w ≡ smallest_width d.precision
-width_known zs st s d w kind is e =
+pub width_known : (zs : Numbers DecimalType) (st : Storage) (s : ℕ) (d : DecimalDType) → AreStored st (Decimals zs s) → st ≡ stored_decimals d
+    → zs.kind ≡ smallest_width d.precision
+width_known zs st s d kind is =
     let same : storage.Decimals kind.0 s ≡ stored_decimals d = sym kind.1 ∙ is in
     let precision : kind.0 ≡ d.precision = cc in
-    same_Some w (smallest_width kind.0) (sym e ∙ kind.3) ∙ ap smallest_width precision
+    kind.3 ∙ ap smallest_width precision
 
 pub digits_known : (ty : DataType) (d : DecimalDType) (s : ℕ) (zs : List ℤ) → storage_of ty ≡ stored_decimals d
     → list_all (is_of ty) (map (λ z. of.decimal z s) zs) ≡ true → list_all (has_digits d.precision) zs ≡ true
@@ -150,14 +148,14 @@ column_is ty n (Bits bs) bits kept v nullable child t is =
     ∙ ap (λ st. built_stored st ty (rows_kept (Bits bs) bits)) (sym kept.kind)
 column_is ty n (Integers zs) bits kept v nullable child t is =
     is.2 ∙ column_kept integer_in of.integer (pos 0) (λ x. refl) refl (type.primitive is.0 (nullability_by v)) (type.primitive is.0 (nullability_of ty))
-    (ap (type.primitive is.0) nullable) (enc.primitive is.0) (nullability_of ty) n bits (integers_in zs) v kept.zeros kept.told kept.counted child
+    (ap (type.primitive is.0) nullable) (enc.primitive is.0) (nullability_of ty) n bits zs.numbers v kept.zeros kept.told kept.counted child
     ∙ ap (λ st. built_stored st ty (rows_kept (Integers zs) bits)) (sym is.1)
 column_is ty n (Decimals zs s) bits kept v nullable child t is =
     let d = is.0 in
     let same = ap (type.decimal d.precision d.scale) nullable ∙ decimal_is d.precision d.scale ty is.1 in
-    is.2 ∙ ap (λ w. decimal_column d w (integers_in zs) v) (ap width_in (sym is.1))
+    is.2 ∙ ap (λ w. decimal_column d w zs.numbers v) (ap width_in (sym is.1))
     ∙ column_kept without_point (λ z. of.decimal z s) (pos 0) (λ x. refl) refl (type.decimal d.precision d.scale (nullability_by v)) ty same
-    (enc.decimals (width_in (storage_of ty))) (nullability_of ty) n bits (integers_in zs) v kept.zeros kept.told kept.counted child
+    (enc.decimals (width_in (storage_of ty))) (nullability_of ty) n bits zs.numbers v kept.zeros kept.told kept.counted child
     ∙ ap (λ st. built_stored st ty (rows_kept (Decimals zs s) bits)) (sym is.1)
 column_is ty n (Bytes rs) bits kept v nullable child t is =
     let same = ap (λ m. with_nullability m (bytes_type (storage_of ty))) nullable ∙ column_of_bytes ty kept.kind in

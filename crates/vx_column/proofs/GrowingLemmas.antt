@@ -25,10 +25,8 @@ use Rattle.vx_value.specs.declared.dtype.Storage.TheVariants as storage
 use Rattle.vx_value.proofs.DefaultsLemmas.{zero_typed}
 use Rattle.std.specs.Prelude.{◌==◌}
 use Rattle.std.specs.Cmp.{unsigned_Decides, first_so, second_so}
-use Rattle.vx_native.specs.NativeVecs.{ptype_in, width_in, has_room, can_hold}
 use Rattle.vx_native.specs.Widths.{fits_width}
-use Rattle.vx_native.specs.declared.native_vec.NativeVec.{NativeVec}
-use Rattle.vx_native.specs.declared.native_vec.NativeVec.TheVariants.{I8, I16, I32, I64, I128}
+use Rattle.vx_native.specs.Numbers.{Numbers}
 use Rattle.vx_native.proofs.DecimalNumbersLemmas.{digits_fit}
 use Rattle.vx_column.proofs.RepeatedLemmas.{all_copies}
 use Rattle.vx_column.specs.declared.builder.values.Values.{Values}
@@ -99,14 +97,6 @@ bits_before n k bits =
 -- ---- types
 
 -- the values of a type that can come
-holds_width : (zs : NativeVec) (w : DecimalType) (z : ℤ) → width_in zs ≡ Some w → fits_width w z ≡ true → can_hold zs z ≡ true
-holds_width (I8 xs) w z e h = let is : w ≡ width.I8 = cc in ap (λ x. fits_width x z) (sym is) ∙ h
-holds_width (I16 xs) w z e h = let is : w ≡ width.I16 = cc in ap (λ x. fits_width x z) (sym is) ∙ h
-holds_width (I32 xs) w z e h = let is : w ≡ width.I32 = cc in ap (λ x. fits_width x z) (sym is) ∙ h
-holds_width (I64 xs) w z e h = let is : w ≡ width.I64 = cc in ap (λ x. fits_width x z) (sym is) ∙ h
-holds_width (I128 xs) w z e h = let is : w ≡ width.I128 = cc in ap (λ x. fits_width x z) (sym is) ∙ h
-holds_width _ w z e h = absurd (cc)
-
 pub stored_as : (ty : DataType) (st : Storage) (v : Value) → storage_of ty ≡ st → is_of ty v ≡ true → is_stored (nullability_of ty) st v ≡ true
 stored_as ty st v e h = ap (λ x. is_stored (nullability_of ty) x v) (sym e) ∙ h
 
@@ -118,15 +108,15 @@ bits_accept : (m : Nullability) (bits : List Bool) (s : ScalarValue) → is_stor
 bits_accept m bits (scalar.Bool b) h = tt
 bits_accept m bits _ h = absurd (cc)
 
-integers_accept : (m : Nullability) (p : PType) (zs : NativeVec) (s : ScalarValue) → ptype_in zs ≡ Some p → is_stored m (storage.Integers p) (value_of s) ≡ true
+integers_accept : (m : Nullability) (p : PType) (zs : Numbers PType) (s : ScalarValue) → zs.kind ≡ p → is_stored m (storage.Integers p) (value_of s) ≡ true
     → Accepts (Integers zs) (value_of s)
-integers_accept m p zs (scalar.Integer z) e h = ap (λ o. has_room o z) e ∙ h
+integers_accept m p zs (scalar.Integer z) e h = ap (λ o. in_range o z) e ∙ h
 integers_accept m p zs _ e h = absurd (cc)
 
-decimals_accept : (m : Nullability) (p r : ℕ) (zs : NativeVec) (s : ScalarValue) → p ≤ 38 → width_in zs ≡ Some (smallest_width p)
+decimals_accept : (m : Nullability) (p r : ℕ) (zs : Numbers DecimalType) (s : ScalarValue) → p ≤ 38 → zs.kind ≡ smallest_width p
     → is_stored m (storage.Decimals p r) (value_of s) ≡ true → Accepts (Decimals zs r) (value_of s)
 decimals_accept m p r zs (scalar.Decimal d) few e h = (
-  holds_width zs (smallest_width p) d.unscaled e (digits_fit (smallest_width p) p d.unscaled refl few (second_so (d.scale == r) _ h)),
+  digits_fit zs.kind p d.unscaled e few (second_so (d.scale == r) _ h),
   (unsigned_Decides d.scale r).0 (first_so (d.scale == r) _ h),
 )
 decimals_accept m p r zs _ few e h = absurd (cc)

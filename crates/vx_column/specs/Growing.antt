@@ -1,10 +1,10 @@
 -- What a builder keeps of its rows: a value for each, under a null too, and which of them aren't null.
-use Rattle.std.specs.Prelude.{◌≡◌, ◌⊎◌, ◌<◌, ◌≤◌, ◌-◌, ℕ, pos, Bool, true, false, if◌then◌else◌, List, [], ◌∷◌, ◌++◌, length, map, replicate, Some}
+use Rattle.std.specs.Prelude.{◌≡◌, ◌⊎◌, ◌<◌, ◌≤◌, ◌-◌, ℕ, pos, Bool, true, false, if◌then◌else◌, List, [], ◌∷◌, ◌++◌, length, map, replicate}
 use Rattle.std.specs.List.{list_all}
 use Rattle.vx_value.specs.Types.{DataType, nullability_of}
 use Rattle.vx_value.specs.Values as value
 use Rattle.vx_value.specs.Values.{Value}
-use Rattle.vx_value.specs.IsOf.{is_of}
+use Rattle.vx_value.specs.IsOf.{is_of, in_range}
 use Rattle.vx_value.specs.Decimals.{smallest_width}
 use Rattle.vx_value.specs.Storage.{storage_of}
 use Rattle.vx_value.specs.declared.dtype.Storage.{Storage}
@@ -12,7 +12,7 @@ use Rattle.vx_value.specs.declared.dtype.Storage.TheVariants as storage
 use Rattle.vx_value.specs.declared.dtype.PType.{PType}
 use Rattle.vx_value.specs.declared.dtype.Nullability.{Nullability}
 use Rattle.vx_value.specs.declared.dtype.Nullability.TheVariants.{Nullable}
-use Rattle.vx_native.specs.NativeVecs.{integers_in, ptype_in, width_in, can_hold}
+use Rattle.vx_native.specs.Widths.{fits_width}
 use Rattle.vx_value.specs.declared.decimal.DecimalDType.{DecimalDType}
 use Rattle.vx_tree.specs.Tree.{Tree, nulls_of}
 use Rattle.vx_tree.specs.declared.validity.Validity.{Validity}
@@ -27,8 +27,8 @@ use Rattle.vx_column.specs.declared.builder.values.Values.TheVariants.{Nulls, Bi
 abbrev pub stored_values : Values → List Value
 stored_values (Nulls n) = replicate n value.null
 stored_values (Bits bs) = map (λ b. value.boolean b) bs
-stored_values (Integers zs) = map (λ z. value.integer z) (integers_in zs)
-stored_values (Decimals zs s) = map (λ z. value.decimal z s) (integers_in zs)
+stored_values (Integers zs) = map (λ z. value.integer z) zs.numbers
+stored_values (Decimals zs s) = map (λ z. value.decimal z s) zs.numbers
 stored_values (Bytes rs) = map (λ r. value.bytes r) rs
 
 -- the one that stands under a null
@@ -43,15 +43,15 @@ zero_in (Bytes rs) = value.bytes []
 abbrev pub AreStored : Storage → Values → Type 0
 AreStored st (Nulls n) = st ≡ storage.Nulls
 AreStored st (Bits bs) = st ≡ storage.Bits
-AreStored st (Integers zs) = (p : PType) × (st ≡ storage.Integers p) × (ptype_in zs ≡ Some p)
-AreStored st (Decimals zs s) = (p : ℕ) × (st ≡ storage.Decimals p s) × (p ≤ 38) × (width_in zs ≡ Some (smallest_width p))
+AreStored st (Integers zs) = (p : PType) × (st ≡ storage.Integers p) × (zs.kind ≡ p)
+AreStored st (Decimals zs s) = (p : ℕ) × (st ≡ storage.Decimals p s) × (p ≤ 38) × (zs.kind ≡ smallest_width p)
 AreStored st (Bytes rs) = (st ≡ storage.Text) ⊎ (st ≡ storage.Bytes)
 
 -- the value is of their kind
 abbrev pub Accepts : Values → Value → Type 0
 Accepts (Bits bs) (value.boolean b) = Unit {0}
-Accepts (Integers zs) (value.integer z) = can_hold zs z ≡ true
-Accepts (Decimals zs s) (value.decimal z r) = (can_hold zs z ≡ true) × (r ≡ s)
+Accepts (Integers zs) (value.integer z) = in_range zs.kind z ≡ true
+Accepts (Decimals zs s) (value.decimal z r) = (fits_width zs.kind z ≡ true) × (r ≡ s)
 Accepts (Bytes rs) (value.bytes r) = Unit {0}
 Accepts vs v = ⊥
 
@@ -87,6 +87,6 @@ told_rows m n (b ∷ bits) = valid.Bits (padded n (b ∷ bits))
 abbrev pub IsColumnOf : Storage → Values → Validity → Tree → Type 0
 IsColumnOf st (Nulls n) v t = t ≡ nulls_of n
 IsColumnOf st (Bits bs) v t = t ≡ boolean_column bs v
-IsColumnOf st (Integers zs) v t = (p : PType) × (st ≡ storage.Integers p) × (t ≡ integer_column p (integers_in zs) v)
-IsColumnOf st (Decimals zs s) v t = (d : DecimalDType) × (st ≡ stored_decimals d) × (t ≡ decimal_column d (smallest_width d.precision) (integers_in zs) v)
+IsColumnOf st (Integers zs) v t = (p : PType) × (st ≡ storage.Integers p) × (t ≡ integer_column p zs.numbers v)
+IsColumnOf st (Decimals zs s) v t = (d : DecimalDType) × (st ≡ stored_decimals d) × (t ≡ decimal_column d (smallest_width d.precision) zs.numbers v)
 IsColumnOf st (Bytes rs) v t = t ≡ bytes_column st rs v

@@ -37,12 +37,7 @@ pub fn operand_of<'a, T: NativeInteger>(integers: IntegerOperand<'a>) -> Operand
     ensures rows { (n : ℕ) → HasIntegers integers.entry.rows n → HasRows result n }
 {
     match integers.rows {
-        IntegerRows::Rows(values) => {
-            let Some(buffer) = T::project(values) else {
-                unreachable!()
-            };
-            Operand::Rows(buffer.as_slice())
-        }
+        IntegerRows::Rows(values) => Operand::Rows(T::numbers(values).as_slice()),
         IntegerRows::Value(_, wide) => Operand::Value(native_of(wide)),
     }
 }
@@ -55,12 +50,7 @@ pub fn decimal_operand_of<'a, T: NativeDecimalType>(decimals: DecimalOperand<'a>
     ensures rows { (n : ℕ) → AreDecimals decimals.entry n → HasRows result n }
 {
     match decimals.rows {
-        DecimalRows::Rows(values) => {
-            let Some(buffer) = T::project_decimals(values) else {
-                unreachable!()
-            };
-            Operand::Rows(buffer.as_slice())
-        }
+        DecimalRows::Rows(values) => Operand::Rows(T::decimals(values).as_slice()),
         DecimalRows::Value(wide) => Operand::Value(narrowed(wide)),
     }
 }

@@ -1,8 +1,10 @@
 pub use Rattle.vx_value.specs.Types
 pub use Rattle.vx_value.specs.IsOf
 pub use Rattle.vx_value.specs.Decimals
-pub mod Ranges
-pub mod Natives
 pub mod Widths
+pub mod Ranges
+pub mod Numbers
+pub mod Buffers
+pub mod Vecs
+pub mod Natives
 pub mod DecimalNumbers
-pub mod NativeVecs

@@ -1,6 +1,9 @@
 //! Buffers of numbers, as lists of the integers that these stand for.
 
-ghost use Rattle.std.specs.Prelude.{◌≡◌, ◌<◌, ◌≤◌, map, length, IfOk, Some, slice_get, slice_range, replicate};
+ghost use Rattle.std.specs.Prelude.{◌≡◌, ◌<◌, ◌≤◌, map, length, IfOk, Some, true, slice_get, slice_range, replicate};
+ghost use Rattle.std.specs.List.{list_all};
+ghost use Rattle.vx_value.specs.Decimals.{has_digits};
+ghost use Rattle.vx_native.specs.Ranges.{in_native};
 ghost use Rattle.vx_mask.specs.Masks.{bits_in};
 ghost use Rattle.vx_mask.specs.Places.{chosen};
 
@@ -9,12 +12,13 @@ use crate::number::fitted;
 use std::alloc::{AllocError, Global};
 use std::ops::Range;
 use vx_mask::{Buffer, Mask};
+use vx_value::DecimalDType;
 
 /// Returns the number at `index`, counted from 0. It must be in bounds.
 pub(crate) fn number_at<T: NativeNumber>(buffer: &Buffer<T>, index: usize) -> i128
     requires { index < length buffer.now }
     ensures value { slice_get (map T.value buffer.now) index ≡ Some result }
-    ensures fits { T.fits result }
+    ensures ranged { in_native T.native result ≡ true }
 {
     buffer.as_slice()[index].widened()
 }
@@ -46,16 +50,29 @@ pub(crate) fn chosen_of<T: NativeNumber>(
     buffer.filter(alloc, mask)
 }
 
-/// Returns `len` times the number `wide`, which the type must have. Takes one allocation.
+/// Returns `len` times the number `wide`, which must be one of the type's. Takes one allocation.
 pub(crate) fn copies_of<T: NativeNumber>(
     alloc: Global,
     wide: i128,
     len: usize,
 ) -> Result<Buffer<T>, AllocError>
-    requires { T.fits wide }
+    requires { in_native T.native wide ≡ true }
     ensures { IfOk result (λ copies. map T.value copies ≡ replicate len wide) }
 {
     let value: T = fitted(wide);
     let values = vec![in alloc; value; len]?;
     Buffer::from_vec(alloc, values)
+}
+
+/// Checks whether each number has at most as many digits as the precision of `decimal`.
+pub(crate) fn all_digits<T: NativeNumber>(buffer: &Buffer<T>, decimal: &DecimalDType) -> bool
+    ensures { result ≡ list_all (has_digits decimal.now.precision) (map T.value buffer.now) }
+{
+    let digits = decimal.digits();
+    for value in buffer.as_slice() {
+        if !digits.contain(value.wide()) {
+            return false;
+        }
+    }
+    true
 }

@@ -1,21 +1,21 @@
 //! The native integer types of columns, and values of any of them in shared storage.
 #![tactic(auto)]
 
+mod buffer;
 mod buffers;
 mod decimal;
-mod decimal_impls;
-mod decimal_values;
-mod impls;
 mod integer;
 mod macros;
-mod native_vec;
+mod native;
 mod number;
 mod values;
+mod vec;
 
+pub use buffer::NativeBuffer;
 pub use decimal::{NativeDecimalType, narrowed};
-pub use decimal_values::DecimalValues;
 pub use integer::{NativeInteger, native_of};
-pub use native_vec::NativeVec;
+pub use native::{NativeKind, NativeType};
 pub use number::NativeNumber;
-pub use values::PrimitiveValues;
+pub use values::{DecimalValues, NativeValues, PrimitiveValues};
+pub use vec::NativeVec;
 pub use vx_value::{DecimalType, PType};

@@ -1,30 +1,4 @@
-//! Macros that open the eight types, and the five that decimals are stored in.
-
-/// Evaluates one expression over what an enum holds, whichever of these variants it is of.
-#[macro_export]
-macro_rules! by_variant {
-    ($values:expr, $enum:ident[$($variant:ident),*], |$value:ident| $body:expr) => {
-        match $values {
-            $($crate::$enum::$variant($value) => $body,)*
-        }
-    };
-}
-
-/// Evaluates one expression over the buffer of a `PrimitiveValues`, whichever its type: `by_buffer!(values, |buffer| buffer.len())`.
-#[macro_export]
-macro_rules! by_buffer {
-    ($values:expr, |$buffer:ident| $body:expr) => {
-        $crate::by_variant!($values, PrimitiveValues[U8, U16, U32, U64, I8, I16, I32, I64], |$buffer| $body)
-    };
-}
-
-/// Evaluates one expression over the buffer of a `DecimalValues`, whichever its width: `by_decimals!(values, |buffer| buffer.len())`.
-#[macro_export]
-macro_rules! by_decimals {
-    ($values:expr, |$buffer:ident| $body:expr) => {
-        $crate::by_variant!($values, DecimalValues[I8, I16, I32, I64, I128], |$buffer| $body)
-    };
-}
+//! Macros that open the native types.
 
 /// Calls a generic function at the type that a kind, one of these variants of its enum, names.
 #[macro_export]
@@ -61,17 +35,32 @@ macro_rules! by_decimal_type {
     };
 }
 
-/// Evaluates to the value in a borrowed enum of this variant, `Some(value)`; to `None` if it is of another.
-macro_rules! variant {
-    ($enum:expr, $name:ident::$variant:ident) => {
-        match $enum {
-            $name::$variant(value) => Some(value),
-            _ => None,
+/// Evaluates one expression over the numbers in a `NativeBuffer`, whichever their type: `by_native!(buffer, |numbers| sum(numbers))`.
+#[macro_export]
+macro_rules! by_native {
+    ($buffer:expr, |$numbers:ident| $body:expr) => {
+        match $buffer {
+            $crate::NativeBuffer::U8($numbers) => $body,
+            $crate::NativeBuffer::U16($numbers) => $body,
+            $crate::NativeBuffer::U32($numbers) => $body,
+            $crate::NativeBuffer::U64($numbers) => $body,
+            $crate::NativeBuffer::I8($numbers) => $body,
+            $crate::NativeBuffer::I16($numbers) => $body,
+            $crate::NativeBuffer::I32($numbers) => $body,
+            $crate::NativeBuffer::I64($numbers) => $body,
+            $crate::NativeBuffer::I128($numbers) => $body,
         }
     };
 }
 
-/// Calls one of the macros below for the variants of the eight types, which come first among its arguments.
+/// Calls one of the macros below for the variants of the nine types, which come first among its arguments.
+macro_rules! for_natives {
+    ($macro:ident!($($argument:tt)*)) => {
+        $macro!([U8, U16, U32, U64, I8, I16, I32, I64, I128] $($argument)*)
+    };
+}
+
+/// Calls one of the macros below for the variants of the eight types of integers, which come first among its arguments.
 macro_rules! for_integers {
     ($macro:ident!($($argument:tt)*)) => {
         $macro!([U8, U16, U32, U64, I8, I16, I32, I64] $($argument)*)
@@ -85,11 +74,20 @@ macro_rules! for_decimals {
     };
 }
 
-/// Evaluates to the kind, of the enum `$kinds`, that the variant of a borrowed enum is named after.
-macro_rules! kind_of {
-    ([$($variant:ident),*] $values:expr, $enum:ident => $kinds:ident) => {
+/// Evaluates one expression over what an enum holds, whichever of these variants it is of.
+macro_rules! over {
+    ([$($variant:ident),*] $values:expr, $enum:ident($value:ident) => $body:expr) => {
         match $values {
-            $($enum::$variant(_) => $kinds::$variant,)*
+            $($enum::$variant($value) => $body,)*
+        }
+    };
+}
+
+/// Evaluates to the variant of the enum `$to` that has the name of a variant of the enum `$from`.
+macro_rules! named {
+    ([$($variant:ident),*] $kind:expr, $from:ident => $to:ident) => {
+        match $kind {
+            $($from::$variant => $to::$variant,)*
         }
     };
 }
@@ -101,16 +99,27 @@ macro_rules! made {
             $($kinds::$variant => Ok($to::$variant($body?)),)*
         }
     };
-    ([$($variant:ident),*] $values:expr, $from:ident($value:ident) => $to:ident, $body:expr $(, _ => $rest:expr)?) => {
+    ([$($variant:ident),*] $values:expr, $from:ident($value:ident) => $to:ident, $body:expr) => {
         match $values {
             $($from::$variant($value) => Ok($to::$variant($body?)),)*
-            $(_ => $rest,)?
+        }
+    };
+}
+
+/// Evaluates to the numbers in a borrowed `NativeBuffer`, which must be of this variant.
+macro_rules! numbers_of {
+    ($buffer:expr, $variant:ident) => {
+        match $buffer {
+            NativeBuffer::$variant(numbers) => numbers,
+            _ => unreachable!(),
         }
     };
 }
 
 pub(crate) use for_decimals;
 pub(crate) use for_integers;
-pub(crate) use kind_of;
+pub(crate) use for_natives;
 pub(crate) use made;
-pub(crate) use variant;
+pub(crate) use named;
+pub(crate) use numbers_of;
+pub(crate) use over;

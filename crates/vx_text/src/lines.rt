@@ -110,13 +110,10 @@ fn push_natives<T: NativeInteger + PrintedNumber>(
     ensures ok { OnOk result (string_bytes text.new ≡ string_bytes text.old ++ integer_lines valid.now (values_of values.now)) }
     ensures err { IfErr result (λ e. e ≡ VortexError.OutOfMemory) }
 {
-    let Some(buffer) = T::project(values) else {
-        unreachable!()
-    };
     let integers = Integers {
-        values: buffer.as_slice(),
+        values: T::numbers(values).as_slice(),
     };
-    push_lines(text, &integers, valid, buffer.len())?;
+    push_lines(text, &integers, valid, values.len())?;
     Ok(())
 }
 

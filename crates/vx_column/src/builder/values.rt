@@ -15,7 +15,7 @@ use vx_mask::BitBuilder;
 use vx_native::NativeVec;
 use vx_rows::{bool_column, decimal_column, primitive_column, varbinview_column};
 use vx_tree::{Canonical, NullArray, Validity};
-use vx_value::{DType, DecimalType, ScalarValue, VortexError, VortexResult};
+use vx_value::{DType, DecimalType, PType, ScalarValue, VortexError, VortexResult};
 use vx_views::BinaryBuilder;
 
 /// A value for each row, under a null too, by how the column's type stores them.
@@ -24,9 +24,9 @@ pub(super) enum Values {
     /// Nothing: each of this number of rows is null.
     Nulls(usize),
     Bits(BitBuilder),
-    Integers(NativeVec),
+    Integers(NativeVec<PType>),
     /// Decimals without their points, and how many of their digits stand behind it.
-    Decimals(NativeVec, u8),
+    Decimals(NativeVec<DecimalType>, u8),
     Bytes(BinaryBuilder),
 }
 
@@ -44,11 +44,11 @@ impl Values {
             DType::Null => Values::Nulls(0),
             DType::Bool(_) => Values::Bits(BitBuilder::with_capacity(alloc, capacity)?),
             DType::Primitive(ptype, _) => {
-                Values::Integers(NativeVec::of_integers(alloc, *ptype, capacity)?)
+                Values::Integers(NativeVec::with_capacity(alloc, *ptype, capacity)?)
             }
             DType::Decimal(decimal, _) => {
                 let width = DecimalType::smallest_decimal_value_type(decimal);
-                let values = NativeVec::of_decimals(alloc, width, capacity)?;
+                let values = NativeVec::with_capacity(alloc, width, capacity)?;
                 Values::Decimals(values, decimal.scale())
             }
             DType::Utf8(_) | DType::Binary(_) => {
@@ -115,13 +115,13 @@ impl Values {
             Values::Nulls(rows) => Ok(Canonical::Null(NullArray::new(alloc, rows)?)),
             Values::Bits(bits) => bool_column(alloc, bits.finish(alloc)?, validity),
             Values::Integers(values) => {
-                primitive_column(alloc, values.into_integers(alloc)?, validity)
+                primitive_column(alloc, values.into_values(alloc)?, validity)
             }
             Values::Decimals(values, _) => {
                 let DType::Decimal(decimal, _) = dtype else {
                     unreachable!()
                 };
-                decimal_column(alloc, *decimal, values.into_decimals(alloc)?, validity)
+                decimal_column(alloc, *decimal, values.into_values(alloc)?, validity)
             }
             Values::Bytes(rows) => {
                 varbinview_column(alloc, dtype.storage(), rows.finish(alloc)?, validity)

@@ -7,6 +7,6 @@ use Rattle.vx_cast.proofs.casts.ConvertedCalculation.calculate_row.Goals as goal
 
 pub returns : goal.returns
 returns g c =
-    let fits : FitsSigned w128 c.to_wide.result = search rules in
+    let fits : FitsSigned w128 c.wide.result = search rules in
     converted_row g.U.Number.value g.U.NativeInteger.kind _ (number_in g.T.Number.value c.args.self.now.numbers c.args.index) c.from_wide.result
-    c.from_wide.ensures (to_z-of_z fits ∙ c.to_wide.ensures.wide ∙ c.row.ensures)
+    c.from_wide.ensures (to_z-of_z fits ∙ c.wide.ensures ∙ c.row.ensures)

@@ -1,7 +1,6 @@
 use Rattle.std.proofs.Common.{pos, false, [], ◌++◌, replicate, ap, sym, ◌∙◌}
 use Rattle.std.proofs.lemmas.Result.{on_ok_weaker}
 use Rattle.vx_value.specs.Values.{boolean, integer, decimal, bytes}
-use Rattle.vx_native.specs.NativeVecs.{integers_in}
 use Rattle.vx_column.specs.Growing.{stored_values, zero_in}
 use Rattle.vx_column.proofs.GrowingLemmas.{more_zeros, more_nulls}
 use Rattle.vx_column.proofs.builder.values.Values.push_zeros.Goals as goal
@@ -20,16 +19,16 @@ returns-in-Bits-clause-ok c =
 pub returns-in-Integers-clause-ok : goal.returns-in-Integers-clause-ok
 returns-in-Integers-clause-ok c =
     on_ok_weaker _
-    (more_zeros c.args.self.now integer (pos 0) (integers_in c.in-Integers.values) _ c.args.count (ap stored_values c.in-Integers.is)
+    (more_zeros c.args.self.now integer (pos 0) c.in-Integers.values.numbers _ c.args.count (ap stored_values c.in-Integers.is)
     (ap zero_in c.in-Integers.is))
-    c.push_zeros.ensures.ok
+    (on_ok_weaker _ (ap (λ v. v.numbers)) c.push_zeros.ensures.ok)
 
 pub returns-in-Decimals-clause-ok : goal.returns-in-Decimals-clause-ok
 returns-in-Decimals-clause-ok c =
     on_ok_weaker _
-    (more_zeros c.args.self.now (λ z. decimal z c.in-Decimals.field-1) (pos 0) (integers_in c.in-Decimals.values) _ c.args.count
+    (more_zeros c.args.self.now (λ z. decimal z c.in-Decimals.field-1) (pos 0) c.in-Decimals.values.numbers _ c.args.count
     (ap stored_values c.in-Decimals.is) (ap zero_in c.in-Decimals.is))
-    c.push_zeros-in-Decimals.ensures.ok
+    (on_ok_weaker _ (ap (λ v. v.numbers)) c.push_zeros-in-Decimals.ensures.ok)
 
 pub returns-in-Bytes-clause-ok : goal.returns-in-Bytes-clause-ok
 returns-in-Bytes-clause-ok c =

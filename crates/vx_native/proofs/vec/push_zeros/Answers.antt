@@ -2,7 +2,7 @@ use Rattle.std.proofs.Common.{ap, refl, ◌∙◌, ◌++◌, map, replicate, pos
 use Rattle.std.proofs.lemmas.List.{map-append}
 use Rattle.vx_mask.proofs.Lists.{lengthened}
 use Rattle.vx_native.proofs.NativesLemmas.{copies_read}
-use Rattle.vx_native.proofs.native_vec.push_zeros.Goals as goal
+use Rattle.vx_native.proofs.vec.push_zeros.Goals as goal
 
 pub returns-clause-ok : goal.returns-clause-ok
 returns-clause-ok g c =

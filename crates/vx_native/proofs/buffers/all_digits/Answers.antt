@@ -5,7 +5,7 @@ use Rattle.std.proofs.lemmas.List.{take_all}
 use Rattle.std.proofs.lemmas.List.Folds.{list_all_at, list_all-map}
 use Rattle.vx_value.specs.Decimals.{has_digits}
 use Rattle.vx_native.proofs.NativesLemmas.{is_wide}
-use Rattle.vx_native.proofs.decimal_values.all_digits.Goals as goal
+use Rattle.vx_native.proofs.buffers.all_digits.Goals as goal
 
 -- one of the numbers that the values stand for was answered false: it is z, and w once it has gone through 128 bits
 fails_at : {X : Type 0} (f : X → ℤ) (test : ℤ → Bool) (xs ys : List X) (i : ℕ) (x : X) (z w : ℤ) (answer : Bool) →
