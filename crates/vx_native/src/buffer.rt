@@ -1,20 +1,14 @@
 //! Numbers of any of the nine types.
 
-ghost use Rattle.std.specs.Prelude.{◌≡◌, ◌<◌, ◌≤◌, length, IfOk, Some, true, slice_get, slice_range, replicate};
-ghost use Rattle.std.specs.List.{list_all};
-ghost use Rattle.vx_value.specs.Decimals.{has_digits};
-ghost use Rattle.vx_mask.specs.Masks.{bits_in};
-ghost use Rattle.vx_mask.specs.Places.{chosen};
+ghost use Rattle.std.specs.Prelude.{◌≡◌, IfOk, true, replicate};
 ghost use Rattle.vx_native.specs.Ranges.{in_native};
 ghost use Rattle.vx_native.specs.Buffers.{native_in, numbers_in};
 
-use crate::buffers::{all_digits, chosen_of, copies_of, number_at, part_of};
+use crate::NativeType;
+use crate::buffers::copies_of;
 use crate::macros::{for_natives, made};
-use crate::{NativeType, by_native};
 use std::alloc::{AllocError, Global};
-use std::ops::Range;
-use vx_mask::{Buffer, Mask};
-use vx_value::DecimalDType;
+use vx_mask::Buffer;
 
 /// Numbers of one of the nine native types, in shared storage. (own)
 #[derive(Debug, Drop)]
@@ -31,51 +25,6 @@ pub enum NativeBuffer {
 }
 
 impl NativeBuffer {
-    /// Returns the number of numbers.
-    pub(crate) fn len(&self) -> usize
-        ensures { result ≡ length (numbers_in self.now) }
-    {
-        by_native!(self, |buffer| buffer.len())
-    }
-
-    /// Returns the number at `index`, counted from 0. It must be in bounds.
-    pub(crate) fn wide_at(&self, index: usize) -> i128
-        requires { index < length (numbers_in self.now) }
-        ensures value { slice_get (numbers_in self.now) index ≡ Some result }
-        ensures ranged { in_native (native_in self.now) result ≡ true }
-    {
-        by_native!(self, |buffer| number_at(buffer, index))
-    }
-
-    /// Checks whether each number has at most as many digits as the precision of `decimal`.
-    pub(crate) fn has_digits(&self, decimal: &DecimalDType) -> bool
-        ensures { result ≡ list_all (has_digits decimal.now.precision) (numbers_in self.now) }
-    {
-        by_native!(self, |buffer| all_digits(buffer, decimal))
-    }
-
-    /// Returns the numbers of `range`, which must be in order and in bounds. They share their storage with these.
-    pub(crate) fn slice(&self, range: Range<usize>) -> Result<NativeBuffer, AllocError>
-        requires order { range.start ≤ range.end }
-        requires bounds { range.end ≤ length (numbers_in self.now) }
-        ensures native { IfOk result (λ part. native_in part ≡ native_in self.now) }
-        ensures numbers { IfOk result (λ part. numbers_in part ≡ slice_range (numbers_in self.now) range.start range.end) }
-    {
-        for_natives!(made!(self, NativeBuffer(buffer) => NativeBuffer, part_of(buffer, range)))
-    }
-
-    /// Returns the numbers at the true bits of `mask`, in order; it must have a bit for each number. They share their storage with
-    /// these if the true bits are consecutive.
-    pub(crate) fn filter(&self, alloc: Global, mask: &Mask) -> Result<NativeBuffer, AllocError>
-        requires { length (bits_in mask.now) ≡ length (numbers_in self.now) }
-        ensures native { IfOk result (λ kept. native_in kept ≡ native_in self.now) }
-        ensures numbers { IfOk result (λ kept. numbers_in kept ≡ chosen (bits_in mask.now) (numbers_in self.now)) }
-    {
-        for_natives!(
-            made!(self, NativeBuffer(buffer) => NativeBuffer, chosen_of(buffer, alloc, mask))
-        )
-    }
-
     /// Returns `len` times the number `wide`, which must be one of the type's. Takes one allocation.
     pub(crate) fn repeat(
         alloc: Global,

@@ -7,7 +7,8 @@ ghost use Rattle.vx_mask.specs.Masks.{bits_in};
 ghost use Rattle.vx_mask.specs.Places.{chosen};
 ghost use Rattle.vx_native.specs.Buffers.{native_in, numbers_in};
 
-use crate::{NativeBuffer, NativeKind, NativeNumber};
+use crate::buffers::{all_digits, chosen_of, number_at, part_of};
+use crate::{NativeBuffer, NativeKind, NativeNumber, by_native};
 use std::alloc::{AllocError, Global};
 use std::marker::Model;
 use std::ops::Range;
@@ -75,7 +76,7 @@ impl<K: NativeKind> NativeValues<K> {
     pub fn len(&self) -> usize
         ensures { result ≡ length self.now.numbers }
     {
-        self.buffer.len()
+        by_native!(&self.buffer, |numbers| numbers.len())
     }
 
     /// Returns the value at `index`, counted from 0. It must be in bounds. (own)
@@ -84,7 +85,7 @@ impl<K: NativeKind> NativeValues<K> {
         ensures value { slice_get self.now.numbers index ≡ Some result }
         ensures ranged { K.has self.now.kind result ≡ true }
     {
-        self.buffer.wide_at(index)
+        by_native!(&self.buffer, |numbers| number_at(numbers, index))
     }
 
     /// Returns the values of `range`, which must be in order and in bounds. They share their storage with these.
@@ -93,7 +94,10 @@ impl<K: NativeKind> NativeValues<K> {
         requires bounds { range.end ≤ length self.now.numbers }
         ensures { IfOk result (λ part. part ≡ record { kind = self.now.kind; numbers = slice_range self.now.numbers range.start range.end }) }
     {
-        Ok(NativeValues::of(self.kind, self.buffer.slice(range)?))
+        by_native!(
+            &self.buffer,
+            |numbers| Ok(NativeValues::new(self.kind, part_of(numbers, range)?))
+        )
     }
 
     /// Returns the values at the true bits of `mask`, in order; it must have a bit for each value. They share their storage with
@@ -102,7 +106,10 @@ impl<K: NativeKind> NativeValues<K> {
         requires { length (bits_in mask.now) ≡ length self.now.numbers }
         ensures { IfOk result (λ kept. kept ≡ record { kind = self.now.kind; numbers = chosen (bits_in mask.now) self.now.numbers }) }
     {
-        Ok(NativeValues::of(self.kind, self.buffer.filter(alloc, mask)?))
+        by_native!(
+            &self.buffer,
+            |numbers| Ok(NativeValues::new(self.kind, chosen_of(numbers, alloc, mask)?))
+        )
     }
 
     /// Returns `len` times the number `wide`, which must be one of the type that `kind` names. Takes one allocation. (own)
@@ -141,7 +148,7 @@ impl DecimalValues {
     pub fn has_digits(&self, decimal: &DecimalDType) -> bool
         ensures { result ≡ list_all (has_digits decimal.now.precision) self.now.numbers }
     {
-        self.buffer.has_digits(decimal)
+        by_native!(&self.buffer, |numbers| all_digits(numbers, decimal))
     }
 }
 

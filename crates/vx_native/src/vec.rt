@@ -2,12 +2,11 @@
 
 ghost use Rattle.std.specs.Prelude.{◌≡◌, ◌∷◌, [], ◌++◌, pos, map, replicate, true, IfOk, OnOk, OnErr};
 ghost use Rattle.vx_native.specs.Ranges.{in_native};
-ghost use Rattle.vx_native.specs.Buffers.{native_in, numbers_in};
 ghost use Rattle.vx_native.specs.Vecs.{native_of_vec, numbers_of_vec};
 
 use crate::macros::{for_natives, made, over};
 use crate::number::fitted;
-use crate::{NativeBuffer, NativeKind, NativeNumber, NativeType, NativeValues};
+use crate::{NativeKind, NativeNumber, NativeType, NativeValues};
 use std::alloc::{AllocError, Global};
 use std::marker::Model;
 use vx_mask::Buffer;
@@ -63,41 +62,15 @@ fn push_zeros<T: NativeNumber>(values: &mut Vec<T>, count: usize) -> Result<(), 
     Ok(())
 }
 
-impl AnyVec {
-    fn with_capacity(
-        alloc: Global,
-        native: NativeType,
-        capacity: usize,
-    ) -> Result<AnyVec, AllocError>
-        ensures native { IfOk result (λ v. native_of_vec v ≡ native) }
-        ensures empty { IfOk result (λ v. numbers_of_vec v ≡ []) }
-    {
-        for_natives!(made!(native, NativeType => AnyVec, Vec::with_capacity(alloc, capacity)))
-    }
-
-    fn push(&mut self, wide: i128) -> Result<(), AllocError>
-        requires { in_native (native_of_vec self.old) wide ≡ true }
-        ensures ok { OnOk result (numbers_of_vec self.new ≡ numbers_of_vec self.old ++ wide ∷ []) }
-        ensures err { OnErr result (numbers_of_vec self.new ≡ numbers_of_vec self.old) }
-        ensures native { native_of_vec self.new ≡ native_of_vec self.old }
-    {
-        for_natives!(over!(self, AnyVec(values) => push_wide(values, wide)))
-    }
-
-    fn push_zeros(&mut self, count: usize) -> Result<(), AllocError>
-        ensures ok { OnOk result (numbers_of_vec self.new ≡ numbers_of_vec self.old ++ replicate count (pos 0)) }
-        ensures err { OnErr result (numbers_of_vec self.new ≡ numbers_of_vec self.old) }
-        ensures native { native_of_vec self.new ≡ native_of_vec self.old }
-    {
-        for_natives!(over!(self, AnyVec(values) => push_zeros(values, count)))
-    }
-
-    fn into_buffer(self, alloc: Global) -> Result<NativeBuffer, AllocError>
-        ensures native { IfOk result (λ b. native_in b ≡ native_of_vec self) }
-        ensures numbers { IfOk result (λ b. numbers_in b ≡ numbers_of_vec self) }
-    {
-        for_natives!(made!(self, AnyVec(values) => NativeBuffer, Buffer::from_vec(alloc, values)))
-    }
+fn any_with_capacity(
+    alloc: Global,
+    native: NativeType,
+    capacity: usize,
+) -> Result<AnyVec, AllocError>
+    ensures native { IfOk result (λ v. native_of_vec v ≡ native) }
+    ensures empty { IfOk result (λ v. numbers_of_vec v ≡ []) }
+{
+    for_natives!(made!(native, NativeType => AnyVec, Vec::with_capacity(alloc, capacity)))
 }
 
 impl<K: NativeKind> NativeVec<K> {
@@ -110,10 +83,8 @@ impl<K: NativeKind> NativeVec<K> {
     ) -> Result<NativeVec<K>, AllocError>
         ensures { IfOk result (λ v. v ≡ record { kind = kind; numbers = [] }) }
     {
-        Ok(NativeVec {
-            kind,
-            values: AnyVec::with_capacity(alloc, kind.native_type(), capacity)?,
-        })
+        let values = any_with_capacity(alloc, kind.native_type(), capacity)?;
+        Ok(NativeVec { kind, values })
     }
 
     /// Appends `wide`, which must be one of the type's numbers. Fails only if there is no memory for it; the numbers are then
@@ -123,7 +94,7 @@ impl<K: NativeKind> NativeVec<K> {
         ensures ok { OnOk result (self.new ≡ record { kind = self.old.kind; numbers = self.old.numbers ++ wide ∷ [] }) }
         ensures err { OnErr result (self.new ≡ self.old) }
     {
-        self.values.push(wide)
+        for_natives!(over!(&mut self.values, AnyVec(values) => push_wide(values, wide)))
     }
 
     /// Appends 0 `count` times, in one allocation. Fails only if there is no memory for them; the numbers are then unchanged.
@@ -131,7 +102,7 @@ impl<K: NativeKind> NativeVec<K> {
         ensures ok { OnOk result (self.new ≡ record { kind = self.old.kind; numbers = self.old.numbers ++ replicate count (pos 0) }) }
         ensures err { OnErr result (self.new ≡ self.old) }
     {
-        self.values.push_zeros(count)
+        for_natives!(over!(&mut self.values, AnyVec(values) => push_zeros(values, count)))
     }
 
     /// Returns the numbers in shared storage, without copying them. Fails only if there is no memory for the reference count.
@@ -139,6 +110,8 @@ impl<K: NativeKind> NativeVec<K> {
         ensures { IfOk result (λ v. v ≡ self) }
     {
         let NativeVec { kind, values } = self;
-        Ok(NativeValues::of(kind, values.into_buffer(alloc)?))
+        for_natives!(
+            over!(values, AnyVec(values) => Ok(NativeValues::new(kind, Buffer::from_vec(alloc, values)?)))
+        )
     }
 }
