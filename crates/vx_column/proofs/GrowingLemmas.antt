@@ -8,7 +8,7 @@ use Rattle.std.proofs.lemmas.List.Folds.{list_all-append}
 use Rattle.std.specs.List.{list_all}
 use Rattle.vx_value.specs.Types.{DataType, nullability_of, same_type, same_type_Decides}
 use Rattle.vx_value.specs.Values.{Value, null}
-use Rattle.vx_value.specs.IsOf.{is_of, is_stored}
+use Rattle.vx_value.specs.IsOf.{is_of, is_stored, in_range}
 use Rattle.vx_value.specs.Decimals.{smallest_width}
 use Rattle.vx_value.specs.Storage.{storage_of}
 use Rattle.vx_value.specs.Defaults.{zero_stored}

@@ -2,7 +2,7 @@ use Rattle.std.proofs.Common.{◌≡◌, ◌==◌, ◌∙◌, true, sym}
 use Rattle.std.specs.Cmp.{unsigned_Decides, first_so, second_so}
 use Rattle.std.specs.Prelude.{◌&&◌}
 use Rattle.std.proofs.lemmas.Result.{IfOk-weaker}
-use Rattle.vx_native.specs.DecimalNumbers.{numbers_of}
+use Rattle.vx_native.specs.Buffers.{numbers_in}
 use Rattle.vx_tree.specs.Columns.{canonical_tree}
 use Rattle.vx_rows.specs.Arguments.{unscaled_in}
 use Rattle.vx_cast.proofs.CastsLemmas.{decimals_kept, decimals_cast}
@@ -24,6 +24,6 @@ returns c =
     let new = c.new-rescaling in
     let made = c.in_ok-values in
     let both = decimals_cast new.result c.args.target ds.decimal.scale new.ensures.target (new.ensures.scale ∙ c.scale.ensures) (unscaled_in ds)
-    (numbers_of made.values) c.args.valid.now c.args.len made.ensures.values c.rescale_numbers.result c.rescale_numbers.ensures.ok
+    (numbers_in c.buffer.result.now) c.args.valid.now c.args.len (c.buffer.ensures ∙ made.ensures.values) c.rescale_numbers.result c.rescale_numbers.ensures.ok
     c.rescale_numbers.ensures.err in
     record { ok = both.0; err = both.1 }

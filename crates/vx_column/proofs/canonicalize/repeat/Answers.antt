@@ -37,8 +37,8 @@ returns-in-Integers-clause-ok c =
     ap storage_of (sym c.dtype.ensures.dtype) ∙ sym c.storage-storage.ensures ∙ c.in-Integers.is in
     let fits : FitsSigned w128 c.unwrap_or-wide.result = search rules in
     integers_repeated s c.args.len typed c.repeated_validity-validity.result c.repeated_validity-validity.ensures c.primitive_column.result
-    c.in-Integers.ptype (ptype_of made.values) c.unwrap_or-wide.result (values_of made.values) stored (cc) made.ensures.kind
-    (made.ensures.values ∙ ap (replicate c.args.len) (to_z-of_z fits)) c.primitive_column.ensures.ok
+    c.in-Integers.ptype (ptype_of made.values) c.unwrap_or-wide.result (values_of made.values) stored (cc) (ap (λ v. v.kind) made.ensures)
+    (ap (λ v. v.numbers) made.ensures ∙ ap (replicate c.args.len) (to_z-of_z fits)) c.primitive_column.ensures.ok
 
 pub decimal_column-requires-clause-stored : goal.decimal_column-requires-clause-stored
 decimal_column-requires-clause-stored c =
@@ -49,9 +49,9 @@ decimal_column-requires-clause-stored c =
     let fits : FitsSigned w128 c.unscaled_of.result = search rules in
     let typed = sym c.dtype-in-Decimals.ensures.dtype ∙ ap type_of c.in-Decimal.is in
     let there = ap (λ ty. is_stored m (storage_of ty) s.value) (sym typed) ∙ c.dtype.ensures.typed in
-    let width = (same_width_Decides _ _).1 (made.ensures.kind ∙ c.smallest_decimal_value_type-width.ensures.value) in
+    let width = (same_width_Decides _ _).1 (ap (λ v. v.kind) made.ensures ∙ c.smallest_decimal_value_type-width.ensures.value) in
     let digits = ap (has_digits d.precision) c.unscaled_of.ensures ∙ decimal_kept d.precision d.scale m s.value there in
-    let numbers = made.ensures.values ∙ ap (replicate c.args.len) (to_z-of_z fits) in
+    let numbers = ap (λ v. v.numbers) made.ensures ∙ ap (replicate c.args.len) (to_z-of_z fits) in
     and_from _ _ width (ap (list_all (has_digits d.precision)) numbers ∙ all_copies (has_digits d.precision) c.args.len c.unscaled_of.result digits)
 
 pub returns-in-Decimals-clause-ok : goal.returns-in-Decimals-clause-ok
@@ -62,7 +62,7 @@ returns-in-Decimals-clause-ok c =
     let typed = sym c.dtype-in-Decimals.ensures.dtype ∙ ap type_of c.in-Decimal.is in
     decimals_repeated s c.args.len c.dtype.ensures.typed c.repeated_validity-validity.result c.repeated_validity-validity.ensures c.decimal_column.result
     c.in-Decimal.decimal c.in-Decimal.field-1 (decimal_type_of made.values) c.unscaled_of.result (numbers_of made.values) typed c.unscaled_of.ensures
-    (made.ensures.values ∙ ap (replicate c.args.len) (to_z-of_z fits)) c.decimal_column.ensures.ok
+    (ap (λ v. v.numbers) made.ensures ∙ ap (replicate c.args.len) (to_z-of_z fits)) c.decimal_column.ensures.ok
 
 pub varbinview_column-requires-clause-stored : goal.varbinview_column-requires-clause-stored
 varbinview_column-requires-clause-stored c =
@@ -96,13 +96,13 @@ pub primitive_column-requires : goal.primitive_column-requires
 primitive_column-requires c =
     let made = c.in_ok-values-in-Integers in
     repeated_has c.args.scalar.now c.args.len c.repeated_validity-validity.result c.repeated_validity-validity.ensures (values_of made.values) _
-    made.ensures.values
+    (ap (λ v. v.numbers) made.ensures)
 
 pub decimal_column-requires-clause-sized : goal.decimal_column-requires-clause-sized
 decimal_column-requires-clause-sized c =
     let made = c.in_ok-values-in-Decimals in
     repeated_has c.args.scalar.now c.args.len c.repeated_validity-validity.result c.repeated_validity-validity.ensures (numbers_of made.values) _
-    made.ensures.values
+    (ap (λ v. v.numbers) made.ensures)
 
 pub varbinview_column-requires-clause-sized : goal.varbinview_column-requires-clause-sized
 varbinview_column-requires-clause-sized c =

@@ -45,7 +45,7 @@ returns-in_ok-clone-in-Primitive-clause-ok c =
     let shared = c.in_ok-clone-in-Primitive.ensures.cases in
     canonical_masked integer (enc.primitive p) (primitive p NonNullable) (λ m n xs css. refl) (λ m. refl) c.primitive_column.result (values_of values)
     c.in-Primitive.own.now c.args.child both.both c.len-len.result c.args.array.now _ c.len-len.ensures c.in-Primitive.ensures.0 flat
-    both.ensures.nullable both.ensures.both (λ i. integer_column (shared.0 i) (shared.1 i) both.both) c.primitive_column.ensures.ok
+    both.ensures.nullable both.ensures.both (λ i. integer_column (shared i).kind (shared i).numbers both.both) c.primitive_column.ensures.ok
 
 pub unreachable-requires : goal.unreachable-requires
 unreachable-requires c =
@@ -60,7 +60,7 @@ decimal_column-requires-clause-stored c =
     let flat = subst IsNodeOf c.in-Decimal.ensures.0 c.in-Decimal.ensures.1 in
     let stored = ap storage_of (sym c.dtype.ensures ∙ ap type_of c.in-Decimal-dtype.is) in
     let shared = c.in_ok-clone-in-Decimal.ensures.cases in
-    (λ i. are_decimals_of (stored_decimals c.in-Decimal-dtype.decimal) (shared.0 i) (shared.1 i))
+    (λ i. are_decimals_of (stored_decimals c.in-Decimal-dtype.decimal) (shared i).kind (shared i).numbers)
     ∙ subst (λ st. are_decimals_of st (decimal_type_of c.in-Decimal.values.now) (numbers_of c.in-Decimal.values.now) ≡ true) stored flat.1
 
 pub returns-in_ok-clone-in-Decimal-clause-ok : goal.returns-in_ok-clone-in-Decimal-clause-ok
@@ -77,7 +77,7 @@ returns-in_ok-clone-in-Decimal-clause-ok c =
     (λ m n xs css. refl) (λ m. refl) c.decimal_column.result (numbers_of values) own c.args.child both.both c.len-len.result t _ c.len-len.ensures
     c.in-Decimal.ensures.0
     (subst (λ st. IsFlat (decimal_type st) (length (numbers_of values)) (dtype t) (len t) (shapes (slots_of (own ∷ [])))) stored flat.0)
-    both.ensures.nullable both.ensures.both (λ i. decimal_column d (shared.0 i) (shared.1 i) both.both) c.decimal_column.ensures.ok
+    both.ensures.nullable both.ensures.both (λ i. decimal_column d (shared i).kind (shared i).numbers both.both) c.decimal_column.ensures.ok
 
 pub varbinview_column-requires-clause-stored : goal.varbinview_column-requires-clause-stored
 varbinview_column-requires-clause-stored c =
@@ -109,13 +109,13 @@ bool_column-requires c =
 pub primitive_column-requires : goal.primitive_column-requires
 primitive_column-requires c =
     let flat = subst IsNodeOf c.in-Primitive.ensures.0 c.in-Primitive.ensures.1 in
-    subst (HasRows c.in_ok-both-in-Primitive.both) (c.len-len.ensures ∙ flat.2 ∙ sym (ap length c.in_ok-clone-in-Primitive.ensures.cases.1))
+    subst (HasRows c.in_ok-both-in-Primitive.both) (c.len-len.ensures ∙ flat.2 ∙ sym (ap (λ v. length v.numbers) c.in_ok-clone-in-Primitive.ensures.cases))
     c.in_ok-both-in-Primitive.ensures.sized
 
 pub decimal_column-requires-clause-sized : goal.decimal_column-requires-clause-sized
 decimal_column-requires-clause-sized c =
     let flat = subst IsNodeOf c.in-Decimal.ensures.0 c.in-Decimal.ensures.1 in
-    subst (HasRows c.in_ok-both-in-Decimal.both) (c.len-len.ensures ∙ flat.0.2 ∙ sym (ap length c.in_ok-clone-in-Decimal.ensures.cases.1))
+    subst (HasRows c.in_ok-both-in-Decimal.both) (c.len-len.ensures ∙ flat.0.2 ∙ sym (ap (λ v. length v.numbers) c.in_ok-clone-in-Decimal.ensures.cases))
     c.in_ok-both-in-Decimal.ensures.sized
 
 pub varbinview_column-requires-clause-sized : goal.varbinview_column-requires-clause-sized

@@ -1,4 +1,4 @@
-use Rattle.std.proofs.Common.{◌≡◌, pos, refl, subst, ◌∙◌, rules}
+use Rattle.std.proofs.Common.{◌≡◌, pos, refl, ap, subst, ◌∙◌, rules}
 use Rattle.std.proofs.lemmas.Result.{IfOk-weaker}
 use Rattle.vx_native.specs.DecimalNumbers.{numbers_of, decimal_type_of}
 use Rattle.vx_rows.specs.Arguments.{unscaled_at, HasDecimals}
@@ -18,15 +18,15 @@ returns-in_ok-clone-in-Rows-clause-values c =
 pub returns-in-Value-clause-values : goal.returns-in-Value-clause-values
 returns-in-Value-clause-values c =
     IfOk-weaker c.repeat.result _ _
-    (λ v made. number_repeated unscaled_at c.args.decimals.rows _ c.args.len c.in-Value.unscaled (numbers_of v) (search rules) c.in-Value.is made (λ i. refl))
-    c.repeat.ensures.values
+    (λ v made. number_repeated unscaled_at c.args.decimals.rows _ c.args.len c.in-Value.unscaled (numbers_of v) (search rules) c.in-Value.is (ap (λ r. r.numbers) made) (λ i. refl))
+    c.repeat.ensures
 
 pub returns-in-Value-clause-stored : goal.returns-in-Value-clause-stored
 returns-in-Value-clause-stored c =
     let d = c.args.decimals.decimal in
     let n = c.args.len in
     IfOk-both c.repeat.result
-    (λ v kind made. numbers_stored d (decimal_type_of v) (unscaled_at c.args.decimals.rows) (numbers_of v) n
-    (kind ∙ c.smallest_decimal_value_type-width.ensures.value) made
+    (λ v made numbers. numbers_stored d (decimal_type_of v) (unscaled_at c.args.decimals.rows) (numbers_of v) n
+    (ap (λ r. r.kind) made ∙ c.smallest_decimal_value_type-width.ensures.value) numbers
     (λ i lt. row_digits d c.args.decimals.rows n i c.requires lt))
-    c.repeat.ensures.kind (returns-in-Value-clause-values c)
+    c.repeat.ensures (returns-in-Value-clause-values c)
