@@ -1,5 +1,5 @@
 -- The rows that a builder keeps: more of them at the end, and their types.
-use Rattle.std.proofs.Common.{◌≡◌, inl, inr, ◌<◌, ◌≤◌, ◌+◌, ◌-◌, ℕ, zero, suc, ℤ, Bool, true, false, Some, None}
+use Rattle.std.proofs.Common.{◌≡◌, inl, inr, ◌<◌, ◌≤◌, ◌+◌, ◌-◌, ℕ, zero, suc, Bool, true, false, Some, None}
 use Rattle.std.proofs.Common.{List, [], ◌∷◌, ◌++◌, length, map, take, replicate}
 use Rattle.std.proofs.Common.{refl, sym, ap, ap₂, subst, ◌∙◌, arith, lt-ltb, ltb-true, ◌^◌, nat_lt}
 use Rattle.std.proofs.lemmas.Bool.{and_parts, and_from, le-ltb}
@@ -16,7 +16,6 @@ use Rattle.vx_value.specs.View.{value_of}
 use Rattle.vx_value.specs.declared.scalar.ScalarValue.{ScalarValue}
 use Rattle.vx_value.specs.declared.scalar.ScalarValue.TheVariants as scalar
 use Rattle.vx_value.specs.declared.decimal.DecimalType.{DecimalType}
-use Rattle.vx_value.specs.declared.decimal.DecimalType.TheVariants as width
 use Rattle.vx_value.specs.declared.dtype.Nullability.{Nullability}
 use Rattle.vx_value.specs.declared.dtype.Nullability.TheVariants.{Nullable}
 use Rattle.vx_value.specs.declared.dtype.PType.{PType}
@@ -25,7 +24,6 @@ use Rattle.vx_value.specs.declared.dtype.Storage.TheVariants as storage
 use Rattle.vx_value.proofs.DefaultsLemmas.{zero_typed}
 use Rattle.std.specs.Prelude.{◌==◌}
 use Rattle.std.specs.Cmp.{unsigned_Decides, first_so, second_so}
-use Rattle.vx_native.specs.Widths.{fits_width}
 use Rattle.vx_native.specs.Numbers.{Numbers}
 use Rattle.vx_native.proofs.DecimalNumbersLemmas.{digits_fit}
 use Rattle.vx_column.proofs.RepeatedLemmas.{all_copies}
