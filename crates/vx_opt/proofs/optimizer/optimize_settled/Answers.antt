@@ -1,12 +1,10 @@
-use Rattle.std.proofs.Common.{rules}
-use Rattle.vx_opt.proofs.LimitsLemmas.{err_light}
+use Rattle.vx_opt.proofs.LimitsLemmas.{settled_from, err_light}
 use Rattle.vx_opt.proofs.optimizer.optimize_settled.Goals as goal
 
-pub returns-clause-never_if_light : goal.returns-clause-never_if_light
-returns-clause-never_if_light c = λ l. err_light c.args.array c.optimize_root.result c.optimize_root.ensures.limited l
-
 pub returns-clause-settled : goal.returns-clause-settled
-returns-clause-settled c = search rules
+returns-clause-settled c =
+    let by = c.optimize_root.ensures in
+    settled_from c.args.array c.optimize_root.result c.optimize_root.new.total by.passes by.settled by.within
 
-pub returns-clause-passes : goal.returns-clause-passes
-returns-clause-passes c = search rules
+pub returns-clause-never_if_light : goal.returns-clause-never_if_light
+returns-clause-never_if_light c = λ l. err_light c.args.array c.optimize_root.result c.optimize_root.new.total c.optimize_root.ensures.within l
