@@ -67,6 +67,7 @@ impl ArrayOptimizer for ArrayRef {
 }
 
 /// Optimizes the root of `array`, counting the rewrites from 0.
+#[tactic(auto, using(crate::proofs::LimitsLemmas::settled_from, crate::proofs::LimitsLemmas::err_light))]
 fn optimize_settled(alloc: Global, array: ArrayRef) -> VortexResult<ArrayRef>
     ensures settled { IfOk result (IsSettledFrom array) }
     ensures limited { IfErr result (IsLimited array 0) }
@@ -77,6 +78,7 @@ fn optimize_settled(alloc: Global, array: ArrayRef) -> VortexResult<ArrayRef>
 }
 
 /// Optimizes `array` at each place, counting the rewrites from 0.
+#[tactic(auto, using(crate::proofs::LimitsLemmas::err_light))]
 fn optimize_places(alloc: Global, array: ArrayRef) -> VortexResult<ArrayRef>
     ensures keeps { IfOk result (Keeps array) }
     ensures descends { IfOk result (Descends array) }
