@@ -24,7 +24,8 @@ use Rattle.vx_opt.specs.Limits.{IsLimited, IsSettledFrom}
 use Rattle.vx_opt.specs.Builtins.{IsCall, IsCalled, Calls}
 
 -- the node, optimized
-pub calls_by : (f : ScalarFnRef) (ts : List Tree) (n : ℕ) (t : Tree) (r : Result Tree VortexError) → IsCall f ts n t → IfOk r (IsSettledFrom t) → IfErr r (IsLimited t 0) → Calls f ts n r
+pub calls_by : (f : ScalarFnRef) (ts : List Tree) (n : ℕ) (t : Tree) (r : Result Tree VortexError)
+    → IsCall f ts n t → IfOk r (IsSettledFrom t) → IfErr r (IsLimited t 0) → Calls f ts n r
 calls_by f ts n t (Ok u) h k l = (t, h, k.keeps)
 calls_by f ts n t (Err e) h k l = inr (t, h, l)
 

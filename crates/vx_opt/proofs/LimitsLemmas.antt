@@ -9,7 +9,7 @@ use Rattle.vx_tree.specs.Slots.{HasSlot, put, IsHole, IsPresent}
 use Rattle.vx_tree.specs.Well.{IsWell, IsNodeOf}
 use Rattle.vx_tree.specs.Weight.{weight}
 use Rattle.vx_tree.proofs.SlotsLemmas.{put_node, put_twice, put_present}
-use Rattle.vx_rule.specs.Rules.{Rewrites, IsSettled, ArePresent}
+use Rattle.vx_rule.specs.Rules.{IsSettled, ArePresent}
 use Rattle.vx_opt.specs.Derives.{Step, InSlot, at_here, below_all}
 use Rattle.vx_opt.specs.Pass.{IsFirst, Optimizes, OptimizesIn, goes_on}
 use Rattle.vx_opt.specs.Limits.{root_limit, call_limit, LeadsTo, IsMade, IsWithin, IsMadeBelow, IsAtLimit, IsLimited, GoesWithin, GoesBelow, IsOptimized, IsSettledFrom, IsUnderWay, IsBetween}
@@ -36,10 +36,10 @@ made_trans t u v a b c x y h g = record {
 }
 
 -- one more rewrite at the root
-pub made_row : (t u v : Tree) (os : List ℕ) (a b x : ℕ) → IsWell u → IsMade t u a b x → Rewrites u v os → IsMade t v a (b + 1) (x + 1)
-made_row t u v os a b x w h r =
-    made_trans t u v a b (b + 1) x 1 h
-    (record { steps = at_here ∷ []; leads = record { reaches = reaches_row u v os w r; unspent = refl; counted = omega arith }; at_top = refl })
+pub made_row : (t u v : Tree) (os : List ℕ) (a b x : ℕ) → IsWell u → IsMade t u a b x → IsFirst u v os → IsMade t v a (b + 1) (x + 1)
+made_row t u v os a b x w h f =
+    let reaches = reaches_row u v os w (first_row u v os f) in
+    made_trans t u v a b (b + 1) x 1 h (record { steps = at_here ∷ []; leads = record { reaches = reaches; unspent = refl; counted = omega arith }; at_top = refl })
 
 -- and more below it
 made_then : (t u v : Tree) (a b c x : ℕ) → IsMade t u a b x → IsMadeBelow u v b c → IsMade t v a c x
@@ -73,7 +73,8 @@ limited_after t u a b x (RewriteLimit r n) h g = limit_after t u a b x r n h g
 limited_after t u a b x _ h g = absurd g
 
 -- the error of a call is passed on
-pub passed_on : {T : Type 0} (r : Result T VortexError) (P : T → Type 0) (Q : VortexError → Type 0) (e : VortexError) → IsErrAnd r (λ y. y ≡ e) → Q e → MatchResult r P Q
+pub passed_on : {T : Type 0} (r : Result T VortexError) (P : T → Type 0) (Q : VortexError → Type 0) (e : VortexError)
+    → IsErrAnd r (λ y. y ≡ e) → Q e → MatchResult r P Q
 passed_on (Ok v) P Q e h q = absurd h
 passed_on (Err y) P Q e h q = subst Q (sym h) q
 
@@ -165,7 +166,7 @@ way_start t a l = record { made = made_refl t a; few = omega arith; room = l; on
 pub way_go : (t u v x : Tree) (os : List ℕ) (a b c r : ℕ) → IsWell u → IsUnderWay t u a b r → IsFirst u v os → OptimizesIn os v x → r + 1 ≤ root_limit
     → IsMadeBelow v x (b + 1) c → IsUnderWay t x a c (r + 1)
 way_go t u v x os a b c r w h y s f m = record {
-  made = made_then t v x a (b + 1) c (r + 1) (made_row t u v os a b r w h.made (first_row u v os y)) m;
+  made = made_then t v x a (b + 1) c (r + 1) (made_row t u v os a b r w h.made y) m;
   few = f;
   room = m.room;
   onward = λ z g. h.onward z (goes_on u v x z os y s g);
@@ -190,7 +191,9 @@ heavy r n k w (inl e) a b c = omega arith
 heavy r n k w (inr e) a b c = omega arith
 
 pub limit_heavy : (t : Tree) (r n : ℕ) → IsAtLimit t 0 r n → 101 ≤ weight t
-limit_heavy t r n h = heavy r n (length h.steps) (weight t) h.limit (omega (arith, h.at_one, count_le_length h.root h.steps)) (omega (arith, h.leads.counted)) (omega (arith, h.leads.reaches.lighter h.leads.unspent))
+limit_heavy t r n h =
+    heavy r n (length h.steps) (weight t) h.limit (omega (arith, h.at_one, count_le_length h.root h.steps))
+    (omega (arith, h.leads.counted)) (omega (arith, h.leads.reaches.lighter h.leads.unspent))
 
 pub limited_light : (t : Tree) (e : VortexError) → IsLimited t 0 e → weight t ≤ 100 → e ≡ OutOfMemory
 limited_light t OutOfMemory h l = refl

@@ -30,7 +30,8 @@ first_row t u os h = (h.0, h.1)
 
 -- ---- the named slots
 
-pub one_more : (os : List ℕ) (i k : ℕ) (u v x : Tree) → i < length os → InSlot (get_or os i k) Optimizes u v → OptimizesIn (drop (i + 1) os) v x → OptimizesIn (drop i os) u x
+pub one_more : (os : List ℕ) (i k : ℕ) (u v x : Tree) → i < length os → InSlot (get_or os i k) Optimizes u v → OptimizesIn (drop (i + 1) os) v x
+    → OptimizesIn (drop i os) u x
 one_more os i k u v x w o h =
     let e : i + 1 ≡ suc i = omega arith in
     let g : OptimizesIn (drop (suc i) os) (put (get_or os i k) o.1 u) x = subst (λ n. OptimizesIn (drop n os) (put (get_or os i k) o.1 u) x) e (subst (λ y. OptimizesIn (drop (i + 1) os) y x) o.4 h) in

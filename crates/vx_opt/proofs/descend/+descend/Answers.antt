@@ -20,7 +20,8 @@ descend-returns-clause-descends t c =
 pub descend_slot-returns-clause-sunk : goal.descend_slot-returns-clause-sunk
 descend_slot-returns-clause-sunk t c =
     rw c.in_ok-put.ensures
-    (inr (slot_by c.args.slot c.in_ok-parent.child c.in_ok-parent.parent c.args.array c.in_ok-parent.ensures Descends c.in_ok-child.child c.in_ok-child.ensures.descends))
+    (inr (slot_by c.args.slot c.in_ok-parent.child c.in_ok-parent.parent c.args.array c.in_ok-parent.ensures
+    Descends c.in_ok-child.child c.in_ok-child.ensures.descends))
 
 pub descend_slots-loop-slot-init : goal.descend_slots-loop-slot-init
 descend_slots-loop-slot-init t c = sink_start c.args.array c.args.total.now c.requires
@@ -36,4 +37,6 @@ descend_slots-loop-slot-preserved t c =
     c.loop-slot.invariant c.in_ok-current.ensures.below c.in_ok-current.ensures.sunk
 
 pub descend_slots-returns-clause-descended : goal.descend_slots-returns-clause-descended
-descend_slots-returns-clause-descended t c = sink_end c.loop-slot.slot c.args.array c.loop-slot.current (let e : c.loop-slot.slot ≡ c.number_of_slots-slot-end.result = omega (arith, c.loop-slot.auto.slot-end) in e ∙ c.number_of_slots-slot-end.ensures) c.loop-slot.invariant.sunk
+descend_slots-returns-clause-descended t c =
+    let e : c.loop-slot.slot ≡ c.number_of_slots-slot-end.result = omega (arith, c.loop-slot.auto.slot-end) in
+    sink_end c.loop-slot.slot c.args.array c.loop-slot.current (e ∙ c.number_of_slots-slot-end.ensures) c.loop-slot.invariant.sunk
