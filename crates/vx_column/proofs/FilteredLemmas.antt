@@ -1,5 +1,5 @@
 -- Columns at the true bits of a mask: their values, and their validity.
-use Rattle.std.proofs.Common.{◌≡◌, ℕ, zero, suc, List, [], ◌∷◌, length, map, replicate, Bool, true, false, Option, Some, None, ℤ}
+use Rattle.std.proofs.Common.{◌≡◌, ℕ, List, [], ◌∷◌, length, map, replicate, Bool, true, false, Option, Some, None, ℤ}
 use Rattle.std.proofs.Common.{refl, sym, ap, subst, ◌∙◌, arith}
 use Rattle.std.proofs.lemmas.List.{length-map, length-replicate}
 use Rattle.std.specs.List.{list_all}
@@ -26,6 +26,7 @@ use Rattle.vx_tree.specs.Keeps.{KeepsExactly}
 use Rattle.vx_tree.specs.Validities.{nullability_by, without_nulls, child_of, validity_of, of_truth, of_data, truths, valid_rows, HasRows}
 use Rattle.vx_tree.specs.declared.validity.Validity.{Validity}
 use Rattle.vx_tree.specs.declared.validity.Validity.TheVariants as validity
+use Rattle.vx_tree.proofs.JoinedLemmas.{all_valid}
 use Rattle.vx_tree.proofs.KeepsLemmas.{rows_equal}
 use Rattle.vx_tree.proofs.TellsLemmas.{chosen_clean}
 use Rattle.vx_tree.proofs.CellsLemmas.{rows_counted}
@@ -51,16 +52,7 @@ chosen_valid (b ∷ bits) (v ∷ vs) [] h = absurd (omega arith)
 chosen_valid (true ∷ bits) (v ∷ vs) (c ∷ cs) h = ap (λ l. valid_cell v c ∷ l) (chosen_valid bits vs cs (omega arith))
 chosen_valid (false ∷ bits) (v ∷ vs) (c ∷ cs) h = chosen_valid bits vs cs (omega arith)
 
--- a clean tree's filter is clean
-filter_clean : (bits : List Bool) (t : Tree) → IsClean t → IsClean (filter_of bits t)
-filter_clean bits t h = (chosen_clean bits (rows t) (whole t h), (h, tt))
-
 -- ---- the validity of the chosen rows
-
-valid_trues : (n : ℕ) (cs : List Cell) → length cs ≡ n → valid_cells (replicate n (value (boolean true))) cs ≡ cs
-valid_trues zero cs h = refl
-valid_trues (suc n) [] h = absurd (omega arith)
-valid_trues (suc n) (c ∷ cs) h = ap (λ l. c ∷ l) (valid_trues n cs (omega arith))
 
 module _ (bits : List Bool) where
   choice_none : IsChoice bits None None
@@ -74,7 +66,7 @@ module _ (bits : List Bool) where
 
   choice_all : (t : Tree) → rows t ≡ replicate (length bits) (value (boolean true)) → IsChoice bits (Some t) None
   choice_all t e = record {
-    told = λ cs h. ap (chosen bits) (ap (λ vs. valid_cells vs cs) e ∙ valid_trues (length bits) cs h);
+    told = λ cs h. ap (chosen bits) (ap (λ vs. valid_cells vs cs) e ∙ all_valid (length bits) cs h);
     clean = λ h. tt;
   }
 
@@ -86,7 +78,7 @@ module _ (bits : List Bool) where
 
   pub choice_kept : (t u : Tree) → IsWell t → len t ≡ length bits → KeepsExactly (filter_of bits t) u → IsChoice bits (Some t) (Some u)
   choice_kept t u well long kept =
-      choice_by_rows t u (rows_counted t well ∙ long) kept.equal (λ h. kept.keeps.still_clean (filter_clean bits t h))
+      choice_by_rows t u (rows_counted t well ∙ long) kept.equal (λ h. kept.keeps.still_clean (chosen_clean bits (rows t) (whole t h), (h, tt)))
 
 -- what a validity's slot is read as
 none_by_data : (d : Data) (t : Tree) → of_data d t ≡ validity.NonNullable → ⊥

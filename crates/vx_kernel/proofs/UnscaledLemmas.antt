@@ -1,5 +1,5 @@
 -- Decimals without their points: what makes numbers those of a decimal type.
-use Rattle.std.proofs.Common.{◌≡◌, ◌<◌, ℕ, ℤ, pos, Bool, true, false, List, map, sym, subst, ◌≤◌, ◌^◌, get_or, lt-ltb, arith}
+use Rattle.std.proofs.Common.{◌≡◌, ◌<◌, ℕ, ℤ, pos, Bool, true, false, List, map, sym, subst, ◌≤◌, ◌^◌, get_or, arith}
 use Rattle.std.specs.Cmp.{second_so}
 use Rattle.std.specs.List.{range_with_len}
 use Rattle.std.proofs.lemmas.Bool.{and_from}
@@ -14,7 +14,10 @@ use Rattle.vx_rows.proofs.ValidRowsLemmas.{by_rows}
 use Rattle.vx_kernel.proofs.PassedLemmas.{all_passed, passed_at}
 use Rattle.vx_value.specs.Cell.{Cell, value}
 use Rattle.vx_value.specs.Values.{decimal}
+use Rattle.vx_value.specs.Types as type
+use Rattle.vx_value.specs.declared.dtype.Nullability.TheVariants.{NonNullable}
 use Rattle.vx_value.proofs.DecimalsLemmas.{ten_to}
+use Rattle.vx_value.proofs.DefaultsLemmas.{zero_typed}
 use Rattle.vx_rows.specs.ValidRows.{is_valid}
 use Rattle.vx_rows.specs.declared.valid.ValidRows.{ValidRows}
 use Rattle.vx_kernel.specs.Operands.{zero_unless, calculated_rows}
@@ -38,13 +41,10 @@ numbers_stored d w f zs n width made each =
 pub some_number : (p : ℕ) → 1 ≤ 10 ^ p
 some_number p = let one : 10 ^ 0 ≤ 10 ^ p = ten_to {p = 0} {q = p} (omega arith) in omega arith
 
-no_digits : (p : ℕ) → has_digits p (pos 0) ≡ true
-no_digits p = let some : 1 ≤ 10 ^ p = some_number p in lt-ltb 0 (10 ^ p) (omega arith)
-
 digits_unless : (p s : ℕ) (b : Bool) (c : Cell) (z : ℤ) → value (decimal z s) ≡ zero_unless (decimal (pos 0) s) b c
     → (c ≡ value (decimal z s) → has_digits p z ≡ true) → has_digits p z ≡ true
 digits_unless p s true c z e h = h (sym e)
-digits_unless p s false c z e h = let same : pos 0 ≡ z = cc (e) in subst (λ x. has_digits p x ≡ true) same (no_digits p)
+digits_unless p s false c z e h = let same : pos 0 ≡ z = cc (e) in subst (λ x. has_digits p x ≡ true) same (zero_typed (type.decimal p 0 NonNullable))
 
 module _ {T : Type 0} (read : T → ℤ) (d : DecimalDType) (valid : ValidRows) (cell : ℕ → Cell) (n : ℕ) (xs : List T) (zs : List ℤ) (are : zs ≡ map read xs)
     (made : map (λ x. value (decimal (read x) d.scale)) xs ≡ calculated_rows (decimal (pos 0) d.scale) (is_valid valid) cell n)

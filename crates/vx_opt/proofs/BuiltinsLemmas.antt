@@ -20,12 +20,13 @@ use Rattle.vx_tree.specs.Keeps.{Keeps}
 use Rattle.vx_tree.specs.Well.{IsWell}
 use Rattle.vx_tree.proofs.ConditionsLemmas.{none_refused}
 use Rattle.vx_rule.proofs.CastsLemmas.{C1_keeps}
-use Rattle.vx_opt.specs.Limits.{IsLimited}
+use Rattle.vx_opt.specs.Limits.{IsLimited, IsSettledFrom}
 use Rattle.vx_opt.specs.Builtins.{IsCall, IsCalled, Calls}
 
 -- the node, optimized
-pub calls_by : (f : ScalarFnRef) (ts : List Tree) (n : ℕ) (t : Tree) (r : Result Tree VortexError) → IsCall f ts n t → IfOk r (Keeps t) → IfErr r (IsLimited t 0) → Calls f ts n r
-calls_by f ts n t (Ok u) h k l = (t, h, k)
+pub calls_by : (f : ScalarFnRef) (ts : List Tree) (n : ℕ) (t : Tree) (r : Result Tree VortexError)
+    → IsCall f ts n t → IfOk r (IsSettledFrom t) → IfErr r (IsLimited t 0) → Calls f ts n r
+calls_by f ts n t (Ok u) h k l = (t, h, k.keeps)
 calls_by f ts n t (Err e) h k l = inr (t, h, l)
 
 -- ---- a cast to the tree's own type

@@ -2,13 +2,12 @@
 use Rattle.std.proofs.Common.{◌≡◌, ℕ, zero, suc, ◌+◌, ◌<◌, List, arith, refl, sym, subst, inl, inr, add-one}
 use Rattle.vx_value.specs.Types.{DataType}
 use Rattle.vx_tree.specs.Tree.{Tree, Slots, Data, node, no_slots, absent, slot, slots}
-use Rattle.vx_tree.specs.Slots.{HoldsAt, put, set_slot, IsHole, IsPresentAt, count_slots}
-use Rattle.vx_tree.proofs.SlotsLemmas.{put_hole, put_twice}
+use Rattle.vx_tree.specs.Slots.{HoldsAt, set_slot, IsPresentAt, count_slots}
 use Rattle.vx_rule.specs.Rules.{IsSettled}
 use Rattle.vx_opt.specs.Derives.{Step, Derives}
-use Rattle.vx_opt.specs.Limits.{call_limit, IsMade}
+use Rattle.vx_opt.specs.Limits.{call_limit, IsMadeBelow}
 use Rattle.vx_opt.specs.Descends.{Descends, DescendSlots, DescendsUpTo, IsDescended, HaveDescended, IsSunk, IsSinking}
-use Rattle.vx_opt.proofs.LimitsLemmas.{made_refl, made_trans}
+use Rattle.vx_opt.proofs.LimitsLemmas.{below_refl, below_trans}
 
 upto_put : (i : ℕ) (rs us : Slots) (c d : Tree) → DescendsUpTo i rs us → HoldsAt i c us → Descends c d → DescendsUpTo (suc i) rs (set_slot i d us)
 upto_put i rs no_slots c d h g k = absurd g
@@ -52,10 +51,10 @@ upto_step i (node ty n d rs) (node uy m e us) v h (inl g) = subst (IsDescended (
 upto_step i (node ty n d rs) (node uy m e us) v h (inr g) = subst (IsDescended (i + 1) (node ty n d rs)) (sym g.4) (h.0, h.1, h.2, rw add-one (upto_put i rs us g.0 g.1 h.3 g.2 g.3))
 
 pub sink_start : (t : Tree) (a : ℕ) → a < call_limit → IsSinking 0 t t a a
-sink_start (node ty n d rs) a l = record { made = made_refl (node ty n d rs) a; sunk = (refl, refl, refl, refl); room = l }
+sink_start (node ty n d rs) a l = record { below = below_refl (node ty n d rs) a l; sunk = (refl, refl, refl, refl) }
 
-pub sink_go : (i : ℕ) (t u v : Tree) (a b c : ℕ) → IsSinking i t u a b → IsMade u v b c 0 → IsSunk i u v → c < call_limit → IsSinking (i + 1) t v a c
-sink_go i t u v a b c h m s l = record { made = made_trans t u v a b c 0 0 h.made m; sunk = upto_step i t u v h.sunk s; room = l }
+pub sink_go : (i : ℕ) (t u v : Tree) (a b c : ℕ) → IsSinking i t u a b → IsMadeBelow u v b c → IsSunk i u v → IsSinking (i + 1) t v a c
+sink_go i t u v a b c h m s = record { below = below_trans t u v a b c h.below m; sunk = upto_step i t u v h.sunk s }
 
 pub sink_end : (i : ℕ) (t u : Tree) → i ≡ count_slots (slots t) → IsDescended i t u → HaveDescended t u
 sink_end i (node ty n d rs) (node uy m e us) q h = (h.0, h.1, h.2, upto_end i rs us q h.3)
@@ -64,6 +63,3 @@ pub descends_by : (t r u : Tree) (ps : List Step) → Derives t r ps → IsSettl
 descends_by t (node ty n d rs) (node uy m e us) ps g s h =
     subst (λ (x : DataType). Descends t (node x m e us)) h.0
     (subst (λ (x : ℕ). Descends t (node ty x e us)) h.1 (subst (λ (x : Data). Descends t (node ty n x us)) h.2 (rs, ps, g, s, h.3)))
-
-pub slot_sunk : (i : ℕ) (c d p t : Tree) → put i c p ≡ t → IsHole i p → Descends c d → IsSunk i t (put i d p)
-slot_sunk i c d p t e h k = subst (λ x. IsSunk i x (put i d p)) e (inr (c, d, put_hole i c p h, k, sym (put_twice i c d p)))

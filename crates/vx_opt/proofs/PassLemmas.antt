@@ -2,11 +2,11 @@
 use Rattle.std.proofs.Common.{◌≡◌, ℕ, zero, suc, ◌+◌, ◌<◌, List, length, get_or, drop, Some, None, sym, ◌∙◌, ap, subst, arith, below_more}
 use Rattle.std.proofs.Math.Seq.{drop-cons, drop-length}
 use Rattle.vx_tree.specs.Tree.{Tree, Slots, node, no_slots, absent, slot, slots}
-use Rattle.vx_tree.specs.Slots.{HasSlot, put, IsPresent, IsPresentAt, count_slots}
-use Rattle.vx_tree.proofs.SlotsLemmas.{put_twice}
+use Rattle.vx_tree.specs.Slots.{put, IsPresent, IsPresentAt, count_slots}
 use Rattle.vx_rule.specs.Rules.{Rewrites, IsSettled, IsQuiet}
 use Rattle.vx_rule.proofs.LighterLemmas.{row_asked}
-use Rattle.vx_opt.specs.Pass.{IsFirst, Optimizes, OptimizesIn, HasOptimized, no_more, next}
+use Rattle.vx_opt.specs.Derives.{InSlot}
+use Rattle.vx_opt.specs.Pass.{IsFirst, Optimizes, OptimizesIn, no_more, next}
 
 below_count : (j : ℕ) (ss : Slots) → IsPresentAt j ss → j < count_slots ss
 below_count j no_slots h = absurd h
@@ -30,7 +30,8 @@ first_row t u os h = (h.0, h.1)
 
 -- ---- the named slots
 
-pub one_more : (os : List ℕ) (i k : ℕ) (u v x : Tree) → i < length os → HasOptimized (get_or os i k) u v → OptimizesIn (drop (i + 1) os) v x → OptimizesIn (drop i os) u x
+pub one_more : (os : List ℕ) (i k : ℕ) (u v x : Tree) → i < length os → InSlot (get_or os i k) Optimizes u v → OptimizesIn (drop (i + 1) os) v x
+    → OptimizesIn (drop i os) u x
 one_more os i k u v x w o h =
     let e : i + 1 ≡ suc i = omega arith in
     let g : OptimizesIn (drop (suc i) os) (put (get_or os i k) o.1 u) x = subst (λ n. OptimizesIn (drop n os) (put (get_or os i k) o.1 u) x) e (subst (λ y. OptimizesIn (drop (i + 1) os) y x) o.4 h) in
@@ -38,6 +39,3 @@ one_more os i k u v x w o h =
 
 pub none_left : (os : List ℕ) (i : ℕ) (u : Tree) → i ≡ length os → OptimizesIn (drop i os) u u
 none_left os i u e = subst (λ l. OptimizesIn l u u) (sym (ap (λ n. drop n os) e ∙ drop-length os)) (no_more u)
-
-pub slot_optimized : (i : ℕ) (c d p t : Tree) → put i c p ≡ t → HasSlot i c t → Optimizes c d → HasOptimized i t (put i d p)
-slot_optimized i c d p t e h k = (c, d, h, k, subst (λ x. put i d p ≡ put i d x) e (sym (put_twice i c d p)))

@@ -12,11 +12,15 @@ pub record Step : Type 0 where
   pub place : List ℕ
   pub spent : ℕ
 
+-- u is t with the child in slot i replaced by one that relates to it so
+abbrev pub InSlot : ℕ → (Tree → Tree → Type 0) → Tree → Tree → Type 0
+InSlot i relates t u = (c : Tree) × (d : Tree) × HasSlot i c t × relates c d × (u ≡ put i d t)
+
 -- u is t with the subtree at a place rewritten
 abbrev pub Replaces : List ℕ → ℕ → Tree → Tree → Type 0
 Replaces [] zero t u = (os : List ℕ) × Rewrites t u os
 Replaces [] (suc n) t u = Keeps t u × (n ≡ weight u)
-Replaces (i ∷ place) n t u = (c : Tree) × (d : Tree) × HasSlot i c t × Replaces place n c d × (u ≡ put i d t)
+Replaces (i ∷ place) n t u = InSlot i (Replaces place n) t u
 
 -- u comes from t by these rewrites, in order
 abbrev pub Derives : Tree → Tree → List Step → Type 0

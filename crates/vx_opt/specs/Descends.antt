@@ -1,10 +1,10 @@
 -- Settled at every place, each slot after its node.
-use Rattle.std.specs.Prelude.{◌≡◌, ℕ, zero, suc, ◌<◌, List, ◌⊎◌}
+use Rattle.std.specs.Prelude.{◌≡◌, ℕ, zero, suc, List, ◌⊎◌}
 use Rattle.vx_tree.specs.Tree.{Tree, Slots, node, no_slots, absent, slot}
-use Rattle.vx_tree.specs.Slots.{HasSlot, IsPresent, put}
+use Rattle.vx_tree.specs.Slots.{IsPresent}
 use Rattle.vx_rule.specs.Rules.{IsSettled}
-use Rattle.vx_opt.specs.Derives.{Step, Derives}
-use Rattle.vx_opt.specs.Limits.{IsMade, call_limit}
+use Rattle.vx_opt.specs.Derives.{Step, Derives, InSlot}
+use Rattle.vx_opt.specs.Limits.{IsMadeBelow}
 
 -- t derives a settled tree, and the second tree is that one with each slot descended from the slot there
 abbrev mutual
@@ -45,10 +45,9 @@ HaveDescended (node ty n d rs) (node uy m e us) = (ty ≡ uy) × (n ≡ m) × (d
 
 -- slot i of t has descended, if it is there
 abbrev pub IsSunk : ℕ → Tree → Tree → Type 0
-IsSunk i t u = ((IsPresent i t → ⊥) × (u ≡ t)) ⊎ ((c : Tree) × (d : Tree) × HasSlot i c t × Descends c d × (u ≡ put i d t))
+IsSunk i t u = ((IsPresent i t → ⊥) × (u ≡ t)) ⊎ InSlot i Descends t u
 
 -- what the loop over the slots keeps
 pub record IsSinking (i : ℕ) (t u : Tree) (before after : ℕ) : Type 0 where
-  pub made : IsMade t u before after 0
+  pub below : IsMadeBelow t u before after
   pub sunk : IsDescended i t u
-  pub room : after < call_limit

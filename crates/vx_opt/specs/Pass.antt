@@ -1,5 +1,5 @@
 -- Which answer a pass gives, and what the passes over a root make of it.
-use Rattle.std.specs.Prelude.{◌≡◌, ℕ, ◌<◌, List, [], ◌∷◌, Option, Some, None}
+use Rattle.std.specs.Prelude.{ℕ, ◌<◌, List, [], ◌∷◌, Option, Some, None}
 use Rattle.vx_tree.specs.Tree.{Tree}
 use Rattle.vx_tree.specs.Slots.{HasSlot, put}
 use Rattle.vx_rule.specs.Rules.{Row, IsQuiet, IsSettled}
@@ -28,7 +28,3 @@ mutual
   pub data OptimizesIn : List ℕ → Tree → Tree → Type 0 where
     no_more : (t : Tree) → OptimizesIn [] t t
     next : (i : ℕ) (os : List ℕ) (t c d u : Tree) → HasSlot i c t → Optimizes c d → OptimizesIn os (put i d t) u → OptimizesIn (i ∷ os) t u
-
--- u is t with slot i optimized
-abbrev pub HasOptimized : ℕ → Tree → Tree → Type 0
-HasOptimized i t u = (c : Tree) × (d : Tree) × HasSlot i c t × Optimizes c d × (u ≡ put i d t)

@@ -1,7 +1,7 @@
 //! Optimizing a tree at each place.
 
-ghost use Rattle.std.specs.Prelude.{◌≡◌, ◌<◌, ℕ, IfOk, IfErr};
-ghost use Rattle.vx_opt.specs.Limits.{call_limit, IsMade, IsWithin, IsLimited};
+ghost use Rattle.std.specs.Prelude.{◌<◌, IfOk};
+ghost use Rattle.vx_opt.specs.Limits.{call_limit, GoesWithin, GoesBelow};
 ghost use Rattle.vx_opt.specs.Descends.{Descends, HaveDescended, IsSunk};
 
 use crate::root::optimize_root;
@@ -20,9 +20,8 @@ pub(crate) fn descend(
     total: &mut u32,
 ) -> VortexResult<ArrayRef>
     requires { total.old < call_limit }
-    ensures made { IfOk result (λ u. IsWithin array u total.old total.new) }
     ensures descends { IfOk result (Descends array) }
-    ensures limited { IfErr result (IsLimited array total.old) }
+    ensures within { GoesWithin array total.old total.new result }
 {
     if depth == u64::MAX {
         return Err(VortexError::OutOfMemory);
@@ -40,10 +39,8 @@ fn descend_slots(
     total: &mut u32,
 ) -> VortexResult<ArrayRef>
     requires { total.old < call_limit }
-    ensures made { IfOk result (λ u. IsMade array u total.old total.new 0) }
+    ensures below { GoesBelow array total.old total.new result }
     ensures descended { IfOk result (HaveDescended array) }
-    ensures room { IfOk result (λ u. total.new < call_limit) }
-    ensures limited { IfErr result (IsLimited array total.old) }
 {
     let mut current = array;
     for slot in 0..number_of_slots(&current) {
@@ -54,6 +51,7 @@ fn descend_slots(
 
 /// Optimizes the child in `slot`, counted from 0, so, if there is one.
 #[cycle(descend)]
+#[tactic(auto, using(crate::proofs::LimitsLemmas::at_slot, crate::proofs::LimitsLemmas::below_refl))]
 fn descend_slot(
     alloc: Global,
     array: ArrayRef,
@@ -62,10 +60,8 @@ fn descend_slot(
     total: &mut u32,
 ) -> VortexResult<ArrayRef>
     requires { total.old < call_limit }
-    ensures made { IfOk result (λ u. IsMade array u total.old total.new 0) }
     ensures sunk { IfOk result (IsSunk slot array) }
-    ensures room { IfOk result (λ u. total.new < call_limit) }
-    ensures limited { IfErr result (IsLimited array total.old) }
+    ensures below { GoesBelow array total.old total.new result }
 {
     if !has_child(&array, slot) {
         return Ok(array);

@@ -5,9 +5,7 @@ ghost use Rattle.vx_value.specs.declared.error.VortexError.TheVariants.{OutOfMem
 ghost use Rattle.vx_tree.specs.Tree.{Tree};
 ghost use Rattle.vx_tree.specs.Keeps.{Keeps};
 ghost use Rattle.vx_tree.specs.Weight.{weight};
-ghost use Rattle.vx_rule.specs.Rules.{IsSettled};
-ghost use Rattle.vx_opt.specs.Pass.{Optimizes};
-ghost use Rattle.vx_opt.specs.Limits.{IsOptimized, IsLimited};
+ghost use Rattle.vx_opt.specs.Limits.{IsOptimized, IsLimited, IsSettledFrom};
 ghost use Rattle.vx_opt.specs.Descends.{Descends};
 
 use crate::descend::descend;
@@ -29,19 +27,13 @@ pub trait ArrayOptimizer: Sized {
 
     /// Rewrites the root until no row fits. The slots that an answer names are optimized likewise before the next pass.
     fn optimize(self, alloc: Global) -> VortexResult<ArrayRef>
-        ensures keeps { IfOk result (Keeps (tree self)) }
-        ensures settled { IfOk result IsSettled }
-        ensures passes { IfOk result (Optimizes (tree self)) }
-        ensures derives { IfOk result (IsOptimized (tree self)) }
+        ensures settled { IfOk result (IsSettledFrom (tree self)) }
         ensures limited { IfErr result (IsLimited (tree self) 0) }
         ensures never_if_light { weight (tree self) ≤ 100 → IfErr result (λ e. e ≡ OutOfMemory) };
 
     /// Rewrites the root likewise, also by the entries of `rules`.
     fn optimize_ctx(self, alloc: Global, rules: &mut RuleRegistry) -> VortexResult<ArrayRef>
-        ensures keeps { IfOk result (Keeps (tree self)) }
-        ensures settled { IfOk result IsSettled }
-        ensures passes { IfOk result (Optimizes (tree self)) }
-        ensures derives { IfOk result (IsOptimized (tree self)) }
+        ensures settled { IfOk result (IsSettledFrom (tree self)) }
         ensures limited { IfErr result (IsLimited (tree self) 0) }
         ensures never_if_light { weight (tree self) ≤ 100 → IfErr result (λ e. e ≡ OutOfMemory) };
 
@@ -75,11 +67,9 @@ impl ArrayOptimizer for ArrayRef {
 }
 
 /// Optimizes the root of `array`, counting the rewrites from 0.
+#[tactic(auto, using(crate::proofs::LimitsLemmas::settled_from, crate::proofs::LimitsLemmas::err_light))]
 fn optimize_settled(alloc: Global, array: ArrayRef) -> VortexResult<ArrayRef>
-    ensures keeps { IfOk result (Keeps array) }
-    ensures settled { IfOk result IsSettled }
-    ensures passes { IfOk result (Optimizes array) }
-    ensures derives { IfOk result (IsOptimized array) }
+    ensures settled { IfOk result (IsSettledFrom array) }
     ensures limited { IfErr result (IsLimited array 0) }
     ensures never_if_light { weight array ≤ 100 → IfErr result (λ e. e ≡ OutOfMemory) }
 {
@@ -88,6 +78,7 @@ fn optimize_settled(alloc: Global, array: ArrayRef) -> VortexResult<ArrayRef>
 }
 
 /// Optimizes `array` at each place, counting the rewrites from 0.
+#[tactic(auto, using(crate::proofs::LimitsLemmas::err_light))]
 fn optimize_places(alloc: Global, array: ArrayRef) -> VortexResult<ArrayRef>
     ensures keeps { IfOk result (Keeps array) }
     ensures descends { IfOk result (Descends array) }

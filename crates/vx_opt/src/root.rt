@@ -1,10 +1,11 @@
 //! Optimizing a root.
 
-ghost use Rattle.std.specs.Prelude.{◌≡◌, ◌<◌, ℕ, IfOk, IfErr};
+ghost use Rattle.std.specs.Prelude.{◌<◌, ℕ, IfOk};
 ghost use Rattle.vx_tree.specs.Slots.{IsPresent};
 ghost use Rattle.vx_rule.specs.Rules.{IsSettled, ArePresent};
-ghost use Rattle.vx_opt.specs.Pass.{Optimizes, OptimizesIn, HasOptimized};
-ghost use Rattle.vx_opt.specs.Limits.{call_limit, IsMade, IsWithin, IsLimited};
+ghost use Rattle.vx_opt.specs.Derives.{InSlot};
+ghost use Rattle.vx_opt.specs.Pass.{Optimizes, OptimizesIn};
+ghost use Rattle.vx_opt.specs.Limits.{call_limit, GoesWithin, GoesBelow};
 
 use crate::pass::first_answer;
 use std::alloc::Global;
@@ -27,10 +28,9 @@ pub(crate) fn optimize_root(
     total: &mut u32,
 ) -> VortexResult<ArrayRef>
     requires { total.old < call_limit }
-    ensures made { IfOk result (λ u. IsWithin array u total.old total.new) }
     ensures passes { IfOk result (Optimizes array) }
     ensures settled { IfOk result IsSettled }
-    ensures limited { IfErr result (IsLimited array total.old) }
+    ensures within { GoesWithin array total.old total.new result }
 {
     let mut current = array;
     let mut at_root = 0;
@@ -54,10 +54,8 @@ pub(crate) fn optimize_root(
 fn optimize_slots(alloc: Global, raw: RawNode, total: &mut u32) -> VortexResult<ArrayRef>
     requires room { total.old < call_limit }
     requires present { ArePresent raw.optimize.items raw.tree }
-    ensures made { IfOk result (λ u. IsMade raw.tree u total.old total.new 0) }
     ensures passes { IfOk result (OptimizesIn raw.optimize.items raw.tree) }
-    ensures room { IfOk result (λ u. total.new < call_limit) }
-    ensures limited { IfErr result (IsLimited raw.tree total.old) }
+    ensures below { GoesBelow raw.tree total.old total.new result }
 {
     let RawNode { tree, optimize } = raw;
     let mut current = tree;
@@ -69,6 +67,7 @@ fn optimize_slots(alloc: Global, raw: RawNode, total: &mut u32) -> VortexResult<
 
 /// Optimizes the child in `slot`, counted from 0.
 #[cycle(optimize)]
+#[tactic(auto, using(crate::proofs::LimitsLemmas::at_slot))]
 fn optimize_slot(
     alloc: Global,
     array: ArrayRef,
@@ -77,11 +76,9 @@ fn optimize_slot(
 ) -> VortexResult<ArrayRef>
     requires room { total.old < call_limit }
     requires present { IsPresent slot array }
-    ensures made { IfOk result (λ u. IsMade array u total.old total.new 0) }
-    ensures passes { IfOk result (HasOptimized slot array) }
+    ensures passes { IfOk result (InSlot slot Optimizes array) }
     ensures same_slots { IfOk result (λ u. (j : ℕ) → IsPresent j array → IsPresent j u) }
-    ensures room { IfOk result (λ u. total.new < call_limit) }
-    ensures limited { IfErr result (IsLimited array total.old) }
+    ensures below { GoesBelow array total.old total.new result }
 {
     let (parent, child) = array.take_slot(slot)?;
     let child = optimize_root(alloc, child, total)?;

@@ -2,8 +2,7 @@
 
 ghost use Rattle.std.specs.Prelude.{◌≡◌, Some, None};
 ghost use Rattle.vx_tree.specs.Tree.{datum};
-ghost use Rattle.vx_tree.specs.Slots.{HasSlot};
-ghost use Rattle.vx_rule.specs.Answers.{Answers};
+ghost use Rattle.vx_rule.specs.Answers.{HoldsWith, Answers};
 
 use std::alloc::Global;
 use std::marker::PhantomData;
@@ -26,8 +25,7 @@ pub trait ReduceVTable: VTable {
         parent: &ArrayRef,
         slot: usize,
     ) -> VortexResult<Option<RawNode>>
-        requires payload { Self.stands_for child.now.payload.now ≡ datum child.now.array.now }
-        requires slot { HasSlot slot child.now.array.now parent.now }
+        requires { HoldsWith (Self.stands_for child.now.payload.now) child.now.array.now slot parent.now }
         ensures { Answers (Some slot) parent.now result };
 }
 
@@ -77,8 +75,7 @@ impl<V: ReduceVTable> ParentRuleSet<V> {
         parent: &ArrayRef,
         slot: usize,
     ) -> VortexResult<Option<RawNode>>
-        requires payload { V.stands_for child.now.payload.now ≡ datum child.now.array.now }
-        requires slot { HasSlot slot child.now.array.now parent.now }
+        requires { HoldsWith (V.stands_for child.now.payload.now) child.now.array.now slot parent.now }
         ensures { Answers (Some slot) parent.now result }
     {
         V::reduce_parent(alloc, child, parent, slot)

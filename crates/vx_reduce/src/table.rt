@@ -4,7 +4,7 @@ ghost use Rattle.std.specs.Prelude.{◌≡◌, IfOk, IfErr, None, Some};
 ghost use Rattle.vx_value.specs.declared.error.VortexError.TheVariants.{OutOfMemory};
 ghost use Rattle.vx_tree.specs.Tree.{datum};
 ghost use Rattle.vx_tree.specs.Slots.{HasSlot};
-ghost use Rattle.vx_rule.specs.Answers.{IsAnswer};
+ghost use Rattle.vx_rule.specs.Answers.{HoldsWith, IsAnswer};
 
 use crate::rule_set::{ParentRuleSet, ReduceRuleSet, ReduceVTable};
 use std::alloc::Global;
@@ -60,8 +60,7 @@ fn evaluate_child<V: ReduceVTable>(
     slot: usize,
     payload: &V::TypedArrayData,
 ) -> VortexResult<Option<RawNode>>
-    requires payload { V.stands_for payload.now ≡ datum child.now }
-    requires slot { HasSlot slot child.now parent.now }
+    requires { HoldsWith (V.stands_for payload.now) child.now slot parent.now }
     ensures answer { IfOk result (λ o. IsAnswer (Some slot) parent.now o) }
     ensures err { IfErr result (λ e. e ≡ OutOfMemory) }
 {

@@ -9,17 +9,15 @@ use Rattle.vx_tree.specs.Cells.{rows, HasNoFault, IsClean, AreClean}
 use Rattle.vx_tree.specs.Keeps.{KeepsExactly}
 use Rattle.vx_tree.specs.Validities.{without_nulls, HasRows}
 use Rattle.vx_tree.proofs.KeepsLemmas.{rows_equal}
+use Rattle.vx_tree.proofs.ValiditiesLemmas.{whole}
 
 -- a tree that has another's type, length and rows, and no fault below, stands for it exactly
-root_clean : (t : Tree) → IsClean t → HasNoFault (rows t)
-root_clean (node ty n d ss) h = h.0
-
 whole_clean : (u : Tree) → AreClean (slots u) → HasNoFault (rows u) → IsClean u
 whole_clean (node ty n d ss) e h = (h, e)
 
 pub same_exactly : (t u : Tree) → dtype t ≡ dtype u → len t ≡ len u → rows t ≡ rows u → AreClean (slots u) → KeepsExactly t u
 same_exactly t u ty n e clean = record {
-  keeps = record { same_type = ty; same_len = n; same_rows = rows_equal _ _ e; still_clean = λ c. whole_clean u clean (subst HasNoFault e (root_clean t c)) };
+  keeps = record { same_type = ty; same_len = n; same_rows = rows_equal _ _ e; still_clean = λ c. whole_clean u clean (subst HasNoFault e (whole t c)) };
   equal = e;
 }
 

@@ -27,13 +27,14 @@ use Rattle.vx_tree.specs.Tree as enc
 use Rattle.vx_tree.specs.ColumnTypes.{bytes_type, are_bytes_of, are_decimals_of, scale_of}
 use Rattle.vx_tree.specs.Tree.{Tree, Data, slots_of, dtype, len, column, nulls_of, constant_of}
 use Rattle.vx_tree.specs.Cells.{rows, slots_rows, node_cells, cells_at, valid_cells}
-use Rattle.vx_tree.specs.Well.{Shape, shape, shape_of, shapes, IsValidity, IsFlat, IsNodeOf}
+use Rattle.vx_tree.specs.Well.{Shape, shape_of, shapes, IsValidity, IsFlat, IsNodeOf}
 use Rattle.vx_tree.specs.Validities.{nullability_by, array_refusal, flat_refusal, bytes_refusal, HasRows, decimal_refusal}
 use Rattle.vx_tree.specs.Columns.{columnar_tree}
 use Rattle.vx_tree.specs.declared.columnar.Columnar.{Columnar}
 use Rattle.vx_tree.specs.declared.validity.Validity.{Validity}
 use Rattle.vx_tree.specs.declared.validity.Validity.TheVariants as validity
 use Rattle.vx_tree.proofs.ConditionsLemmas.{none_refused, none_unless}
+use Rattle.vx_tree.proofs.KindsLemmas.{type_in, len_in}
 use Rattle.vx_mask.specs.Logic.{bit_row}
 use Rattle.vx_mask.specs.Operands.{bit_in, HasBits}
 use Rattle.vx_mask.specs.declared.operand.BitOperand.{BitOperand}
@@ -80,12 +81,6 @@ decimals_taken d ty w zs v h k e =
     (none_refused _ _ (flat_taken (of_type NonNullable) (of_type (nullability_by v)) (length zs) v h refl) (none_unless _ _ k))
 
 -- ---- a column's validity tells of its rows
-
-abbrev type_in : Shape → DataType
-type_in (shape ty n) = ty
-
-abbrev len_in : Shape → ℕ
-len_in (shape ty n) = n
 
 pub flat_tells : (of_type ty : DataType) (k n : ℕ) (v : Option Tree) → IsFlat of_type k ty n (shapes (slots_of (v ∷ []))) → TellsRows (nullability_of ty) n v
 flat_tells of_type ty k n None h = tt

@@ -1,5 +1,5 @@
 -- What the rows of filters keep: F1 to F3 and F5 to F8.
-use Rattle.std.proofs.Common.{◌≡◌, ℕ, ◌-◌, ◌≤◌, Bool, true, List, ◌∷◌, length, map, drop, Option, Some, refl, sym, ap, subst, ◌∙◌, arith}
+use Rattle.std.proofs.Common.{◌≡◌, ℕ, ◌-◌, ◌≤◌, Bool, true, List, length, map, drop, refl, sym, ap, subst, ◌∙◌, arith}
 use Rattle.std.specs.List.{range_with_len}
 use Rattle.std.specs.Cmp.{unsigned_Decides}
 use Rattle.std.proofs.lemmas.List.{take_all, length-take-le, length-drop}
@@ -20,7 +20,7 @@ use Rattle.vx_tree.specs.Parts.{choice_of}
 use Rattle.vx_tree.specs.Columns.{empty_of}
 use Rattle.vx_tree.specs.Cells.{rows, HasNoFault, IsClean}
 use Rattle.vx_tree.specs.Keeps.{KeepsExactly}
-use Rattle.vx_tree.specs.Well.{Shape, shape, shape_of, shapes, IsNode, IsWell}
+use Rattle.vx_tree.specs.Well.{shape, shape_of, shapes, IsNode, IsWell}
 use Rattle.vx_tree.proofs.CellsLemmas.{rows_counted}
 use Rattle.vx_tree.proofs.ChoicesLemmas.{filter_twice}
 use Rattle.vx_tree.proofs.KeepsLemmas.{exactly_refl}
@@ -28,7 +28,7 @@ use Rattle.vx_tree.proofs.KindsLemmas.{type_in, len_in}
 use Rattle.vx_tree.proofs.TellsLemmas.{chosen_clean}
 use Rattle.vx_tree.proofs.SlotsLemmas.{no_shapes}
 use Rattle.vx_tree.proofs.ValiditiesLemmas.{whole}
-use Rattle.vx_rule.proofs.PicksLemmas.{exactly_by, map_clean, function_picked, masked_picked}
+use Rattle.vx_rule.proofs.PicksLemmas.{first_of, exactly_by, map_clean, function_picked, masked_picked}
 use Rattle.vx_rule.proofs.RangesLemmas.{empty_known, copies_clean}
 
 -- ---- what every row needs
@@ -38,9 +38,6 @@ filter_bounds : (ty : DataType) (n : ℕ) (bits : List Bool) (c : Tree) → IsNo
 filter_bounds ty n bits c h =
     let is : shape_of c ≡ shape ty (length bits) = first_of h.0 in
     (sym (ap type_in is), h.1, sym (ap len_in is))
-  where
-    first_of : {x y : Shape} {xs ys : List (Option Shape)} → Some x ∷ xs ≡ Some y ∷ ys → x ≡ y
-    first_of e = cc
 
 -- a well-formed filter of c is `filter_of`
 of_filter : (ty : DataType) (n : ℕ) (bits : List Bool) (c u : Tree) → IsWell (node ty n (enc.filter bits) (slot c no_slots))

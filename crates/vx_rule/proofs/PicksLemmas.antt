@@ -74,15 +74,16 @@ second_by n v no_slots e h = tt
 second_by n v (absent vs) e h = tt
 second_by n v (slot t vs) e h = let is : v ≡ Some (shape_of t) = cc in subst (IsValidity Nullable n) is h
 
+-- the first of two lists of shapes that are the same
+pub first_of : {x y : Shape} {xs ys : List (Option Shape)} → Some x ∷ xs ≡ Some y ∷ ys → x ≡ y
+first_of e = cc
+
 pub masked_slots : (ty : DataType) (n : ℕ) (c : Tree) (vs : Slots) → IsNode ty n enc.masked (shapes (slot c vs)) → (len c ≡ n) × IsSecond n vs
 masked_slots ty n c vs h =
     let first : shape_of c ≡ shape h.0 n = first_of (h.2) in
     let second : shapes vs ≡ h.1 ∷ [] = second_of (h.2) in
     (ap len_in first, second_by n h.1 vs second h.4)
   where
-    first_of : {x y : Shape} {xs ys : List (Option Shape)} → Some x ∷ xs ≡ Some y ∷ ys → x ≡ y
-    first_of e = cc
-
     second_of : {x y : Option Shape} {xs ys : List (Option Shape)} → x ∷ xs ≡ y ∷ ys → xs ≡ ys
     second_of e = cc
 

@@ -26,7 +26,7 @@ use Rattle.vx_tree.proofs.NullsLemmas.{nulls_part, nulls_range}
 use Rattle.vx_tree.proofs.PartsLemmas.{part_exact, slot_part, flat_range_is}
 use Rattle.vx_tree.proofs.SlotsLemmas.{no_shapes}
 use Rattle.vx_tree.proofs.ValiditiesLemmas.{part_clean}
-use Rattle.vx_rule.proofs.PicksLemmas.{exactly_by, map_clean, function_picked, masked_picked}
+use Rattle.vx_rule.proofs.PicksLemmas.{first_of, exactly_by, map_clean, function_picked, masked_picked}
 
 -- ---- what every row needs
 
@@ -46,9 +46,6 @@ slice_bounds : (ty : DataType) (n a b : ℕ) (c : Tree) → IsNode ty n (enc.sli
 slice_bounds ty n a b c h =
     let is : shape_of c ≡ shape ty h.0 = first_of h.1 in
     (sym (ap type_in is), h.4, h.2, subst (λ m. b ≤ m) (sym (ap len_in is)) h.3)
-  where
-    first_of : {x y : Shape} {xs ys : List (Option Shape)} → Some x ∷ xs ≡ Some y ∷ ys → x ≡ y
-    first_of e = cc
 
 -- a well-formed slice of c is `slice_of`
 of_slice : (ty : DataType) (n a b : ℕ) (c u : Tree) → IsWell (node ty n (enc.slice a b) (slot c no_slots))

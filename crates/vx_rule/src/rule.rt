@@ -3,8 +3,7 @@
 ghost use Rattle.std.specs.Prelude.{◌≡◌, Bool, IfOk, IfErr, Some, None, true, false};
 ghost use Rattle.vx_value.specs.declared.error.VortexError.TheVariants.{OutOfMemory};
 ghost use Rattle.vx_tree.specs.Tree.{Tree, datum};
-ghost use Rattle.vx_tree.specs.Slots.{HasSlot};
-ghost use Rattle.vx_rule.specs.Answers.{Answers};
+ghost use Rattle.vx_rule.specs.Answers.{HoldsWith, Answers};
 
 use crate::raw_node::RawNode;
 use std::alloc::Global;
@@ -39,9 +38,8 @@ pub trait ArrayParentReduceRule<V: VTable> {
         parent: &ArrayRef,
         slot: usize,
     ) -> VortexResult<Option<RawNode>>
-        requires payload { V.stands_for child.now.payload.now ≡ datum child.now.array.now }
         requires fits { Self.Parent.fits parent.now ≡ true }
-        requires slot { HasSlot slot child.now.array.now parent.now }
+        requires slot { HoldsWith (V.stands_for child.now.payload.now) child.now.array.now slot parent.now }
         ensures { Answers (Some slot) parent.now result };
 }
 
@@ -62,8 +60,7 @@ pub trait DynArrayParentReduceRule<V: VTable> {
         parent: &ArrayRef,
         slot: usize,
     ) -> VortexResult<Option<RawNode>>
-        requires payload { V.stands_for child.now.payload.now ≡ datum child.now.array.now }
-        requires slot { HasSlot slot child.now.array.now parent.now }
+        requires { HoldsWith (V.stands_for child.now.payload.now) child.now.array.now slot parent.now }
         ensures answer { covers parent.now ≡ true → Answers (Some slot) parent.now result }
         ensures other { covers parent.now ≡ false → IfOk result (λ o. o ≡ None) }
         ensures err { IfErr result (λ e. e ≡ OutOfMemory) };
