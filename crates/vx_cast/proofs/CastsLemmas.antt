@@ -197,11 +197,11 @@ bits_kept (stored.Decimals ds) bs t valid n u is target nullability h = absurd (
 bits_kept (stored.Bytes ys) bs t valid n u is target nullability h = absurd (cc)
 
 -- what is cast to a type by name
-pub cast_made : (ty : Nullability → DataType) (r s : ArgumentRows) (t : DataType) (k : Nullability) (valid : ValidRows) (n : ℕ)
+pub cast_made : (ty : Nullability → DataType) {r s : ArgumentRows} {t : DataType} {k : Nullability} (valid : ValidRows) (n : ℕ)
     (found : Result Canonical VortexError) → r ≡ s → t ≡ ty k → nullability_of (ty k) ≡ k → nullability_in valid ≡ nullability_of t
     → IfOk found (λ c. (dtype (canonical_tree c) ≡ ty (nullability_in valid)) × IsMade valid (λ i. cast_to (ty k) (value_at s i)) n (canonical_tree c))
     → IfOk found (λ c. (dtype (canonical_tree c) ≡ t) × IsMade valid (λ i. cast_to t (value_at r i)) n (canonical_tree c))
-cast_made ty r s t k valid n found is typed own nullability =
+cast_made ty valid n found is typed own nullability =
     IfOk-weaker found _ _
     (λ c h. (
       h.0 ∙ ap ty (nullability ∙ ap nullability_of typed ∙ own) ∙ sym typed,

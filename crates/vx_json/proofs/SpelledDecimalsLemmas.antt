@@ -1,5 +1,5 @@
 -- The text of a number is what it is read from, and the numbers that are read have no more digits than their type.
-use Rattle.std.proofs.Common.{◌≡◌, ◌≢◌, refl, sym, ap, subst, ◌∙◌, arith, ℕ, ℤ, pos, negsuc, suc, nat_abs, ◌<◌, ◌≤◌, ◌^◌, ltb-true, lt-ltb, FitsSigned}
+use Rattle.std.proofs.Common.{◌≡◌, ◌≢◌, refl, sym, ap, subst, ◌∙◌, arith, ℕ, ℤ, pos, negsuc, suc, nat_abs, ◌<◌, ◌≤◌, ◌^◌, ltb-true, FitsSigned}
 use Rattle.std.proofs.Common.{List, [], ◌∷◌, map, Bool, true, false, ◌&&◌, Option, Some, None}
 use Rattle.std.proofs.lemmas.Bool.{and_parts, and_from}
 use Rattle.std.proofs.lemmas.Fmt.{decimal_is_IsNumeral_wide}
@@ -18,6 +18,7 @@ use Rattle.vx_value.specs.Types.{is_nullable}
 use Rattle.vx_value.specs.declared.dtype.Nullability.{Nullability}
 use Rattle.vx_tree.specs.Rows.{item_or}
 use Rattle.vx_value.proofs.DecimalsLemmas.{ten_to}
+use Rattle.vx_value.proofs.DefaultsLemmas.{zero_has_digits}
 use Rattle.vx_json.specs.ReadRows.{AreRead}
 use Rattle.vx_json.specs.SpelledValues.{written_so, decimal_in, decimal_spelled, is_null, or_null}
 use Rattle.vx_json.proofs.SpelledValuesLemmas.{all_pass, mapped_read}
@@ -95,16 +96,13 @@ digits_of p d z h = by_text (as_str d) h
     by_text None e = absurd (cc)
     by_text (Some text) e = digits_in p text z e
 
-zero_digits : (p : ℕ) → has_digits p (pos 0) ≡ true
-zero_digits p = let some : 10 ^ 0 ≤ 10 ^ p = ten_to {p = 0} {q = p} (omega arith) in lt-ltb 0 (10 ^ p) (omega arith)
-
 -- a row's number too, 0 for null
 row_digits : (m : Nullability) (p : ℕ) (d : Data) (z : ℤ) → option_map (item_or (pos 0)) (or_null m (decimal_spelled p) d) ≡ Some z → has_digits p z ≡ true
 row_digits m p d z h = by_test (is_nullable m && is_null d) (decimal_spelled p d) refl h
   where
     by_test : (null : Bool) (o : Option ℤ) → decimal_spelled p d ≡ o →
         option_map (item_or (pos 0)) (if null then Some None else option_map Some o) ≡ Some z → has_digits p z ≡ true
-    by_test true o read e = ap (has_digits p) (sym (same_Some _ _ e)) ∙ zero_digits p
+    by_test true o read e = ap (has_digits p) (sym (same_Some _ _ e)) ∙ zero_has_digits p
     by_test false None read e = absurd (cc)
     by_test false (Some y) read e = digits_of p d z (read ∙ e)
 

@@ -1,6 +1,6 @@
 //! Values of decimals, and lists of them.
 
-ghost use Rattle.std.specs.Prelude.{◌≡◌, ◌≢◌, ℤ, pos, true, [], Some, None, IfSome, IfNone, IfOk, IfErr};
+ghost use Rattle.std.specs.Prelude.{◌≡◌, ◌≢◌, ℤ, pos, true, [], map, Some, None, IfSome, IfNone, IfOk, IfErr};
 ghost use Rattle.std.specs.Fmt.{signed_decimal};
 ghost use Rattle.serde_json.specs.View.{view, items_view};
 ghost use Rattle.vx_value.specs.Decimals.{has_digits, smallest_width};
@@ -15,6 +15,7 @@ use crate::row_nulls::RowNulls;
 use itoa::Buffer as TextBuffer;
 use serde_json::Value;
 use std::alloc::Global;
+use vx_mask::Buffer;
 use vx_native::{DecimalValues, NativeDecimalType, narrowed};
 use vx_value::{DecimalDType, DecimalType, DecimalValue, Digits, VortexResult};
 
@@ -56,34 +57,30 @@ pub(crate) fn decimal_value(dtype: &DecimalDType, value: &Value) -> VortexResult
 
 /// Reads numbers without their points, which must be among the digits, in the narrowest integers that hold all of these.
 impl<T: NativeDecimalType> NumberReader<T> for Digits {
+    type Values = DecimalValues;
+
     ghost fits = { λ digits. T.kind ≡ smallest_width digits.precision };
 
     ghost spelled = { λ digits. decimal_spelled digits.precision };
 
+    ghost are_native = { λ v. decimal_type_of v ≡ T.kind };
+
+    ghost held = { numbers_of };
+
     fn number(&self, value: &Value) -> Option<T> {
         Some(narrowed(decimal(*self, value)?))
     }
+
+    fn wrap(numbers: Buffer<T>) -> DecimalValues
+        ensures native { decimal_type_of result ≡ T.kind }
+        ensures held { numbers_of result ≡ map T.value numbers }
+    {
+        T::wrap_decimals(numbers)
+    }
 }
 
-/// Reads a list of numbers without their points, which must be among `digits`, in the narrowest integers that hold all of these, and
-/// tells `nulls` which rows aren't null. Returns the numbers, 0 for null. `InvalidArgument(BadValue)` if an item is neither such a number
-/// nor a null row.
-fn native_decimals<T: NativeDecimalType, N: RowNulls>(
-    alloc: Global,
-    digits: Digits,
-    nulls: &mut N,
-    list: &Vec<Value>,
-) -> VortexResult<DecimalValues>
-    requires width { T.kind ≡ smallest_width digits.precision }
-    requires untold { N.told nulls.old ≡ [] }
-    ensures kind { IfOk result (λ v. decimal_type_of v ≡ T.kind) }
-    ensures ok { IfOk result (λ v. AreRead N.mode (pos 0) (decimal_spelled digits.precision) (items_view list.now.items) (numbers_of v) (N.told nulls.new)) }
-    ensures err { IfErr result (IsRefused (all_read (or_null N.mode (decimal_spelled digits.precision)) (items_view list.now.items) ≡ None)) }
-{
-    Ok(T::wrap_decimals(numbers(alloc, &digits, nulls, list)?))
-}
-
-/// Reads a list of numbers of type `decimal`, without their points, as `native_decimals` does.
+/// Reads a list of numbers of type `decimal`, without their points, and tells `nulls` which rows aren't null. Returns the numbers in the
+/// narrowest integers that hold all of the type, 0 for null. `InvalidArgument(BadValue)` if an item is neither such a number nor a null row.
 pub(crate) fn decimals<N: RowNulls>(
     alloc: Global,
     decimal: &DecimalDType,
@@ -98,10 +95,10 @@ pub(crate) fn decimals<N: RowNulls>(
 {
     let digits = decimal.digits();
     match DecimalType::smallest_decimal_value_type(decimal) {
-        DecimalType::I8 => native_decimals::<i8, N>(alloc, digits, nulls, list),
-        DecimalType::I16 => native_decimals::<i16, N>(alloc, digits, nulls, list),
-        DecimalType::I32 => native_decimals::<i32, N>(alloc, digits, nulls, list),
-        DecimalType::I64 => native_decimals::<i64, N>(alloc, digits, nulls, list),
-        DecimalType::I128 => native_decimals::<i128, N>(alloc, digits, nulls, list),
+        DecimalType::I8 => numbers::<i8, Digits, N>(alloc, &digits, nulls, list),
+        DecimalType::I16 => numbers::<i16, Digits, N>(alloc, &digits, nulls, list),
+        DecimalType::I32 => numbers::<i32, Digits, N>(alloc, &digits, nulls, list),
+        DecimalType::I64 => numbers::<i64, Digits, N>(alloc, &digits, nulls, list),
+        DecimalType::I128 => numbers::<i128, Digits, N>(alloc, &digits, nulls, list),
     }
 }

@@ -1,6 +1,6 @@
 //! Single values of a type, and lists of them.
 
-ghost use Rattle.std.specs.Prelude.{◌≡◌, pos, false, [], Some, None, option_and_then, IfOk, IfErr};
+ghost use Rattle.std.specs.Prelude.{◌≡◌, pos, false, [], map, Some, None, option_and_then, IfOk, IfErr};
 ghost use Rattle.std.specs.List.{list_all};
 ghost use Rattle.serde_json.specs.View.{view, items_view};
 ghost use Rattle.serde_json.specs.Find.{as_bool, as_number, as_integer};
@@ -17,7 +17,7 @@ use crate::numbers::{NumberReader, numbers};
 use crate::row_nulls::RowNulls;
 use serde_json::Value;
 use std::alloc::Global;
-use vx_mask::{BitBuffer, BitBuilder};
+use vx_mask::{BitBuffer, BitBuilder, Buffer};
 use vx_native::{NativeInteger, PrimitiveValues};
 use vx_value::{DType, PType, Scalar, ScalarValue, VortexResult};
 
@@ -39,31 +39,30 @@ fn integer(value: &Value) -> Option<i128>
 struct InRange;
 
 impl<T: NativeInteger> NumberReader<T> for InRange {
+    type Values = PrimitiveValues;
+
     ghost fits = { λ r. Unit {0} };
 
     ghost spelled = { λ r. integer_spelled T.kind };
 
+    ghost are_native = { λ v. ptype_of v ≡ T.kind };
+
+    ghost held = { values_of };
+
     fn number(&self, value: &Value) -> Option<T> {
         T::from_wide(integer(value)?)
     }
+
+    fn wrap(numbers: Buffer<T>) -> PrimitiveValues
+        ensures native { ptype_of result ≡ T.kind }
+        ensures held { values_of result ≡ map T.value numbers }
+    {
+        T::wrap(numbers)
+    }
 }
 
-/// Reads a list of integers in the range of `T`, and tells `nulls` which rows aren't null. Returns the integers, 0 for null.
+/// Reads a list of integers in the range of `ptype`, and tells `nulls` which rows aren't null. Returns the integers, 0 for null.
 /// `InvalidArgument(BadValue)` if an item is neither such an integer nor a null row.
-fn natives<T: NativeInteger, N: RowNulls>(
-    alloc: Global,
-    nulls: &mut N,
-    list: &Vec<Value>,
-) -> VortexResult<PrimitiveValues>
-    requires { N.told nulls.old ≡ [] }
-    ensures kind { IfOk result (λ v. ptype_of v ≡ T.kind) }
-    ensures ok { IfOk result (λ v. AreRead N.mode (pos 0) (integer_spelled T.kind) (items_view list.now.items) (values_of v) (N.told nulls.new)) }
-    ensures err { IfErr result (IsRefused (all_read (or_null N.mode (integer_spelled T.kind)) (items_view list.now.items) ≡ None)) }
-{
-    Ok(T::wrap(numbers(alloc, &InRange, nulls, list)?))
-}
-
-/// Reads a list of integers in the range of `ptype`, as `natives` does.
 pub(crate) fn integers<N: RowNulls>(
     alloc: Global,
     ptype: PType,
@@ -76,14 +75,14 @@ pub(crate) fn integers<N: RowNulls>(
     ensures err { IfErr result (IsRefused (all_read (or_null N.mode (integer_spelled ptype)) (items_view list.now.items) ≡ None)) }
 {
     match ptype {
-        PType::U8 => natives::<u8, N>(alloc, nulls, list),
-        PType::U16 => natives::<u16, N>(alloc, nulls, list),
-        PType::U32 => natives::<u32, N>(alloc, nulls, list),
-        PType::U64 => natives::<u64, N>(alloc, nulls, list),
-        PType::I8 => natives::<i8, N>(alloc, nulls, list),
-        PType::I16 => natives::<i16, N>(alloc, nulls, list),
-        PType::I32 => natives::<i32, N>(alloc, nulls, list),
-        PType::I64 => natives::<i64, N>(alloc, nulls, list),
+        PType::U8 => numbers::<u8, InRange, N>(alloc, &InRange, nulls, list),
+        PType::U16 => numbers::<u16, InRange, N>(alloc, &InRange, nulls, list),
+        PType::U32 => numbers::<u32, InRange, N>(alloc, &InRange, nulls, list),
+        PType::U64 => numbers::<u64, InRange, N>(alloc, &InRange, nulls, list),
+        PType::I8 => numbers::<i8, InRange, N>(alloc, &InRange, nulls, list),
+        PType::I16 => numbers::<i16, InRange, N>(alloc, &InRange, nulls, list),
+        PType::I32 => numbers::<i32, InRange, N>(alloc, &InRange, nulls, list),
+        PType::I64 => numbers::<i64, InRange, N>(alloc, &InRange, nulls, list),
     }
 }
 

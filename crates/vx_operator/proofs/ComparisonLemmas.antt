@@ -1,5 +1,5 @@
 -- Comparisons of the values that arguments store: an order of each type, and the column of what a comparison gives.
-use Rattle.std.proofs.Common.{◌≡◌, ℕ, true, if◌then◌else◌, Some, None, refl, sym, ap, ◌∙◌, ◌+◌, ℤ, Bool, false, List, [], ◌∷◌, ◌++◌, map, Result, IfOk}
+use Rattle.std.proofs.Common.{◌≡◌, ℕ, true, if◌then◌else◌, Some, None, refl, sym, ap, subst, ◌∙◌, ◌+◌, ℤ, Bool, false, List, [], ◌∷◌, ◌++◌, map, Result, IfOk}
 use Rattle.std.specs.Prelude.{ℤ, IsSome, option_map, ◌&&◌, slice_get}
 use Rattle.std.specs.Cmp.{nat_cmp_is}
 use Rattle.std.proofs.lemmas.Result.{IfOk-weaker}
@@ -31,6 +31,7 @@ use Rattle.vx_rows.specs.Arguments.{plain_type, pair_at, value_at, unscaled_in}
 use Rattle.vx_rows.specs.ValidRows.{nullability_in, is_valid}
 use Rattle.vx_rows.specs.declared.argument.ArgumentRows.{ArgumentRows}
 use Rattle.vx_rows.specs.declared.argument.ArgumentRows.TheVariants as stored
+use Rattle.vx_rows.specs.declared.argument.BytesOperand.{BytesOperand}
 use Rattle.vx_rows.specs.declared.argument.DecimalOperand.{DecimalOperand}
 use Rattle.vx_rows.specs.declared.valid.ValidRows.{ValidRows}
 use Rattle.vx_kernel.specs.Computed.{IsMade}
@@ -60,9 +61,12 @@ stored_through (stored.Integers zs) i c h = refl
 stored_through (stored.Decimals ds) i c h = refl
 stored_through (stored.Bytes bs) i c h = refl
 
-pub bytes_ordered : (st : Storage) → is_ordered (bytes_type st) ≡ true
-bytes_ordered Text = refl
-bytes_ordered _ = refl
+pub bytes_ordered : {r : ArgumentRows} {bs : BytesOperand} → r ≡ stored.Bytes bs → is_ordered (plain_type r) ≡ true
+bytes_ordered {bs = bs} is = ap (λ s. is_ordered (plain_type s)) is ∙ by_storage bs.storage
+  where
+    by_storage : (st : Storage) → is_ordered (bytes_type st) ≡ true
+    by_storage Text = refl
+    by_storage _ = refl
 
 -- whatever the nullability is
 pub ordered_again : (m : Nullability) (t : DataType) → is_ordered (with_nullability m t) ≡ is_ordered t
@@ -72,20 +76,24 @@ ordered_again m _ = refl
 -- ---- a comparison
 
 -- text and bytes are only compared
-pub bytes_compared : (op : Operator) (st : Storage) → IsSome (operator_type op (bytes_type st)) → is_comparison op ≡ true
-bytes_compared operator.Add Text h = absurd (cc)
-bytes_compared operator.Add _ h = absurd (cc)
-bytes_compared operator.Sub Text h = absurd (cc)
-bytes_compared operator.Sub _ h = absurd (cc)
-bytes_compared operator.Mul Text h = absurd (cc)
-bytes_compared operator.Mul _ h = absurd (cc)
-bytes_compared operator.Div Text h = absurd (cc)
-bytes_compared operator.Div _ h = absurd (cc)
-bytes_compared operator.And Text h = absurd (cc)
-bytes_compared operator.And _ h = absurd (cc)
-bytes_compared operator.Or Text h = absurd (cc)
-bytes_compared operator.Or _ h = absurd (cc)
-bytes_compared _ _ h = refl
+pub bytes_compared : (op : Operator) {r : ArgumentRows} {bs : BytesOperand} → r ≡ stored.Bytes bs → IsSome (operator_type op (plain_type r))
+    → is_comparison op ≡ true
+bytes_compared op {bs = bs} is taken = by_operator op bs.storage (subst (λ s. IsSome (operator_type op (plain_type s))) is taken)
+  where
+    by_operator : (op : Operator) (st : Storage) → IsSome (operator_type op (bytes_type st)) → is_comparison op ≡ true
+    by_operator operator.Add Text h = absurd (cc)
+    by_operator operator.Add _ h = absurd (cc)
+    by_operator operator.Sub Text h = absurd (cc)
+    by_operator operator.Sub _ h = absurd (cc)
+    by_operator operator.Mul Text h = absurd (cc)
+    by_operator operator.Mul _ h = absurd (cc)
+    by_operator operator.Div Text h = absurd (cc)
+    by_operator operator.Div _ h = absurd (cc)
+    by_operator operator.And Text h = absurd (cc)
+    by_operator operator.And _ h = absurd (cc)
+    by_operator operator.Or Text h = absurd (cc)
+    by_operator operator.Or _ h = absurd (cc)
+    by_operator _ _ h = refl
 
 comparison_type : (op : Operator) (t : DataType) → is_comparison op ≡ true → is_ordered t ≡ true → operator_type op t ≡ Some (bool NonNullable)
 comparison_type op t c h = by_operator op c

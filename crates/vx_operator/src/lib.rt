@@ -4,7 +4,6 @@
 mod arithmetic;
 mod boolean;
 mod bounds;
-mod bytes;
 mod checked;
 mod checks;
 mod comparison;

@@ -10,7 +10,6 @@ ghost use Rattle.vx_rows.specs.declared.argument.ArgumentRows.TheVariants.{Integ
 
 use crate::arithmetic::{Difference, Product, Quotient, Sum, calculate};
 use crate::boolean::operate_bools;
-use crate::bytes::operate_bytes;
 use crate::checked::CheckedNumber;
 use crate::comparison::compare_ordered;
 use crate::decimals::operate_decimals;
@@ -20,7 +19,7 @@ use vx_fn::Operator;
 use vx_kernel::{Operand, operand_of, valid_bools};
 use vx_mask::BitBuffer;
 use vx_native::{NativeInteger, by_decimal_type, by_type};
-use vx_rows::{Argument, ArgumentRows, IntegerOperand, ValidRows};
+use vx_rows::{Argument, ArgumentRows, BytesOperand, IntegerOperand, ValidRows};
 use vx_tree::Canonical;
 use vx_value::{DecimalType, VortexResult};
 
@@ -79,7 +78,7 @@ fn operate_rows(
             )
         }
         (ArgumentRows::Bytes(lhs), ArgumentRows::Bytes(rhs)) => {
-            operate_bytes(alloc, operator, lhs, rhs, valid, len)
+            compare_ordered::<BytesOperand<'_>>(alloc, operator, lhs, rhs, valid, len)
         }
         _ => unreachable!(),
     }

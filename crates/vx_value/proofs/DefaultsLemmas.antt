@@ -22,7 +22,7 @@ zero_in_range ptype.I16 = refl
 zero_in_range ptype.I32 = refl
 zero_in_range ptype.I64 = refl
 
-zero_has_digits : (p : ℕ) → has_digits p (pos 0) ≡ true
+pub zero_has_digits : (p : ℕ) → has_digits p (pos 0) ≡ true
 zero_has_digits p =
     let least : 0 ≤ p = omega arith in
     let one : 10 ^ 0 ≤ 10 ^ p = ten_to least in

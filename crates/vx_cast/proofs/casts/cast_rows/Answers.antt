@@ -27,33 +27,24 @@ returns-in-Bits-default-clause-ok c =
 pub returns-in-Integers-Primitive-clause-ok : goal.returns-in-Integers-Primitive-clause-ok
 returns-in-Integers-Primitive-clause-ok c =
     let arm = c.in-Integers-Primitive in
-    cast_made (primitive arm.ptype) c.args.rows _ (type_of c.args.target.now) _ c.args.valid.now c.args.len c.cast_integers.result arm.is-0
-    (ap type_of arm.is-1) refl
-    c.requires.nullability c.cast_integers.ensures.ok
+    cast_made (primitive arm.ptype) _ _ _ arm.is-0 (ap type_of arm.is-1) refl c.requires.nullability c.cast_integers.ensures.ok
 
 pub returns-in-Integers-Decimal-clause-ok : goal.returns-in-Integers-Decimal-clause-ok
 returns-in-Integers-Decimal-clause-ok c =
     let arm = c.in-Integers-Decimal in
-    cast_made (decimal arm.decimal.precision arm.decimal.scale) c.args.rows _ (type_of c.args.target.now) _ c.args.valid.now c.args.len
-    c.integers_to_decimals.result arm.is-0 (ap type_of arm.is-1) refl
-    c.requires.nullability c.integers_to_decimals.ensures.ok
+    cast_made (decimal arm.decimal.precision arm.decimal.scale) _ _ _ arm.is-0 (ap type_of arm.is-1) refl c.requires.nullability c.integers_to_decimals.ensures.ok
 
 pub returns-in-Decimals-Decimal-clause-ok : goal.returns-in-Decimals-Decimal-clause-ok
 returns-in-Decimals-Decimal-clause-ok c =
     let arm = c.in-Decimals-Decimal in
-    cast_made (decimal arm.decimal.precision arm.decimal.scale) c.args.rows _ (type_of c.args.target.now) _ c.args.valid.now c.args.len
-    c.cast_decimals.result arm.is-0 (ap type_of arm.is-1) refl
-    c.requires.nullability c.cast_decimals.ensures.ok
+    cast_made (decimal arm.decimal.precision arm.decimal.scale) _ _ _ arm.is-0 (ap type_of arm.is-1) refl c.requires.nullability c.cast_decimals.ensures.ok
 
 pub returns-in-Bytes-Utf8-clause-ok : goal.returns-in-Bytes-Utf8-clause-ok
 returns-in-Bytes-Utf8-clause-ok c =
     let arm = c.in-Bytes-Utf8 in
-    cast_made utf8 c.args.rows _ (type_of c.args.target.now) _ c.args.valid.now c.args.len c.cast_to_text.result arm.is-0 (ap type_of arm.is-1) refl
-    c.requires.nullability c.cast_to_text.ensures.ok
+    cast_made utf8 _ _ _ arm.is-0 (ap type_of arm.is-1) refl c.requires.nullability c.cast_to_text.ensures.ok
 
 pub returns-in-Bytes-Binary-clause-ok : goal.returns-in-Bytes-Binary-clause-ok
 returns-in-Bytes-Binary-clause-ok c =
     let arm = c.in-Bytes-Binary in
-    cast_made binary c.args.rows _ (type_of c.args.target.now) _ c.args.valid.now c.args.len c.stored_column-in-Bytes-Binary.result
-    arm.is-0 (ap type_of arm.is-1) refl
-    c.requires.nullability c.stored_column-in-Bytes-Binary.ensures.ok
+    cast_made binary _ _ _ arm.is-0 (ap type_of arm.is-1) refl c.requires.nullability c.stored_column-in-Bytes-Binary.ensures.ok
