@@ -13,8 +13,7 @@ use Rattle.vx_tree.specs.Slots.{set_slot, put}
 use Rattle.vx_tree.specs.Replacements.{with_slots, kept_refusal, slot_refusal, found_refusal, first_refusal, each_refusal, with_slot_refusal, with_slots_refusal}
 use Rattle.vx_tree.specs.declared.replace.Kept.TheVariants.{Presence, Dtype, Len}
 use Rattle.vx_tree.proofs.ConditionsLemmas.{first_none, second_none, unless_none, some_unless}
-use Rattle.vx_tree.proofs.SlotsLemmas.{slot_filled}
-use Rattle.vx_tree.proofs.RefusalsLemmas.{count_slots}
+use Rattle.vx_tree.proofs.SlotsLemmas.{slot_filled, count_slots}
 
 -- ---- what isn't refused has the same shapes
 

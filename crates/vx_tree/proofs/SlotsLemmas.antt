@@ -222,3 +222,9 @@ module _ (ty : DataType) (n : ℕ) (d : Data) (xs : List (Option Tree)) (i : ℕ
 
   pub slot_filled : node ty n d (slots_of (set xs i (Some c))) ≡ put i c t
   slot_filled = ap (node ty n d) (put_in xs i c) ∙ ap (put i c) e
+
+-- as many as their shapes
+pub count_slots : (xs : List (Option Tree)) → length (shapes (slots_of xs)) ≡ length xs
+count_slots [] = refl
+count_slots (None ∷ xs) = ap suc (count_slots xs)
+count_slots (Some t ∷ xs) = ap suc (count_slots xs)

@@ -1,5 +1,5 @@
--- What a column is, and the tree that a column of the program stands for.
-use Rattle.std.specs.Prelude.{◌≡◌, ◌⊎◌, ◌≤◌, ℕ, List, [], length, replicate, slice_range, Option, Some, None, true, if◌then◌else◌}
+-- What a column is.
+use Rattle.std.specs.Prelude.{◌≡◌, ◌⊎◌, ◌≤◌, ℕ, List, [], length, replicate, slice_range, None, true}
 use Rattle.vx_value.specs.Types.{DataType}
 use Rattle.vx_value.specs.Values.{Value}
 use Rattle.vx_value.specs.Cell.{Cell, value}
@@ -7,17 +7,12 @@ use Rattle.vx_value.specs.Decimals.{smallest_width}
 use Rattle.vx_value.specs.Storage.{storage_of}
 use Rattle.vx_value.specs.declared.dtype.Storage.{Storage}
 use Rattle.vx_value.specs.declared.dtype.Storage.TheVariants.{Nulls, Integers, Decimals, Text, Bytes}
-use Rattle.vx_value.specs.Ids.{same_id}
 use Rattle.vx_value.specs.declared.id.Id.{Id}
 use Rattle.vx_value.specs.declared.id.Id.TheVariants as id
 use Rattle.vx_tree.specs.Tree as enc
 use Rattle.vx_tree.specs.Tree.{Tree, Data, column, nulls_of, dtype, datum, id_of, is_canonical}
 use Rattle.vx_tree.specs.Cells.{rows}
 use Rattle.vx_tree.specs.Cost.{cost}
-use Rattle.vx_tree.specs.declared.canonical.Canonical.{Canonical}
-use Rattle.vx_tree.specs.declared.canonical.Canonical.TheVariants.{Null, Bool, Primitive, Decimal, VarBinView}
-use Rattle.vx_tree.specs.declared.columnar.Columnar.{Columnar}
-use Rattle.vx_tree.specs.declared.columnar.Columnar.TheVariants as columnar
 
 -- the canonical encoding of a type, by how its values are stored
 abbrev pub stored_id : Storage → Id
@@ -40,44 +35,6 @@ pub record IsColumn (t : Tree) : Type 0 where
   pub lawful : IsLawful (id_of (datum t)) (dtype t) (rows t)
   pub settled : cost t ≤ 2
   pub canonical_settled : is_canonical (datum t) ≡ true → cost t ≡ 1
-
-abbrev pub canonical_tree : Canonical → Tree
-canonical_tree (Null t) = t
-canonical_tree (Bool t) = t
-canonical_tree (Primitive t) = t
-canonical_tree (Decimal t) = t
-canonical_tree (VarBinView t) = t
-
--- its encoding
-abbrev pub encoding_in : Canonical → Id
-encoding_in (Null t) = id.Null
-encoding_in (Bool t) = id.Bool
-encoding_in (Primitive t) = id.Primitive
-encoding_in (Decimal t) = id.Decimal
-encoding_in (VarBinView t) = id.VarBinView
-
--- the column if it has an encoding, and if it is one of nulls, of booleans, of integers, of decimals, and of text or bytes
-abbrev pub column_of : Id → Canonical → Option Tree
-column_of i c = if same_id (encoding_in c) i then Some (canonical_tree c) else None
-
-abbrev pub null_column : Canonical → Option Tree
-null_column = column_of id.Null
-
-abbrev pub bool_column : Canonical → Option Tree
-bool_column = column_of id.Bool
-
-abbrev pub primitive_column : Canonical → Option Tree
-primitive_column = column_of id.Primitive
-
-abbrev pub decimal_column : Canonical → Option Tree
-decimal_column = column_of id.Decimal
-
-abbrev pub varbinview_column : Canonical → Option Tree
-varbinview_column = column_of id.VarBinView
-
-abbrev pub columnar_tree : Columnar → Tree
-columnar_tree (columnar.Canonical c) = canonical_tree c
-columnar_tree (columnar.Constant t) = t
 
 -- the column without rows of a type, by how its values are stored
 abbrev pub no_rows : Storage → Data

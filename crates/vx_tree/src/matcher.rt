@@ -3,7 +3,7 @@
 ghost use Rattle.std.specs.Prelude.{◌≡◌, Bool, true};
 ghost use Rattle.vx_tree.specs.Tree.{Tree, datum, is_canonical, is_columnar, is_function};
 
-use crate::array::{ArrayRef, VTable};
+use crate::array::{ArrayRef, EncodingVariant};
 use crate::arrays::boolean::Bool;
 use crate::arrays::constant::Constant;
 use crate::arrays::decimal::Decimal;
@@ -74,7 +74,7 @@ impl Matcher for AnyScalarFn {
 }
 
 /// A tag matches the nodes of its encoding; `ScalarFn` matches those of every function.
-impl<V: VTable> Matcher for V {
+impl<V: EncodingVariant> Matcher for V {
     ghost fits = { λ t. V.is_kind (datum t) };
 
     fn matches(array: &ArrayRef) -> bool {

@@ -9,8 +9,8 @@ ghost use Rattle.vx_tree.specs.Replacements.{is_kept, wrong_in, kept_refusal, sl
 ghost use Rattle.vx_tree.specs.Replacements.{with_slots, with_slot_refusal, with_slots_refusal};
 
 use crate::array::ArrayRef;
-use crate::arrays::types::is_same_type;
 use crate::conditions::check_that;
+use crate::types::is_same_type;
 use std::alloc::Global;
 use vx_value::{ArgKind, VortexError, VortexResult};
 

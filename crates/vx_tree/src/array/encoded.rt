@@ -5,6 +5,10 @@ ghost use Rattle.vx_tree.specs.Tree.{Data};
 ghost use Rattle.vx_tree.specs.TreeView.{data_of};
 
 use crate::array::Encoding;
+use vx_value::Id;
+
+/// The id of an encoding.
+pub type ArrayId = Id;
 
 /// Tags of encodings, with the type of the node data. (own: the original has the type in `VTable`)
 pub trait Encoded {

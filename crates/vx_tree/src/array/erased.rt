@@ -8,7 +8,7 @@ ghost use Rattle.vx_tree.specs.TreeView.{data_of};
 ghost use Rattle.vx_tree.specs.Cells.{rows};
 ghost use Rattle.vx_tree.specs.Well.{IsWell};
 
-use crate::array::{ArrayRef, ArrayView, Encoding, VTable};
+use crate::array::{ArrayRef, ArrayView, Encoding, EncodingVariant};
 use crate::matcher::Matcher;
 use vx_value::{DType, Id};
 
@@ -105,7 +105,7 @@ impl ArrayRef {
     }
 
     /// Returns a view of the root, or `None` if it isn't of `V`'s encoding.
-    pub fn as_opt<V: VTable>(&self) -> Option<ArrayView<'_, V>>
+    pub fn as_opt<V: EncodingVariant>(&self) -> Option<ArrayView<'_, V>>
         ensures which { is_some result ≡ V.is_kind (datum self.now) }
         ensures of { IfSome result (λ v. v.array.now ≡ self.now) }
         ensures payload { IfSome result (λ v. V.stands_for v.payload.now ≡ datum self.now) }

@@ -180,8 +180,8 @@ impl ArrayRef {
         Rc::unwrap_or_clone(self.into_root())
     }
 
-    /// Returns the parts of the root. Hands the tree back if the root is shared.
-    pub(crate) fn try_into_node(self) -> Result<Node, ArrayRef>
+    /// Returns the parts of the root. Hands the tree back if the root is shared. (own)
+    pub fn try_into_node(self) -> Result<Node, ArrayRef>
         ensures ok { IfOk result (λ n. tree_of n ≡ self) }
         ensures err { IfErr result (λ a. a ≡ self) }
     {

@@ -1,23 +1,15 @@
-//! Arrays that repeat one value.
+//! The data of arrays that repeat one value.
 
-ghost use Rattle.std.specs.Prelude.{◌≡◌, IfOk, IfErr, refl};
-ghost use Rattle.vx_value.specs.declared.id.Id.TheVariants as id;
-ghost use Rattle.vx_tree.specs.Tree.{constant, constant_of, is_constant};
+ghost use Rattle.std.specs.Prelude.{◌≡◌, refl};
+ghost use Rattle.vx_tree.specs.Tree.{constant, is_constant};
 
-use crate::array::{Array, ArrayId, ArrayParts, Encoded, Encoding, EncodingVariant, VTable};
-use crate::arrays::child::no_child;
-use crate::arrays::types::is_same_type;
+use crate::array::{Encoded, Encoding, EncodingVariant};
 use crate::arrays::{into_payload, payload};
-use crate::conditions::check_that;
-use std::alloc::Global;
-use vx_value::{ArgKind, Id, Scalar, VortexError, VortexResult};
+use vx_value::Scalar;
 
 /// The tag of the constant encoding.
 #[derive(Clone, Copy, Debug)]
 pub struct Constant;
-
-/// One value, repeated for any number of rows.
-pub type ConstantArray = Array<Constant>;
 
 /// The data of a constant: the value of each row.
 #[derive(Clone, Debug, Drop)]
@@ -38,37 +30,6 @@ impl ConstantData {
         ensures { result.now ≡ self.now.scalar }
     {
         &self.scalar
-    }
-}
-
-impl VTable for Constant {
-    ghost named = { λ _. id.Constant };
-
-    fn id(&self) -> ArrayId {
-        Id::Constant
-    }
-
-    fn tag(_payload: &ConstantData) -> Constant {
-        Constant
-    }
-
-    fn validate(_alloc: Global, parts: &ArrayParts<Constant>) -> VortexResult<()> {
-        no_child(&parts.slots)?;
-        check_that(
-            is_same_type(&parts.dtype, parts.payload.scalar.dtype()),
-            ArgKind::NodeType,
-        )
-    }
-}
-
-impl ConstantArray {
-    /// Makes the constant of `len` rows, each `scalar`. The only error is `OutOfMemory`.
-    pub fn new(alloc: Global, scalar: Scalar, len: usize) -> VortexResult<ConstantArray>
-        ensures ok { IfOk result (λ a. a ≡ constant_of scalar len) }
-        ensures err { IfErr result (λ e. e ≡ VortexError.OutOfMemory) }
-    {
-        let dtype = scalar.dtype().clone()?;
-        Ok(Array::of(alloc, dtype, len, ConstantData { scalar }, Vec::new(alloc))?)
     }
 }
 

@@ -1,26 +1,15 @@
-//! Lazy tests for null.
+//! The data of lazy tests for null.
 
-ghost use Rattle.std.specs.Prelude.{◌≡◌, IfOk, IfErr, Some, refl};
-ghost use Rattle.vx_value.specs.declared.id.Id.TheVariants as id;
-ghost use Rattle.vx_tree.specs.Tree.{validity_in, is_valid, is_validity};
+ghost use Rattle.std.specs.Prelude.{refl};
+ghost use Rattle.vx_tree.specs.Tree.{is_valid, is_validity};
 
-use crate::array::{
-    Array, ArrayId, ArrayParts, ArrayRef, Encoded, Encoding, EncodingVariant, VTable,
-};
-use crate::arrays::child::only_child;
-use crate::arrays::types::{BOOLEANS, is_same_type};
+use crate::array::{Encoded, Encoding, EncodingVariant};
 use crate::arrays::{into_payload, payload};
-use crate::conditions::check_that;
-use std::alloc::Global;
 use std::fmt;
-use vx_value::{ArgKind, DType, Id, Nullability, VortexError, VortexResult};
 
 /// The tag of the encoding that tells the validity of its child.
 #[derive(Clone, Copy, Debug)]
 pub struct ScalarFnValidity;
-
-/// Whether each row of its child is valid, that is, not null.
-pub type ScalarFnValidityArray = Array<ScalarFnValidity>;
 
 /// The data of such a node: none.
 #[derive(Clone, Copy, Debug, Default)]
@@ -30,37 +19,6 @@ pub struct EmptyArrayData;
 impl fmt::Display for EmptyArrayData {
     fn fmt<W: fmt::Write>(&self, _f: &mut fmt::Formatter<W>) -> fmt::Result {
         Ok(())
-    }
-}
-
-impl VTable for ScalarFnValidity {
-    ghost named = { λ _. id.ScalarFnValidity };
-
-    fn id(&self) -> ArrayId {
-        Id::ScalarFnValidity
-    }
-
-    fn tag(_payload: &EmptyArrayData) -> ScalarFnValidity {
-        ScalarFnValidity
-    }
-
-    #[tactic(auto, using(crate::proofs::RefusalsLemmas::by_child, crate::proofs::ConditionsLemmas::in_turn))]
-    fn validate(_alloc: Global, parts: &ArrayParts<ScalarFnValidity>) -> VortexResult<()> {
-        let child = only_child(&parts.slots)?;
-        check_that(is_same_type(&parts.dtype, &BOOLEANS), ArgKind::NodeType)?;
-        check_that(parts.len == child.len(), ArgKind::NodeLen)
-    }
-}
-
-impl ScalarFnValidityArray {
-    /// Makes the node that tells which rows of `child` are valid. The only error is `OutOfMemory`. (own)
-    pub fn new(alloc: Global, child: ArrayRef) -> VortexResult<ScalarFnValidityArray>
-        ensures ok { IfOk result (λ a. a ≡ validity_in child) }
-        ensures err { IfErr result (λ e. e ≡ VortexError.OutOfMemory) }
-    {
-        let len = child.len();
-        let dtype = DType::Bool(Nullability::NonNullable);
-        Array::over(alloc, dtype, len, EmptyArrayData, Some(child))
     }
 }
 

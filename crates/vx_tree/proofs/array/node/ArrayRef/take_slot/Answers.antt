@@ -1,4 +1,4 @@
-use Rattle.std.proofs.Common.{◌<◌, ◌≡◌, length, arith, sym, ◌∙◌, ap, subst}
+use Rattle.std.proofs.Common.{◌<◌, length, arith, sym, ◌∙◌, ap, subst}
 use Rattle.std.specs.Prelude.{is_ok}
 use Rattle.std.specs.Vec.{with_item}
 use Rattle.vx_value.specs.View.{type_of}

@@ -1,0 +1,10 @@
+pub use Rattle.vx_value.specs.Types
+pub use Rattle.vx_value.specs.View
+pub use Rattle.vx_tree.specs.Tree
+pub use Rattle.vx_tree.specs.ColumnTypes
+pub use Rattle.vx_tree.specs.Well
+pub use Rattle.vx_tree.specs.Refusals
+pub use Rattle.vx_tree.specs.Calls
+pub use Rattle.vx_tree.specs.Parts
+pub use Rattle.vx_tree.specs.Validities
+pub use Rattle.vx_tree.specs.NodeValidities

@@ -1,0 +1,4 @@
+pub mod ColumnsLemmas
+pub mod FlatLemmas
+pub mod PartsLemmas
+pub mod NullsLemmas
