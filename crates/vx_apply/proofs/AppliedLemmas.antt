@@ -13,8 +13,8 @@ use Rattle.vx_fn.specs.ReturnTypes.{return_type}
 use Rattle.vx_fn.specs.declared.function.ScalarFnRef.{ScalarFnRef}
 use Rattle.vx_tree.specs.Tree.{Tree, filled_slots, dtype, datum, is_constant, constant_of, call_of}
 use Rattle.vx_tree.specs.Cells.{rows, row_at, slots_rows, HasNoFault}
-use Rattle.vx_tree.specs.Columns.{columnar_tree}
-use Rattle.vx_tree.specs.declared.columnar.Columnar.{Columnar}
+use Rattle.vx_canonical.specs.Canonicals.{columnar_tree}
+use Rattle.vx_canonical.specs.declared.columnar.Columnar.{Columnar}
 use Rattle.vx_apply.specs.Applied.{IsCall, IsApplied, IsUnapplied, all_constant, gives_constant, Repeats}
 use Rattle.vx_kernel.specs.Computed.{IsTaken, IsResult, IsNoResult, cells_of}
 use Rattle.vx_apply.proofs.CallsLemmas.{AreRows, call_typed, call_lengths, unread_row}

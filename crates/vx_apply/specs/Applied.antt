@@ -9,9 +9,9 @@ use Rattle.vx_fn.specs.declared.function.ScalarFnRef.{ScalarFnRef}
 use Rattle.vx_tree.specs.Tree.{Tree, function, filled_slots, dtype, len, datum, is_constant, constant_of, call_of}
 use Rattle.vx_tree.specs.Well.{IsNode, shapes}
 use Rattle.vx_tree.specs.Cells.{rows, HasNoFault}
-use Rattle.vx_tree.specs.Columns.{columnar_tree}
+use Rattle.vx_canonical.specs.Canonicals.{columnar_tree}
 use Rattle.vx_tree.specs.Keeps.{KeepsExactly}
-use Rattle.vx_tree.specs.declared.columnar.Columnar.{Columnar}
+use Rattle.vx_canonical.specs.declared.columnar.Columnar.{Columnar}
 
 -- f accepts the trees ts, each n rows long, and computes a column of them
 abbrev pub IsCall : ScalarFnRef → List Tree → ℕ → Type 0

@@ -1,18 +1,18 @@
 //! Functions applied to whole columns.
 
 ghost use Rattle.std.specs.Prelude.{map, IfOk, IfErr};
-ghost use Rattle.vx_tree.specs.Columns.{columnar_tree, canonical_tree};
+ghost use Rattle.vx_canonical.specs.Canonicals.{columnar_tree, canonical_tree};
 ghost use Rattle.vx_apply.specs.Applied.{IsCall, IsApplied, IsUnapplied};
 ghost use Rattle.vx_kernel.specs.Computed.{Takes, IsComputed, IsNotComputed};
 
 use crate::constant::{apply_constants, constants};
 use std::alloc::Global;
+use vx_canonical::{Canonical, Columnar};
 use vx_cast::cast;
 use vx_fn::ScalarFnRef;
 use vx_operator::{between, negate, operate};
 use vx_rows::{Argument, arguments_of};
 use vx_select::{fill_null, is_not_null, is_null, mask, zip};
-use vx_tree::{Canonical, Columnar};
 use vx_value::VortexResult;
 
 /// Applies `function` to `arguments`, each `len` rows long, in one pass and one allocation for the rows; constants

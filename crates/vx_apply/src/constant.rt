@@ -4,14 +4,15 @@ ghost use Rattle.std.specs.Prelude.{◌≡◌, ◌<◌, map, IfOk, IfErr, IfSome
 ghost use Rattle.std.specs.List.{AllZip};
 ghost use Rattle.vx_fn.specs.ReturnTypes.{return_type};
 ghost use Rattle.vx_tree.specs.Tree.{datum, is_constant};
-ghost use Rattle.vx_tree.specs.Columns.{columnar_tree};
+ghost use Rattle.vx_canonical.specs.Canonicals.{columnar_tree};
 ghost use Rattle.vx_apply.specs.Applied.{Repeats, gives_constant};
 ghost use Rattle.vx_rows.specs.Arguments.{types_of_scalars, cells_of_scalars};
 ghost use Rattle.vx_kernel.specs.Computed.{IsResult, IsNoResult};
 
 use std::alloc::{AllocError, Global};
+use vx_canonical::Columnar;
 use vx_fn::{ScalarFnRef, apply_row};
-use vx_tree::{ArrayKind, Columnar};
+use vx_tree::ArrayKind;
 use vx_value::{Scalar, VortexResult};
 
 /// Returns the scalars of `columns` if all are constants and `len > 0`, else `None`.

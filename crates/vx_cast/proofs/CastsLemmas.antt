@@ -40,8 +40,8 @@ use Rattle.vx_fn.specs.declared.function.ScalarFnRef.TheVariants.{Cast}
 use Rattle.vx_fn.proofs.CastLemmas.{cast_taken}
 use Rattle.vx_tree.specs.ColumnTypes.{bytes_type}
 use Rattle.vx_tree.specs.Tree.{Tree, dtype}
-use Rattle.vx_tree.specs.Columns.{canonical_tree}
-use Rattle.vx_tree.specs.declared.canonical.Canonical.{Canonical}
+use Rattle.vx_canonical.specs.Canonicals.{canonical_tree}
+use Rattle.vx_canonical.specs.declared.canonical.Canonical.{Canonical}
 use Rattle.vx_tree.specs.Cells.{HasNoFault}
 use Rattle.vx_rows.specs.Arguments.{type_of_argument, type_of_rows, types_of, row_of, plain_type, value_at, unscaled_in}
 use Rattle.vx_rows.specs.Arguments.{IsSized, IsRepeated, HasStored, AreStored, AreShown, AreDecimals}

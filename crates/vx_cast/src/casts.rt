@@ -8,7 +8,7 @@ ghost use Rattle.vx_value.specs.Casts.{cast_to, to_integer};
 ghost use Rattle.vx_value.specs.IsOf.{in_range};
 ghost use Rattle.vx_fn.specs.declared.function.ScalarFnRef.TheVariants.{Cast};
 ghost use Rattle.vx_native.specs.Natives.{values_of};
-ghost use Rattle.vx_tree.specs.Columns.{canonical_tree};
+ghost use Rattle.vx_canonical.specs.Canonicals.{canonical_tree};
 ghost use Rattle.vx_tree.specs.Tree.{dtype};
 ghost use Rattle.vx_rows.specs.Arguments.{value_at, ptype_in, integer_in, HasStored, AreShown, AreIntegers};
 ghost use Rattle.vx_rows.specs.declared.argument.ArgumentRows.TheVariants.{Nulls};
@@ -20,6 +20,7 @@ ghost use Rattle.vx_rows.specs.ValidRows.{is_valid, HasValidity, nullability_in}
 use crate::rescale::{cast_decimals, integers_to_decimals};
 use crate::text::cast_to_text;
 use std::alloc::Global;
+use vx_canonical::Canonical;
 use vx_kernel::{
     Calculation, IntegerCalculation, Operand, calculated_column, integer_rows, operand_of,
     stored_column,
@@ -27,7 +28,6 @@ use vx_kernel::{
 use vx_mask::Buffer;
 use vx_native::{NativeInteger, NativeNumber, PrimitiveValues, by_native, by_type};
 use vx_rows::{Argument, ArgumentRows, BytesOperand, IntegerOperand, ValidRows, repeated_rows};
-use vx_tree::Canonical;
 use vx_value::{DType, Nullability, PType, Scalar, Storage, VortexError, VortexResult};
 
 /// Casts `input`, `len` rows, to `target`: shares its values if they are stored the same, and casts no value under a null.

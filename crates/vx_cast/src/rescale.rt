@@ -4,13 +4,14 @@ ghost use Rattle.std.specs.Prelude.{◌≡◌, map, length, IfOk, IfErr};
 ghost use Rattle.vx_value.specs.Decimals.{smallest_width};
 ghost use Rattle.vx_value.specs.Values.{decimal as decimal_value};
 ghost use Rattle.vx_native.specs.Buffers.{numbers_in};
-ghost use Rattle.vx_tree.specs.Columns.{canonical_tree};
+ghost use Rattle.vx_canonical.specs.Canonicals.{canonical_tree};
 ghost use Rattle.vx_rows.specs.Arguments.{ptype_in, integer_in, unscaled_in, AreIntegers, AreDecimals};
 ghost use Rattle.vx_rows.specs.ValidRows.{is_valid, HasValidity};
 ghost use Rattle.vx_cast.specs.Casts.{rescaled_row, rescaled_item};
 ghost use Rattle.vx_kernel.specs.Operands.{number_in, HasRow, IsFaultyRow, AreCalculated};
 
 use std::alloc::Global;
+use vx_canonical::Canonical;
 use vx_kernel::{
     Calculation, DecimalCalculation, Operand, calculated_decimals, decimal_rows, integer_rows,
     stored_column,
@@ -18,7 +19,6 @@ use vx_kernel::{
 use vx_mask::Buffer;
 use vx_native::{NativeBuffer, NativeDecimalType, NativeNumber, by_decimal_type, by_native};
 use vx_rows::{ArgumentRows, DecimalOperand, IntegerOperand, ValidRows};
-use vx_tree::Canonical;
 use vx_value::{DecimalDType, DecimalType, Rescaling, VortexError, VortexResult};
 
 /// Casts the `valid` rows of `integers`, `len` rows, to decimals of type `target`; the others are null. `Fault` if the type doesn't

@@ -8,7 +8,7 @@ ghost use Rattle.vx_value.specs.Values.{bytes as bytes_value};
 ghost use Rattle.vx_value.specs.Cell.{fault};
 ghost use Rattle.vx_value.specs.Casts.{to_text};
 ghost use Rattle.vx_tree.specs.ColumnTypes.{are_bytes_of};
-ghost use Rattle.vx_tree.specs.Columns.{canonical_tree};
+ghost use Rattle.vx_canonical.specs.Canonicals.{canonical_tree};
 ghost use Rattle.vx_tree.specs.Tree.{dtype};
 ghost use Rattle.vx_rows.specs.Arguments.{bytes_in, HasBytes, AreBytes};
 ghost use Rattle.vx_cast.specs.Casts.{none_unless};
@@ -17,9 +17,9 @@ ghost use Rattle.vx_kernel.specs.Operands.{IsFaultyRow};
 ghost use Rattle.vx_rows.specs.ValidRows.{is_valid, HasValidity, nullability_in};
 
 use std::alloc::Global;
+use vx_canonical::Canonical;
 use vx_kernel::{stored_column, valid_bytes};
 use vx_rows::{ArgumentRows, BytesOperand, BytesRows, ValidRows};
-use vx_tree::Canonical;
 use vx_value::{Storage, VortexError, VortexResult};
 use vx_views::{BinaryBuilder, BinaryViews};
 

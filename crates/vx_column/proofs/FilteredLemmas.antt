@@ -26,11 +26,11 @@ use Rattle.vx_tree.specs.Keeps.{KeepsExactly}
 use Rattle.vx_tree.specs.Validities.{nullability_by, without_nulls, child_of, validity_of, of_truth, of_data, truths, valid_rows, HasRows}
 use Rattle.vx_tree.specs.declared.validity.Validity.{Validity}
 use Rattle.vx_tree.specs.declared.validity.Validity.TheVariants as validity
-use Rattle.vx_tree.proofs.JoinedLemmas.{all_valid}
+use Rattle.vx_array.proofs.JoinedLemmas.{all_valid}
 use Rattle.vx_tree.proofs.KeepsLemmas.{rows_equal}
-use Rattle.vx_tree.proofs.TellsLemmas.{chosen_clean}
+use Rattle.vx_array.proofs.TellsLemmas.{chosen_clean}
 use Rattle.vx_tree.proofs.CellsLemmas.{rows_counted}
-use Rattle.vx_tree.proofs.ValiditiesLemmas.{told_back, whole, no_child, same_nullability}
+use Rattle.vx_array.proofs.ValiditiesLemmas.{told_back, whole, no_child, same_nullability}
 use Rattle.vx_column.specs.Filtered.{IsChoice}
 use Rattle.vx_rows.specs.Nulls.{validity_cells}
 use Rattle.vx_rows.specs.ValidRows.{TellsRows}

@@ -18,15 +18,15 @@ use Rattle.vx_tree.specs.ColumnTypes.{bytes_type}
 use Rattle.vx_tree.specs.Tree.{Tree, Data, slots_of, dtype, len, column, call_of, masked_of}
 use Rattle.vx_tree.specs.Well.{shapes, IsFlat}
 use Rattle.vx_tree.specs.Cells.{rows, node_cells, cells_at, valid_cell, valid_cells, HasNoFault}
-use Rattle.vx_tree.specs.Columns.{canonical_tree}
-use Rattle.vx_tree.specs.declared.canonical.Canonical.{Canonical}
+use Rattle.vx_canonical.specs.Canonicals.{canonical_tree}
+use Rattle.vx_canonical.specs.declared.canonical.Canonical.{Canonical}
 use Rattle.vx_tree.specs.Keeps.{KeepsExactly}
 use Rattle.vx_tree.specs.Validities.{nullability_by, child_of, HasRows}
 use Rattle.vx_tree.specs.declared.validity.Validity.{Validity}
 use Rattle.vx_tree.specs.declared.validity.Validity.TheVariants as validity
 use Rattle.vx_tree.proofs.CellsLemmas.{rows_counted}
 use Rattle.vx_tree.proofs.KeepsLemmas.{rows_equal}
-use Rattle.vx_tree.proofs.ValiditiesLemmas.{whole}
+use Rattle.vx_array.proofs.ValiditiesLemmas.{whole}
 use Rattle.vx_mask.specs.Logic.{bit_row}
 use Rattle.std.proofs.lemmas.List.FromFn.{length-map-range_with_len}
 use Rattle.vx_column.specs.Masked.{TellsAll, IsBoth}
@@ -37,7 +37,7 @@ use Rattle.vx_rows.specs.Nulls.{validity_cells}
 use Rattle.vx_rows.proofs.CellsLemmas.{fault_cell, masked_rows}
 use Rattle.vx_column.proofs.FilteredLemmas.{column_cells}
 use Rattle.vx_tree.proofs.TypedLemmas.{CellFits, AllFit, rows_fit}
-use Rattle.vx_tree.proofs.JoinedLemmas.{and_cell, and_cells, and_rows, and_clean}
+use Rattle.vx_array.proofs.JoinedLemmas.{and_cell, and_cells, and_rows, and_clean}
 
 -- ---- the cells of a conjunction
 

@@ -6,8 +6,8 @@ use Rattle.vx_mask.specs.Logic.{bit_row}
 use Rattle.vx_tree.specs.Tree.{len, booleans, validity_in}
 use Rattle.vx_tree.specs.Cells.{rows, shown_cell}
 use Rattle.vx_tree.specs.Keeps.{KeepsExactly}
-use Rattle.vx_tree.specs.Columns.{columnar_tree}
-use Rattle.vx_tree.specs.declared.columnar.Columnar.{Columnar}
+use Rattle.vx_canonical.specs.Canonicals.{columnar_tree}
+use Rattle.vx_canonical.specs.declared.columnar.Columnar.{Columnar}
 use Rattle.vx_rows.specs.Arguments.{IsArgument, AreShown, value_at}
 use Rattle.vx_rows.specs.ValidRows.{is_valid, null_unless}
 use Rattle.vx_rows.specs.declared.valid.ValidRows.{ValidRows}

@@ -5,7 +5,7 @@ pub use Rattle.vx_value.specs.IsOf
 pub use Rattle.vx_tree.specs.Tree
 pub use Rattle.vx_tree.specs.Cells
 pub use Rattle.vx_tree.specs.Keeps
-pub use Rattle.vx_tree.specs.Columns
+pub use Rattle.vx_canonical.specs.Canonicals
 pub use Rattle.vx_tree.specs.Validities
 pub use Rattle.vx_mask.specs.Masks
 pub use Rattle.vx_rows.specs.Arguments

@@ -10,7 +10,7 @@ ghost use Rattle.vx_value.specs.View.{type_of};
 ghost use Rattle.vx_value.specs.Cell.{value};
 ghost use Rattle.vx_value.specs.IsOf.{is_of};
 ghost use Rattle.vx_tree.specs.Cells.{rows};
-ghost use Rattle.vx_tree.specs.Columns.{canonical_tree};
+ghost use Rattle.vx_canonical.specs.Canonicals.{canonical_tree};
 ghost use Rattle.vx_column.specs.Built.{appended, type_refusal, length_refusal, scalar_refusal, more_nulls_refusal, built};
 
 mod validity;
@@ -20,7 +20,7 @@ use std::alloc::Global;
 use std::marker::Model;
 use validity::ValidityBuilder;
 use values::Values;
-use vx_tree::Canonical;
+use vx_canonical::Canonical;
 use vx_value::{ArgKind, DType, Scalar, VortexError, VortexResult};
 
 /// Builds a column row by row. (own)

@@ -2,15 +2,17 @@
 
 ghost use Rattle.std.specs.Prelude.{◌≡◌, IfOk, IfErr};
 ghost use Rattle.vx_tree.specs.Tree.{datum, constant, constant_of};
-ghost use Rattle.vx_tree.specs.Columns.{canonical_tree};
+ghost use Rattle.vx_canonical.specs.Canonicals.{canonical_tree};
 ghost use Rattle.vx_tree.specs.Keeps.{KeepsExactly};
 ghost use Rattle.vx_column.specs.Expanded.{repeated_validity};
 
 use std::alloc::Global;
+use vx_array::NullArray;
+use vx_canonical::Canonical;
 use vx_mask::BitBuffer;
 use vx_native::{DecimalValues, PrimitiveValues};
 use vx_rows::{bool_column, decimal_column, primitive_column, unscaled_of, varbinview_column};
-use vx_tree::{ArrayView, Canonical, Constant, NullArray, Validity};
+use vx_tree::{ArrayView, Constant, Validity};
 use vx_value::{ByteBuffer, DType, DecimalType, Scalar, Storage, VortexError, VortexResult};
 use vx_views::BinaryViews;
 

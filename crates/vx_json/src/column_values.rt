@@ -16,11 +16,10 @@ use crate::row_nulls::RowNulls;
 use crate::values::{booleans, integers};
 use serde_json::Value;
 use std::alloc::Global;
+use vx_array::{BoolArray, DecimalArray, IntoArray, PrimitiveArray, VarBinViewArray};
 use vx_mask::BitBuffer;
 use vx_native::{DecimalValues, PrimitiveValues};
-use vx_tree::{
-    ArrayRef, BoolArray, DecimalArray, IntoArray, PrimitiveArray, Validity, VarBinViewArray,
-};
+use vx_tree::{ArrayRef, Validity};
 use vx_value::{DType, Storage, VortexError, VortexResult};
 use vx_views::BinaryViews;
 

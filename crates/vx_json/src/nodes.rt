@@ -18,11 +18,12 @@ use crate::values::{booleans, scalar};
 use serde_json::Value;
 use std::alloc::Global;
 use std::ops::Range;
-use vx_mask::Mask;
-use vx_tree::{
-    ArrayRef, ConstantArray, FilterArray, IntoArray, MaskedArray, NullArray, ScalarFnArray,
-    ScalarFnValidityArray, SliceArray, Validity,
+use vx_array::{
+    ConstantArray, FilterArray, IntoArray, MaskedArray, NullArray, ScalarFnArray,
+    ScalarFnValidityArray, SliceArray,
 };
+use vx_mask::Mask;
+use vx_tree::{ArrayRef, Validity};
 use vx_value::{Nullability, Scalar, VortexError, VortexResult};
 
 /// Reads the value of a constant, which is of its type.

@@ -23,8 +23,8 @@ use Rattle.vx_fn.specs.declared.function.ScalarFnRef.{ScalarFnRef}
 use Rattle.vx_tree.specs.ColumnTypes.{bytes_type}
 use Rattle.vx_tree.specs.Tree as enc
 use Rattle.vx_tree.specs.Tree.{Tree, Data, dtype, slots_of, column, nulls_of, is_canonical}
-use Rattle.vx_tree.specs.Columns.{canonical_tree}
-use Rattle.vx_tree.specs.declared.canonical.Canonical.{Canonical}
+use Rattle.vx_canonical.specs.Canonicals.{canonical_tree}
+use Rattle.vx_canonical.specs.declared.canonical.Canonical.{Canonical}
 use Rattle.vx_tree.specs.Cells.{slots_rows, node_cells, cells_at, valid_cells}
 use Rattle.vx_tree.specs.Validities.{nullability_by, child_of}
 use Rattle.vx_tree.specs.declared.validity.Validity.{Validity}

@@ -6,16 +6,16 @@ ghost use Rattle.vx_value.specs.declared.decimal.DecimalDType.{DecimalDType as D
 ghost use Rattle.vx_value.specs.Values.{Value, integer, decimal};
 ghost use Rattle.vx_value.specs.Cell.{Cell, value, fault};
 ghost use Rattle.vx_mask.specs.Logic.{bit_row};
-ghost use Rattle.vx_tree.specs.Columns.{canonical_tree};
+ghost use Rattle.vx_canonical.specs.Canonicals.{canonical_tree};
 ghost use Rattle.vx_kernel.specs.Operands.{zero_unless, calculated_rows, IsFaultyRow, IsCalculated, AreCalculated};
 ghost use Rattle.vx_rows.specs.ValidRows.{is_valid, HasValidity};
 
 use crate::valid::{valid_decimals, valid_integers};
 use std::alloc::Global;
+use vx_canonical::Canonical;
 use vx_mask::{BitBuffer, Buffer};
 use vx_native::{NativeDecimalType, NativeInteger, NativeNumber};
 use vx_rows::ValidRows;
-use vx_tree::Canonical;
 use vx_value::{DecimalDType, VortexError, VortexResult};
 
 /// A calculation of numbers of the type `U`, one for each row. (own)

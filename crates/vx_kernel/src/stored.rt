@@ -8,7 +8,7 @@ ghost use Rattle.vx_native.specs.DecimalNumbers.{numbers_of, decimal_type_of};
 ghost use Rattle.vx_mask.specs.Operands.{bit_in, HasBits};
 ghost use Rattle.vx_native.specs.Natives.{values_of, ptype_of};
 ghost use Rattle.vx_tree.specs.ColumnTypes.{are_decimals_of};
-ghost use Rattle.vx_tree.specs.Columns.{canonical_tree};
+ghost use Rattle.vx_canonical.specs.Canonicals.{canonical_tree};
 ghost use Rattle.vx_tree.specs.Tree.{dtype};
 ghost use Rattle.vx_rows.specs.Arguments.{integer_in, ptype_in, unscaled_in, bytes_in, plain_type, value_at, stored_decimals};
 ghost use Rattle.vx_rows.specs.Arguments.{HasStored, AreIntegers, AreDecimals, AreBytes};
@@ -17,13 +17,14 @@ ghost use Rattle.vx_rows.specs.ValidRows.{HasValidity, nullability_in};
 
 use crate::valid::{valid_bools, valid_bytes, valid_decimals, valid_integers};
 use std::alloc::{AllocError, Global};
+use vx_array::NullArray;
+use vx_canonical::Canonical;
 use vx_mask::{BitBuffer, BitOperand};
 use vx_native::{DecimalValues, PrimitiveValues};
 use vx_rows::{
     ArgumentRows, BytesOperand, BytesRows, DecimalOperand, DecimalRows, IntegerOperand,
     IntegerRows, ValidRows,
 };
-use vx_tree::{Canonical, NullArray};
 use vx_value::{ByteBuffer, DecimalType, VortexError, VortexResult};
 use vx_views::BinaryViews;
 

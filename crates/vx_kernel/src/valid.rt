@@ -11,17 +11,17 @@ ghost use Rattle.vx_mask.specs.Logic.{bit_row};
 ghost use Rattle.vx_native.specs.DecimalNumbers.{numbers_of, decimal_type_of};
 ghost use Rattle.vx_native.specs.Natives.{values_of, ptype_of};
 ghost use Rattle.vx_tree.specs.ColumnTypes.{are_decimals_of, bytes_type, are_bytes_of};
-ghost use Rattle.vx_tree.specs.Columns.{canonical_tree};
+ghost use Rattle.vx_canonical.specs.Canonicals.{canonical_tree};
 ghost use Rattle.vx_tree.specs.Tree.{dtype};
 ghost use Rattle.vx_rows.specs.Arguments.{stored_decimals};
 ghost use Rattle.vx_rows.specs.ValidRows.{is_valid, HasValidity, nullability_in};
 ghost use Rattle.vx_kernel.specs.Computed.{IsMade};
 
 use std::alloc::{AllocError, Global};
+use vx_canonical::Canonical;
 use vx_mask::{BitAnd, BitBuffer, BitOperand};
 use vx_native::{DecimalValues, PrimitiveValues};
 use vx_rows::{ValidRows, bool_column, decimal_column, primitive_column, varbinview_column};
-use vx_tree::Canonical;
 use vx_value::{DecimalDType, Storage, VortexError, VortexResult};
 use vx_views::BinaryViews;
 

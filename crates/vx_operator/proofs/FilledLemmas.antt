@@ -11,8 +11,8 @@ use Rattle.vx_fn.specs.Apply.{apply}
 use Rattle.vx_fn.specs.declared.function.ScalarFnRef.{ScalarFnRef}
 use Rattle.vx_tree.specs.Tree.{Tree, dtype}
 use Rattle.vx_tree.specs.Cells.{HasNoFault}
-use Rattle.vx_tree.specs.Columns.{canonical_tree}
-use Rattle.vx_tree.specs.declared.canonical.Canonical.{Canonical}
+use Rattle.vx_canonical.specs.Canonicals.{canonical_tree}
+use Rattle.vx_canonical.specs.declared.canonical.Canonical.{Canonical}
 use Rattle.vx_kernel.proofs.ComputedLemmas.{fault_among}
 use Rattle.vx_kernel.proofs.MadeLemmas.{made_by}
 use Rattle.vx_rows.proofs.ValidRowsLemmas.{bit_made}

@@ -7,7 +7,7 @@ ghost use Rattle.vx_fn.specs.Binary.{is_comparison};
 ghost use Rattle.vx_fn.specs.Arithmetic.{calculated, calculated_by};
 ghost use Rattle.vx_fn.specs.declared.function.Operator.{Operator as OperatorOf};
 ghost use Rattle.vx_fn.specs.declared.function.Operator.TheVariants.{Add, Sub, Mul, Div};
-ghost use Rattle.vx_tree.specs.Columns.{canonical_tree};
+ghost use Rattle.vx_canonical.specs.Canonicals.{canonical_tree};
 ghost use Rattle.vx_rows.specs.Arguments.{ptype_in};
 ghost use Rattle.vx_operator.specs.Digits.{IsWithin};
 ghost use Rattle.vx_operator.specs.Filled.{Operates, IsOperated, IsNotOperated};
@@ -17,10 +17,10 @@ ghost use Rattle.vx_rows.specs.declared.argument.ArgumentRows.TheVariants.{Integ
 use crate::checked::CheckedNumber;
 use std::alloc::Global;
 use std::marker::PhantomData;
+use vx_canonical::Canonical;
 use vx_kernel::{Calculation, IntegerCalculation, Operand, calculated_column, operand_of};
 use vx_native::NativeInteger;
 use vx_rows::{IntegerOperand, ValidRows};
-use vx_tree::Canonical;
 use vx_value::VortexResult;
 
 /// An arithmetic operator.

@@ -8,7 +8,7 @@ ghost use Rattle.vx_fn.specs.Binary.{operator_type};
 ghost use Rattle.vx_operator.specs.Bits.{bit_by};
 ghost use Rattle.vx_value.specs.Cell.{value};
 ghost use Rattle.vx_fn.specs.declared.function.ScalarFnRef.TheVariants.{Not};
-ghost use Rattle.vx_tree.specs.Columns.{canonical_tree};
+ghost use Rattle.vx_canonical.specs.Canonicals.{canonical_tree};
 ghost use Rattle.vx_rows.specs.Arguments.{value_at};
 ghost use Rattle.vx_kernel.specs.Computed.{Takes, IsComputed};
 ghost use Rattle.vx_operator.specs.Filled.{Operates, IsFilled, IsOperated};
@@ -16,13 +16,13 @@ ghost use Rattle.vx_rows.specs.ValidRows.{HasValidity};
 ghost use Rattle.vx_rows.specs.declared.argument.ArgumentRows.TheVariants.{Bits};
 
 use std::alloc::{AllocError, Global};
+use vx_canonical::Canonical;
 use vx_fn::Operator;
 use vx_kernel::{keep_valid, valid_bools};
 use vx_mask::{
     BitAnd, BitBuffer, BitEq, BitGt, BitGte, BitLt, BitLte, BitNotEq, BitOperand, BitOr,
 };
 use vx_rows::{Argument, ArgumentRows, ValidRows};
-use vx_tree::Canonical;
 use vx_value::{Nullability, VortexError, VortexResult};
 
 /// Applies `operator`, which must take booleans, row by row.

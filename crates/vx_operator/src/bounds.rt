@@ -4,7 +4,7 @@ ghost use Rattle.std.specs.Prelude.{◌≡◌, ◌<◌, ◌∷◌, [], ℕ, true
 ghost use Rattle.vx_value.specs.Decimals.{smallest_width};
 ghost use Rattle.vx_fn.specs.Comparisons.{is_ordered};
 ghost use Rattle.vx_fn.specs.declared.function.ScalarFnRef.TheVariants.{Between};
-ghost use Rattle.vx_tree.specs.Columns.{canonical_tree};
+ghost use Rattle.vx_canonical.specs.Canonicals.{canonical_tree};
 ghost use Rattle.vx_rows.specs.Arguments.{ptype_in, plain_type};
 ghost use Rattle.vx_operator.specs.Bounds.{AreBounded, bound_by, is_between, is_bounded, AreBetween};
 ghost use Rattle.vx_operator.specs.Checks.{checked_rows};
@@ -17,12 +17,12 @@ use crate::checks::{RowCheck, check_rows};
 use crate::comparison::{Below, Comparison, NotAbove, OrderedRows};
 use std::alloc::{AllocError, Global};
 use std::marker::PhantomData;
+use vx_canonical::Canonical;
 use vx_fn::{BetweenOptions, Operator, StrictComparison};
 use vx_kernel::{Operand, decimal_operand_of, keep_valid, operand_of, valid_bools};
 use vx_mask::{BitAnd, BitBuffer, BitOperand};
 use vx_native::{NativeDecimalType, NativeInteger, by_decimal_type, by_type};
 use vx_rows::{Argument, ArgumentRows, BytesOperand, DecimalOperand, IntegerOperand, ValidRows};
-use vx_tree::Canonical;
 use vx_value::{DecimalType, VortexError, VortexResult};
 
 /// Checks whether each row of `array` lies between `lower` and `upper`, `len` rows each; a row is null if one of the three is.

@@ -11,7 +11,7 @@ ghost use Rattle.vx_fn.specs.Binary.{is_comparison};
 ghost use Rattle.vx_fn.specs.Comparisons.{holds};
 ghost use Rattle.vx_fn.specs.declared.function.Operator.{Operator as OperatorOf};
 ghost use Rattle.vx_fn.specs.declared.function.Operator.TheVariants.{Eq, NotEq, Lt, Lte};
-ghost use Rattle.vx_tree.specs.Columns.{canonical_tree};
+ghost use Rattle.vx_canonical.specs.Canonicals.{canonical_tree};
 ghost use Rattle.vx_tree.specs.Tree.{dtype};
 ghost use Rattle.vx_rows.specs.Arguments.{bytes_in};
 ghost use Rattle.vx_operator.specs.Checks.{checked_rows};
@@ -23,12 +23,12 @@ ghost use Rattle.vx_rows.specs.ValidRows.{is_valid, HasValidity, nullability_in}
 use crate::checks::{RowCheck, check_rows};
 use std::alloc::{AllocError, Global};
 use std::marker::PhantomData;
+use vx_canonical::Canonical;
 use vx_fn::Operator;
 use vx_kernel::{Operand, valid_bools};
 use vx_mask::BitBuffer;
 use vx_native::NativeNumber;
 use vx_rows::{BytesOperand, ValidRows};
-use vx_tree::Canonical;
 use vx_value::{VortexError, VortexResult};
 
 /// A comparison operator: `>` and `>=` are `<` and `<=` of swapped operands.

@@ -6,7 +6,7 @@ ghost use Rattle.vx_value.specs.Decimals.{smallest_width};
 ghost use Rattle.vx_value.specs.Values.{decimal};
 ghost use Rattle.vx_fn.specs.Arithmetic.{calculated_by};
 ghost use Rattle.vx_fn.specs.Binary.{is_comparison};
-ghost use Rattle.vx_tree.specs.Columns.{canonical_tree};
+ghost use Rattle.vx_canonical.specs.Canonicals.{canonical_tree};
 ghost use Rattle.vx_rows.specs.declared.argument.ArgumentRows.TheVariants.{Decimals};
 ghost use Rattle.vx_operator.specs.Filled.{Operates, IsOperated, IsNotOperated};
 ghost use Rattle.vx_operator.specs.Digits.{is_within, AreLimits, HasLimits};
@@ -17,13 +17,13 @@ use crate::checked::CheckedNumber;
 use crate::comparison::compare_ordered;
 use std::alloc::Global;
 use std::marker::PhantomData;
+use vx_canonical::Canonical;
 use vx_fn::Operator;
 use vx_kernel::{
     Calculation, DecimalCalculation, Operand, calculated_decimals, decimal_operand_of,
 };
 use vx_native::{NativeDecimalType, narrowed};
 use vx_rows::{DecimalOperand, ValidRows};
-use vx_tree::Canonical;
 use vx_value::{DecimalDType, VortexResult};
 
 /// Applies `operator` to the `valid` rows of `lhs` and `rhs`, `len` rows each, which must be of one type and stored in the width

@@ -5,7 +5,7 @@ ghost use Rattle.std.specs.List.{range_with_len};
 ghost use Rattle.vx_value.specs.Nullabilities.{union};
 ghost use Rattle.vx_fn.specs.Binary.{is_logical};
 ghost use Rattle.vx_fn.specs.declared.function.ScalarFnRef.TheVariants.{Binary};
-ghost use Rattle.vx_tree.specs.Columns.{canonical_tree};
+ghost use Rattle.vx_canonical.specs.Canonicals.{canonical_tree};
 ghost use Rattle.vx_mask.specs.declared.operand.BitOperand.{BitOperand as Operand};
 ghost use Rattle.vx_rows.specs.declared.argument.ArgumentRows.TheVariants.{Bits};
 ghost use Rattle.vx_operator.specs.Bits.{bit_by};
@@ -15,11 +15,11 @@ ghost use Rattle.vx_rows.specs.ValidRows.{nullability_in};
 
 use crate::boolean::operate_bits;
 use std::alloc::{AllocError, Global};
+use vx_canonical::Canonical;
 use vx_fn::Operator;
 use vx_kernel::valid_bools;
 use vx_mask::{BitAnd, BitBuffer, BitEq, BitLte, BitOperand, BitOperation};
 use vx_rows::{Argument, ArgumentRows, ValidRows};
-use vx_tree::Canonical;
 use vx_value::{Nullability, VortexError, VortexResult};
 
 /// Truth values: bits, and which of them are known.

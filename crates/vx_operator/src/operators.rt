@@ -2,7 +2,7 @@
 
 ghost use Rattle.std.specs.Prelude.{◌≡◌, ◌∷◌, [], IfOk, IfErr};
 ghost use Rattle.vx_fn.specs.declared.function.ScalarFnRef.TheVariants.{Binary};
-ghost use Rattle.vx_tree.specs.Columns.{canonical_tree};
+ghost use Rattle.vx_canonical.specs.Canonicals.{canonical_tree};
 ghost use Rattle.vx_rows.specs.Arguments.{ptype_in, AreShown};
 ghost use Rattle.vx_kernel.specs.Computed.{Takes, IsComputed, IsNotComputed};
 ghost use Rattle.vx_operator.specs.Filled.{Operates, IsOperated, IsNotOperated};
@@ -15,12 +15,12 @@ use crate::comparison::compare_ordered;
 use crate::decimals::operate_decimals;
 use crate::logic::{join, truths_of};
 use std::alloc::Global;
+use vx_canonical::Canonical;
 use vx_fn::Operator;
 use vx_kernel::{Operand, operand_of, valid_bools};
 use vx_mask::BitBuffer;
 use vx_native::{NativeInteger, by_decimal_type, by_type};
 use vx_rows::{Argument, ArgumentRows, BytesOperand, IntegerOperand, ValidRows};
-use vx_tree::Canonical;
 use vx_value::{DecimalType, VortexResult};
 
 /// Applies `operator` to `lhs` and `rhs`, `len` rows each, whose types it must accept. `Fault` if a row has no value. (own)

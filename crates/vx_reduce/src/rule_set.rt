@@ -6,8 +6,9 @@ ghost use Rattle.vx_rule.specs.Answers.{HoldsWith, Answers};
 
 use std::alloc::Global;
 use std::marker::PhantomData;
+use vx_array::VTable;
 use vx_rule::RawNode;
-use vx_tree::{ArrayRef, ArrayView, VTable};
+use vx_tree::{ArrayRef, ArrayView};
 use vx_value::VortexResult;
 
 /// Encodings with their rules. (own)

@@ -12,8 +12,9 @@ ghost use Rattle.vx_tree.specs.Validities.{truths};
 
 use std::alloc::Global;
 use std::ops::Range;
+use vx_array::{ConstantArray, IntoArray, SliceArray, choose_validity};
 use vx_mask::Mask;
-use vx_tree::{ArrayRef, ConstantArray, IntoArray, SliceArray, choose_validity};
+use vx_tree::ArrayRef;
 use vx_value::{Nullability, Scalar, VortexResult};
 
 /// Returns a lazy slice of the tree in `slot`, if it has one, which must have the rows in `range`. The only error is `OutOfMemory`.

@@ -3,8 +3,8 @@ use Rattle.std.proofs.Common.{◌≡◌, inl, inr, arith, ℕ, zero, suc, ◌<�
 use Rattle.std.specs.List.{AllZip}
 use Rattle.std.proofs.lemmas.List.{take_more}
 use Rattle.std.proofs.lemmas.Slice.Zip.{all_zipped_more}
-use Rattle.vx_tree.specs.Columns.{columnar_tree}
-use Rattle.vx_tree.specs.declared.columnar.Columnar.{Columnar}
+use Rattle.vx_canonical.specs.Canonicals.{columnar_tree}
+use Rattle.vx_canonical.specs.declared.columnar.Columnar.{Columnar}
 use Rattle.vx_value.specs.declared.error.VortexError.{VortexError}
 use Rattle.vx_value.specs.declared.error.VortexError.TheVariants.{OutOfMemory}
 use Rattle.vx_rows.specs.Arguments.{IsUnread, AnyUnread}

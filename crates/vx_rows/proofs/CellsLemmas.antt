@@ -25,14 +25,14 @@ use Rattle.vx_tree.specs.Cells.{row_at, rows, node_cells, cells_at, slots_rows, 
 use Rattle.vx_tree.specs.Well.{shape, shapes, IsNode, IsWell}
 use Rattle.vx_tree.proofs.CellsLemmas.{rows_counted}
 use Rattle.vx_tree.specs.Refusals.{types_in}
-use Rattle.vx_tree.proofs.RefusalsLemmas.{types_back}
+use Rattle.vx_array.proofs.RefusalsLemmas.{types_back}
 use Rattle.vx_rows.specs.Arguments.{types_of_scalars, cells_of_scalars}
 use Rattle.vx_rows.specs.Nulls.{IsRowBy, validity_cells}
 use Rattle.vx_rows.specs.Read.{IsRow, IsUnreadRow}
 use Rattle.vx_rows.specs.ValidRows.{null_unless}
 use Rattle.vx_rows.proofs.ValidRowsLemmas.{filled_cell, one_slot}
 use Rattle.vx_native.proofs.NativesLemmas.{map_copies}
-use Rattle.vx_tree.proofs.TellsLemmas.{shown_value}
+use Rattle.vx_array.proofs.TellsLemmas.{shown_value}
 use Rattle.vx_value.specs.Storage.{storage_of}
 use Rattle.vx_value.specs.declared.decimal.DecimalType.{DecimalType}
 use Rattle.vx_tree.specs.ColumnTypes.{scale_of}

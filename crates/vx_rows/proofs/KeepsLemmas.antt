@@ -9,7 +9,7 @@ use Rattle.vx_tree.specs.Cells.{rows, HasNoFault, IsClean, AreClean}
 use Rattle.vx_tree.specs.Keeps.{KeepsExactly}
 use Rattle.vx_tree.specs.Validities.{without_nulls, HasRows}
 use Rattle.vx_tree.proofs.KeepsLemmas.{rows_equal}
-use Rattle.vx_tree.proofs.ValiditiesLemmas.{whole}
+use Rattle.vx_array.proofs.ValiditiesLemmas.{whole}
 
 -- a tree that has another's type, length and rows, and no fault below, stands for it exactly
 whole_clean : (u : Tree) → AreClean (slots u) → HasNoFault (rows u) → IsClean u

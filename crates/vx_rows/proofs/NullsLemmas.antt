@@ -29,8 +29,8 @@ use Rattle.vx_tree.specs.Tree.{Tree, Data, slots_of, dtype, len, column, nulls_o
 use Rattle.vx_tree.specs.Cells.{rows, slots_rows, node_cells, cells_at, valid_cells}
 use Rattle.vx_tree.specs.Well.{Shape, shape_of, shapes, IsValidity, IsFlat, IsNodeOf}
 use Rattle.vx_tree.specs.Validities.{nullability_by, array_refusal, flat_refusal, bytes_refusal, HasRows, decimal_refusal}
-use Rattle.vx_tree.specs.Columns.{columnar_tree}
-use Rattle.vx_tree.specs.declared.columnar.Columnar.{Columnar}
+use Rattle.vx_canonical.specs.Canonicals.{columnar_tree}
+use Rattle.vx_canonical.specs.declared.columnar.Columnar.{Columnar}
 use Rattle.vx_tree.specs.declared.validity.Validity.{Validity}
 use Rattle.vx_tree.specs.declared.validity.Validity.TheVariants as validity
 use Rattle.vx_tree.proofs.ConditionsLemmas.{none_refused, none_unless}

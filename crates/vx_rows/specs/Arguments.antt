@@ -24,8 +24,8 @@ use Rattle.vx_value.specs.declared.decimal.DecimalDType.{DecimalDType}
 use Rattle.vx_tree.specs.ColumnTypes.{are_decimals_of, bytes_type, are_bytes_of}
 use Rattle.vx_tree.specs.Tree.{Tree, dtype, len}
 use Rattle.vx_tree.specs.Cells.{rows}
-use Rattle.vx_tree.specs.Columns.{columnar_tree}
-use Rattle.vx_tree.specs.declared.columnar.Columnar.{Columnar}
+use Rattle.vx_canonical.specs.Canonicals.{columnar_tree}
+use Rattle.vx_canonical.specs.declared.columnar.Columnar.{Columnar}
 use Rattle.vx_rows.specs.declared.argument.IntegerOperand.{IntegerOperand}
 use Rattle.vx_rows.specs.declared.argument.IntegerRows.{IntegerRows}
 use Rattle.vx_rows.specs.declared.argument.IntegerRows.TheVariants as rows_in

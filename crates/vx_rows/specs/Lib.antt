@@ -1,7 +1,7 @@
 pub use Rattle.vx_value.specs.Cell
 pub use Rattle.vx_tree.specs.Tree
 pub use Rattle.vx_tree.specs.Cells
-pub use Rattle.vx_tree.specs.Columns
+pub use Rattle.vx_canonical.specs.Canonicals
 pub use Rattle.vx_tree.specs.Validities
 pub mod Arguments
 pub mod Nulls

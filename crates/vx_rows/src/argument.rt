@@ -2,7 +2,7 @@
 
 ghost use Rattle.std.specs.Prelude.{◌≡◌, ◌<◌, ℕ, IfOk, IfErr, true, Some};
 ghost use Rattle.std.specs.List.{AllZip};
-ghost use Rattle.vx_tree.specs.Columns.{columnar_tree};
+ghost use Rattle.vx_canonical.specs.Canonicals.{columnar_tree};
 ghost use Rattle.vx_tree.specs.Cells.{rows};
 ghost use Rattle.vx_rows.specs.Arguments.{IsArgument, IsUnread, IsRepeated, AreUnread, AnyUnread, AreBytes, ptype_in, bytes_in, unscaled_of};
 ghost use Rattle.vx_rows.specs.ValidRows.{HasValidity, AreTold, TellsRows, IsRepeatedValidity, nullability_in};
@@ -11,9 +11,10 @@ ghost use Rattle.vx_rows.specs.declared.argument.ArgumentRows.TheVariants.{Integ
 use crate::probe::truths_in;
 use crate::valid::ValidRows;
 use std::alloc::{AllocError, Global};
+use vx_canonical::Columnar;
 use vx_mask::{BitBuffer, BitOperand};
 use vx_native::{DecimalValues, PrimitiveValues};
-use vx_tree::{ArrayKind, ArrayRef, Columnar};
+use vx_tree::{ArrayKind, ArrayRef};
 use vx_value::{DType, DecimalDType, Nullability, PType, Scalar, Storage, VortexResult};
 use vx_views::BinaryViews;
 

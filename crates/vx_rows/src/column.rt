@@ -5,16 +5,16 @@ ghost use Rattle.vx_native.specs.Natives.{values_of, ptype_of};
 ghost use Rattle.vx_native.specs.DecimalNumbers.{numbers_of, decimal_type_of};
 ghost use Rattle.vx_tree.specs.ColumnTypes.{are_decimals_of, are_bytes_of};
 ghost use Rattle.vx_tree.specs.Validities.{HasRows};
-ghost use Rattle.vx_tree.specs.Columns.{canonical_tree};
+ghost use Rattle.vx_canonical.specs.Canonicals.{canonical_tree};
 ghost use Rattle.vx_rows.specs.Arguments.{stored_decimals};
 ghost use Rattle.vx_rows.specs.Stored.{boolean_column, integer_column, decimal_column, bytes_column};
 
 use std::alloc::Global;
+use vx_array::{BoolArray, DecimalArray, PrimitiveArray, VarBinViewArray, bytes_type};
+use vx_canonical::Canonical;
 use vx_mask::BitBuffer;
 use vx_native::{DecimalValues, PrimitiveValues};
-use vx_tree::{
-    BoolArray, Canonical, DecimalArray, PrimitiveArray, Validity, VarBinViewArray, bytes_type,
-};
+use vx_tree::Validity;
 use vx_value::{DType, DecimalDType, Storage, VortexError, VortexResult};
 use vx_views::BinaryViews;
 

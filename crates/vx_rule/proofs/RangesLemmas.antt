@@ -20,12 +20,12 @@ use Rattle.vx_tree.specs.Keeps.{KeepsExactly}
 use Rattle.vx_tree.specs.Well.{Shape, shape, shape_of, shapes, IsNode, IsNodeOf, IsWell}
 use Rattle.vx_tree.proofs.CellsLemmas.{rows_counted}
 use Rattle.vx_tree.proofs.ChoicesLemmas.{slice_twice}
-use Rattle.vx_tree.proofs.FlatLemmas.{flat_range_kept}
+use Rattle.vx_canonical.proofs.FlatLemmas.{flat_range_kept}
 use Rattle.vx_tree.proofs.KindsLemmas.{type_in, len_in}
-use Rattle.vx_tree.proofs.NullsLemmas.{nulls_part, nulls_range}
-use Rattle.vx_tree.proofs.PartsLemmas.{part_exact, slot_part, flat_range_is}
+use Rattle.vx_canonical.proofs.NullsLemmas.{nulls_part, nulls_range}
+use Rattle.vx_canonical.proofs.PartsLemmas.{part_exact, slot_part, flat_range_is}
 use Rattle.vx_tree.proofs.SlotsLemmas.{no_shapes}
-use Rattle.vx_tree.proofs.ValiditiesLemmas.{part_clean}
+use Rattle.vx_array.proofs.ValiditiesLemmas.{part_clean}
 use Rattle.vx_rule.proofs.PicksLemmas.{first_of, exactly_by, map_clean, function_picked, masked_picked}
 
 -- ---- what every row needs

@@ -11,11 +11,10 @@ ghost use Rattle.vx_rule.specs.Pushes.{IsConstantLike, IsColumnSlice};
 
 use std::alloc::Global;
 use std::ops::Range;
+use vx_array::{Array, ArrayParts, ConstantArray, IntoArray};
+use vx_canonical::{Canonical, slice_canonical};
 use vx_fn::ScalarFnRef;
-use vx_tree::{
-    Array, ArrayKind, ArrayParts, ArrayRef, Canonical, ConstantArray, IntoArray, Masked,
-    MaskedData, ScalarFn, ScalarFnData, slice_canonical,
-};
+use vx_tree::{ArrayKind, ArrayRef, Masked, MaskedData, ScalarFn, ScalarFnData};
 use vx_value::{DType, VortexResult};
 
 /// Returns the function of `array`, which must apply one, and the slots of its arguments.

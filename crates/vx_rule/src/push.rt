@@ -12,7 +12,8 @@ use crate::nodes::{
 };
 use std::alloc::Global;
 use std::ops::Range;
-use vx_tree::{ArrayKind, ArrayRef, IntoArray, SliceArray, slice_validity};
+use vx_array::{IntoArray, SliceArray, slice_validity};
+use vx_tree::{ArrayKind, ArrayRef};
 use vx_value::VortexResult;
 
 /// Returns the rows of `array` in `range`, which must be in order and in bounds, with the slice pushed down as far as the rows S1 to S5

@@ -20,9 +20,9 @@ use Rattle.vx_fn.specs.declared.function.ScalarFnRef.{ScalarFnRef}
 use Rattle.vx_fn.specs.declared.function.ScalarFnRef.TheVariants.{Zip, FillNull}
 use Rattle.vx_fn.proofs.ZipLemmas.{zip_taken}
 use Rattle.vx_fn.proofs.FillNullLemmas.{fill_taken}
-use Rattle.vx_tree.specs.Columns.{canonical_tree}
+use Rattle.vx_canonical.specs.Canonicals.{canonical_tree}
 use Rattle.vx_tree.specs.Tree.{Tree, dtype}
-use Rattle.vx_tree.specs.declared.canonical.Canonical.{Canonical}
+use Rattle.vx_canonical.specs.declared.canonical.Canonical.{Canonical}
 use Rattle.vx_value.specs.declared.error.VortexError.{VortexError}
 use Rattle.vx_rows.specs.Arguments.{types_of, row_of, cell_at, value_at, plain_type, type_of_argument}
 use Rattle.vx_kernel.specs.Computed.{Takes, IsMade, IsComputed}

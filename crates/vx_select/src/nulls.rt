@@ -2,15 +2,15 @@
 
 ghost use Rattle.std.specs.Prelude.{◌≡◌, ◌∷◌, [], IfOk, IfErr};
 ghost use Rattle.vx_fn.specs.declared.function.ScalarFnRef.TheVariants.{IsNull, IsNotNull, Mask};
-ghost use Rattle.vx_tree.specs.Columns.{canonical_tree};
+ghost use Rattle.vx_canonical.specs.Canonicals.{canonical_tree};
 ghost use Rattle.vx_rows.specs.Arguments.{IsSized};
 ghost use Rattle.vx_kernel.specs.Computed.{Takes, IsComputed};
 
 use std::alloc::Global;
+use vx_canonical::Canonical;
 use vx_kernel::{bit_rows, stored_column, valid_bools};
 use vx_mask::{BitAnd, BitBuffer, BitNotEq, BitOperand};
 use vx_rows::{Argument, ArgumentRows, ValidRows};
-use vx_tree::Canonical;
 use vx_value::{Nullability, VortexError, VortexResult};
 
 /// Checks of each row of `input`, `len` rows, whether it is null. The only error is `OutOfMemory`. (own)

@@ -6,7 +6,7 @@ ghost use Rattle.vx_mask.specs.Operands.{bit_in, HasBits};
 ghost use Rattle.vx_value.specs.Nullabilities.{union};
 ghost use Rattle.vx_value.specs.Decimals.{smallest_width};
 ghost use Rattle.vx_fn.specs.declared.function.ScalarFnRef.TheVariants.{Zip, FillNull};
-ghost use Rattle.vx_tree.specs.Columns.{canonical_tree};
+ghost use Rattle.vx_canonical.specs.Canonicals.{canonical_tree};
 ghost use Rattle.vx_rows.specs.Arguments.{plain_type, ptype_in, bytes_in};
 ghost use Rattle.vx_rows.specs.Arguments.{HasStored, AreBytes};
 ghost use Rattle.vx_kernel.specs.Computed.{Takes, IsComputed};
@@ -16,6 +16,7 @@ ghost use Rattle.vx_rows.specs.declared.argument.ArgumentRows.TheVariants.{Integ
 ghost use Rattle.vx_rows.specs.ValidRows.{is_valid, HasValidity, nullability_in};
 
 use std::alloc::{AllocError, Global};
+use vx_canonical::Canonical;
 use vx_kernel::{
     Operand, bit_rows, decimal_operand_of, operand_of, stored_column, valid_bools, valid_bytes,
     valid_decimals, valid_integers,
@@ -23,7 +24,6 @@ use vx_kernel::{
 use vx_mask::{BitAnd, BitBuffer, BitLt, BitOperand, BitOr, Buffer};
 use vx_native::{NativeDecimalType, NativeInteger, NativeNumber, by_decimal_type, by_type};
 use vx_rows::{Argument, ArgumentRows, BytesOperand, DecimalOperand, IntegerOperand, ValidRows};
-use vx_tree::Canonical;
 use vx_value::{DecimalType, Nullability, VortexError, VortexResult};
 use vx_views::{BinaryBuilder, BinaryViews};
 

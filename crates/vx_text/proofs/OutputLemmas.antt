@@ -10,8 +10,8 @@ use Rattle.vx_value.specs.Cell.{Cell, value, fault}
 use Rattle.vx_tree.specs.Cells.{rows}
 use Rattle.vx_text.specs.RowText.{row_text}
 use Rattle.vx_tree.specs.Tree.{Tree, dtype, datum, id_of, len}
-use Rattle.vx_tree.specs.Columns.{columnar_tree}
-use Rattle.vx_tree.specs.declared.columnar.Columnar.{Columnar}
+use Rattle.vx_canonical.specs.Canonicals.{columnar_tree}
+use Rattle.vx_canonical.specs.declared.columnar.Columnar.{Columnar}
 use Rattle.vx_tree.proofs.CellsLemmas.{no_fault_at}
 use Rattle.vx_rows.specs.Arguments.{IsArgument, cell_at, value_at, type_of_argument}
 use Rattle.vx_rows.specs.ValidRows.{is_valid, null_unless}

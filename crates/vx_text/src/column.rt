@@ -3,13 +3,15 @@
 ghost use Rattle.std.specs.Prelude.{◌≡◌, IfOk, IfErr, OnOk, string_bytes};
 ghost use Rattle.vx_tree.specs.Tree.{dtype, datum, id_of};
 ghost use Rattle.vx_tree.specs.Cells.{rows};
-ghost use Rattle.vx_tree.specs.Columns.{IsLawful, columnar_tree};
+ghost use Rattle.vx_tree.specs.Columns.{IsLawful};
+ghost use Rattle.vx_canonical.specs.Canonicals.{columnar_tree};
 ghost use Rattle.vx_text.specs.Output.{Shows, IsUnread, head_lines};
 
 use crate::lines::push_rows;
 use std::alloc::{AllocError, Global};
+use vx_canonical::Columnar;
 use vx_rows::argument_of;
-use vx_tree::{ArrayRef, Columnar};
+use vx_tree::ArrayRef;
 use vx_value::{VortexResult, type_text};
 
 /// Returns the lines of the type and the encoding.

@@ -1,4 +1,4 @@
-//! Tests of vx_value, vx_mask, vx_views and vx_tree, and laws that tell what their definitions come to in worked examples: what
+//! Tests of vx_value, vx_mask, vx_views, vx_tree and vx_array, and laws that tell what their definitions come to in worked examples: what
 //! their contracts and the program don't show.
 //!
 //! A crate with tests is proved once more for them, so they stand here together.

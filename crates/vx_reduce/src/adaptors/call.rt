@@ -8,10 +8,11 @@ ghost use Rattle.vx_rule.specs.Answers.{Answers};
 
 use crate::slots::{three_arguments, two_arguments};
 use std::alloc::Global;
+use vx_array::VTable;
 use vx_fn::{BetweenOptions, ScalarFnRef};
 use vx_rule::scalar_fns::{Between, Cast, ExactScalarFn, FillNull, Mask, Not};
 use vx_rule::{ArrayParentReduceRule, RawNode};
-use vx_tree::{ArrayKind, ArrayRef, ArrayView, VTable};
+use vx_tree::{ArrayKind, ArrayRef, ArrayView};
 use vx_value::{DType, VortexResult};
 
 /// Encodings that have a row for a mask of them.

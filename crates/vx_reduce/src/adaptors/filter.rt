@@ -6,9 +6,10 @@ ghost use Rattle.vx_tree.specs.Tree.{len, datum, filter_of};
 ghost use Rattle.vx_rule.specs.Answers.{Answers};
 
 use std::alloc::Global;
+use vx_array::VTable;
 use vx_mask::Mask;
 use vx_rule::{ArrayParentReduceRule, RawNode};
-use vx_tree::{ArrayKind, ArrayRef, ArrayView, Filter, VTable};
+use vx_tree::{ArrayKind, ArrayRef, ArrayView, Filter};
 use vx_value::VortexResult;
 
 /// Encodings that have a row for a filter.

@@ -7,8 +7,9 @@ ghost use Rattle.vx_rule.specs.Answers.{Answers};
 
 use std::alloc::Global;
 use std::ops::Range;
+use vx_array::VTable;
 use vx_rule::{ArrayParentReduceRule, RawNode, empty_column};
-use vx_tree::{ArrayKind, ArrayRef, ArrayView, Slice, VTable};
+use vx_tree::{ArrayKind, ArrayRef, ArrayView, Slice};
 use vx_value::VortexResult;
 
 /// Encodings through which a slice passes.

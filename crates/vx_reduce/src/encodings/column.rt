@@ -11,8 +11,9 @@ use crate::encodings::parent_rules;
 use crate::rule_set::ReduceVTable;
 use std::alloc::Global;
 use std::ops::Range;
+use vx_array::VTable;
 use vx_rule::{DynArrayParentReduceRule, RawNode, column_slice};
-use vx_tree::{ArrayRef, ArrayView, Bool, Decimal, Null, Primitive, VTable, VarBinView};
+use vx_tree::{ArrayRef, ArrayView, Bool, Decimal, Null, Primitive, VarBinView};
 use vx_value::VortexResult;
 
 /// Canonical encodings. (own)

@@ -19,10 +19,11 @@ use crate::encodings::parent_rules;
 use crate::rule_set::ReduceVTable;
 use std::alloc::Global;
 use std::ops::Range;
+use vx_array::{ConstantArray, IntoArray, VTable};
 use vx_fn::{BetweenOptions, apply_row};
 use vx_mask::Mask;
 use vx_rule::{DynArrayParentReduceRule, RawNode, constant_like, function_parts};
-use vx_tree::{ArrayKind, ArrayRef, ArrayView, Constant, ConstantArray, IntoArray, VTable};
+use vx_tree::{ArrayKind, ArrayRef, ArrayView, Constant};
 use vx_value::{DType, Scalar, VortexError, VortexResult};
 
 impl ReduceVTable for Constant {

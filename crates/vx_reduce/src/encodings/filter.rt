@@ -12,9 +12,10 @@ use crate::encodings::{own_rules, parent_rules};
 use crate::rule_set::ReduceVTable;
 use std::alloc::Global;
 use std::ops::Range;
+use vx_array::{FilterArray, IntoArray, SliceArray, VTable};
 use vx_mask::Mask;
 use vx_rule::{ArrayReduceRule, DynArrayParentReduceRule, RawNode, empty_column};
-use vx_tree::{ArrayKind, ArrayRef, ArrayView, Filter, FilterArray, IntoArray, SliceArray, VTable};
+use vx_tree::{ArrayKind, ArrayRef, ArrayView, Filter};
 use vx_value::VortexResult;
 
 impl ReduceVTable for Filter {

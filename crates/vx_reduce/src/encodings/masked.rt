@@ -19,13 +19,13 @@ use crate::rule_set::ReduceVTable;
 use crate::slots::truths;
 use std::alloc::Global;
 use std::ops::Range;
+use vx_array::{
+    FilterArray, IntoArray, SliceArray, VTable, and_lazily, choose_validity, slice_validity,
+};
 use vx_fn::ScalarFnRef;
 use vx_mask::Mask;
 use vx_rule::{DynArrayParentReduceRule, RawNode, function_node, masked_node, masked_parts};
-use vx_tree::{
-    ArrayRef, ArrayView, FilterArray, IntoArray, Masked, SliceArray, VTable, and_lazily,
-    choose_validity, slice_validity,
-};
+use vx_tree::{ArrayRef, ArrayView, Masked};
 use vx_value::VortexResult;
 
 impl ReduceVTable for Masked {

@@ -18,10 +18,11 @@ use crate::rule_set::ReduceVTable;
 use crate::slots::{choose_slots, only_argument, slice_slots, truths};
 use std::alloc::Global;
 use std::ops::Range;
+use vx_array::VTable;
 use vx_fn::ScalarFnRef;
 use vx_mask::Mask;
 use vx_rule::{ArrayReduceRule, DynArrayParentReduceRule, RawNode, function_node, function_parts};
-use vx_tree::{ArrayKind, ArrayRef, ArrayView, ScalarFn, VTable};
+use vx_tree::{ArrayKind, ArrayRef, ArrayView, ScalarFn};
 use vx_value::{DType, VortexResult};
 
 impl ReduceVTable for ScalarFn {

@@ -11,8 +11,9 @@ use crate::encodings::parent_rules;
 use crate::rule_set::ReduceVTable;
 use std::alloc::Global;
 use std::ops::Range;
+use vx_array::{IntoArray, SliceArray, VTable};
 use vx_rule::{DynArrayParentReduceRule, RawNode};
-use vx_tree::{ArrayKind, ArrayRef, ArrayView, IntoArray, Slice, SliceArray, VTable};
+use vx_tree::{ArrayKind, ArrayRef, ArrayView, Slice};
 use vx_value::VortexResult;
 
 impl ReduceVTable for Slice {

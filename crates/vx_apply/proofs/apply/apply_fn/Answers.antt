@@ -1,8 +1,8 @@
 use Rattle.std.proofs.Common.{◌∙◌, sym, subst, map}
 use Rattle.std.proofs.lemmas.Result.{IfErr-weaker, err_from_is_err_and}
 use Rattle.vx_tree.specs.Tree.{datum}
-use Rattle.vx_tree.specs.Columns.{canonical_tree, columnar_tree}
-use Rattle.vx_tree.proofs.ColumnsLemmas.{canonical_open}
+use Rattle.vx_canonical.specs.Canonicals.{canonical_tree, columnar_tree}
+use Rattle.vx_canonical.proofs.ColumnsLemmas.{canonical_open}
 use Rattle.vx_rows.proofs.CellsLemmas.{IfOk-both}
 use Rattle.vx_apply.specs.Applied.{IsUnapplied}
 use Rattle.vx_apply.proofs.AppliedLemmas.{taken, call_taken, applied, unapplied, unread, all_repeat}

@@ -1,6 +1,6 @@
 use Rattle.std.proofs.Common.{inl, inr, sym, subst}
 use Rattle.std.proofs.lemmas.Result.{IfOk-weaker, err_from_is_err_and}
-use Rattle.vx_tree.specs.Columns.{columnar_tree}
+use Rattle.vx_canonical.specs.Canonicals.{columnar_tree}
 use Rattle.vx_rows.specs.Arguments.{types_of_scalars, cells_of_scalars}
 use Rattle.vx_kernel.specs.Computed.{IsNoResult}
 use Rattle.vx_apply.proofs.AppliedLemmas.{constant_result, fault_at_row}

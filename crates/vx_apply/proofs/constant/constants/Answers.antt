@@ -1,7 +1,7 @@
 use Rattle.std.proofs.Common.{◌≡◌, false, subst, sym, ap, ◌∙◌}
 use Rattle.std.specs.Prelude.{MatchOption}
 use Rattle.vx_tree.specs.Tree.{datum, is_constant}
-use Rattle.vx_tree.specs.Columns.{columnar_tree}
+use Rattle.vx_canonical.specs.Canonicals.{columnar_tree}
 use Rattle.vx_apply.specs.Applied.{Repeats}
 use Rattle.vx_apply.proofs.AppliedLemmas.{not_all_repeat}
 use Rattle.vx_rows.proofs.ArgumentsLemmas.{zipped_more}

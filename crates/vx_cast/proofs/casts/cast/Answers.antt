@@ -1,7 +1,7 @@
 use Rattle.std.proofs.Common.{inl, inr, sym, subst, ◌∙◌, ◌∷◌, []}
 use Rattle.std.proofs.lemmas.Result.{IfOk-weaker, IfErr-weaker, err_from_is_err_and}
 use Rattle.vx_fn.specs.declared.function.ScalarFnRef.TheVariants.{Cast}
-use Rattle.vx_tree.specs.Columns.{canonical_tree}
+use Rattle.vx_canonical.specs.Canonicals.{canonical_tree}
 use Rattle.vx_kernel.specs.Computed.{IsNotComputed}
 use Rattle.vx_cast.proofs.CastsLemmas.{shown_again, is_cast_target, cast_computed, cast_not_computed, null_not_computed}
 use Rattle.vx_cast.proofs.casts.cast.Goals as goal

@@ -2,7 +2,7 @@ use Rattle.std.proofs.lemmas.Result.{IfOk-weaker, IfErr-weaker}
 use Rattle.vx_value.specs.Casts.{to_integer}
 use Rattle.vx_value.specs.Values.{integer}
 use Rattle.vx_native.specs.Natives.{values_of}
-use Rattle.vx_tree.specs.Columns.{canonical_tree}
+use Rattle.vx_canonical.specs.Canonicals.{canonical_tree}
 use Rattle.vx_rows.specs.Arguments.{integer_in}
 use Rattle.vx_cast.proofs.CastsLemmas.{rows_cast, rows_not_cast}
 use Rattle.vx_cast.proofs.casts.cast_integers.Goals as goal

@@ -3,7 +3,7 @@ use Rattle.std.proofs.lemmas.Result.{IfOk-weaker}
 use Rattle.vx_value.specs.Types.{primitive, decimal, utf8, binary}
 use Rattle.vx_value.specs.View.{type_of}
 use Rattle.vx_value.specs.Casts.{cast_to}
-use Rattle.vx_tree.specs.Columns.{canonical_tree}
+use Rattle.vx_canonical.specs.Canonicals.{canonical_tree}
 use Rattle.vx_tree.specs.Tree.{dtype}
 use Rattle.vx_rows.specs.Arguments.{value_at}
 use Rattle.vx_kernel.specs.Computed.{IsMade}

@@ -1,5 +1,5 @@
 use Rattle.std.proofs.Common.{IfOk, pos, get_or, map, sym, ap, ◌∙◌, subst}
-use Rattle.vx_tree.specs.Columns.{canonical_tree}
+use Rattle.vx_canonical.specs.Canonicals.{canonical_tree}
 use Rattle.vx_cast.specs.Casts.{converted, value_in}
 use Rattle.vx_kernel.specs.Operands.{IsCalculated}
 use Rattle.vx_cast.proofs.casts.convert_buffer.Goals as goal

@@ -1,5 +1,5 @@
 use Rattle.std.proofs.lemmas.Result.{IfOk-weaker}
-use Rattle.vx_tree.specs.Columns.{canonical_tree}
+use Rattle.vx_canonical.specs.Canonicals.{canonical_tree}
 use Rattle.vx_rows.specs.Arguments.{integer_in, ptype_in}
 use Rattle.vx_cast.proofs.CastsLemmas.{integers_kept}
 use Rattle.vx_cast.proofs.casts.keep_integers.Goals as goal

@@ -3,7 +3,7 @@ use Rattle.std.specs.Cmp.{unsigned_Decides, first_so, second_so}
 use Rattle.std.specs.Prelude.{◌&&◌}
 use Rattle.std.proofs.lemmas.Result.{IfOk-weaker}
 use Rattle.vx_native.specs.Buffers.{numbers_in}
-use Rattle.vx_tree.specs.Columns.{canonical_tree}
+use Rattle.vx_canonical.specs.Canonicals.{canonical_tree}
 use Rattle.vx_rows.specs.Arguments.{unscaled_in}
 use Rattle.vx_cast.proofs.CastsLemmas.{decimals_kept, decimals_cast}
 use Rattle.vx_cast.proofs.rescale.cast_decimals.Goals as goal

@@ -1,5 +1,5 @@
 use Rattle.std.proofs.Common.{IfOk, IfErr, map, subst}
-use Rattle.vx_tree.specs.Columns.{canonical_tree}
+use Rattle.vx_canonical.specs.Canonicals.{canonical_tree}
 use Rattle.vx_rows.specs.ValidRows.{is_valid}
 use Rattle.vx_cast.specs.Casts.{rescaled_item}
 use Rattle.vx_kernel.specs.Operands.{IsFaultyRow, AreCalculated}

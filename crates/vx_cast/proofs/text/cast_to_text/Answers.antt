@@ -1,5 +1,5 @@
 use Rattle.std.proofs.lemmas.Result.{IfOk-weaker}
-use Rattle.vx_tree.specs.Columns.{canonical_tree}
+use Rattle.vx_canonical.specs.Canonicals.{canonical_tree}
 use Rattle.vx_rows.specs.Arguments.{bytes_in}
 use Rattle.vx_cast.proofs.TextLemmas.{text_kept, text_made}
 use Rattle.vx_cast.proofs.text.cast_to_text.Goals as goal

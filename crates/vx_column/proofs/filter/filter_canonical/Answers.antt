@@ -12,7 +12,7 @@ use Rattle.vx_tree.specs.Tree as enc
 use Rattle.vx_tree.specs.Tree.{dtype, len, nulls_of, filter_of, slots_of}
 use Rattle.vx_tree.specs.Well.{IsNodeOf, IsFlat, shapes}
 use Rattle.vx_tree.specs.Keeps.{KeepsExactly}
-use Rattle.vx_tree.specs.Columns.{canonical_tree}
+use Rattle.vx_canonical.specs.Canonicals.{canonical_tree}
 use Rattle.vx_column.proofs.FilteredLemmas.{rows_chosen, bytes_chosen, column_filtered, decimals_chosen}
 use Rattle.vx_column.proofs.NullsLemmas.{nulls_filtered}
 use Rattle.vx_column.proofs.filter.filter_canonical.Goals as goal

@@ -8,7 +8,7 @@ use Rattle.vx_native.specs.Natives.{values_of, ptype_of}
 use Rattle.vx_tree.specs.Tree as enc
 use Rattle.vx_tree.specs.Tree.{dtype, len, slots_of}
 use Rattle.vx_tree.specs.Well.{IsNodeOf, IsFlat, shapes}
-use Rattle.vx_tree.specs.Columns.{canonical_tree}
+use Rattle.vx_canonical.specs.Canonicals.{canonical_tree}
 use Rattle.vx_rows.specs.Stored.{boolean_column, integer_column, bytes_column, decimal_column}
 use Rattle.vx_column.proofs.MaskedLemmas.{bytes_set, canonical_masked}
 use Rattle.vx_value.specs.Types as type

@@ -2,7 +2,7 @@ use Rattle.std.proofs.Common.{IfOk, IfErr, Option, ◌≡◌, ◌⊎◌, ap, sub
 use Rattle.vx_value.specs.Types.{null}
 use Rattle.vx_value.specs.declared.error.VortexError.TheVariants.{OutOfMemory}
 use Rattle.vx_tree.specs.Tree.{Tree, dtype, len, masked_of}
-use Rattle.vx_tree.specs.Columns.{canonical_tree}
+use Rattle.vx_canonical.specs.Canonicals.{canonical_tree}
 use Rattle.vx_tree.specs.Keeps.{KeepsExactly}
 use Rattle.vx_tree.specs.Validities.{child_of}
 use Rattle.vx_rows.specs.Arguments.{AreUnread}

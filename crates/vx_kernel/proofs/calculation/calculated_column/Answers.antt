@@ -4,7 +4,7 @@ use Rattle.vx_value.specs.Types.{primitive}
 use Rattle.vx_value.specs.Values.{integer}
 use Rattle.vx_value.specs.Cell.{value}
 use Rattle.vx_native.specs.Natives.{values_of}
-use Rattle.vx_tree.specs.Columns.{canonical_tree}
+use Rattle.vx_canonical.specs.Canonicals.{canonical_tree}
 use Rattle.vx_rows.specs.ValidRows.{is_valid, nullability_in}
 use Rattle.vx_kernel.specs.Operands.{calculated_rows}
 use Rattle.vx_kernel.proofs.ComputedLemmas.{calculated_long, calculated_made}

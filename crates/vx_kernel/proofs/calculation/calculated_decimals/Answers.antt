@@ -4,7 +4,7 @@ use Rattle.vx_value.specs.Values.{decimal}
 use Rattle.vx_value.specs.Cell.{value}
 use Rattle.vx_native.specs.DecimalNumbers.{numbers_of, decimal_type_of}
 use Rattle.vx_tree.specs.ColumnTypes.{are_decimals_of}
-use Rattle.vx_tree.specs.Columns.{canonical_tree}
+use Rattle.vx_canonical.specs.Canonicals.{canonical_tree}
 use Rattle.vx_rows.specs.Arguments.{stored_decimals}
 use Rattle.vx_rows.specs.ValidRows.{is_valid}
 use Rattle.vx_kernel.specs.Operands.{calculated_rows, AreCalculated}

@@ -1,7 +1,7 @@
 use Rattle.std.proofs.Common.{false, sym, subst}
 use Rattle.std.proofs.lemmas.Result.{IfOk-weaker}
 use Rattle.vx_mask.specs.Logic.{bit_row}
-use Rattle.vx_tree.specs.Columns.{canonical_tree}
+use Rattle.vx_canonical.specs.Canonicals.{canonical_tree}
 use Rattle.vx_tree.specs.Validities.{HasRows}
 use Rattle.vx_kernel.proofs.MadeLemmas.{bools_made}
 use Rattle.vx_rows.proofs.ValidRowsLemmas.{by_rows}

@@ -1,6 +1,6 @@
 use Rattle.std.proofs.Common.{[], get_or, sym, subst}
 use Rattle.std.proofs.lemmas.Result.{IfOk-weaker}
-use Rattle.vx_tree.specs.Columns.{canonical_tree}
+use Rattle.vx_canonical.specs.Canonicals.{canonical_tree}
 use Rattle.vx_tree.specs.Validities.{HasRows}
 use Rattle.vx_kernel.proofs.MadeLemmas.{bytes_made}
 use Rattle.vx_rows.proofs.ValidRowsLemmas.{by_rows}

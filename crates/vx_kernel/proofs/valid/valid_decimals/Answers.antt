@@ -1,7 +1,7 @@
 use Rattle.std.proofs.Common.{pos, get_or}
 use Rattle.std.proofs.lemmas.Result.{IfOk-weaker}
 use Rattle.vx_native.specs.DecimalNumbers.{numbers_of, decimal_type_of}
-use Rattle.vx_tree.specs.Columns.{canonical_tree}
+use Rattle.vx_canonical.specs.Canonicals.{canonical_tree}
 use Rattle.vx_kernel.proofs.MadeLemmas.{decimals_made}
 use Rattle.vx_rows.proofs.ValidRowsLemmas.{by_rows}
 use Rattle.vx_kernel.proofs.valid.valid_decimals.Goals as goal

@@ -1,7 +1,7 @@
 use Rattle.std.proofs.Common.{pos, get_or, sym, subst}
 use Rattle.std.proofs.lemmas.Result.{IfOk-weaker}
 use Rattle.vx_native.specs.Natives.{values_of, ptype_of}
-use Rattle.vx_tree.specs.Columns.{canonical_tree}
+use Rattle.vx_canonical.specs.Canonicals.{canonical_tree}
 use Rattle.vx_tree.specs.Validities.{HasRows}
 use Rattle.vx_kernel.proofs.MadeLemmas.{integers_made}
 use Rattle.vx_rows.proofs.ValidRowsLemmas.{by_rows}

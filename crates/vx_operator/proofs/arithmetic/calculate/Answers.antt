@@ -1,6 +1,6 @@
 use Rattle.std.proofs.Common.{sym}
 use Rattle.std.proofs.lemmas.Result.{IfOk-weaker, IfErr-weaker}
-use Rattle.vx_tree.specs.Columns.{canonical_tree}
+use Rattle.vx_canonical.specs.Canonicals.{canonical_tree}
 use Rattle.vx_kernel.specs.Operands.{number_in}
 use Rattle.vx_operator.proofs.OperandsLemmas.{operation_filled, operation_not_filled}
 use Rattle.vx_operator.proofs.arithmetic.calculate.Goals as goal

@@ -1,7 +1,7 @@
 use Rattle.std.proofs.Common.{◌∷◌, [], IfOk, sym, subst}
 use Rattle.std.proofs.lemmas.Result.{IfOk-weaker}
 use Rattle.vx_fn.specs.declared.function.ScalarFnRef.TheVariants.{Not}
-use Rattle.vx_tree.specs.Columns.{canonical_tree}
+use Rattle.vx_canonical.specs.Canonicals.{canonical_tree}
 use Rattle.vx_kernel.specs.Computed.{IsComputed}
 use Rattle.vx_operator.proofs.PassingLemmas.{negation_computed}
 use Rattle.vx_operator.proofs.boolean.negate.Goals as goal

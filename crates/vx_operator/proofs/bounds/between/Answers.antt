@@ -1,7 +1,7 @@
 use Rattle.std.proofs.Common.{◌&&◌, ap, ◌∙◌}
 use Rattle.std.proofs.lemmas.Result.{IfOk-weaker}
 use Rattle.vx_value.specs.Nullabilities.{union}
-use Rattle.vx_tree.specs.Columns.{canonical_tree}
+use Rattle.vx_canonical.specs.Canonicals.{canonical_tree}
 use Rattle.vx_rows.specs.ValidRows.{is_valid, nullability_in}
 use Rattle.vx_kernel.proofs.ArgumentsLemmas.{has_stored}
 use Rattle.vx_operator.proofs.BetweenLemmas.{array_ordered, same_lower, same_upper, between_computed}

@@ -1,5 +1,5 @@
 use Rattle.std.proofs.lemmas.Result.{IfOk-weaker}
-use Rattle.vx_tree.specs.Columns.{canonical_tree}
+use Rattle.vx_canonical.specs.Canonicals.{canonical_tree}
 use Rattle.vx_operator.proofs.ComparisonLemmas.{compared_made}
 use Rattle.vx_operator.proofs.comparison.compare_ordered.Goals as goal
 

@@ -1,5 +1,5 @@
 use Rattle.std.proofs.lemmas.Result.{IfOk-weaker, IfErr-weaker}
-use Rattle.vx_tree.specs.Columns.{canonical_tree}
+use Rattle.vx_canonical.specs.Canonicals.{canonical_tree}
 use Rattle.vx_kernel.specs.Operands.{number_in}
 use Rattle.vx_operator.proofs.OperandsLemmas.{decimals_filled, decimals_not_filled}
 use Rattle.vx_operator.proofs.decimals.calculate_decimals.Goals as goal

@@ -2,7 +2,7 @@ use Rattle.std.proofs.Common.{refl}
 use Rattle.std.proofs.lemmas.Result.{IfOk-weaker}
 use Rattle.vx_value.specs.Order.{value_cmp}
 use Rattle.vx_value.specs.Values.{integer}
-use Rattle.vx_tree.specs.Columns.{canonical_tree}
+use Rattle.vx_canonical.specs.Canonicals.{canonical_tree}
 use Rattle.vx_rows.specs.declared.argument.ArgumentRows.TheVariants.{Decimals}
 use Rattle.vx_kernel.specs.Operands.{number_in}
 use Rattle.vx_operator.proofs.ComparisonLemmas.{ordered_filled, decimals_ordered}

@@ -1,5 +1,5 @@
 use Rattle.std.proofs.lemmas.Result.{IfOk-weaker}
-use Rattle.vx_tree.specs.Columns.{canonical_tree}
+use Rattle.vx_canonical.specs.Canonicals.{canonical_tree}
 use Rattle.vx_operator.proofs.LogicLemmas.{nullable_joined}
 use Rattle.vx_operator.proofs.logic.join_nullable.Goals as goal
 

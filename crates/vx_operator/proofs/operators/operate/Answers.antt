@@ -2,7 +2,7 @@ use Rattle.std.proofs.Common.{sym, subst, ◌∙◌}
 use Rattle.std.specs.Prelude.{IsSome}
 use Rattle.std.proofs.lemmas.Result.{IfOk-weaker, IfErr-weaker}
 use Rattle.vx_fn.specs.Binary.{operator_type}
-use Rattle.vx_tree.specs.Columns.{canonical_tree}
+use Rattle.vx_canonical.specs.Canonicals.{canonical_tree}
 use Rattle.vx_kernel.proofs.ArgumentsLemmas.{has_stored}
 use Rattle.vx_operator.proofs.LogicLemmas.{logic_bits, truths_sized}
 use Rattle.vx_operator.proofs.OperatorLemmas.{operands_same, operands_taken}

@@ -1,6 +1,6 @@
 use Rattle.std.proofs.Common.{refl, ap}
 use Rattle.std.proofs.lemmas.Result.{IfOk-weaker}
-use Rattle.vx_tree.specs.Columns.{canonical_tree}
+use Rattle.vx_canonical.specs.Canonicals.{canonical_tree}
 use Rattle.vx_rows.specs.Arguments.{ptype_in}
 use Rattle.vx_rows.specs.declared.argument.ArgumentRows.TheVariants.{Integers}
 use Rattle.vx_kernel.specs.Operands.{number_in}

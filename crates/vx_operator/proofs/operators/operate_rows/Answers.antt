@@ -3,7 +3,7 @@ use Rattle.std.proofs.lemmas.Result.{IfOk-weaker}
 use Rattle.std.specs.Prelude.{IsSome}
 use Rattle.vx_fn.specs.Binary.{operator_type}
 use Rattle.vx_fn.specs.declared.function.ScalarFnRef.TheVariants.{Binary}
-use Rattle.vx_tree.specs.Columns.{canonical_tree}
+use Rattle.vx_canonical.specs.Canonicals.{canonical_tree}
 use Rattle.vx_rows.specs.Arguments.{plain_type, pair_at, value_at, AreShown}
 use Rattle.vx_rows.specs.ValidRows.{nullability_in}
 use Rattle.vx_operator.specs.Filled.{filled_type}

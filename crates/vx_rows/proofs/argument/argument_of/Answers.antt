@@ -4,7 +4,7 @@ use Rattle.vx_value.specs.Storage.{storage_of}
 use Rattle.vx_value.specs.Values.{boolean, integer, decimal, bytes}
 use Rattle.vx_native.specs.DecimalNumbers.{numbers_of, decimal_type_of}
 use Rattle.vx_tree.specs.ColumnTypes.{scale_of, are_decimals_of}
-use Rattle.vx_tree.specs.Columns.{columnar_tree}
+use Rattle.vx_canonical.specs.Canonicals.{columnar_tree}
 use Rattle.vx_tree.specs.Tree as enc
 use Rattle.vx_tree.specs.Tree.{dtype}
 use Rattle.vx_tree.specs.Well.{IsNodeOf}

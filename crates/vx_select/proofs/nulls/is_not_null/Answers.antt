@@ -5,7 +5,7 @@ use Rattle.vx_value.specs.Values.{boolean}
 use Rattle.vx_value.specs.Cell.{value}
 use Rattle.vx_mask.proofs.Lists.{same_below}
 use Rattle.vx_fn.specs.declared.function.ScalarFnRef.TheVariants.{IsNotNull}
-use Rattle.vx_tree.specs.Columns.{canonical_tree}
+use Rattle.vx_canonical.specs.Canonicals.{canonical_tree}
 use Rattle.vx_rows.specs.ValidRows.{is_valid}
 use Rattle.vx_select.proofs.NullFunctionsLemmas.{tested}
 use Rattle.vx_select.proofs.nulls.is_not_null.Goals as goal

@@ -7,7 +7,7 @@ use Rattle.vx_value.specs.Cell.{value}
 use Rattle.vx_mask.proofs.Lists.{same_below}
 use Rattle.vx_mask.proofs.Operations.{differs_from_true}
 use Rattle.vx_fn.specs.declared.function.ScalarFnRef.TheVariants.{IsNull}
-use Rattle.vx_tree.specs.Columns.{canonical_tree}
+use Rattle.vx_canonical.specs.Canonicals.{canonical_tree}
 use Rattle.vx_rows.specs.ValidRows.{is_valid}
 use Rattle.vx_select.proofs.NullFunctionsLemmas.{tested}
 use Rattle.vx_select.proofs.nulls.is_null.Goals as goal

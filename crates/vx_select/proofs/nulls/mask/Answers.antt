@@ -2,7 +2,7 @@ use Rattle.std.proofs.Common.{◌&&◌, ap, ◌∙◌}
 use Rattle.std.proofs.lemmas.Result.{IfOk-weaker}
 use Rattle.vx_mask.specs.Operands.{bit_in}
 use Rattle.vx_mask.proofs.Lists.{same_below}
-use Rattle.vx_tree.specs.Columns.{canonical_tree}
+use Rattle.vx_canonical.specs.Canonicals.{canonical_tree}
 use Rattle.vx_rows.specs.ValidRows.{is_valid}
 use Rattle.vx_select.proofs.NullFunctionsLemmas.{masked}
 use Rattle.vx_select.proofs.nulls.mask.Goals as goal

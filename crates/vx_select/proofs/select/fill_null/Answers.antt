@@ -1,5 +1,5 @@
 use Rattle.std.proofs.lemmas.Result.{IfOk-weaker}
-use Rattle.vx_tree.specs.Columns.{canonical_tree}
+use Rattle.vx_canonical.specs.Canonicals.{canonical_tree}
 use Rattle.vx_select.proofs.SelectLemmas.{fill_same, fill_computed}
 use Rattle.vx_select.proofs.select.fill_null.Goals as goal
 

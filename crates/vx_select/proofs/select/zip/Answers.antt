@@ -1,7 +1,7 @@
 use Rattle.std.proofs.Common.{◌&&◌, sym, ap, ◌∙◌}
 use Rattle.std.proofs.lemmas.Result.{IfOk-weaker}
 use Rattle.vx_mask.specs.Operands.{bit_in}
-use Rattle.vx_tree.specs.Columns.{canonical_tree}
+use Rattle.vx_canonical.specs.Canonicals.{canonical_tree}
 use Rattle.vx_rows.specs.ValidRows.{is_valid}
 use Rattle.vx_select.proofs.SelectLemmas.{zip_same, zip_computed}
 use Rattle.vx_rows.proofs.ValidRowsLemmas.{bit_made}

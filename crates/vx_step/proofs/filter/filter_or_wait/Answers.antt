@@ -2,7 +2,8 @@ use Rattle.std.proofs.Common.{◌≡◌, ◌<◌, true, sym, ◌∙◌, ap, subs
 use Rattle.std.proofs.lemmas.Grind.{common_steps}
 use Rattle.vx_mask.specs.Masks.{bits_in, is_all_true}
 use Rattle.vx_mask.specs.Places.{true_count}
-use Rattle.vx_tree.specs.Columns.{canonical_tree, empty_of}
+use Rattle.vx_tree.specs.Columns.{empty_of}
+use Rattle.vx_canonical.specs.Canonicals.{canonical_tree}
 use Rattle.vx_tree.specs.Tree.{filter_of}
 use Rattle.vx_step.specs.Steps.{IsStep, IsDone}
 use Rattle.vx_step.proofs.FilterLemmas.{nothing_done, whole_done}

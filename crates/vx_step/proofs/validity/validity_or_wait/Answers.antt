@@ -1,5 +1,5 @@
 use Rattle.std.proofs.Common.{◌≡◌, ◌∙◌, subst}
-use Rattle.vx_tree.specs.Columns.{columnar_tree}
+use Rattle.vx_canonical.specs.Canonicals.{columnar_tree}
 use Rattle.vx_rows.specs.Arguments.{IsUnread}
 use Rattle.vx_step.proofs.StepsLemmas.{unread_stopped}
 use Rattle.vx_step.proofs.validity.validity_or_wait.Goals as goal

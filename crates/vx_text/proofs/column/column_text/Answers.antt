@@ -3,8 +3,8 @@ use Rattle.std.proofs.lemmas.Result.{err_from_is_err_and}
 use Rattle.vx_tree.specs.Tree.{dtype, datum, id_of, len}
 use Rattle.vx_tree.specs.Cells.{rows}
 use Rattle.vx_tree.specs.Well.{IsWell}
-use Rattle.vx_tree.specs.Columns.{columnar_tree}
-use Rattle.vx_tree.proofs.ColumnsLemmas.{column_known}
+use Rattle.vx_canonical.specs.Canonicals.{columnar_tree}
+use Rattle.vx_canonical.proofs.ColumnsLemmas.{column_known}
 use Rattle.vx_text.specs.Output.{IsUnread, head_lines}
 use Rattle.vx_text.specs.Lines.{row_lines}
 use Rattle.vx_text.proofs.OutputLemmas.{column_unread, shows_column}
