@@ -1,6 +1,6 @@
 //! Values of decimals, and lists of them.
 
-ghost use Rattle.std.specs.Prelude.{◌≡◌, ◌≢◌, ℤ, pos, true, [], map, Some, None, IfSome, IfNone, IfOk, IfErr};
+ghost use Rattle.std.specs.Prelude.{◌≡◌, ◌≢◌, ℤ, pos, true, [], Some, None, IfSome, IfNone, IfOk, IfErr};
 ghost use Rattle.std.specs.Fmt.{signed_decimal};
 ghost use Rattle.serde_json.specs.View.{view, items_view};
 ghost use Rattle.vx_value.specs.Decimals.{has_digits, smallest_width};
@@ -15,7 +15,6 @@ use crate::row_nulls::RowNulls;
 use itoa::Buffer as TextBuffer;
 use serde_json::Value;
 use std::alloc::Global;
-use vx_mask::Buffer;
 use vx_native::{DecimalValues, NativeDecimalType, narrowed};
 use vx_value::{DecimalDType, DecimalType, DecimalValue, Digits, VortexResult};
 
@@ -57,25 +56,12 @@ pub(crate) fn decimal_value(dtype: &DecimalDType, value: &Value) -> VortexResult
 
 /// Reads numbers without their points, which must be among the digits, in the narrowest integers that hold all of these.
 impl<T: NativeDecimalType> NumberReader<T> for Digits {
-    type Values = DecimalValues;
-
     ghost fits = { λ digits. T.kind ≡ smallest_width digits.precision };
 
     ghost spelled = { λ digits. decimal_spelled digits.precision };
 
-    ghost are_native = { λ v. decimal_type_of v ≡ T.kind };
-
-    ghost held = { numbers_of };
-
     fn number(&self, value: &Value) -> Option<T> {
         Some(narrowed(decimal(*self, value)?))
-    }
-
-    fn wrap(numbers: Buffer<T>) -> DecimalValues
-        ensures native { decimal_type_of result ≡ T.kind }
-        ensures held { numbers_of result ≡ map T.value numbers }
-    {
-        T::wrap_decimals(numbers)
     }
 }
 
@@ -94,11 +80,22 @@ pub(crate) fn decimals<N: RowNulls>(
     ensures err { IfErr result (IsRefused (all_read (or_null N.mode (decimal_spelled decimal.now.precision)) (items_view list.now.items) ≡ None)) }
 {
     let digits = decimal.digits();
-    match DecimalType::smallest_decimal_value_type(decimal) {
-        DecimalType::I8 => numbers::<i8, Digits, N>(alloc, &digits, nulls, list),
-        DecimalType::I16 => numbers::<i16, Digits, N>(alloc, &digits, nulls, list),
-        DecimalType::I32 => numbers::<i32, Digits, N>(alloc, &digits, nulls, list),
-        DecimalType::I64 => numbers::<i64, Digits, N>(alloc, &digits, nulls, list),
-        DecimalType::I128 => numbers::<i128, Digits, N>(alloc, &digits, nulls, list),
+    let width = DecimalType::smallest_decimal_value_type(decimal);
+    match width {
+        DecimalType::I8 => numbers::<i8, DecimalType, Digits, N>(
+            alloc, width, &digits, nulls, list,
+        ),
+        DecimalType::I16 => numbers::<i16, DecimalType, Digits, N>(
+            alloc, width, &digits, nulls, list,
+        ),
+        DecimalType::I32 => numbers::<i32, DecimalType, Digits, N>(
+            alloc, width, &digits, nulls, list,
+        ),
+        DecimalType::I64 => numbers::<i64, DecimalType, Digits, N>(
+            alloc, width, &digits, nulls, list,
+        ),
+        DecimalType::I128 => numbers::<i128, DecimalType, Digits, N>(
+            alloc, width, &digits, nulls, list,
+        ),
     }
 }

@@ -1,6 +1,6 @@
 //! Single values of a type, and lists of them.
 
-ghost use Rattle.std.specs.Prelude.{◌≡◌, pos, false, [], map, Some, None, option_and_then, IfOk, IfErr};
+ghost use Rattle.std.specs.Prelude.{◌≡◌, pos, false, [], Some, None, option_and_then, IfOk, IfErr};
 ghost use Rattle.std.specs.List.{list_all};
 ghost use Rattle.serde_json.specs.View.{view, items_view};
 ghost use Rattle.serde_json.specs.Find.{as_bool, as_number, as_integer};
@@ -17,7 +17,7 @@ use crate::numbers::{NumberReader, numbers};
 use crate::row_nulls::RowNulls;
 use serde_json::Value;
 use std::alloc::Global;
-use vx_mask::{BitBuffer, BitBuilder, Buffer};
+use vx_mask::{BitBuffer, BitBuilder};
 use vx_native::{NativeInteger, PrimitiveValues};
 use vx_value::{DType, PType, Scalar, ScalarValue, VortexResult};
 
@@ -39,25 +39,12 @@ fn integer(value: &Value) -> Option<i128>
 struct InRange;
 
 impl<T: NativeInteger> NumberReader<T> for InRange {
-    type Values = PrimitiveValues;
-
     ghost fits = { λ r. Unit {0} };
 
     ghost spelled = { λ r. integer_spelled T.kind };
 
-    ghost are_native = { λ v. ptype_of v ≡ T.kind };
-
-    ghost held = { values_of };
-
     fn number(&self, value: &Value) -> Option<T> {
         T::from_wide(integer(value)?)
-    }
-
-    fn wrap(numbers: Buffer<T>) -> PrimitiveValues
-        ensures native { ptype_of result ≡ T.kind }
-        ensures held { values_of result ≡ map T.value numbers }
-    {
-        T::wrap(numbers)
     }
 }
 
@@ -75,14 +62,14 @@ pub(crate) fn integers<N: RowNulls>(
     ensures err { IfErr result (IsRefused (all_read (or_null N.mode (integer_spelled ptype)) (items_view list.now.items) ≡ None)) }
 {
     match ptype {
-        PType::U8 => numbers::<u8, InRange, N>(alloc, &InRange, nulls, list),
-        PType::U16 => numbers::<u16, InRange, N>(alloc, &InRange, nulls, list),
-        PType::U32 => numbers::<u32, InRange, N>(alloc, &InRange, nulls, list),
-        PType::U64 => numbers::<u64, InRange, N>(alloc, &InRange, nulls, list),
-        PType::I8 => numbers::<i8, InRange, N>(alloc, &InRange, nulls, list),
-        PType::I16 => numbers::<i16, InRange, N>(alloc, &InRange, nulls, list),
-        PType::I32 => numbers::<i32, InRange, N>(alloc, &InRange, nulls, list),
-        PType::I64 => numbers::<i64, InRange, N>(alloc, &InRange, nulls, list),
+        PType::U8 => numbers::<u8, PType, InRange, N>(alloc, ptype, &InRange, nulls, list),
+        PType::U16 => numbers::<u16, PType, InRange, N>(alloc, ptype, &InRange, nulls, list),
+        PType::U32 => numbers::<u32, PType, InRange, N>(alloc, ptype, &InRange, nulls, list),
+        PType::U64 => numbers::<u64, PType, InRange, N>(alloc, ptype, &InRange, nulls, list),
+        PType::I8 => numbers::<i8, PType, InRange, N>(alloc, ptype, &InRange, nulls, list),
+        PType::I16 => numbers::<i16, PType, InRange, N>(alloc, ptype, &InRange, nulls, list),
+        PType::I32 => numbers::<i32, PType, InRange, N>(alloc, ptype, &InRange, nulls, list),
+        PType::I64 => numbers::<i64, PType, InRange, N>(alloc, ptype, &InRange, nulls, list),
     }
 }
 

@@ -37,4 +37,4 @@ loop-value-preserved g c =
 pub returns-clause-ok : goal.returns-clause-ok
 returns-clause-ok g c =
     let past = rw c.deref-value-items.ensures.value at c.loop-value-test.false in
-    past_all _ _ _ _ _ _ _ c.loop-value.invariant.read past _ (c.wrap.ensures.held ∙ ap (map g.T.Number.value) c.in_ok-from_vec.ensures)
+    past_all _ _ _ _ _ _ _ c.loop-value.invariant.read past _ (ap (λ v. v.numbers) c.new.ensures ∙ ap (map g.T.Number.value) c.in_ok-from_vec.ensures)
