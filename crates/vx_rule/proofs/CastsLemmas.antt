@@ -1,8 +1,9 @@
 -- What a cast to the child's own type keeps: C1.
-use Rattle.std.proofs.Common.{◌≡◌, ℕ, suc, ◌+◌, ◌-◌, ℤ, pos, negsuc, ◌*ℤ◌, Bool, true, false, List, [], ◌∷◌, length, map, get_or, Option, Some, None}
+use Rattle.std.proofs.Common.{◌≡◌, ℕ, suc, ◌+◌, ◌-◌, ℤ, pos, negsuc, ◌*ℤ◌, Bool, true, false, List, [], ◌∷◌, length, map, get_or, Some, None}
 use Rattle.std.proofs.Common.{refl, sym, ap, subst, ◌∙◌, if◌then◌else◌, arith}
 use Rattle.std.specs.Prelude.{neg_ℤ}
 use Rattle.std.specs.List.{range_with_len}
+use Rattle.std.specs.Cmp.{unsigned_Decides}
 use Rattle.std.specs.Str.{is_utf8}
 use Rattle.std.proofs.Math.Nat.{mul-one, sub_self, le_refl}
 use Rattle.std.proofs.lemmas.Bool.{le-leb}
@@ -25,9 +26,9 @@ use Rattle.vx_tree.specs.Cells.{rows}
 use Rattle.vx_tree.specs.Keeps.{CellKeeps, RowsKeep, Keeps}
 use Rattle.vx_tree.specs.Well.{IsWell}
 use Rattle.vx_tree.proofs.CellsLemmas.{rows_counted}
+use Rattle.vx_tree.proofs.TypedLemmas.{CellFits, AllFit, rows_fit}
 use Rattle.vx_rule.proofs.FunctionsLemmas.{one_argument}
 use Rattle.vx_rule.proofs.PicksLemmas.{slots_long}
-use Rattle.vx_rule.proofs.PointsLemmas.{point_of, HasPoint, HavePoint, rows_point}
 
 -- ---- one cell
 
@@ -51,11 +52,11 @@ decimal_kept p s z r e =
     (subst (λ c. CellKeeps c (value (decimal z r))) (sym (same_scale p r z)) (if_kept (has_digits p z) (decimal z r)))
 
 -- the value that a cast to the type gives, if it gives one: a line for each type
-value_kept : (ty : DataType) (v : Value) → HasPoint (value v) (point_of ty) → CellKeeps (cast_to ty v) (value v)
+value_kept : (ty : DataType) (v : Value) → CellFits ty (value v) → CellKeeps (cast_to ty v) (value v)
 value_kept ty null h = if_kept (is_nullable (nullability_of ty)) null
 value_kept (type.bool n) (boolean b) h = refl
 value_kept (type.primitive p n) (integer z) h = if_kept (in_range p z) (integer z)
-value_kept (type.decimal p s n) (decimal z r) h = decimal_kept p s z r h
+value_kept (type.decimal p s n) (decimal z r) h = decimal_kept p s z r ((unsigned_Decides r s).0 h)
 value_kept (type.decimal p s n) _ h = absurd (cc (h))
 value_kept (type.utf8 n) (bytes bs) h = if_kept (is_utf8 bs) (bytes bs)
 value_kept (type.binary n) (bytes bs) h = refl
@@ -63,13 +64,13 @@ value_kept _ _ h = tt
 
 -- ---- rows
 
-cells_kept : (f : Cell → Cell) (o : Option ℕ) → ((c : Cell) → HasPoint c o → CellKeeps (f c) c) → (s : ℕ) (cs : List Cell) (at : ℕ → Cell) → HavePoint cs o
+cells_kept : (f : Cell → Cell) (ty : DataType) → ((c : Cell) → CellFits ty c → CellKeeps (f c) c) → (s : ℕ) (cs : List Cell) (at : ℕ → Cell) → AllFit ty cs
     → ((i : ℕ) → at (s + i) ≡ get_or cs i fault) → RowsKeep (map (λ i. f (at i)) (range_with_len s (length cs))) cs
-cells_kept f o h s [] at k e = tt
-cells_kept f o h s (c ∷ cs) at k e =
+cells_kept f ty h s [] at k e = tt
+cells_kept f ty h s (c ∷ cs) at k e =
     let here : at s ≡ c = ap at (omega arith) ∙ e 0 in
     let later : (i : ℕ) → at (s + 1 + i) ≡ get_or cs i fault = λ i. ap at (omega arith) ∙ e (suc i) in
-    (subst (λ x. CellKeeps (f x) c) (sym here) (h c k.0), cells_kept f o h (s + 1) cs at k.1 later)
+    (subst (λ x. CellKeeps (f x) c) (sym here) (h c k.0), cells_kept f ty h (s + 1) cs at k.1 later)
 
 pub C1_keeps : (ty : DataType) (n : ℕ) (target : DType) (c : Tree) → IsWell (node ty n (enc.function (fn_of.Cast target)) (slot c no_slots))
     → dtype c ≡ type_of target
@@ -85,8 +86,8 @@ C1_keeps ty n target c w e =
     let long : length (rows c) ≡ n = (slots_long n w.0.0 (slot c no_slots) w.0.1 w.1).0 in
     let at = λ (i : ℕ). get_or (rows c) i fault in
     let call = λ (x : Cell). apply (fn_of.Cast target) ty (x ∷ []) in
-    let point : HavePoint (rows c) (point_of ty) = subst (λ s. HavePoint (rows c) (point_of s)) (sym same) (rows_point c w.1.0) in
-    let kept = cells_kept call (point_of ty) (cell_kept ty) 0 (rows c) at point (λ i. ap at (omega arith)) in
+    let fit : AllFit ty (rows c) = subst (λ s. AllFit s (rows c)) (sym same) (rows_fit c w.1.0) in
+    let kept = cells_kept call ty (cell_kept ty) 0 (rows c) at fit (λ i. ap at (omega arith)) in
     record {
       same_type = same;
       same_len = sym long ∙ rows_counted c w.1.0;
@@ -94,6 +95,6 @@ C1_keeps ty n target c w e =
       still_clean = λ d. d.1.0;
     }
   where
-    cell_kept : (ty : DataType) (x : Cell) → HasPoint x (point_of ty) → CellKeeps (apply (fn_of.Cast target) ty (x ∷ [])) x
+    cell_kept : (ty : DataType) (x : Cell) → CellFits ty x → CellKeeps (apply (fn_of.Cast target) ty (x ∷ [])) x
     cell_kept ty (value v) h = value_kept ty v h
     cell_kept ty fault h = tt

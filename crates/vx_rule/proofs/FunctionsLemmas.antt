@@ -22,7 +22,7 @@ use Rattle.vx_tree.specs.Keeps.{CellKeeps, RowsKeep, Keeps, KeepsExactly}
 use Rattle.vx_tree.specs.Validities.{truths}
 use Rattle.vx_tree.specs.Well.{shape, shapes, IsWell}
 use Rattle.vx_tree.proofs.KeepsLemmas.{exactly_of_rows}
-use Rattle.vx_tree.proofs.TypedLemmas.{CellFits, AllFit, rows_fit}
+use Rattle.vx_tree.proofs.TypedLemmas.{CellFits, fit_at, rows_fit}
 use Rattle.vx_rule.specs.Rules.{constants}
 use Rattle.vx_rule.proofs.PicksLemmas.{rows_are, slots_long}
 
@@ -93,11 +93,6 @@ pub one_argument : (n : ℕ) (tys : List DataType) (c : Tree) → shapes (slot c
 one_argument n [] c e = absurd (cc)
 one_argument n (s ∷ []) c e = let is : shape (dtype c) (len c) ≡ shape s n = cc in let same : dtype c ≡ s = cc in ap (λ x. x ∷ []) (sym same)
 one_argument n (s ∷ r ∷ tys) c e = absurd (cc)
-
-pub fit_at : (ty : DataType) (cs : List Cell) (i : ℕ) → AllFit ty cs → CellFits ty (get_or cs i fault)
-fit_at ty [] i h = tt
-fit_at ty (c ∷ cs) zero h = h.0
-fit_at ty (c ∷ cs) (suc i) h = fit_at ty cs i h.1
 
 -- ---- tests for null
 

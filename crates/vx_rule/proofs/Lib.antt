@@ -1,6 +1,5 @@
 pub mod LighterLemmas
 pub mod PresentLemmas
-pub mod PointsLemmas
 pub mod PicksLemmas
 pub mod RangesLemmas
 pub mod FiltersLemmas

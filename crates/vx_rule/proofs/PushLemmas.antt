@@ -22,7 +22,7 @@ use Rattle.vx_tree.proofs.CostLemmas.{cost_positive, column_cost, masked_cost, m
 use Rattle.vx_tree.proofs.KeepsLemmas.{exactly_refl, exactly_trans, exactly_of_rows, put_exactly}
 use Rattle.vx_canonical.proofs.PartsLemmas.{part_exact}
 use Rattle.vx_tree.proofs.KindsLemmas.{type_in, len_in}
-use Rattle.vx_tree.proofs.SlotsLemmas.{one_shape}
+use Rattle.vx_tree.proofs.SlotsLemmas.{IsBelow, slot_below, one_shape}
 use Rattle.vx_rule.specs.Pushes.{IsPushed, IsConstantLike}
 use Rattle.vx_rule.proofs.PicksLemmas.{IsSecond, masked_slots}
 use Rattle.vx_rule.proofs.RangesLemmas.{S_whole_keeps, S_empty_keeps, S1_keeps, S2_keeps, S4_keeps, S5_keeps}
@@ -96,21 +96,6 @@ module _ (a b : ℕ) (x : Tree) (well : IsWell x) (order : a ≤ b) (bounds : b 
 abbrev pub IsSlotPushed : ℕ → ℕ → Option Tree → Option Tree → Type 0
 IsSlotPushed a b (Some t) (Some u) = IsPushed a b t u
 IsSlotPushed a b _ _ = ⊥
-
--- a slot holds a tree of n rows, lower than h
-abbrev pub IsBelow : ℕ → ℕ → Option Tree → Type 0
-IsBelow n h None = ⊥
-IsBelow n h (Some t) = (len t ≡ n) × (height t < h)
-
-slot_below : (n : ℕ) (xs : List (Option Tree)) (tys : List DataType) (k : ℕ) (d : Option Tree) (h : ℕ) →
-    shapes (slots_of xs) ≡ map (λ s. Some (shape s n)) tys → slots_height (slots_of xs) < h → k < length xs → IsBelow n h (get_or xs k d)
-slot_below n [] tys k d h e l lt = absurd (omega arith)
-slot_below n (None ∷ xs) [] k d h e l lt = absurd (cc)
-slot_below n (None ∷ xs) (ty ∷ tys) k d h e l lt = absurd (cc)
-slot_below n (Some t ∷ xs) [] k d h e l lt = absurd (cc)
-slot_below n (Some t ∷ xs) (ty ∷ tys) zero d h e l lt = let same : len t ≡ n = cc in (same, omega arith)
-slot_below n (Some t ∷ xs) (ty ∷ tys) (suc k) d h e l lt =
-    let rest : shapes (slots_of xs) ≡ map (λ s. Some (shape s n)) tys = cc in slot_below n xs tys k d h rest (omega arith) (omega arith)
 
 module _ (a b : ℕ) where
   slots_shown : (xs ys : List (Option Tree)) → AllZip (IsSlotPushed a b) xs ys → slots_rows (map_slots (slice_of a b) (slots_of xs)) ≡ slots_rows (slots_of ys)

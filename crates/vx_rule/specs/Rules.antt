@@ -1,5 +1,5 @@
 -- The table of rewrite rules, a constructor for each row. A row's name is the one that its users see.
-use Rattle.std.specs.Prelude.{◌≡◌, ℕ, ◌+◌, ◌-◌, ◌<◌, ◌≤◌, List, [], ◌∷◌, Option, Some, None, Bool, true, false, not, ◌||◌}
+use Rattle.std.specs.Prelude.{◌≡◌, ℕ, ◌+◌, ◌-◌, ◌<◌, ◌≤◌, List, [], ◌∷◌, Option, Some, None, Bool, true, false, ◌||◌}
 use Rattle.vx_value.specs.Types.{DataType, nullability_of}
 use Rattle.vx_value.specs.Typed.{Typed}
 use Rattle.vx_value.specs.Cell.{value}
@@ -14,16 +14,16 @@ use Rattle.vx_fn.specs.declared.function.ScalarFnRef.{ScalarFnRef}
 use Rattle.vx_fn.specs.declared.function.ScalarFnRef.TheVariants as fn_of
 use Rattle.vx_fn.specs.declared.functions.between.BetweenOptions.{BetweenOptions}
 use Rattle.vx_tree.specs.Tree as enc
-use Rattle.vx_tree.specs.Tree.{Tree, Data, Slots, node, no_slots, absent, slot, dtype, len, datum, constant_of, slice_of, filter_of, is_filter, is_validity, is_canonical}
+use Rattle.vx_tree.specs.Tree.{Tree, Data, Slots, node, no_slots, absent, slot, dtype, len, datum, constant_of, slice_of, filter_of, is_slice, is_constant, is_function, is_masked, is_canonical}
 use Rattle.vx_tree.specs.Slots.{map_slots, present_from, present_in, IsPresent}
 use Rattle.vx_tree.specs.Parts.{part_of, choice_of, column_range}
 use Rattle.vx_tree.specs.Columns.{empty_of}
 use Rattle.vx_tree.specs.Validities.{truths}
 use Rattle.vx_tree.specs.NodeValidities.{both_of}
 
--- a slice passes through every encoding but filters and tests for null
+-- the encodings that a slice passes through
 abbrev pub lets_slice : Data → Bool
-lets_slice d = not (is_filter d || is_validity d)
+lets_slice d = is_canonical d || is_slice d || is_constant d || is_function d || is_masked d
 
 -- a range of k rows that has a row, but not all
 pub record IsPart (a b k : ℕ) : Type 0 where

@@ -13,12 +13,12 @@ use crate::nodes::{
 use std::alloc::Global;
 use std::ops::Range;
 use vx_array::{IntoArray, SliceArray, slice_validity};
-use vx_tree::{ArrayKind, ArrayRef};
+use vx_tree::{AnyCanonical, ArrayKind, ArrayRef};
 use vx_value::VortexResult;
 
 /// Returns the rows of `array` in `range`, which must be in order and in bounds, with the slice pushed down as far as the rows S1 to S5
-/// reach: all rows are the tree itself, none is the empty column, and a filter or a test for null is sliced lazily. No buffer of values
-/// is copied. The only lazy slices that it adds stand above filters and tests for null, and in the slots of validities, whose rows are
+/// reach: all rows are the tree itself, none is the empty column, and a node that no row reaches, such as a filter, is sliced lazily. No
+/// buffer of values is copied. The only lazy slices that it adds stand above such nodes, and in the slots of validities, whose rows are
 /// sliced lazily unless they are constant. The only error is `OutOfMemory`. (own)
 pub fn push_slice(alloc: Global, array: &ArrayRef, range: Range<usize>) -> VortexResult<ArrayRef>
     requires { (range.start ≤ range.end) × (range.end ≤ len array.now) }
@@ -53,8 +53,8 @@ fn push(alloc: Global, array: &ArrayRef, range: Range<usize>) -> VortexResult<Ar
             Ok(part) => masked_part(alloc, array, child, validity, part, range),
             Err(e) => Err(e),
         },
-        ArrayKind::Filter(_, _) | ArrayKind::ScalarFnValidity(_) => lazily(alloc, array, range),
-        _ => column_slice(alloc, array, range),
+        _ if array.is::<AnyCanonical>() => column_slice(alloc, array, range),
+        _ => lazily(alloc, array, range),
     }
 }
 

@@ -51,7 +51,7 @@ module _ (n : Node) (well : IsNodeOf (tree_of n)) where
       λ j. node (h.0 j) n.len (e j) (slots_of (i j))
 
   -- a node with one child, of type s and m rows
-  child_is : (s : DataType) (m : ℕ) (z : Option Tree) (c : Tree) → shapes (slots_of n.slots.items) ≡ Some (shape s m) ∷ [] → z ≡ get_or n.slots.items 0 z → z ≡ Some c
+  pub child_is : (s : DataType) (m : ℕ) (z : Option Tree) (c : Tree) → shapes (slots_of n.slots.items) ≡ Some (shape s m) ∷ [] → z ≡ get_or n.slots.items 0 z → z ≡ Some c
       → (n.slots.items ≡ Some c ∷ []) × (dtype c ≡ s) × (len c ≡ m)
   child_is s m z c h g e =
       let o = one_slot n.slots.items s m h in

@@ -1,8 +1,8 @@
 -- Slots as a list and as a tree has them: taking one out, filling it, and what a node's conditions say of them.
-use Rattle.std.proofs.Common.{◌≡◌, ◌≢◌, ◌⊎◌, inl, inr, ℕ, zero, suc, ◌<◌, List, [], ◌∷◌, ◌++◌, length, get_or, set, Option, Some, None, IfSome, refl, sym, ap, arith, subst, ◌∙◌}
+use Rattle.std.proofs.Common.{◌≡◌, ◌≢◌, ◌⊎◌, inl, inr, ℕ, zero, suc, ◌<◌, List, [], ◌∷◌, ◌++◌, length, map, get_or, set, Option, Some, None, IfSome, refl, sym, ap, arith, subst, ◌∙◌}
 use Rattle.std.specs.Prelude.{option_map}
 use Rattle.vx_value.specs.Types.{DataType}
-use Rattle.vx_tree.specs.Tree.{Tree, Data, Slots, node, no_slots, absent, slot, slots_of, dtype, len}
+use Rattle.vx_tree.specs.Tree.{Tree, Data, Slots, node, no_slots, absent, slot, slots_of, dtype, len, height, slots_height}
 use Rattle.vx_tree.specs.Well.{Shape, shape, shape_of, shapes, AreWell, IsWell, IsNode, IsNodeOf}
 use Rattle.vx_tree.specs.Slots.{set_slot, put, IsAbsentAt, IsHole, IsPresentAt, IsPresent, HoldsAt, HasSlot}
 
@@ -228,3 +228,18 @@ pub count_slots : (xs : List (Option Tree)) → length (shapes (slots_of xs)) �
 count_slots [] = refl
 count_slots (None ∷ xs) = ap suc (count_slots xs)
 count_slots (Some t ∷ xs) = ap suc (count_slots xs)
+
+-- a slot holds a tree of n rows, lower than h
+abbrev pub IsBelow : ℕ → ℕ → Option Tree → Type 0
+IsBelow n h None = ⊥
+IsBelow n h (Some t) = (len t ≡ n) × (height t < h)
+
+pub slot_below : (n : ℕ) (xs : List (Option Tree)) (tys : List DataType) (k : ℕ) (d : Option Tree) (h : ℕ) →
+    shapes (slots_of xs) ≡ map (λ s. Some (shape s n)) tys → slots_height (slots_of xs) < h → k < length xs → IsBelow n h (get_or xs k d)
+slot_below n [] tys k d h e l lt = absurd (omega arith)
+slot_below n (None ∷ xs) [] k d h e l lt = absurd (cc)
+slot_below n (None ∷ xs) (ty ∷ tys) k d h e l lt = absurd (cc)
+slot_below n (Some t ∷ xs) [] k d h e l lt = absurd (cc)
+slot_below n (Some t ∷ xs) (ty ∷ tys) zero d h e l lt = let same : len t ≡ n = cc in (same, omega arith)
+slot_below n (Some t ∷ xs) (ty ∷ tys) (suc k) d h e l lt =
+    let rest : shapes (slots_of xs) ≡ map (λ s. Some (shape s n)) tys = cc in slot_below n xs tys k d h rest (omega arith) (omega arith)

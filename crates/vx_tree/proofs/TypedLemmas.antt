@@ -1,58 +1,72 @@
--- What the cells of a well-formed tree are: none is null unless its type is nullable, and those of booleans are booleans.
-use Rattle.std.proofs.Common.{◌≡◌, ℕ, zero, suc, ℤ, List, [], ◌∷◌, map, replicate, take, drop, get_or, Bool, true, false, Option, Some, None}
+-- What the cells of a well-formed tree are: null only if its type is nullable, and else values of the kind that the type stores.
+use Rattle.std.proofs.Common.{◌≡◌, ℕ, zero, suc, ℤ, List, [], ◌∷◌, length, map, get_or, Bool, true, false, Option, Some, None}
 use Rattle.std.proofs.Common.{refl, sym, ap, subst, ◌∙◌, if◌then◌else◌}
-use Rattle.std.specs.List.{range_with_len}
+use Rattle.std.specs.Prelude.{◌==◌, ◌&&◌}
+use Rattle.std.proofs.Math.Bool.{not}
+use Rattle.std.specs.Cmp.{unsigned_Decides, first_so}
+use Rattle.std.specs.List.{All, AllByRecursion, AllZip, range_with_len}
+use Rattle.std.proofs.lemmas.List.Elements.{All-nil, All-cons, All-head, All-tail, All-take, All-drop, All-replicate, All-map, All-weaker}
+use Rattle.std.proofs.lemmas.List.Elements.{recursion_from_All}
 use Rattle.vx_value.specs.Types as type
 use Rattle.vx_value.specs.Types.{DataType, nullability_of, is_nullable}
-use Rattle.vx_value.specs.Nullabilities.{with_nullability, union, same_but_nullability, same_but_nullability_Decides}
+use Rattle.vx_value.specs.Nullabilities.{with_nullability, union, same_but_nullability}
 use Rattle.vx_value.specs.Values.{Value, null, boolean, integer, decimal, bytes}
-use Rattle.vx_value.specs.IsOf.{is_of, in_range}
+use Rattle.vx_value.specs.IsOf.{is_of, in_range, is_null}
+use Rattle.vx_value.specs.Storage.{storage_of}
 use Rattle.vx_value.specs.Casts.{sized, cast_to, into}
 use Rattle.vx_value.specs.Decimals.{has_digits}
 use Rattle.vx_value.specs.Cell.{Cell, value, fault}
 use Rattle.vx_value.specs.Parts.{boolean_in}
+use Rattle.vx_value.specs.View.{type_of}
 use Rattle.vx_value.specs.declared.dtype.Nullability.{Nullability}
 use Rattle.vx_value.specs.declared.dtype.Nullability.TheVariants.{NonNullable, Nullable}
+use Rattle.vx_value.specs.declared.dtype.Storage.{Storage}
+use Rattle.vx_value.specs.declared.dtype.Storage.TheVariants.{Bits, Integers, Decimals, Text, Bytes}
 use Rattle.vx_value.proofs.CastsLemmas.{into_typed}
-use Rattle.vx_value.proofs.NullabilitiesLemmas.{union_first, union_second}
+use Rattle.vx_value.proofs.NullabilitiesLemmas.{union_first, union_second, set_alike, alike_but_nullability}
 use Rattle.vx_mask.specs.Places.{chosen}
 use Rattle.vx_fn.specs.Apply.{apply, on_values, value_of}
 use Rattle.vx_fn.specs.Arithmetic.{number, calculated_by}
-use Rattle.vx_fn.specs.Between.{between_type, lies_between}
-use Rattle.vx_fn.specs.Binary.{binary, logical_type, decided, operated}
+use Rattle.vx_fn.specs.Arity.{of_one, of_two, of_three}
+use Rattle.vx_fn.specs.Between.{between, between_type, lies_between}
+use Rattle.vx_fn.specs.Binary.{binary, binary_type, logical_type, null_rule, is_logical, decided, operated}
+use Rattle.vx_fn.specs.Cast.{cast_type}
+use Rattle.vx_fn.specs.Comparisons.{is_ordered, ordered_type}
 use Rattle.vx_fn.specs.FillNull.{fill_type, filled}
+use Rattle.vx_fn.specs.IsNull.{test_type}
 use Rattle.vx_fn.specs.Logic.{kleene_and, kleene_or, truth}
 use Rattle.vx_fn.specs.Mask.{mask_type, masked}
-use Rattle.vx_fn.specs.Meanings.{widen, widened, null_through}
+use Rattle.vx_fn.specs.Meanings.{widen, widened, null_through, kept}
 use Rattle.vx_fn.specs.Negation.{not_type, negated}
 use Rattle.vx_fn.specs.ReturnTypes.{return_type}
-use Rattle.vx_fn.specs.Zip.{chosen_type, zip_type, zipped}
+use Rattle.vx_fn.specs.Zip.{zip_type, zipped}
 use Rattle.vx_fn.specs.declared.function.Operator.{Operator}
 use Rattle.vx_fn.specs.declared.function.Operator.TheVariants as operator
 use Rattle.vx_fn.specs.declared.function.ScalarFnRef.{ScalarFnRef}
 use Rattle.vx_fn.specs.declared.function.ScalarFnRef.TheVariants as function
+use Rattle.vx_fn.specs.declared.functions.between.BetweenOptions.{BetweenOptions}
 use Rattle.vx_fn.proofs.BinaryLemmas.{null_first, null_second}
 use Rattle.vx_fn.proofs.LogicLemmas.{Knows, and_knows, or_knows}
-use Rattle.vx_fn.proofs.MeaningsLemmas.{nullable_by_argument, nullable_before}
-use Rattle.vx_value.specs.Storage.{storage_of}
-use Rattle.vx_value.specs.declared.dtype.Storage.{Storage}
-use Rattle.vx_value.specs.declared.dtype.Storage.TheVariants.{Decimals, Text}
+use Rattle.vx_fn.proofs.MeaningsLemmas.{nullable_by_argument}
 use Rattle.vx_tree.specs.ColumnTypes.{decimal_type, scale_of, bytes_type}
 use Rattle.vx_tree.specs.Tree as enc
-use Rattle.vx_tree.specs.Tree.{Tree, Data, Slots, node, no_slots, absent, slot, dtype}
+use Rattle.vx_tree.specs.Tree.{Tree, Data, Slots, node, no_slots, absent, slot, dtype, IsMasked}
 use Rattle.vx_tree.specs.Cells.{rows, slots_rows, node_cells, cells_at, row_at, valid_cell, valid_cells, shown_cell}
-use Rattle.vx_tree.specs.Well.{Shape, shape, shapes, IsValidity, IsNode, IsWell, AreWell}
+use Rattle.vx_tree.specs.Well.{Shape, shape, shapes, IsValidity, IsFlat, IsNode, IsWell, AreWell}
 
--- not a type of booleans
-abbrev is_other : DataType → Bool
-is_other (type.bool m) = false
-is_other _ = true
+-- of the kind that is stored, however large: a line for each storage
+abbrev is_kind : Value → Storage → Bool
+is_kind (boolean b) Bits = true
+is_kind (integer z) (Integers p) = true
+is_kind (decimal z r) (Decimals p s) = r == s
+is_kind (bytes bs) Text = true
+is_kind (bytes bs) Bytes = true
+is_kind _ _ = false
 
--- null as far as the type is nullable, and a boolean or null if it is one of booleans
+-- null if the type is nullable, or a value of the type's kind
 abbrev fits : Value → DataType → Bool
 fits null ty = is_nullable (nullability_of ty)
-fits (boolean b) ty = true
-fits _ ty = is_other ty
+fits v ty = is_kind v (storage_of ty)
 
 -- a fault fits every type
 abbrev pub CellFits : DataType → Cell → Type 0
@@ -60,364 +74,357 @@ CellFits ty (value v) = fits v ty ≡ true
 CellFits ty fault = Unit {0}
 
 abbrev pub AllFit : DataType → List Cell → Type 0
-AllFit ty [] = Unit {0}
-AllFit ty (c ∷ cs) = CellFits ty c × AllFit ty cs
-
--- one of each type
-abbrev ValuesFit : List DataType → List Value → Type 0
-ValuesFit [] [] = Unit {0}
-ValuesFit [] (v ∷ vs) = ⊥
-ValuesFit (s ∷ tys) [] = ⊥
-ValuesFit (s ∷ tys) (v ∷ vs) = (fits v s ≡ true) × ValuesFit tys vs
-
-abbrev RowFits : List DataType → List Cell → Type 0
-RowFits [] [] = Unit {0}
-RowFits [] (c ∷ cs) = ⊥
-RowFits (s ∷ tys) [] = ⊥
-RowFits (s ∷ tys) (c ∷ cs) = CellFits s c × RowFits tys cs
-
--- ---- another type
-
-other_kept : (m : Nullability) (t : DataType) → is_other (with_nullability m t) ≡ is_other t
-other_kept m (type.bool n) = refl
-other_kept m _ = refl
-
-same_other : (s t : DataType) → same_but_nullability s t ≡ true → is_other s ≡ is_other t
-same_other s t h = sym (other_kept NonNullable s) ∙ ap is_other ((same_but_nullability_Decides s t).0 h) ∙ other_kept NonNullable t
-
-set_nullable : (m : Nullability) (s : DataType) → is_nullable m ≡ true → is_nullable (nullability_of (with_nullability m s)) ≡ true
-set_nullable m type.null h = refl
-set_nullable m _ h = h
-
-fits_as : (v : Value) (s t : DataType) → (is_nullable (nullability_of s) ≡ true → is_nullable (nullability_of t) ≡ true) → is_other s ≡ is_other t
-    → fits v s ≡ true → fits v t ≡ true
-fits_as null s t nulls other h = nulls h
-fits_as (boolean b) s t nulls other h = refl
-fits_as _ s t nulls other h = sym other ∙ h
-
-cell_as : (c : Cell) (s t : DataType) → (is_nullable (nullability_of s) ≡ true → is_nullable (nullability_of t) ≡ true) → is_other s ≡ is_other t
-    → CellFits s c → CellFits t c
-cell_as (value v) s t nulls other h = fits_as v s t nulls other h
-cell_as fault s t nulls other h = tt
-
-all_as : (cs : List Cell) (s t : DataType) → (is_nullable (nullability_of s) ≡ true → is_nullable (nullability_of t) ≡ true) → is_other s ≡ is_other t
-    → AllFit s cs → AllFit t cs
-all_as [] s t nulls other h = tt
-all_as (c ∷ cs) s t nulls other h = (cell_as c s t nulls other h.0, all_as cs s t nulls other h.1)
-
-nullable_as : (v : Value) (s : DataType) → fits v s ≡ true → fits v (with_nullability Nullable s) ≡ true
-nullable_as v s h = fits_as v s (with_nullability Nullable s) (λ n. set_nullable Nullable s refl) (sym (other_kept Nullable s)) h
-
--- ---- what a null argument makes of a result
-
-passed_fits : (v : Value) (c : Cell) (ty : DataType) → (v ≡ null → is_nullable (nullability_of ty) ≡ true) → CellFits ty c → CellFits ty (null_through v c)
-passed_fits null c ty n h = n refl
-passed_fits _ c ty n h = h
-
-widened_fits : (s : DataType) (o : Option DataType) (ty : DataType) (c : Cell) → widened s o ≡ Some ty → ((r : DataType) → o ≡ Some r → CellFits r c) → CellFits ty c
-widened_fits s None ty c e k = absurd (cc)
-widened_fits s (Some r) ty c e k =
-    let is : widen s r ≡ ty = cc in
-    cell_as c r ty (λ n. nullable_before s r ty n e) (sym (other_kept (union (nullability_of s) (nullability_of r)) r) ∙ ap is_other is) (k r refl)
-
-through_fits : (s : DataType) (o : Option DataType) (ty : DataType) (v : Value) (c : Cell) → fits v s ≡ true → widened s o ≡ Some ty
-    → ((r : DataType) → o ≡ Some r → CellFits r c) → CellFits ty (null_through v c)
-through_fits s o ty v c h e k =
-    passed_fits v c ty (λ is. nullable_by_argument s o ty (subst (λ x. fits x s ≡ true) is h) e) (widened_fits s o ty c e k)
-
--- ---- operators
-
-if_fits : (b : Bool) (ty : DataType) (c : Cell) → CellFits ty c → CellFits ty (if b then fault else c)
-if_fits true ty c h = tt
-if_fits false ty c h = h
-
-unless_fits : (b : Bool) (ty : DataType) (c : Cell) → CellFits ty c → CellFits ty (if b then c else fault)
-unless_fits true ty c h = h
-unless_fits false ty c h = tt
-
-calculated_fits : (op : Operator) (ty : DataType) (fit : ℤ → Cell) (x y : ℤ) → ((z : ℤ) → CellFits ty (fit z)) → CellFits ty (calculated_by op fit x y)
-calculated_fits operator.Add ty fit x y h = h _
-calculated_fits operator.Sub ty fit x y h = h _
-calculated_fits operator.Mul ty fit x y h = h _
-calculated_fits operator.Div ty fit x y h = if_fits _ ty _ (h _)
-calculated_fits _ ty fit x y h = tt
-
-operated_fits : (op : Operator) (ty : DataType) (v w : Value) → ((m : Nullability) → ty ≡ type.bool m → CellFits ty (decided op v w)) → CellFits ty (operated op ty v w)
-operated_fits op (type.bool m) v w h = h m refl
-operated_fits op (type.primitive p m) (integer x) (integer y) h =
-    calculated_fits op (type.primitive p m) (number p) x y (λ z. unless_fits (in_range p z) (type.primitive p m) (value (integer z)) refl)
-operated_fits op (type.primitive p m) (integer x) _ h = tt
-operated_fits op (type.primitive p m) _ w h = tt
-operated_fits op (type.decimal p s m) (decimal x q) (decimal y r) h =
-    calculated_fits op (type.decimal p s m) (sized p s) x y (λ z. unless_fits (has_digits p z) (type.decimal p s m) (value (decimal z s)) refl)
-operated_fits op (type.decimal p s m) (decimal x q) _ h = tt
-operated_fits op (type.decimal p s m) _ w h = tt
-operated_fits op _ v w h = tt
-
--- logic takes booleans alone
-logical_bools : (s t ty : DataType) → widened s (widened t (if same_but_nullability s t then logical_type s else None)) ≡ Some ty
-    → (is_other s ≡ false) × (is_other t ≡ false)
-logical_bools s t ty e = by_same (same_but_nullability s t) refl e
-  where
-    by_type : (s : DataType) → widened s (widened t (logical_type s)) ≡ Some ty → is_other s ≡ false
-    by_type (type.bool m) e = refl
-    by_type _ e = absurd (cc)
-
-    by_same : (b : Bool) → same_but_nullability s t ≡ b → widened s (widened t (if b then logical_type s else None)) ≡ Some ty
-        → (is_other s ≡ false) × (is_other t ≡ false)
-    by_same false same e = absurd (cc)
-    by_same true same e = let first = by_type s e in (first, sym (same_other s t same) ∙ first)
-
-truth_fits : (o : Option Bool) (ty : DataType) → is_nullable (nullability_of ty) ≡ true → fits (truth o) ty ≡ true
-truth_fits (Some b) ty h = refl
-truth_fits None ty h = h
-
-joined_fits : (join : Option Bool → Option Bool → Option Bool) → Knows join → (s t ty : DataType) (v w : Value) → fits v s ≡ true → fits w t ≡ true
-    → (binary operator.And).types (s ∷ t ∷ []) ≡ Some ty → fits (truth (join (boolean_in v) (boolean_in w))) ty ≡ true
-joined_fits join knows s t ty null w h k e = truth_fits _ ty (null_first operator.And s t ty h e)
-joined_fits join knows s t ty (boolean p) null h k e = truth_fits _ ty (null_second operator.And s t ty k e)
-joined_fits join knows s t ty (boolean p) (boolean q) h k e = ap (λ o. fits (truth o) ty) (knows p q).1
-joined_fits join knows s t ty (boolean p) _ h k e = let no = sym (logical_bools s t ty e).1 ∙ k in absurd (cc)
-joined_fits join knows s t ty _ w h k e = let no = sym (logical_bools s t ty e).0 ∙ h in absurd (cc)
-
-binary_fits : (op : Operator) (s t ty : DataType) (v w : Value) → fits v s ≡ true → fits w t ≡ true → (binary op).types (s ∷ t ∷ []) ≡ Some ty
-    → CellFits ty ((binary op).value ty (v ∷ w ∷ []))
-binary_fits operator.And s t ty v w h k e = operated_fits operator.And ty v w (λ m is. joined_fits kleene_and and_knows s t ty v w h k e)
-binary_fits operator.Or s t ty v w h k e = operated_fits operator.Or ty v w (λ m is. joined_fits kleene_or or_knows s t ty v w h k e)
-binary_fits op s t ty v w h k e =
-    passed_fits v _ ty (λ is. null_first op s t ty (subst (λ x. fits x s ≡ true) is h) e)
-    (passed_fits w _ ty (λ is. null_second op s t ty (subst (λ x. fits x t ≡ true) is k) e) (operated_fits op ty v w (λ m is. refl)))
-
--- ---- the other functions
-
-negated_fits : (v : Value) (ty : DataType) → CellFits ty (negated v)
-negated_fits (boolean b) ty = refl
-negated_fits _ ty = tt
-
-mask_fits : (s t ty : DataType) (v w : Value) → fits v s ≡ true → mask_type s t ≡ Some ty → CellFits ty (masked v w)
-mask_fits s (type.bool NonNullable) ty v w h e = let is : with_nullability Nullable s ≡ ty = cc in subst (λ x. CellFits x (masked v w)) is (by_mask w)
-  where
-    by_mask : (w : Value) → CellFits (with_nullability Nullable s) (masked v w)
-    by_mask (boolean true) = nullable_as v s h
-    by_mask (boolean false) = set_nullable Nullable s refl
-    by_mask _ = set_nullable Nullable s refl
-mask_fits s (type.bool Nullable) ty v w h e = absurd (cc)
-mask_fits s _ ty v w h e = absurd (cc)
-
-chosen_fits : (s t ty : DataType) → chosen_type s t ≡ Some ty → ((v : Value) → fits v s ≡ true → fits v ty ≡ true) × ((v : Value) → fits v t ≡ true → fits v ty ≡ true)
-chosen_fits s t ty e = by_same (same_but_nullability s t) refl e
-  where
-    m : Nullability
-    m = union (nullability_of s) (nullability_of t)
-
-    by_same : (b : Bool) → same_but_nullability s t ≡ b → (if b then Some (with_nullability m s) else None) ≡ Some ty
-        → ((v : Value) → fits v s ≡ true → fits v ty ≡ true) × ((v : Value) → fits v t ≡ true → fits v ty ≡ true)
-    by_same false same e = absurd (cc)
-    by_same true same e =
-        let is : with_nullability m s ≡ ty = cc in
-        let other : is_other s ≡ is_other ty = sym (other_kept m s) ∙ ap is_other is in
-        let nulls : is_nullable m ≡ true → is_nullable (nullability_of ty) ≡ true =
-        λ n. subst (λ x. is_nullable (nullability_of x) ≡ true) is (set_nullable m s n) in (
-          (λ v h. fits_as v s ty (λ n. nulls (ap is_nullable (union_first (nullability_of s) (nullability_of t) n))) other h),
-          (λ v h. fits_as v t ty (λ n. nulls (ap is_nullable (union_second (nullability_of s) (nullability_of t) n))) (sym (same_other s t same) ∙ other) h),
-        )
-
-zip_fits : (s t u ty : DataType) (v w x : Value) → fits v s ≡ true → fits w t ≡ true → zip_type s t u ≡ Some ty → CellFits ty (zipped v w x)
-zip_fits s t (type.bool m) ty v w x h k e = by_mask x
-  where
-    by_mask : (x : Value) → CellFits ty (zipped v w x)
-    by_mask (boolean true) = (chosen_fits s t ty e).0 v h
-    by_mask (boolean false) = (chosen_fits s t ty e).1 w k
-    by_mask _ = (chosen_fits s t ty e).1 w k
-zip_fits s t _ ty v w x h k e = absurd (cc)
-
-fill_fits : (s t ty : DataType) (v w : Value) → fits v s ≡ true → fits w t ≡ true → fill_type s t ≡ Some ty → CellFits ty (filled v w)
-fill_fits s t ty v w h k e = by_same (same_but_nullability s t) refl e
-  where
-    by_value : (v : Value) → fits v s ≡ true → is_other s ≡ is_other t → CellFits t (filled v w)
-    by_value null h other = k
-    by_value (boolean b) h other = refl
-    by_value _ h other = sym other ∙ h
-
-    by_same : (b : Bool) → same_but_nullability s t ≡ b → (if b then Some t else None) ≡ Some ty → CellFits ty (filled v w)
-    by_same false same e = absurd (cc)
-    by_same true same e = let is : t ≡ ty = cc in subst (λ x. CellFits x (filled v w)) is (by_value v h (same_other s t same))
-
-constant_fits : (v : Value) (ty : DataType) → is_of ty v ≡ true → fits v ty ≡ true
-constant_fits null ty h = h
-constant_fits (boolean b) ty h = refl
-constant_fits (integer z) (type.bool m) h = absurd (cc)
-constant_fits (decimal z r) (type.bool m) h = absurd (cc)
-constant_fits _ (type.bool m) h = absurd (cc)
-constant_fits _ _ h = refl
-
--- what a cast gives is of its target
-cast_fits : (ty : DataType) (v : Value) → CellFits ty (cast_to ty v)
-cast_fits ty null = by_nullability (is_nullable (nullability_of ty)) refl
-  where
-    by_nullability : (b : Bool) → is_nullable (nullability_of ty) ≡ b → CellFits ty (if b then value null else fault)
-    by_nullability true h = h
-    by_nullability false h = tt
-cast_fits ty _ = by_cell _ _ refl
-  where
-    by_cell : (v : Value) (c : Cell) → into ty v ≡ c → CellFits ty c
-    by_cell v (value w) h = constant_fits w ty (into_typed ty v w h)
-    by_cell v fault h = tt
-
--- a line for each function
-values_fit : (f : ScalarFnRef) (tys : List DataType) (ty : DataType) (vs : List Value) → return_type f tys ≡ Some ty → ValuesFit tys vs
-    → CellFits ty (value_of f ty vs)
-values_fit (function.Binary op) (s ∷ t ∷ []) ty (v ∷ w ∷ []) e h = binary_fits op s t ty v w h.0 h.1.0 e
-values_fit (function.Binary op) (s ∷ t ∷ []) ty _ e h = tt
-values_fit (function.Binary op) _ ty vs e h = absurd (cc)
-values_fit (function.Between options) (s ∷ t ∷ u ∷ []) ty (v ∷ w ∷ x ∷ []) e h =
-    through_fits s (widened t (widened u (between_type s t u))) ty v _ h.0 e
-    (λ r same. through_fits t (widened u (between_type s t u)) r w _ h.1.0 same
-    (λ q again. through_fits u (between_type s t u) q x (lies_between options v w x) h.1.1.0 again (λ p last. refl)))
-values_fit (function.Between options) (s ∷ t ∷ u ∷ []) ty _ e h = tt
-values_fit (function.Between options) _ ty vs e h = absurd (cc)
-values_fit function.Not (s ∷ []) ty (v ∷ []) e h = through_fits s (not_type s) ty v (negated v) h.0 e (λ r same. negated_fits v r)
-values_fit function.Not (s ∷ []) ty _ e h = tt
-values_fit function.Not _ ty vs e h = absurd (cc)
-values_fit function.Mask (s ∷ t ∷ []) ty (v ∷ w ∷ []) e h = mask_fits s t ty v w h.0 e
-values_fit function.Mask (s ∷ t ∷ []) ty _ e h = tt
-values_fit function.Mask _ ty vs e h = absurd (cc)
-values_fit function.Zip (s ∷ t ∷ u ∷ []) ty (v ∷ w ∷ x ∷ []) e h = zip_fits s t u ty v w x h.0 h.1.0 e
-values_fit function.Zip (s ∷ t ∷ u ∷ []) ty _ e h = tt
-values_fit function.Zip _ ty vs e h = absurd (cc)
-values_fit function.FillNull (s ∷ t ∷ []) ty (v ∷ w ∷ []) e h = fill_fits s t ty v w h.0 h.1.0 e
-values_fit function.FillNull (s ∷ t ∷ []) ty _ e h = tt
-values_fit function.FillNull _ ty vs e h = absurd (cc)
-values_fit function.IsNull tys ty (v ∷ []) e h = refl
-values_fit function.IsNull tys ty _ e h = tt
-values_fit function.IsNotNull tys ty (v ∷ []) e h = refl
-values_fit function.IsNotNull tys ty _ e h = tt
-values_fit (function.Cast target) tys ty (v ∷ []) e h = cast_fits ty v
-values_fit (function.Cast target) tys ty _ e h = tt
-
-row_values_fit : (ty : DataType) (g : List Value → Cell) (tys : List DataType) (cs : List Cell) → RowFits tys cs
-    → ((vs : List Value) → ValuesFit tys vs → CellFits ty (g vs)) → CellFits ty (on_values g cs)
-row_values_fit ty g [] [] rows k = k [] tt
-row_values_fit ty g [] (c ∷ cs) rows k = absurd rows
-row_values_fit ty g (s ∷ tys) [] rows k = absurd rows
-row_values_fit ty g (s ∷ tys) (value v ∷ cs) rows k = row_values_fit ty (λ vs. g (v ∷ vs)) tys cs rows.1 (λ vs h. k (v ∷ vs) (rows.0, h))
-row_values_fit ty g (s ∷ tys) (fault ∷ cs) rows k = tt
-
--- ---- the cells of a node
-
--- of each slot that holds a tree, cells that fit its type; of one that doesn't, none
-abbrev SlotsFit : List (List Cell) → List (Option Shape) → Type 0
-SlotsFit [] [] = Unit {0}
-SlotsFit [] (s ∷ ss) = ⊥
-SlotsFit (cs ∷ css) [] = ⊥
-SlotsFit (cs ∷ css) (None ∷ ss) = (cs ≡ []) × SlotsFit css ss
-SlotsFit (cs ∷ css) (Some (shape ty n) ∷ ss) = AllFit ty cs × SlotsFit css ss
-
-first_fits : (css : List (List Cell)) (ty : DataType) (n : ℕ) (ss : List (Option Shape)) → SlotsFit css (Some (shape ty n) ∷ ss) → AllFit ty (cells_at css 0)
-first_fits [] ty n ss h = absurd h
-first_fits (cs ∷ css) ty n ss h = h.0
-
-copies_fit : (n : ℕ) (ty : DataType) (c : Cell) → CellFits ty c → AllFit ty (replicate n c)
-copies_fit zero ty c h = tt
-copies_fit (suc n) ty c h = (h, copies_fit n ty c h)
-
-map_fits : {X : Type 0} (f : X → Cell) (xs : List X) (ty : DataType) → ((x : X) → CellFits ty (f x)) → AllFit ty (map f xs)
-map_fits f [] ty h = tt
-map_fits f (x ∷ xs) ty h = (h x, map_fits f xs ty h)
-
-drop_fits : (k : ℕ) (cs : List Cell) (ty : DataType) → AllFit ty cs → AllFit ty (drop k cs)
-drop_fits zero cs ty h = h
-drop_fits (suc k) [] ty h = tt
-drop_fits (suc k) (c ∷ cs) ty h = drop_fits k cs ty h.1
-
-take_fits : (k : ℕ) (cs : List Cell) (ty : DataType) → AllFit ty cs → AllFit ty (take k cs)
-take_fits zero cs ty h = tt
-take_fits (suc k) [] ty h = tt
-take_fits (suc k) (c ∷ cs) ty h = (h.0, take_fits k cs ty h.1)
-
-kept_fit : (bits : List Bool) (cs : List Cell) (ty : DataType) → AllFit ty cs → AllFit ty (chosen bits cs)
-unfolding chosen
-kept_fit [] cs ty h = tt
-kept_fit (b ∷ bits) [] ty h = tt
-kept_fit (true ∷ bits) (c ∷ cs) ty h = (h.0, kept_fit bits cs ty h.1)
-kept_fit (false ∷ bits) (c ∷ cs) ty h = kept_fit bits cs ty h.1
-
-shown_fits : (ty : DataType) (c : Cell) → CellFits ty (shown_cell c)
-shown_fits ty (value null) = refl
-shown_fits ty (value _) = refl
-shown_fits ty fault = tt
-
-valid_cell_fits : (v c : Cell) (ty : DataType) → is_nullable (nullability_of ty) ≡ true → CellFits ty c → CellFits ty (valid_cell v c)
-valid_cell_fits (value (boolean true)) c ty n h = h
-valid_cell_fits (value (boolean false)) (value x) ty n h = n
-valid_cell_fits (value (boolean false)) fault ty n h = tt
-valid_cell_fits _ c ty n h = tt
-
-valid_fit : (vs cs : List Cell) (ty : DataType) → is_nullable (nullability_of ty) ≡ true → AllFit ty cs → AllFit ty (valid_cells vs cs)
-valid_fit [] cs ty n h = h
-valid_fit (v ∷ vs) [] ty n h = tt
-valid_fit (v ∷ vs) (c ∷ cs) ty n h = (valid_cell_fits v c ty n h.0, valid_fit vs cs ty n h.1)
-
--- the values of a column, by its validity
-column_fits : (ty : DataType) (m : Nullability) (n : ℕ) (v : Option Shape) (css : List (List Cell)) (cs : List Cell) → nullability_of ty ≡ m → IsValidity m n v
-    → SlotsFit css (v ∷ []) → AllFit ty cs → AllFit ty (valid_cells (cells_at css 0) cs)
-column_fits ty m n v [] cs is h k all = all
-column_fits ty m n None (vs ∷ css) cs is h k all = subst (λ l. AllFit ty (valid_cells l cs)) (sym k.0) all
-column_fits ty NonNullable n (Some s) (vs ∷ css) cs is h k all = absurd h
-column_fits ty Nullable n (Some s) (vs ∷ css) cs is h k all = valid_fit vs cs ty (ap is_nullable is) all
+AllFit ty = AllByRecursion (CellFits ty)
 
 pub fit_at : (ty : DataType) (cs : List Cell) (i : ℕ) → AllFit ty cs → CellFits ty (get_or cs i fault)
 fit_at ty [] i h = tt
 fit_at ty (c ∷ cs) zero h = h.0
 fit_at ty (c ∷ cs) (suc i) h = fit_at ty cs i h.1
 
-row_fits : (css : List (List Cell)) (tys : List DataType) (n i : ℕ) → SlotsFit css (map (λ s. Some (shape s n)) tys) → RowFits tys (row_at css i)
+-- a value of the type
+typed_fits : (v : Value) (ty : DataType) → is_of ty v ≡ true → fits v ty ≡ true
+typed_fits null ty h = h
+typed_fits (boolean b) (type.bool m) h = refl
+typed_fits (integer z) (type.primitive p m) h = refl
+typed_fits (decimal z r) (type.decimal p s m) h = first_so (r == s) (has_digits p z) h
+typed_fits (bytes bs) (type.utf8 m) h = refl
+typed_fits _ _ h = h
+
+-- ---- another nullability
+
+set_nullable : (m : Nullability) (t : DataType) → is_nullable m ≡ true → is_nullable (nullability_of (with_nullability m t)) ≡ true
+set_nullable m type.null h = refl
+set_nullable m _ h = h
+
+set_storage : (m : Nullability) (t : DataType) → storage_of (with_nullability m t) ≡ storage_of t
+set_storage m type.null = refl
+set_storage m _ = refl
+
+same_storage : (s t : DataType) → same_but_nullability s t ≡ true → storage_of s ≡ storage_of t
+same_storage s t h = ap storage_of (alike_but_nullability s t h) ∙ set_storage (nullability_of s) t
+
+-- which is nullable if it was
+set_fits : (m : Nullability) (t : DataType) (c : Cell) → (is_nullable (nullability_of t) ≡ true → is_nullable m ≡ true) → CellFits t c
+    → CellFits (with_nullability m t) c
+set_fits m t (value null) n h = set_nullable m t (n h)
+set_fits m t (value v) n h = ap (is_kind v) (set_storage m t) ∙ h
+set_fits m t fault n h = tt
+
+-- ---- what stands under a test or below an argument
+
+if_fits : (b : Bool) (ty : DataType) (c d : Cell) → (b ≡ true → CellFits ty c) → CellFits ty d → CellFits ty (if b then c else d)
+if_fits true ty c d h k = h refl
+if_fits false ty c d h k = k
+
+if_some : {X : Type 0} (b : Bool) (o : Option X) (x : X) → (if b then o else None) ≡ Some x → (b ≡ true) × (o ≡ Some x)
+if_some true o x e = (refl, e)
+if_some false o x e = absurd (cc)
+
+widened_some : (s : DataType) (o : Option DataType) (ty : DataType) → widened s o ≡ Some ty → (r : DataType) × (o ≡ Some r) × (widen s r ≡ ty)
+widened_some s None ty e = absurd (cc)
+widened_some s (Some r) ty e = (r, refl, cc)
+
+-- the result of a null argument is null, and its type is nullable
+passed_fits : (s ty : DataType) (v : Value) (c : Cell) → (is_nullable (nullability_of s) ≡ true → is_nullable (nullability_of ty) ≡ true) → fits v s ≡ true
+    → CellFits ty c
+    → CellFits ty (null_through v c)
+passed_fits s ty null c n h k = n h
+passed_fits s ty _ c n h k = k
+
+through_fits : (s : DataType) (o : Option DataType) (ty : DataType) (v : Value) (c : Cell) → fits v s ≡ true → widened s o ≡ Some ty
+    → ((r : DataType) → o ≡ Some r → CellFits r c) → CellFits ty (null_through v c)
+through_fits s o ty v c h e k =
+    let found = widened_some s o ty e in
+    let m = nullability_of s in
+    let n = nullability_of found.0 in
+    passed_fits s ty v c (λ is. nullable_by_argument s o ty is e) h
+    (subst (λ t. CellFits t c) found.2 (set_fits (union m n) found.0 c (λ is. ap is_nullable (union_second m n is)) (k found.0 found.1)))
+
+-- ---- operators
+
+calculated_fits : (op : Operator) (ty : DataType) (fit : ℤ → Cell) (x y : ℤ) → ((z : ℤ) → CellFits ty (fit z)) → CellFits ty (calculated_by op fit x y)
+calculated_fits operator.Add ty fit x y h = h _
+calculated_fits operator.Sub ty fit x y h = h _
+calculated_fits operator.Mul ty fit x y h = h _
+calculated_fits operator.Div ty fit x y h = if_fits _ ty fault _ (λ zero. tt) (h _)
+calculated_fits _ ty fit x y h = tt
+
+operated_fits : (op : Operator) (ty : DataType) (v w : Value) → ((m : Nullability) → ty ≡ type.bool m → CellFits (type.bool m) (decided op v w))
+    → CellFits ty (operated op ty v w)
+operated_fits op (type.bool m) v w h = h m refl
+operated_fits op (type.primitive p m) (integer x) (integer y) h =
+    calculated_fits op (type.primitive p m) (number p) x y (λ z. if_fits (in_range p z) (type.primitive p m) (value (integer z)) fault (λ fine. refl) tt)
+operated_fits op (type.decimal p s m) (decimal x q) (decimal y r) h =
+    let same : (s == s) ≡ true = (unsigned_Decides s s).1 refl in
+    calculated_fits op (type.decimal p s m) (sized p s) x y (λ z. if_fits (has_digits p z) (type.decimal p s m) (value (decimal z s)) fault (λ fine. same) tt)
+operated_fits op _ _ _ h = tt
+
+-- logic takes booleans alone
+logical_bits : (s t ty : DataType) → (binary operator.And).types (s ∷ t ∷ []) ≡ Some ty → (storage_of s ≡ Bits) × (storage_of t ≡ Bits)
+logical_bits s t ty e =
+    let first = widened_some s (widened t (binary_type operator.And s t)) ty e in
+    let second = widened_some t (binary_type operator.And s t) first.0 first.1 in
+    let found = if_some (same_but_nullability s t) (logical_type s) second.0 second.1 in
+    let bits = by_type s second.0 found.1 in
+    (bits, sym (same_storage s t found.0) ∙ bits)
+  where
+    by_type : (s r : DataType) → logical_type s ≡ Some r → storage_of s ≡ Bits
+    by_type (type.bool m) r e = refl
+    by_type _ r e = absurd (cc)
+
+truth_fits : (o : Option Bool) (m : Nullability) → is_nullable m ≡ true → fits (truth o) (type.bool m) ≡ true
+truth_fits (Some b) m h = refl
+truth_fits None m h = h
+
+joined_fits : (join : Option Bool → Option Bool → Option Bool) → Knows join → (s t : DataType) (m : Nullability) (v w : Value)
+    → fits v s ≡ true → fits w t ≡ true → (binary operator.And).types (s ∷ t ∷ []) ≡ Some (type.bool m)
+    → fits (truth (join (boolean_in v) (boolean_in w))) (type.bool m) ≡ true
+joined_fits join knows s t m null w h k e = truth_fits _ m (null_first operator.And s t (type.bool m) h e)
+joined_fits join knows s t m (boolean p) null h k e = truth_fits _ m (null_second operator.And s t (type.bool m) k e)
+joined_fits join knows s t m (boolean p) (boolean q) h k e = ap (λ o. fits (truth o) (type.bool m)) (knows p q).1
+joined_fits join knows s t m (boolean p) w h k e = let no = ap (is_kind w) (sym (logical_bits s t (type.bool m) e).1) ∙ k in absurd (cc)
+joined_fits join knows s t m v w h k e = let no = ap (is_kind v) (sym (logical_bits s t (type.bool m) e).0) ∙ h in absurd (cc)
+
+binary_fits : (op : Operator) (s t ty : DataType) (v w : Value) → fits v s ≡ true → fits w t ≡ true → (binary op).types (s ∷ t ∷ []) ≡ Some ty
+    → CellFits ty ((binary op).value ty (v ∷ w ∷ []))
+binary_fits operator.And s t ty v w h k e = operated_fits operator.And ty v w (λ m is. joined_fits kleene_and and_knows s t m v w h k (e ∙ ap Some is))
+binary_fits operator.Or s t ty v w h k e = operated_fits operator.Or ty v w (λ m is. joined_fits kleene_or or_knows s t m v w h k (e ∙ ap Some is))
+binary_fits op s t ty v w h k e =
+    passed_fits s ty v _ (λ n. null_first op s t ty n e) h
+    (passed_fits t ty w _ (λ n. null_second op s t ty n e) k (operated_fits op ty v w (λ m is. refl)))
+
+-- ---- the other functions
+
+-- a test gives a boolean
+test_fits : (r : DataType) → Some (type.bool NonNullable) ≡ Some r → fits (boolean true) r ≡ true
+test_fits r e = let is : type.bool NonNullable ≡ r = cc in ap (fits (boolean true)) (sym is)
+
+order_fits : (s t u r : DataType) → between_type s t u ≡ Some r → fits (boolean true) r ≡ true
+order_fits s t u r e =
+    let found = if_some (same_but_nullability s t && same_but_nullability s u) (ordered_type s) r e in
+    test_fits r (if_some (is_ordered s) (Some (type.bool NonNullable)) r found.1).1
+
+between_fits : (options : BetweenOptions) (s t u ty : DataType) (v w x : Value) → fits v s ≡ true → fits w t ≡ true → fits x u ≡ true
+    → (between options).types (s ∷ t ∷ u ∷ []) ≡ Some ty
+    → CellFits ty ((between options).value ty (v ∷ w ∷ x ∷ []))
+between_fits options s t u ty v w x h k l e =
+    through_fits s (widened t (widened u (between_type s t u))) ty v _ h e
+    (λ q first. through_fits t (widened u (between_type s t u)) q w _ k first
+    (λ r second. through_fits u (between_type s t u) r x _ l second (order_fits s t u)))
+
+not_fits : (s ty : DataType) (v : Value) → fits v s ≡ true → widened s (not_type s) ≡ Some ty → CellFits ty (null_through v (negated v))
+not_fits s ty v h e = through_fits s (not_type s) ty v (negated v) h e (λ r found. by_type s v r found)
+  where
+    by_type : (s : DataType) (v : Value) (r : DataType) → not_type s ≡ Some r → CellFits r (negated v)
+    by_type (type.bool m) (boolean b) r e = test_fits r e
+    by_type (type.bool m) _ r e = tt
+    by_type _ v r e = absurd (cc)
+
+mask_fits : (s t ty : DataType) (v w : Value) → fits v s ≡ true → fits w t ≡ true → mask_type s t ≡ Some ty → CellFits ty (masked v w)
+mask_fits s (type.bool NonNullable) ty v w h k e = let is : with_nullability Nullable s ≡ ty = cc in subst (λ x. CellFits x (masked v w)) is (by_mask w)
+  where
+    by_mask : (w : Value) → CellFits (with_nullability Nullable s) (masked v w)
+    by_mask (boolean true) = set_fits Nullable s (value v) (λ n. refl) h
+    by_mask _ = set_nullable Nullable s refl
+mask_fits s _ ty v w h k e = absurd (cc)
+
+zip_fits : (s t u ty : DataType) (v w x : Value) → fits v s ≡ true → fits w t ≡ true → fits x u ≡ true → zip_type s t u ≡ Some ty → CellFits ty (zipped v w x)
+zip_fits s t (type.bool m) ty v w x h k l e =
+    let p = nullability_of s in
+    let q = nullability_of t in
+    let found = if_some (same_but_nullability s t) (Some (with_nullability (union p q) s)) ty e in
+    let first : with_nullability (union p q) s ≡ ty = cc (found.1) in
+    let second : with_nullability (union p q) t ≡ ty = sym (set_alike (union p q) s t found.0) ∙ first in
+    by_mask x
+    (subst (λ y. fits v y ≡ true) first (set_fits (union p q) s (value v) (λ is. ap is_nullable (union_first p q is)) h))
+    (subst (λ y. fits w y ≡ true) second (set_fits (union p q) t (value w) (λ is. ap is_nullable (union_second p q is)) k))
+  where
+    by_mask : (x : Value) → fits v ty ≡ true → fits w ty ≡ true → CellFits ty (zipped v w x)
+    by_mask (boolean true) h k = h
+    by_mask _ h k = k
+zip_fits s t _ ty v w x h k l e = absurd (cc)
+
+fill_fits : (s t ty : DataType) (v w : Value) → fits v s ≡ true → fits w t ≡ true → fill_type s t ≡ Some ty → CellFits ty (filled v w)
+fill_fits s t ty v w h k e =
+    let found = if_some (same_but_nullability s t) (Some t) ty e in
+    let is : t ≡ ty = cc (found.1) in
+    subst (λ x. CellFits x (filled v w)) is (by_value v h (same_storage s t found.0))
+  where
+    by_value : (v : Value) → fits v s ≡ true → storage_of s ≡ storage_of t → CellFits t (filled v w)
+    by_value null h same = k
+    by_value v h same = ap (is_kind v) (sym same) ∙ h
+
+-- what a cast gives is of its target
+cast_fits : (ty : DataType) (v : Value) → CellFits ty (cast_to ty v)
+cast_fits ty null = if_fits (is_nullable (nullability_of ty)) ty (value null) fault (λ n. n) tt
+cast_fits ty _ = by_cell _ _ refl
+  where
+    by_cell : (v : Value) (c : Cell) → into ty v ≡ c → CellFits ty c
+    by_cell v (value w) h = typed_fits w ty (into_typed ty v w h)
+    by_cell v fault h = tt
+
+-- ---- functions of lists of values
+
+-- of values that fit the types a function gives one that fits its own
+abbrev IsTyped : (List DataType → Option DataType) → (DataType → List Value → Cell) → Type 0
+IsTyped types f =
+    (tys : List DataType) (ty : DataType) (vs : List Value) → types tys ≡ Some ty → AllZip (λ s v. fits v s ≡ true) tys vs → CellFits ty (f ty vs)
+
+-- of one, two and three arguments
+module _ (typed : DataType → Option DataType → Option DataType) (valued : Value → Cell → Cell) where
+  one_fits : (type : DataType → Option DataType) (f : DataType → Value → Cell)
+      → ((s ty : DataType) (v : Value) → fits v s ≡ true → typed s (type s) ≡ Some ty → CellFits ty (valued v (f ty v)))
+      → IsTyped (of_one typed None type) (λ ty. of_one valued fault (f ty))
+  one_fits type f k (s ∷ []) ty (v ∷ []) e h = k s ty v h.0 e
+  one_fits type f k (s ∷ []) ty _ e h = tt
+  one_fits type f k _ ty vs e h = absurd (cc)
+
+  two_fit : (type : DataType → DataType → Option DataType) (f : DataType → Value → Value → Cell)
+      → ((s t ty : DataType) (v w : Value) → fits v s ≡ true → fits w t ≡ true → typed s (typed t (type s t)) ≡ Some ty
+      → CellFits ty (valued v (valued w (f ty v w))))
+      → IsTyped (of_two typed None type) (λ ty. of_two valued fault (f ty))
+  two_fit type f k (s ∷ t ∷ []) ty (v ∷ w ∷ []) e h = k s t ty v w h.0 h.1.0 e
+  two_fit type f k (s ∷ t ∷ []) ty _ e h = tt
+  two_fit type f k _ ty vs e h = absurd (cc)
+
+  three_fit : (type : DataType → DataType → DataType → Option DataType) (f : DataType → Value → Value → Value → Cell)
+      → ((s t u ty : DataType) (v w x : Value) → fits v s ≡ true → fits w t ≡ true → fits x u ≡ true → typed s (typed t (typed u (type s t u))) ≡ Some ty
+      → CellFits ty (valued v (valued w (valued x (f ty v w x)))))
+      → IsTyped (of_three typed None type) (λ ty. of_three valued fault (f ty))
+  three_fit type f k (s ∷ t ∷ u ∷ []) ty (v ∷ w ∷ x ∷ []) e h = k s t u ty v w x h.0 h.1.0 h.1.1.0 e
+  three_fit type f k (s ∷ t ∷ u ∷ []) ty _ e h = tt
+  three_fit type f k _ ty vs e h = absurd (cc)
+
+-- a line for each function
+values_fit : (f : ScalarFnRef) → IsTyped (return_type f) (value_of f)
+values_fit (function.Binary op) = two_fit widened (null_rule (is_logical op)) (binary_type op) (operated op) (binary_fits op)
+values_fit (function.Between options) = three_fit widened null_through between_type (λ ty. lies_between options) (between_fits options)
+values_fit function.Not = one_fits widened null_through not_type (λ ty. negated) not_fits
+values_fit function.Mask = two_fit kept kept mask_type (λ ty. masked) mask_fits
+values_fit function.Zip = three_fit kept kept zip_type (λ ty. zipped) zip_fits
+values_fit function.FillNull = two_fit kept kept fill_type (λ ty. filled) fill_fits
+values_fit function.IsNull = one_fits kept kept test_type (λ ty v. value (boolean (is_null v))) (λ s ty v h. test_fits ty)
+values_fit function.IsNotNull = one_fits kept kept test_type (λ ty v. value (boolean (not (is_null v)))) (λ s ty v h. test_fits ty)
+values_fit (function.Cast target) = one_fits kept kept (cast_type (type_of target)) cast_to (λ s ty v h e. cast_fits ty v)
+
+-- of cells
+cells_fit : (ty : DataType) (g : List Value → Cell) (tys : List DataType) (cs : List Cell) → AllZip CellFits tys cs
+    → ((vs : List Value) → AllZip (λ s v. fits v s ≡ true) tys vs → CellFits ty (g vs)) → CellFits ty (on_values g cs)
+cells_fit ty g [] [] h k = k [] tt
+cells_fit ty g [] (c ∷ cs) h k = absurd h
+cells_fit ty g (s ∷ tys) [] h k = absurd h
+cells_fit ty g (s ∷ tys) (value v ∷ cs) h k = cells_fit ty (λ vs. g (v ∷ vs)) tys cs h.1 (λ vs fit. k (v ∷ vs) (h.0, fit))
+cells_fit ty g (s ∷ tys) (fault ∷ cs) h k = tt
+
+-- ---- the cells of a node
+
+-- of a slot that holds a tree, cells that fit its type; of one that doesn't, none
+abbrev SlotFits : List Cell → Option Shape → Type 0
+SlotFits cs None = cs ≡ []
+SlotFits cs (Some (shape ty n)) = All (CellFits ty) cs
+
+first_fits : (css : List (List Cell)) (ty : DataType) (n : ℕ) (ss more : List (Option Shape)) → ss ≡ Some (shape ty n) ∷ more → AllZip SlotFits css ss
+    → All (CellFits ty) (cells_at css 0)
+first_fits [] ty n ss more e h = absurd (subst (AllZip SlotFits []) e h)
+first_fits (cs ∷ css) ty n ss more e h = (subst (AllZip SlotFits (cs ∷ css)) e h).0
+
+map_fits : {X : Type 0} (ty : DataType) (f : X → Cell) (xs : List X) → ((x : X) → CellFits ty (f x)) → All (CellFits ty) (map f xs)
+map_fits ty f xs h = All-map (CellFits ty) f xs (λ k d lt. h (get_or xs k d))
+
+chosen_fit : (ty : DataType) (bits : List Bool) (cs : List Cell) → All (CellFits ty) cs → All (CellFits ty) (chosen bits cs)
+unfolding chosen
+chosen_fit ty [] cs h = All-nil (CellFits ty)
+chosen_fit ty (b ∷ bits) [] h = h
+chosen_fit ty (true ∷ bits) (c ∷ cs) h =
+    All-cons (CellFits ty) c (chosen bits cs) (All-head (CellFits ty) c cs h) (chosen_fit ty bits cs (All-tail (CellFits ty) c cs h))
+chosen_fit ty (false ∷ bits) (c ∷ cs) h = chosen_fit ty bits cs (All-tail (CellFits ty) c cs h)
+
+valid_cell_fits : (ty : DataType) (v c : Cell) → is_nullable (nullability_of ty) ≡ true → CellFits ty c → CellFits ty (valid_cell v c)
+valid_cell_fits ty (value (boolean true)) c n h = h
+valid_cell_fits ty (value (boolean false)) (value x) n h = n
+valid_cell_fits ty _ _ n h = tt
+
+valid_fit : (ty : DataType) (vs cs : List Cell) → is_nullable (nullability_of ty) ≡ true → All (CellFits ty) cs → All (CellFits ty) (valid_cells vs cs)
+valid_fit ty [] cs n h = h
+valid_fit ty (v ∷ vs) [] n h = h
+valid_fit ty (v ∷ vs) (c ∷ cs) n h =
+    All-cons (CellFits ty) (valid_cell v c) (valid_cells vs cs) (valid_cell_fits ty v c n (All-head (CellFits ty) c cs h))
+    (valid_fit ty vs cs n (All-tail (CellFits ty) c cs h))
+
+masked_fits : (ty : DataType) (n : ℕ) (css : List (List Cell)) (ss : List (Option Shape)) → IsMasked ty n ss → AllZip SlotFits css ss
+    → All (CellFits ty) (valid_cells (cells_at css 1) (cells_at css 0))
+masked_fits ty n css ss h k =
+    let child = first_fits css h.0 n ss (h.1 ∷ []) h.2 k in
+    let set = All-weaker (CellFits h.0) (CellFits (with_nullability Nullable h.0)) (λ c. set_fits Nullable h.0 c (λ m. refl)) (cells_at css 0) child in
+    subst (λ x. All (CellFits x) (valid_cells (cells_at css 1) (cells_at css 0))) (sym h.3)
+    (valid_fit (with_nullability Nullable h.0) (cells_at css 1) (cells_at css 0) (set_nullable Nullable h.0 refl) set)
+
+shown_fits : (ty : DataType) (c : Cell) → ty ≡ type.bool NonNullable → CellFits ty (shown_cell c)
+shown_fits ty (value null) e = ap (fits (boolean false)) e
+shown_fits ty (value _) e = ap (fits (boolean true)) e
+shown_fits ty fault e = tt
+
+-- row i of slots that hold trees of the types
+row_fits : (css : List (List Cell)) (tys : List DataType) (n i : ℕ) → AllZip SlotFits css (map (λ s. Some (shape s n)) tys) → AllZip CellFits tys (row_at css i)
 row_fits [] [] n i h = tt
 row_fits [] (s ∷ tys) n i h = absurd h
 row_fits (cs ∷ css) [] n i h = absurd h
-row_fits (cs ∷ css) (s ∷ tys) n i h = (fit_at s cs i h.0, row_fits css tys n i h.1)
+row_fits (cs ∷ css) (s ∷ tys) n i h = (fit_at s cs i (recursion_from_All (CellFits s) cs h.0), row_fits css tys n i h.1)
 
-bytes_other : (s : Storage) → is_other (bytes_type s) ≡ true
-bytes_other Text = refl
-bytes_other _ = refl
+function_fits : (f : ScalarFnRef) (ty : DataType) (n : ℕ) (css : List (List Cell)) (ss : List (Option Shape)) (i : ℕ) → IsNode ty n (enc.function f) ss
+    → AllZip SlotFits css ss
+    → CellFits ty (apply f ty (row_at css i))
+function_fits f ty n css ss i h k =
+    cells_fit ty (value_of f ty) h.0 (row_at css i) (row_fits css h.0 n i (subst (AllZip SlotFits css) h.1 k)) (λ vs fit. values_fit f h.0 ty vs h.2 fit)
 
-decimal_other : (s : Storage) → is_other (decimal_type s) ≡ true
-decimal_other (Decimals p s) = refl
-decimal_other _ = refl
+-- the values of a column, by its validity
+column_fits : {X : Type 0} (f : X → Cell) (xs : List X) (of_type : DataType) (k : ℕ) (ty : DataType) (n : ℕ) (css : List (List Cell)) (ss : List (Option Shape))
+    → ((m : Nullability) (x : X) → CellFits (with_nullability m of_type) (f x)) → IsFlat of_type k ty n ss → AllZip SlotFits css ss
+    → All (CellFits ty) (valid_cells (cells_at css 0) (map f xs))
+column_fits f xs of_type k ty n css ss h flat fit =
+    by_validity flat.0 css (nullability_of ty) refl flat.4 (subst (AllZip SlotFits css) flat.3 fit)
+  where
+    all : All (CellFits ty) (map f xs)
+    all = map_fits ty f xs (λ x. subst (λ t. CellFits t (f x)) (sym flat.1) (h (nullability_of ty) x))
+
+    by_validity : (v : Option Shape) (css : List (List Cell)) (m : Nullability) → nullability_of ty ≡ m → IsValidity m n v → AllZip SlotFits css (v ∷ [])
+        → All (CellFits ty) (valid_cells (cells_at css 0) (map f xs))
+    by_validity v [] m is valid fit = all
+    by_validity None (vs ∷ css) m is valid fit = subst (λ l. All (CellFits ty) (valid_cells l (map f xs))) (sym fit.0) all
+    by_validity (Some s) (vs ∷ css) NonNullable is valid fit = absurd valid
+    by_validity (Some s) (vs ∷ css) Nullable is valid fit = valid_fit ty vs (map f xs) (ap is_nullable is) all
+
+decimal_fits : (s : Storage) (m : Nullability) (z : ℤ) → fits (decimal z (scale_of s)) (with_nullability m (decimal_type s)) ≡ true
+decimal_fits (Decimals p k) m z = (unsigned_Decides k k).1 refl
+decimal_fits _ m z = refl
+
+bytes_fit : (s : Storage) (m : Nullability) (bs : List ℕ) → fits (bytes bs) (with_nullability m (bytes_type s)) ≡ true
+bytes_fit Text m bs = refl
+bytes_fit _ m bs = refl
 
 -- a line for each encoding
-node_fits : (ty : DataType) (n : ℕ) (d : Data) (css : List (List Cell)) (ss : List (Option Shape)) → IsNode ty n d ss → SlotsFit css ss → AllFit ty (node_cells ty n d css)
-node_fits ty n (enc.constant v) css ss h k = copies_fit n ty (value v.value) (constant_fits v.value ty h.1)
-node_fits ty n (enc.slice a b) css ss h k = take_fits _ _ ty (drop_fits a _ ty (first_fits css ty h.0 [] (subst (SlotsFit css) h.1 k)))
-node_fits ty n (enc.filter bits) css ss h k = kept_fit bits _ ty (first_fits css ty _ [] (subst (SlotsFit css) h.0 k))
-node_fits ty n enc.masked css ss h k =
-    let child = first_fits css h.0 n (h.1 ∷ []) (subst (SlotsFit css) h.2 k) in
-    let nullable = subst (λ x. is_nullable (nullability_of x) ≡ true) (sym h.3) (set_nullable Nullable h.0 refl) in
-    valid_fit _ _ ty nullable (all_as _ h.0 ty (λ m. nullable) (sym (other_kept Nullable h.0) ∙ ap is_other (sym h.3)) child)
-node_fits ty n enc.is_valid css ss h k = map_fits shown_cell (cells_at css 0) ty (shown_fits ty)
-node_fits ty n (enc.function f) css ss h k =
-    map_fits (λ i. apply f ty (row_at css i)) (range_with_len 0 n) ty
-    (λ i. row_values_fit ty (value_of f ty) h.0 (row_at css i) (row_fits css h.0 n i (subst (SlotsFit css) h.1 k))
-    (λ vs fit. values_fit f h.0 ty vs h.2 fit))
-node_fits ty n enc.nulls css ss h k = copies_fit n ty (value null) (constant_fits null ty (ap (λ t. is_of t null) h.0))
-node_fits ty n (enc.bool bs) css ss h k =
-    column_fits ty (nullability_of ty) n h.0 css (map (λ b. value (boolean b)) bs) refl h.4 (subst (SlotsFit css) h.3 k) (map_fits (λ b. value (boolean b)) bs ty (λ b. refl))
-node_fits ty n (enc.primitive p zs) css ss h k =
-    column_fits ty (nullability_of ty) n h.0 css (map (λ z. value (integer z)) zs) refl h.4 (subst (SlotsFit css) h.3 k)
-    (map_fits (λ z. value (integer z)) zs ty (λ z. ap is_other h.1))
-node_fits ty n (enc.decimals w zs) css ss h k =
-    let cell : ℤ → Cell = λ z. value (decimal z (scale_of (storage_of ty))) in
-    column_fits ty (nullability_of ty) n h.0.0 css (map cell zs) refl h.0.4 (subst (SlotsFit css) h.0.3 k)
-    (map_fits cell zs ty (λ z. ap is_other h.0.1 ∙ other_kept (nullability_of ty) _ ∙ decimal_other (storage_of ty)))
-node_fits ty n (enc.views rs) css ss h k =
-    column_fits ty (nullability_of ty) n h.0.0 css (map (λ r. value (bytes r)) rs) refl h.0.4 (subst (SlotsFit css) h.0.3 k)
-    (map_fits (λ r. value (bytes r)) rs ty (λ r. ap is_other h.0.1 ∙ other_kept (nullability_of ty) _ ∙ bytes_other (storage_of ty)))
+node_fits : (ty : DataType) (n : ℕ) (d : Data) (css : List (List Cell)) (ss : List (Option Shape)) → IsNode ty n d ss → AllZip SlotFits css ss
+    → All (CellFits ty) (node_cells ty n d css)
+node_fits ty n (enc.constant v) css ss h k = All-replicate (CellFits ty) n (value v.value) (typed_fits v.value ty h.1)
+node_fits ty n (enc.slice a b) css ss h k = All-take (CellFits ty) _ _ (All-drop (CellFits ty) a _ (first_fits css ty h.0 ss [] h.1 k))
+node_fits ty n (enc.filter bits) css ss h k = chosen_fit ty bits (cells_at css 0) (first_fits css ty (length bits) ss [] h.0 k)
+node_fits ty n enc.masked css ss h k = masked_fits ty n css ss h k
+node_fits ty n enc.is_valid css ss h k = map_fits ty shown_cell (cells_at css 0) (λ c. shown_fits ty c h.2)
+node_fits ty n (enc.function f) css ss h k = map_fits ty (λ i. apply f ty (row_at css i)) (range_with_len 0 n) (λ i. function_fits f ty n css ss i h k)
+node_fits ty n enc.nulls css ss h k = All-replicate (CellFits ty) n (value null) (ap (λ t. is_nullable (nullability_of t)) h.0)
+node_fits ty n (enc.bool bs) css ss h k = column_fits _ bs (type.bool NonNullable) (length bs) ty n css ss (λ m b. refl) h k
+node_fits ty n (enc.primitive p zs) css ss h k = column_fits _ zs (type.primitive p NonNullable) (length zs) ty n css ss (λ m z. refl) h k
+node_fits ty n (enc.decimals w zs) css ss h k = column_fits _ zs (decimal_type (storage_of ty)) (length zs) ty n css ss (decimal_fits (storage_of ty)) h.0 k
+node_fits ty n (enc.views rs) css ss h k = column_fits _ rs (bytes_type (storage_of ty)) (length rs) ty n css ss (bytes_fit (storage_of ty)) h.0 k
 
 mutual
-  pub rows_fit : (t : Tree) → IsWell t → AllFit (dtype t) (rows t)
-  rows_fit (node ty n d ss) w = node_fits ty n d (slots_rows ss) (shapes ss) w.0 (slots_fit ss w.1)
+  all_fit : (t : Tree) → IsWell t → All (CellFits (dtype t)) (rows t)
+  all_fit (node ty n d ss) w = node_fits ty n d (slots_rows ss) (shapes ss) w.0 (slots_fit ss w.1)
 
-  slots_fit : (ss : Slots) → AreWell ss → SlotsFit (slots_rows ss) (shapes ss)
+  slots_fit : (ss : Slots) → AreWell ss → AllZip SlotFits (slots_rows ss) (shapes ss)
   slots_fit no_slots w = tt
   slots_fit (absent ss) w = (refl, slots_fit ss w)
-  slots_fit (slot t ss) w = (rows_fit t w.0, slots_fit ss w.1)
+  slots_fit (slot t ss) w = (all_fit t w.0, slots_fit ss w.1)
+
+pub rows_fit : (t : Tree) → IsWell t → AllFit (dtype t) (rows t)
+rows_fit t w = recursion_from_All (CellFits (dtype t)) (rows t) (all_fit t w)

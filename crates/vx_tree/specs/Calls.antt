@@ -6,9 +6,8 @@ use Rattle.vx_value.specs.declared.error.VortexError.TheVariants.{InvalidArgumen
 use Rattle.vx_value.specs.declared.error.ArgKind.TheVariants.{ChildLen, NoChildren, NoRow}
 use Rattle.vx_fn.specs.ReturnTypes.{return_type}
 use Rattle.vx_fn.specs.declared.function.ScalarFnRef.{ScalarFnRef}
-use Rattle.vx_tree.specs.Tree.{Tree, dtype, len, call_of}
+use Rattle.vx_tree.specs.Tree.{Tree, dtype, len, call_of, arity_refusal}
 use Rattle.vx_tree.specs.Conditions.{first_of_both, unless}
-use Rattle.vx_tree.specs.Refusals.{arity_refusal}
 
 -- each has so many rows
 abbrev pub all_of_len : ℕ → List Tree → Bool

@@ -1,22 +1,14 @@
 -- What bounds the turns of an execution.
-use Rattle.std.specs.Prelude.{ℕ, zero, suc, ◌+◌, ◌*◌, Bool, true, false, if◌then◌else◌, List, [], ◌∷◌, sum}
-use Rattle.vx_tree.specs.Tree as enc
-use Rattle.vx_tree.specs.Tree.{Tree, Data, Slots, node, no_slots, absent, slot, is_columnar}
+use Rattle.std.specs.Prelude.{ℕ, zero, suc, ◌+◌, ◌*◌, Bool, true, false, List, [], ◌∷◌}
+use Rattle.vx_tree.specs.Tree.{Tree, Data, Slots, node, no_slots, absent, slot, meaning}
+pub use Rattle.vx_tree.specs.Charges.{Executed, none, first, all, all_reached, extended, Charge}
 
--- the reach of each slot, added up
-abbrev pub all_reached : List ℕ → ℕ
-all_reached [] = 0
-all_reached (e ∷ es) = 1 + e + all_reached es
+abbrev pub charge : Data → Charge
+charge d = (meaning d).charge
 
--- which slots of a node are executed: those of a column aren't, and of a masked node the child alone is
-pub data Executed : Type 0 where
-  none : Executed
-  first : Executed
-  all : Executed
-
+-- which slots of a node are executed
 abbrev pub executed : Data → Executed
-executed enc.masked = first
-executed d = if is_columnar d then none else all
+executed d = (charge d).executed
 
 -- whether the first of the slots is, and which of those after it
 abbrev pub is_next : Executed → Bool
@@ -32,31 +24,6 @@ abbrev pub is_executed : Executed → ℕ → Bool
 is_executed e zero = is_next e
 is_executed e (suc i) = is_executed (after e) i
 
--- what an encoding adds to the bounds: the turns that a node takes itself, those for a slot by its reach, less one, and how far a
--- slice may have to be pushed down, less one, by the same of its slots
-pub record Charge : Type 0 where
-  pub own : ℕ
-  pub by_reach : ℕ
-  pub extra : List ℕ → ℕ
-
--- of an encoding whose reach is 1
-abbrev pub flat_charge : ℕ → ℕ → Charge
-flat_charge own by_reach = record { own = own; by_reach = by_reach; extra = λ es. 0 }
-
--- a line for each encoding
-abbrev pub charge : Data → Charge
-charge (enc.constant v) = flat_charge 2 0
-charge (enc.slice a b) = record { own = 2; by_reach = 3; extra = sum }
-charge (enc.filter bits) = flat_charge 3 3
-charge enc.masked = record { own = 3; by_reach = 0; extra = all_reached }
-charge enc.is_valid = flat_charge 2 0
-charge (enc.function f) = record { own = 3; by_reach = 0; extra = all_reached }
-charge enc.nulls = flat_charge 1 0
-charge (enc.bool bs) = flat_charge 1 0
-charge (enc.primitive p zs) = flat_charge 1 0
-charge (enc.decimals w zs) = flat_charge 1 0
-charge (enc.views rs) = flat_charge 1 0
-
 -- a number of a slot, where it counts
 abbrev pub counted : Bool → ℕ → ℕ
 counted true n = n
@@ -66,9 +33,10 @@ abbrev pub listed : Bool → ℕ → List ℕ → List ℕ
 listed true n ns = n ∷ ns
 listed false n ns = ns
 
+-- how far a slice may have to be pushed down, less one
 abbrev mutual
   pub extra : Tree → ℕ
-  extra (node ty n d ss) = (charge d).extra (slots_extra (executed d) ss)
+  extra (node ty n d ss) = extended (charge d).extent (slots_extra (executed d) ss)
 
   pub slots_extra : Executed → Slots → List ℕ
   slots_extra e no_slots = []

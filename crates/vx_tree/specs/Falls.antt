@@ -1,7 +1,7 @@
 -- Each child of a node is lower than the node.
 use Rattle.std.specs.Prelude.{◌≤◌, ◌+◌, List, [], ◌∷◌, Option, Some, None}
 use Rattle.std.proofs.Common.{arith}
-use Rattle.vx_tree.specs.Tree.{Tree, slots_of, height, slots_height}
+use Rattle.vx_tree.specs.Tree.Nodes.{Tree, slots_of, height, slots_height}
 use Rattle.vx_tree.specs.declared.array.node.ArrayRef.TheShapes.{weighed-Node-slots-at-1}
 use denote.Param.Weighed.{most}
 

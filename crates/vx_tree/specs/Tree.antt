@@ -1,268 +1,65 @@
--- What an array is: a tree of nodes. Each has a type, a length in rows, data of its encoding, and slots.
-use Rattle.std.specs.Prelude.{◌≡◌, ℕ, ℤ, ◌+◌, ◌-◌, List, [], ◌∷◌, length, max, Option, Some, None, Bool, true, false, ◌||◌, refl}
-use Rattle.std.specs.Coded.{Coded, coded_ℕ, coded_ℤ, coded_bool, coded_list, coded×}
-use Rattle.std.proofs.Common.{ap, inl, inr}
-use base.Stored.{Gv, gnil, gnum, gcons, coded_unit}
-use Rattle.vx_value.specs.Codes.{Part, part, ◌or◌, no_part, coded_by}
-use Rattle.vx_value.specs.Types as type
-use Rattle.vx_value.specs.Types.{DataType, coded_type, coded_ptype}
-use Rattle.vx_value.specs.Typed.{Typed, coded_typed}
-use Rattle.vx_value.specs.Decimals.{coded_width}
-use Rattle.vx_value.specs.declared.decimal.DecimalType.{DecimalType}
-use Rattle.vx_value.specs.Nullabilities.{with_nullability}
-use Rattle.vx_value.specs.declared.dtype.Nullability.TheVariants.{NonNullable, Nullable}
-use Rattle.vx_value.specs.declared.dtype.PType.{PType}
+-- Trees, and what each encoding makes of them: a file for each.
+pub mod Nodes
+pub mod Constant
+pub mod Slice
+pub mod Filter
+pub mod Masked
+pub mod ScalarFnValidity
+pub mod ScalarFn
+pub mod Null
+pub mod Bool
+pub mod Primitive
+pub mod Decimal
+pub mod VarBinView
+use Rattle.std.specs.Prelude as prelude
+use Rattle.std.specs.Prelude.{◌||◌, ℕ, List}
 use Rattle.vx_value.specs.declared.id.Id.{Id}
-use Rattle.vx_value.specs.declared.id.Id.TheVariants as id
-use Rattle.vx_mask.specs.Places.{true_count}
-use Rattle.vx_fn.specs.Functions.{function_id, coded_function}
-use Rattle.vx_fn.specs.declared.function.ScalarFnRef.{ScalarFnRef}
+use Rattle.vx_tree.specs.Meanings.{Meaning}
+pub use Rattle.vx_tree.specs.Tree.Nodes.{Data, Tree, node, Slots, no_slots, absent, slot, slots_of, filled_slots, column, dtype, len, datum, slots}
+pub use Rattle.vx_tree.specs.Tree.Nodes.{height, slots_height, coded_tree}
+pub use Rattle.vx_tree.specs.Tree.Constant.{constant, constant_of, is_constant, constant_refusal, constant_validity, constant_meaning}
+pub use Rattle.vx_tree.specs.Tree.Slice.{slice, slice_of, is_slice, slice_refusal, slice_meaning}
+pub use Rattle.vx_tree.specs.Tree.Filter.{filter, filter_of, is_filter, filter_refusal, filter_meaning}
+pub use Rattle.vx_tree.specs.Tree.Masked.{masked, masked_of, is_masked, IsMasked, mask_refusal, masked_refusal, both_of, joined, masked_meaning}
+pub use Rattle.vx_tree.specs.Tree.ScalarFnValidity.{is_valid, validity_in, is_validity, validity_refusal, validity_meaning}
+pub use Rattle.vx_tree.specs.Tree.ScalarFn.{function, call_of, is_function, all_present, types_in, all_long, arity_refusal, result_refusal, slots_refusal}
+pub use Rattle.vx_tree.specs.Tree.ScalarFn.{types_refusal, lengths_refusal, function_refusal, function_meaning}
+pub use Rattle.vx_tree.specs.Tree.Null.{nulls, nulls_of, is_nulls, nulls_refusal, nulls_meaning}
+pub use Rattle.vx_tree.specs.Tree.Bool.{bool, booleans, is_bool, bool_meaning}
+pub use Rattle.vx_tree.specs.Tree.Primitive.{primitive, integers, is_primitive, primitive_meaning}
+pub use Rattle.vx_tree.specs.Tree.Decimal.{decimals, is_decimals, decimals_meaning}
+pub use Rattle.vx_tree.specs.Tree.VarBinView.{views, is_views, views_meaning}
 
--- the data of a node: its buffers as lists, and its numbers
-pub data Data : Type 0 where
-  constant : Typed → Data
-  slice : ℕ → ℕ → Data
-  filter : List Bool → Data
-  masked : Data
-  is_valid : Data
-  function : ScalarFnRef → Data
-  nulls : Data
-  bool : List Bool → Data
-  primitive : PType → List ℤ → Data
-  -- decimals of the column's type, without their points, in integers of this width
-  decimals : DecimalType → List ℤ → Data
-  -- rows of text or of bytes, each as its bytes
-  views : List (List ℕ) → Data
+-- what node data mean: a line for each encoding
+abbrev pub meaning : Data → Meaning
+meaning (constant v) = constant_meaning v
+meaning (slice a b) = slice_meaning a b
+meaning (filter bits) = filter_meaning bits
+meaning masked = masked_meaning
+meaning is_valid = validity_meaning
+meaning (function f) = function_meaning f
+meaning nulls = nulls_meaning
+meaning (bool bs) = bool_meaning bs
+meaning (primitive p zs) = primitive_meaning p zs
+meaning (decimals w zs) = decimals_meaning w zs
+meaning (views rs) = views_meaning rs
 
-mutual
-  pub data Tree : Type 0 where
-    node : DataType → ℕ → Data → Slots → Tree
-
-  -- a slot that may be left out, or that was taken out, is absent
-  pub data Slots : Type 0 where
-    no_slots : Slots
-    absent : Slots → Slots
-    slot : Tree → Slots → Slots
-
-abbrev pub slots_of : List (Option Tree) → Slots
-slots_of [] = no_slots
-slots_of (None ∷ ss) = absent (slots_of ss)
-slots_of (Some t ∷ ss) = slot t (slots_of ss)
-
--- slots that each hold a tree
-abbrev pub filled_slots : List Tree → Slots
-filled_slots [] = no_slots
-filled_slots (t ∷ ts) = slot t (filled_slots ts)
-
-abbrev mutual
-  pub height : Tree → ℕ
-  height (node ty n d ss) = slots_height ss + 1
-
-  pub slots_height : Slots → ℕ
-  slots_height no_slots = 0
-  slots_height (absent ss) = slots_height ss
-  slots_height (slot t ss) = max (height t) (slots_height ss)
-
--- the parts of a tree's root
-abbrev pub dtype : Tree → DataType
-dtype (node ty n d ss) = ty
-
-abbrev pub len : Tree → ℕ
-len (node ty n d ss) = n
-
-abbrev pub datum : Tree → Data
-datum (node ty n d ss) = d
-
-abbrev pub slots : Tree → Slots
-slots (node ty n d ss) = ss
-
--- ---- the trees that recur
-
--- a column: rows of its own, and the validity, absent as long as no row may be null
-abbrev pub column : DataType → ℕ → Data → Option Tree → Tree
-column ty n d validity = node ty n d (slots_of (validity ∷ []))
-
--- a column of booleans, and of integers, without nulls
-abbrev pub booleans : List Bool → Tree
-booleans bs = column (type.bool NonNullable) (length bs) (bool bs) None
-
-abbrev pub integers : PType → List ℤ → Tree
-integers p zs = column (type.primitive p NonNullable) (length zs) (primitive p zs) None
-
--- n rows of type null
-abbrev pub nulls_of : ℕ → Tree
-nulls_of n = node type.null n nulls no_slots
-
--- n rows of one value
-abbrev pub constant_of : Typed → ℕ → Tree
-constant_of v n = node v.of_type n (constant v) no_slots
-
--- the rows of t from a, inclusive, to b, exclusive
-abbrev pub slice_of : ℕ → ℕ → Tree → Tree
-slice_of a b t = node (dtype t) (b - a) (slice a b) (slot t no_slots)
-
--- the rows of t at the true bits
-abbrev pub filter_of : List Bool → Tree → Tree
-filter_of bits t = node (dtype t) (true_count bits) (filter bits) (slot t no_slots)
-
--- the rows of t, null where the validity says so; none is if it is absent
-abbrev pub masked_of : Tree → Option Tree → Tree
-masked_of t validity = node (with_nullability Nullable (dtype t)) (len t) masked (slots_of (Some t ∷ validity ∷ []))
-
--- whether each row of t isn't null
-abbrev pub validity_in : Tree → Tree
-validity_in t = node (type.bool NonNullable) (len t) is_valid (slot t no_slots)
-
--- f on the rows of the trees, n of each
-abbrev pub call_of : ScalarFnRef → DataType → ℕ → List Tree → Tree
-call_of f ty n ts = node ty n (function f) (filled_slots ts)
-
--- the id of an encoding
+-- the id that a node goes under
 abbrev pub id_of : Data → Id
-id_of (constant v) = id.Constant
-id_of (slice a b) = id.Slice
-id_of (filter bits) = id.Filter
-id_of masked = id.Masked
-id_of is_valid = id.ScalarFnValidity
-id_of (function f) = function_id f
-id_of nulls = id.Null
-id_of (bool bs) = id.Bool
-id_of (primitive p zs) = id.Primitive
-id_of (decimals w zs) = id.Decimal
-id_of (views rs) = id.VarBinView
+id_of d = (meaning d).id
 
--- which encoding a node has
-abbrev pub is_constant : Data → Bool
-is_constant (constant v) = true
-is_constant _ = false
-
-abbrev pub is_slice : Data → Bool
-is_slice (slice a b) = true
-is_slice _ = false
-
-abbrev pub is_filter : Data → Bool
-is_filter (filter bits) = true
-is_filter _ = false
-
-abbrev pub is_masked : Data → Bool
-is_masked masked = true
-is_masked _ = false
-
-abbrev pub is_validity : Data → Bool
-is_validity is_valid = true
-is_validity _ = false
-
-abbrev pub is_function : Data → Bool
-is_function (function f) = true
-is_function _ = false
-
-abbrev pub is_nulls : Data → Bool
-is_nulls nulls = true
-is_nulls _ = false
-
-abbrev pub is_bool : Data → Bool
-is_bool (bool bs) = true
-is_bool _ = false
-
-abbrev pub is_primitive : Data → Bool
-is_primitive (primitive p zs) = true
-is_primitive _ = false
-
-abbrev pub is_decimals : Data → Bool
-is_decimals (decimals w zs) = true
-is_decimals _ = false
-
-abbrev pub is_views : Data → Bool
-is_views (views rs) = true
-is_views _ = false
+-- what its slots are called, in their order
+abbrev pub slot_names : Data → List (List ℕ)
+slot_names d = (meaning d).names
 
 -- the encodings that hold their rows themselves, beside a validity
-abbrev pub is_flat : Data → Bool
+abbrev pub is_flat : Data → prelude.Bool
 is_flat d = is_bool d || is_primitive d || is_decimals d || is_views d
 
 -- each type's own encoding: those, and that of nulls
-abbrev pub is_canonical : Data → Bool
+abbrev pub is_canonical : Data → prelude.Bool
 is_canonical d = is_nulls d || is_flat d
 
 -- the canonical encodings, and those that repeat one value
-abbrev pub is_columnar : Data → Bool
+abbrev pub is_columnar : Data → prelude.Bool
 is_columnar d = is_canonical d || is_constant d
-
--- ---- the code of a tree: of node data, a line for each encoding in each of two tables
-
-abbrev pub data_parts : Part Data
-data_parts =
-    part coded_typed constant
-    or part (coded× coded_ℕ coded_ℕ) (λ p. slice p.0 p.1)
-    or part coded_function function
-    or part (coded_list coded_bool) bool
-    or part (coded× coded_ptype (coded_list coded_ℤ)) (λ p. primitive p.0 p.1)
-    or part (coded_list coded_bool) filter
-    or part coded_unit (λ u. masked)
-    or part coded_unit (λ u. is_valid)
-    or part (coded_list (coded_list coded_ℕ)) views
-    or part (coded× coded_width (coded_list coded_ℤ)) (λ p. decimals p.0 p.1)
-    or part coded_unit (λ u. nulls)
-    or no_part
-
-abbrev pub data_split : Data → data_parts.holds
-data_split (constant v) = inl v
-data_split (slice a b) = inr (inl (a, b))
-data_split (function f) = inr (inr (inl f))
-data_split (bool bs) = inr (inr (inr (inl bs)))
-data_split (primitive p zs) = inr (inr (inr (inr (inl (p, zs)))))
-data_split (filter bits) = inr (inr (inr (inr (inr (inl bits)))))
-data_split masked = inr (inr (inr (inr (inr (inr (inl tt))))))
-data_split is_valid = inr (inr (inr (inr (inr (inr (inr (inl tt)))))))
-data_split (views rs) = inr (inr (inr (inr (inr (inr (inr (inr (inl rs))))))))
-data_split (decimals w zs) = inr (inr (inr (inr (inr (inr (inr (inr (inr (inl (w, zs))))))))))
-data_split nulls = inr (inr (inr (inr (inr (inr (inr (inr (inr (inr (inl tt))))))))))
-
-pub data_back : (d : Data) → data_parts.make (data_split d) ≡ d
-data_back (constant v) = refl
-data_back _ = refl
-
-abbrev pub coded_data : Coded Data
-coded_data = coded_by data_parts data_split data_back
-
-abbrev head : Gv → Gv
-head gnil = gnil
-head (gnum n) = gnil
-head (gcons a b) = a
-
-abbrev tail : Gv → Gv
-tail gnil = gnil
-tail (gnum n) = gnil
-tail (gcons a b) = b
-
-abbrev mutual
-  pub tree_code : Tree → Gv
-  tree_code (node ty n d ss) = gcons (coded_type.code ty) (gcons (gnum n) (gcons (coded_data.code d) (slots_code ss)))
-
-  pub slots_code : Slots → Gv
-  slots_code no_slots = gnil
-  slots_code (absent ss) = gcons (gnum 0) (slots_code ss)
-  slots_code (slot t ss) = gcons (gcons (gnum 0) (tree_code t)) (slots_code ss)
-
-mutual
-  pub tree_inj : (x y : Tree) → tree_code x ≡ tree_code y → x ≡ y
-  tree_inj (node s n d ss) (node t m e ts) p =
-      let typed = coded_type.inj s t (ap head p) in
-      let counted = coded_ℕ.inj n m (ap (λ g. head (tail g)) p) in
-      let same = coded_data.inj d e (ap (λ g. head (tail (tail g))) p) in
-      let under = slots_inj ss ts (ap (λ g. tail (tail (tail g))) p) in
-      λ i. node (typed i) (counted i) (same i) (under i)
-
-  pub slots_inj : (x y : Slots) → slots_code x ≡ slots_code y → x ≡ y
-  slots_inj no_slots no_slots p = refl
-  slots_inj no_slots (absent ts) p = absurd (cc)
-  slots_inj no_slots (slot t ts) p = absurd (cc)
-  slots_inj (absent ss) no_slots p = absurd (cc)
-  slots_inj (absent ss) (absent ts) p = ap absent (slots_inj ss ts (ap tail p))
-  slots_inj (absent ss) (slot t ts) p = absurd (cc)
-  slots_inj (slot s ss) no_slots p = absurd (cc)
-  slots_inj (slot s ss) (absent ts) p = absurd (cc)
-  slots_inj (slot s ss) (slot t ts) p = λ i. slot (tree_inj s t (ap (λ g. tail (head g)) p) i) (slots_inj ss ts (ap tail p) i)
-
-abbrev pub coded_tree : Coded Tree
-coded_tree = record { code = tree_code; inj = tree_inj }

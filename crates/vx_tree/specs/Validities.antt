@@ -2,7 +2,7 @@
 use Rattle.std.specs.Prelude.{◌≡◌, ◌≤◌, ℕ, ℤ, List, length, replicate, Bool, true, false, ◌==◌, if◌then◌else◌, Option, Some, None}
 use Rattle.vx_value.specs.Types.{DataType, bool, same_type}
 use Rattle.vx_value.specs.Nullabilities.{with_nullability}
-use Rattle.vx_value.specs.Values.{Value, boolean}
+use Rattle.vx_value.specs.Values.{boolean}
 use Rattle.vx_value.specs.Cell.{Cell, value}
 use Rattle.vx_value.specs.declared.dtype.Nullability.{Nullability}
 use Rattle.vx_value.specs.declared.dtype.Nullability.TheVariants.{NonNullable, Nullable}
@@ -14,22 +14,18 @@ use Rattle.vx_value.specs.Storage.{storage_of}
 use Rattle.vx_value.specs.declared.decimal.DecimalType.{DecimalType}
 use Rattle.vx_tree.specs.ColumnTypes.{decimal_type, are_decimals_of, bytes_type, are_bytes_of}
 use Rattle.vx_tree.specs.Conditions.{first_of_both, unless}
-use Rattle.vx_tree.specs.Tree.{Tree, Data, constant, dtype, len, datum, booleans, constant_of, slice_of}
+use Rattle.vx_tree.specs.Tree.{Tree, dtype, len, booleans, constant_of, slice_of}
 use Rattle.vx_tree.specs.Cells.{rows}
 use Rattle.vx_tree.specs.Keeps.{KeepsExactly}
 use Rattle.vx_tree.specs.Well.{IsWell}
 use Rattle.vx_tree.specs.declared.validity.Validity.{Validity}
 use Rattle.vx_tree.specs.declared.validity.Validity.TheVariants as validity
+pub use Rattle.vx_tree.specs.SlotValidities.{without_nulls, of_truth, of_data, validity_of}
 
 -- the nullability of its column's type
 abbrev pub nullability_by : Validity → Nullability
 nullability_by validity.NonNullable = NonNullable
 nullability_by _ = Nullable
-
--- the validity of a column of this nullability without a null
-abbrev pub without_nulls : Nullability → Validity
-without_nulls NonNullable = validity.NonNullable
-without_nulls Nullable = validity.AllValid
 
 -- n rows of one truth value
 abbrev pub truths : Bool → ℕ → Tree
@@ -55,20 +51,6 @@ abbrev pub valid_rows : Validity → ℕ → List Cell
 valid_rows validity.AllInvalid n = replicate n (value (boolean false))
 valid_rows (validity.Array t) n = rows t
 valid_rows _ n = replicate n (value (boolean true))
-
--- the validity that a child stands for: a constant is read back
-abbrev pub of_truth : Value → Tree → Validity
-of_truth (boolean true) t = validity.AllValid
-of_truth (boolean false) t = validity.AllInvalid
-of_truth v t = validity.Array t
-
-abbrev pub of_data : Data → Tree → Validity
-of_data (constant v) t = of_truth v.value t
-of_data d t = validity.Array t
-
-abbrev pub validity_of : Nullability → Option Tree → Validity
-validity_of m None = without_nulls m
-validity_of m (Some t) = of_data (datum t) t
 
 -- it is one of n rows
 abbrev pub HasRows : Validity → ℕ → Type 0

@@ -12,7 +12,8 @@ mod types;
 mod validity;
 
 pub use array::{
-    ArrayId, ArrayKind, ArrayRef, ArraySlots, ArrayView, Encoded, Encoding, EncodingVariant, Node,
+    ArrayId, ArrayKind, ArrayRef, ArraySlots, ArrayView, Encoded, Encoding, EncodingKind,
+    EncodingVariant, Node,
 };
 pub use arrays::boolean::{Bool, BoolData};
 pub use arrays::constant::{Constant, ConstantData};

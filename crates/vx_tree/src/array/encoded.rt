@@ -2,9 +2,11 @@
 
 ghost use Rattle.std.specs.Prelude.{◌≡◌, is_some, IfSome, Bool, true};
 ghost use Rattle.vx_tree.specs.Tree.{Data};
-ghost use Rattle.vx_tree.specs.TreeView.{data_of};
+ghost use Rattle.vx_tree.specs.TreeView.{data_of, tree_of};
+ghost use Rattle.vx_tree.specs.Well.{IsNodeOf};
+ghost use Rattle.vx_tree.specs.Kinds.{IsKindOf};
 
-use crate::array::Encoding;
+use crate::array::{ArrayKind, Encoding, Node};
 use vx_value::Id;
 
 /// The id of an encoding.
@@ -38,4 +40,35 @@ pub trait EncodingVariant: Encoded {
 
     // what it stands for is of the encoding
     ghost kind_of: { (d : Self.TypedArrayData) → is_kind (stands_for d) ≡ true };
+}
+
+/// Encodings whose nodes can be opened. (own)
+pub trait EncodingKind: EncodingVariant {
+    /// Returns the data and children of `node`, whose data is `payload`. (own)
+    fn kind<'a>(node: &'a Node, payload: &'a Self::TypedArrayData) -> ArrayKind<'a>
+        requires well { IsNodeOf (tree_of node.now) }
+        requires data { data_of node.now.encoding ≡ Self.stands_for payload.now }
+        ensures { IsKindOf result (tree_of node.now) };
+}
+
+/// Calls a generic function at the encoding of `$encoding`, with its data as the last argument: a line for each encoding.
+#[macro_export]
+macro_rules! by_encoding {
+    ($encoding:expr, $function:ident($($argument:expr),* $(,)?)) => {
+        match $encoding {
+            $crate::Encoding::Constant(data) => $function::<$crate::Constant>($($argument,)* data),
+            $crate::Encoding::Slice(data) => $function::<$crate::Slice>($($argument,)* data),
+            $crate::Encoding::Filter(data) => $function::<$crate::Filter>($($argument,)* data),
+            $crate::Encoding::Masked(data) => $function::<$crate::Masked>($($argument,)* data),
+            $crate::Encoding::ScalarFnValidity(data) => {
+                $function::<$crate::ScalarFnValidity>($($argument,)* data)
+            }
+            $crate::Encoding::ScalarFn(data) => $function::<$crate::ScalarFn>($($argument,)* data),
+            $crate::Encoding::Null(data) => $function::<$crate::Null>($($argument,)* data),
+            $crate::Encoding::Bool(data) => $function::<$crate::Bool>($($argument,)* data),
+            $crate::Encoding::Primitive(data) => $function::<$crate::Primitive>($($argument,)* data),
+            $crate::Encoding::Decimal(data) => $function::<$crate::Decimal>($($argument,)* data),
+            $crate::Encoding::VarBinView(data) => $function::<$crate::VarBinView>($($argument,)* data),
+        }
+    };
 }

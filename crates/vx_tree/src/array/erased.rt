@@ -2,8 +2,7 @@
 
 ghost use Rattle.std.specs.Prelude.{◌≡◌, ◌==◌, is_some, IfSome, length, option_map, slice_get};
 ghost use Rattle.vx_value.specs.View.{type_of};
-ghost use Rattle.vx_tree.specs.Tree.{dtype, len, datum, slots, slots_of, id_of};
-ghost use Rattle.vx_tree.specs.Names.{slot_names};
+ghost use Rattle.vx_tree.specs.Tree.{dtype, len, datum, slots, slots_of, id_of, slot_names};
 ghost use Rattle.vx_tree.specs.TreeView.{data_of};
 ghost use Rattle.vx_tree.specs.Cells.{rows};
 ghost use Rattle.vx_tree.specs.Well.{IsWell};
@@ -67,9 +66,8 @@ impl ArrayRef {
         &self.node.slots
     }
 
-    /// Returns the name of the root's slot `index`, counted from 0. A slice, a filter and a test for null have
-    /// `child`, a masked array has `child` and `validity`, a column has `validity`, and a function node has the names of its
-    /// arguments. `None` if there is no such slot.
+    /// Returns the name of the root's slot `index`, counted from 0. A node with one child has `child`, a masked array has `child` and
+    /// `validity`, a column has `validity`, and a function node has the names of its arguments. `None` if there is no such slot.
     pub fn slot_name(&self, index: usize) -> Option<&'static str>
         ensures { option_map (λ s. s.now) result ≡ slice_get (slot_names (datum self.now)) index }
     {

@@ -1,12 +1,13 @@
-//! The one place where nodes are taken apart.
+//! Nodes, opened.
 
 ghost use Rattle.std.specs.Prelude.{◌≡◌, Some, true};
-ghost use Rattle.vx_tree.specs.TreeView.{tree_of};
+ghost use Rattle.vx_tree.specs.TreeView.{data_of, tree_of};
 ghost use Rattle.vx_tree.specs.Well.{IsNodeOf};
 ghost use Rattle.vx_tree.specs.Kinds.{IsKindOf};
 ghost use Rattle.vx_tree.specs.Refusals.{is_present};
 
-use crate::array::{ArrayRef, Encoding, Node};
+use crate::array::{ArrayRef, EncodingKind, Node};
+use crate::by_encoding;
 use vx_fn::ScalarFnRef;
 use vx_mask::{BitBuffer, Mask};
 use vx_native::{DecimalValues, PrimitiveValues};
@@ -45,36 +46,22 @@ impl ArrayRef {
     pub fn kind(&self) -> ArrayKind<'_>
         ensures { IsKindOf result self.now }
     {
-        kind_of(&self.node)
+        by_encoding!(&self.node.encoding, kind_of(&self.node))
     }
 }
 
-/// Returns the data and children of `node`: a line for each encoding.
-fn kind_of(node: &Node) -> ArrayKind<'_>
-    requires { IsNodeOf (tree_of node.now) }
+/// Returns the data and children of `node`, whose encoding is `V` and whose data is `payload`.
+#[inline]
+fn kind_of<'a, V: EncodingKind>(node: &'a Node, payload: &'a V::TypedArrayData) -> ArrayKind<'a>
+    requires well { IsNodeOf (tree_of node.now) }
+    requires data { data_of node.now.encoding ≡ V.stands_for payload.now }
     ensures { IsKindOf result (tree_of node.now) }
 {
-    match &node.encoding {
-        Encoding::Constant(data) => ArrayKind::Constant(&data.scalar),
-        Encoding::Slice(data) => ArrayKind::Slice(
-            present(&node.slots[0]),
-            data.range.start,
-            data.range.end,
-        ),
-        Encoding::Filter(data) => ArrayKind::Filter(present(&node.slots[0]), &data.mask),
-        Encoding::Masked(_) => ArrayKind::Masked(present(&node.slots[0]), &node.slots[1]),
-        Encoding::ScalarFnValidity(_) => ArrayKind::ScalarFnValidity(present(&node.slots[0])),
-        Encoding::ScalarFn(data) => ArrayKind::ScalarFn(&data.scalar_fn, &node.slots),
-        Encoding::Null(_) => ArrayKind::Null,
-        Encoding::Bool(data) => ArrayKind::Bool(&data.bits, &node.slots[0]),
-        Encoding::Primitive(data) => ArrayKind::Primitive(&data.values, &node.slots[0]),
-        Encoding::Decimal(data) => ArrayKind::Decimal(&data.values, &node.slots[0]),
-        Encoding::VarBinView(data) => ArrayKind::VarBinView(&data.rows, &node.slots[0]),
-    }
+    V::kind(node, payload)
 }
 
 /// Returns the tree in `slot`, which must have one.
-fn present(slot: &Option<ArrayRef>) -> &ArrayRef
+pub(crate) fn present(slot: &Option<ArrayRef>) -> &ArrayRef
     requires { is_present slot.now ≡ true }
     ensures { slot.now ≡ Some result.now }
 {

@@ -6,8 +6,9 @@ mod kind;
 mod node;
 mod view;
 
-pub use encoded::{ArrayId, Encoded, EncodingVariant};
+pub use encoded::{ArrayId, Encoded, EncodingKind, EncodingVariant};
 pub use kind::ArrayKind;
+pub(crate) use kind::present;
 pub(crate) use node::know_well;
 pub use node::{ArrayRef, ArraySlots, Encoding, Node};
 pub use view::ArrayView;

@@ -66,7 +66,7 @@ impl Drop for ArrayRef {
 }
 
 impl Model for ArrayRef {
-    ghost use Rattle.vx_tree.specs.Tree.{Tree, coded_tree, height};
+    ghost use Rattle.vx_tree.specs.Tree.Nodes.{Tree, coded_tree, height};
 
     ghost Value = { Tree };
 

@@ -3,13 +3,20 @@
 ghost use Rattle.std.specs.Prelude.{◌≡◌, refl};
 ghost use Rattle.vx_tree.specs.Tree.{constant, is_constant};
 
-use crate::array::{Encoded, Encoding, EncodingVariant};
+use crate::array::{ArrayKind, Encoded, Encoding, EncodingKind, EncodingVariant, Node};
 use crate::arrays::{into_payload, payload};
 use vx_value::Scalar;
 
 /// The tag of the constant encoding.
 #[derive(Clone, Copy, Debug)]
 pub struct Constant;
+
+impl EncodingKind for Constant {
+    #[tactic(auto, using(crate::proofs::KindsLemmas::kind_constant))]
+    fn kind<'a>(_node: &'a Node, payload: &'a ConstantData) -> ArrayKind<'a> {
+        ArrayKind::Constant(&payload.scalar)
+    }
+}
 
 /// The data of a constant: the value of each row.
 #[derive(Clone, Debug, Drop)]

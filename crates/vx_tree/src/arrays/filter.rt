@@ -5,13 +5,19 @@ ghost use Rattle.vx_mask.specs.Masks.{bits_in};
 ghost use Rattle.vx_mask.specs.Places.{true_count};
 ghost use Rattle.vx_tree.specs.Tree.{filter, is_filter};
 
-use crate::array::{Encoded, Encoding, EncodingVariant};
+use crate::array::{ArrayKind, Encoded, Encoding, EncodingKind, EncodingVariant, Node, present};
 use crate::arrays::{into_payload, payload};
 use vx_mask::Mask;
 
 /// The tag of the filter encoding.
 #[derive(Clone, Copy, Debug)]
 pub struct Filter;
+
+impl EncodingKind for Filter {
+    fn kind<'a>(node: &'a Node, payload: &'a FilterData) -> ArrayKind<'a> {
+        ArrayKind::Filter(present(&node.slots[0]), &payload.mask)
+    }
+}
 
 /// The data of a filter: the mask that chooses among the child's rows.
 #[derive(Clone, Debug, Drop)]

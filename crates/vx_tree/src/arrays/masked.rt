@@ -3,12 +3,18 @@
 ghost use Rattle.std.specs.Prelude.{refl};
 ghost use Rattle.vx_tree.specs.Tree.{masked, is_masked};
 
-use crate::array::{Encoded, Encoding, EncodingVariant};
+use crate::array::{ArrayKind, Encoded, Encoding, EncodingKind, EncodingVariant, Node, present};
 use crate::arrays::{into_payload, payload};
 
 /// The tag of the masked encoding.
 #[derive(Clone, Copy, Debug)]
 pub struct Masked;
+
+impl EncodingKind for Masked {
+    fn kind<'a>(node: &'a Node, _payload: &'a MaskedData) -> ArrayKind<'a> {
+        ArrayKind::Masked(present(&node.slots[0]), &node.slots[1])
+    }
+}
 
 /// The data of a masked array: none. The validity is in a slot.
 #[derive(Clone, Copy, Debug)]

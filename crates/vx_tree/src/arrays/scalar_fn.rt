@@ -3,7 +3,7 @@
 ghost use Rattle.std.specs.Prelude.{◌≡◌, refl};
 ghost use Rattle.vx_tree.specs.Tree.{function, is_function};
 
-use crate::array::{ArrayId, Encoded, Encoding, EncodingVariant};
+use crate::array::{ArrayId, ArrayKind, Encoded, Encoding, EncodingKind, EncodingVariant, Node};
 use crate::arrays::{into_payload, payload};
 use vx_fn::ScalarFnRef;
 
@@ -12,6 +12,12 @@ use vx_fn::ScalarFnRef;
 pub struct ScalarFn {
     /// The id of the function.
     pub id: ArrayId,
+}
+
+impl EncodingKind for ScalarFn {
+    fn kind<'a>(node: &'a Node, payload: &'a ScalarFnData) -> ArrayKind<'a> {
+        ArrayKind::ScalarFn(&payload.scalar_fn, &node.slots)
+    }
 }
 
 /// The data of a function node: the function.

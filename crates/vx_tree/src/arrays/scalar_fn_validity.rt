@@ -3,13 +3,20 @@
 ghost use Rattle.std.specs.Prelude.{refl};
 ghost use Rattle.vx_tree.specs.Tree.{is_valid, is_validity};
 
-use crate::array::{Encoded, Encoding, EncodingVariant};
+use crate::array::{ArrayKind, Encoded, Encoding, EncodingKind, EncodingVariant, Node, present};
 use crate::arrays::{into_payload, payload};
 use std::fmt;
 
 /// The tag of the encoding that tells the validity of its child.
 #[derive(Clone, Copy, Debug)]
 pub struct ScalarFnValidity;
+
+impl EncodingKind for ScalarFnValidity {
+    #[tactic(auto, using(crate::proofs::KindsLemmas::kind_validity))]
+    fn kind<'a>(node: &'a Node, _payload: &'a EmptyArrayData) -> ArrayKind<'a> {
+        ArrayKind::ScalarFnValidity(present(&node.slots[0]))
+    }
+}
 
 /// The data of such a node: none.
 #[derive(Clone, Copy, Debug, Default)]

@@ -3,13 +3,23 @@
 ghost use Rattle.std.specs.Prelude.{◌≡◌, ◌-◌, ◌==◌, refl};
 ghost use Rattle.vx_tree.specs.Tree.{slice, is_slice};
 
-use crate::array::{Encoded, Encoding, EncodingVariant};
+use crate::array::{ArrayKind, Encoded, Encoding, EncodingKind, EncodingVariant, Node, present};
 use crate::arrays::{into_payload, payload};
 use std::ops::Range;
 
 /// The tag of the slice encoding.
 #[derive(Clone, Copy, Debug)]
 pub struct Slice;
+
+impl EncodingKind for Slice {
+    fn kind<'a>(node: &'a Node, payload: &'a SliceData) -> ArrayKind<'a> {
+        ArrayKind::Slice(
+            present(&node.slots[0]),
+            payload.range.start,
+            payload.range.end,
+        )
+    }
+}
 
 /// The data of a slice: the range of the child's rows, from `start`, inclusive, to `end`, exclusive.
 #[derive(Clone, Debug, Drop)]
