@@ -67,12 +67,16 @@ filter_rows bits _ h = refl
 pub filter_quiet : (i : ℕ) (bits : List Bool) (c t : Tree) → enc.filter bits ≡ datum c → HasSlot i c t → is_filter (datum t) ≡ false → IsQuiet (Some i) t
 filter_quiet i bits c t e held h = quiet_by i (enc.filter bits) c t e held (filter_rows bits (datum t) h)
 
-validity_rows : (p : Data) → has_row p enc.is_valid ≡ false
-validity_rows (enc.slice a b) = refl
-validity_rows _ = refl
+-- an encoding that no parent has a row of
+no_rows : (p d : Data) → lets_slice d ≡ false → lets_filter d ≡ false → is_masked d ≡ false → is_constant d ≡ false → has_row p d ≡ false
+no_rows (enc.slice a b) d s f m k = s
+no_rows (enc.filter bits) d s f m k = f
+no_rows (enc.function g) d s f m k = λ i. (m i && is_mask g) || (k i && folds g)
+no_rows _ d s f m k = refl
 
-pub validity_quiet : (i : ℕ) (c t : Tree) → enc.is_valid ≡ datum c → HasSlot i c t → IsQuiet (Some i) t
-validity_quiet i c t e held = quiet_by i enc.is_valid c t e held (validity_rows (datum t))
+pub quiet : (i : ℕ) (d : Data) (c t : Tree) → d ≡ datum c → HasSlot i c t → lets_slice d ≡ false → lets_filter d ≡ false → is_masked d ≡ false → is_constant d ≡ false
+    → IsQuiet (Some i) t
+quiet i d c t e held s f m k = quiet_by i d c t e held (no_rows (datum t) d s f m k)
 
 function_rows : (f : ScalarFnRef) (p : Data) → is_slice p ≡ false → is_filter p ≡ false → has_row p (enc.function f) ≡ false
 function_rows f (enc.slice a b) s h = absurd (cc (s))

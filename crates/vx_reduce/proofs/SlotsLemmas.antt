@@ -11,11 +11,10 @@ use Rattle.vx_mask.specs.Places.{true_count}
 use Rattle.vx_fn.specs.Functions.{meaning, arity}
 use Rattle.vx_fn.specs.declared.function.ScalarFnRef.{ScalarFnRef}
 use Rattle.vx_tree.specs.Tree as enc
-use Rattle.vx_tree.specs.Tree.{Tree, Data, Slots, node, no_slots, absent, slot, slots_of, dtype, len, datum, slice_of, filter_of, masked_of}
+use Rattle.vx_tree.specs.Tree.{Tree, Data, Slots, node, no_slots, absent, slot, slots_of, dtype, len, datum, slice_of, filter_of, masked_of, all_long}
 use Rattle.vx_tree.specs.Slots.{map_slots}
 use Rattle.vx_tree.specs.Parts.{part_of, part_by, choice_of, choice_by, HasLen}
 use Rattle.vx_tree.specs.Well.{shape, shape_of, shapes, IsNode, IsNodeOf, IsWell, AreWell, IsValidity}
-use Rattle.vx_tree.specs.Refusals.{all_long}
 
 -- ---- one slot more
 

@@ -3,11 +3,10 @@
 ghost use Rattle.std.specs.Prelude.{◌≡◌, ◌≤◌, ◌-◌, [], ◌∷◌, length, Some, None, option_map, IfOk, IfErr, IfSome, true};
 ghost use Rattle.vx_value.specs.declared.error.VortexError.TheVariants.{OutOfMemory};
 ghost use Rattle.vx_mask.specs.Masks.{bits_in};
-ghost use Rattle.vx_tree.specs.Tree.{Tree, len, slots_of, slice_of};
+ghost use Rattle.vx_tree.specs.Tree.{Tree, len, slots_of, slice_of, all_long};
 ghost use Rattle.vx_tree.specs.Well.{shapes};
 ghost use Rattle.vx_tree.specs.Slots.{map_slots};
 ghost use Rattle.vx_tree.specs.Parts.{choice_of};
-ghost use Rattle.vx_tree.specs.Refusals.{all_long};
 ghost use Rattle.vx_tree.specs.Validities.{truths};
 
 use std::alloc::Global;

@@ -9,32 +9,8 @@ ghost use Rattle.vx_rule.specs.Answers.{HoldsWith, IsAnswer};
 use crate::rule_set::{ParentRuleSet, ReduceRuleSet, ReduceVTable};
 use std::alloc::Global;
 use vx_rule::RawNode;
-use vx_tree::{
-    ArrayRef, ArrayView, Bool, Constant, Decimal, Encoding, Filter, Masked, Null, Primitive,
-    ScalarFn, ScalarFnValidity, Slice, VarBinView,
-};
+use vx_tree::{ArrayRef, ArrayView, by_encoding};
 use vx_value::VortexResult;
-
-/// Calls a generic function at the encoding of `$array`, with its data as the last argument: a line for each encoding.
-macro_rules! by_encoding {
-    ($array:expr, $function:ident($($argument:expr),*)) => {
-        match $array.encoding() {
-            Encoding::Constant(payload) => $function::<Constant>($($argument),*, payload),
-            Encoding::Slice(payload) => $function::<Slice>($($argument),*, payload),
-            Encoding::Filter(payload) => $function::<Filter>($($argument),*, payload),
-            Encoding::Masked(payload) => $function::<Masked>($($argument),*, payload),
-            Encoding::ScalarFnValidity(payload) => {
-                $function::<ScalarFnValidity>($($argument),*, payload)
-            }
-            Encoding::ScalarFn(payload) => $function::<ScalarFn>($($argument),*, payload),
-            Encoding::Null(payload) => $function::<Null>($($argument),*, payload),
-            Encoding::Bool(payload) => $function::<Bool>($($argument),*, payload),
-            Encoding::Primitive(payload) => $function::<Primitive>($($argument),*, payload),
-            Encoding::Decimal(payload) => $function::<Decimal>($($argument),*, payload),
-            Encoding::VarBinView(payload) => $function::<VarBinView>($($argument),*, payload),
-        }
-    };
-}
 
 /// Returns the answer of `array` itself by the rules of `V`, its encoding, whose data is `payload`.
 #[inline]
@@ -77,7 +53,7 @@ pub fn reduce(alloc: Global, array: &ArrayRef) -> VortexResult<Option<RawNode>>
     ensures answer { IfOk result (λ o. IsAnswer None array.now o) }
     ensures err { IfErr result (λ e. e ≡ OutOfMemory) }
 {
-    by_encoding!(array, evaluate(alloc, array))
+    by_encoding!(array.encoding(), evaluate(alloc, array))
 }
 
 /// Returns the answer of `child`, which stands in `slot` of `parent`, by the rows S1 to S5, F5 to F8, M1 and K1 to K4: `None` exactly if
@@ -92,5 +68,5 @@ pub fn reduce_parent(
     ensures answer { IfOk result (λ o. IsAnswer (Some slot) parent.now o) }
     ensures err { IfErr result (λ e. e ≡ OutOfMemory) }
 {
-    by_encoding!(child, evaluate_child(alloc, child, parent, slot))
+    by_encoding!(child.encoding(), evaluate_child(alloc, child, parent, slot))
 }

@@ -17,7 +17,7 @@ impl ReduceVTable for ScalarFnValidity {
         Ok(None)
     }
 
-    #[tactic(auto, using(crate::proofs::ChildrenLemmas::validity_quiet))]
+    #[tactic(auto, using(crate::proofs::ChildrenLemmas::quiet))]
     fn reduce_parent(
         _alloc: Global,
         child: &ArrayView<'_, ScalarFnValidity>,

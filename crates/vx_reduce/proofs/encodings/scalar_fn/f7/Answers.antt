@@ -1,8 +1,7 @@
 use Rattle.std.proofs.Common.{◌≡◌, Some, ap, sym, subst, true, ◌∙◌}
 use Rattle.vx_mask.specs.Masks.{bits_in}
-use Rattle.vx_tree.specs.Tree.{dtype, len, node, function, slots_of, filter_of}
+use Rattle.vx_tree.specs.Tree.{dtype, len, node, function, slots_of, filter_of, all_long}
 use Rattle.vx_tree.specs.Well.{IsNode, shapes}
-use Rattle.vx_tree.specs.Refusals.{all_long}
 use Rattle.vx_reduce.proofs.SlotsLemmas.{called_long, chosen_node}
 use Rattle.vx_reduce.proofs.FitsLemmas.{fit_F7, raw_row}
 use Rattle.vx_reduce.proofs.encodings.scalar_fn.f7.Goals as goal
