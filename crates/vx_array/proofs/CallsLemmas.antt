@@ -8,8 +8,8 @@ use Rattle.vx_value.specs.declared.error.ArgKind.TheVariants.{ChildLen, NoRow}
 use Rattle.vx_fn.specs.ReturnTypes.{return_type}
 use Rattle.vx_fn.specs.declared.function.ScalarFnRef.{ScalarFnRef}
 use Rattle.vx_tree.specs.Tree.{Tree, Slots, node, function, no_slots, absent, slot, filled_slots, slots_of, dtype, len, call_of}
+use Rattle.vx_tree.specs.Tree.{lengths_refusal, arity_refusal, all_present, all_long, types_in}
 use Rattle.vx_tree.specs.Well.{shape, shapes, IsNode}
-use Rattle.vx_tree.specs.Refusals.{lengths_refusal, arity_refusal, all_present, all_long, types_in}
 use Rattle.vx_tree.specs.Conditions.{unless}
 use Rattle.vx_tree.specs.Calls.{all_of_len, row_refusal, call_refusal, called}
 use Rattle.vx_tree.proofs.ConditionsLemmas.{first_refused, later_refused, none_refused, unless_none}

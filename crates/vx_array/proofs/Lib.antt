@@ -5,4 +5,11 @@ pub mod DecimalsLemmas
 pub mod ValiditiesLemmas
 pub mod JoinedLemmas
 pub mod TellsLemmas
+pub mod SliceLemmas
+pub mod FilterLemmas
+pub mod MaskedLemmas
+pub mod ScalarFnLemmas
+pub mod ScalarFnValidityLemmas
+pub mod RefusedExactlyLemmas
 pub mod NodeValiditiesLemmas
+pub mod SliceRowsLemmas

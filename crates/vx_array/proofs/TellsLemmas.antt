@@ -1,31 +1,30 @@
 -- A validity that tells which rows of a tree are null.
 use Rattle.std.proofs.Common.{◌≡◌, ℕ, zero, suc, ◌-◌, ◌≤◌, List, [], ◌∷◌, length, map, replicate, take, drop, slice_get, Bool, true, false, Option, Some, None, refl, sym, ap, subst, ◌∙◌, arith}
 use Rattle.std.specs.Prelude.{option_map, not}
-use Rattle.std.proofs.lemmas.List.{take-map, drop-map, take-replicate, drop-replicate}
+use Rattle.std.proofs.lemmas.List.{take-replicate, drop-replicate}
 use Rattle.vx_value.specs.Types.{DataType, nullability_of, is_nullable}
 use Rattle.vx_value.specs.IsOf.{is_null}
 use Rattle.vx_value.specs.Values.{Value, null, boolean}
 use Rattle.vx_value.specs.Typed.{Typed}
 use Rattle.vx_value.specs.Cell.{Cell, value, fault}
 use Rattle.vx_value.specs.declared.dtype.Nullability.TheVariants.{NonNullable, Nullable}
-use Rattle.vx_mask.specs.Places.{true_count, chosen}
-use Rattle.vx_mask.proofs.ChosenLemmas.{chosen_map, chosen-replicate}
+use Rattle.vx_mask.specs.Places.{chosen}
 use Rattle.vx_native.proofs.NativesLemmas.{map_copies}
 use Rattle.vx_tree.specs.Tree as enc
-use Rattle.vx_tree.specs.Tree.{Tree, Data, slot, slots_of, dtype, len, datum, column, constant_of, slice_of, filter_of, masked_of, validity_in}
-use Rattle.vx_tree.specs.Well.{shape, shape_of, IsValidity, IsWell, AreWell}
+use Rattle.vx_tree.specs.Tree.{Tree, Data, Slots, slot, slots_of, dtype, len, datum, column, constant_of}
+use Rattle.vx_tree.specs.Well.{shape_of, IsValidity, IsWell, AreWell}
 use Rattle.vx_tree.specs.Cells.{rows, valid_cells, shown_cell, HasNoFault, IsClean, AreClean}
 use Rattle.vx_tree.specs.Keeps.{CellKeeps, RowsKeep}
 use Rattle.vx_tree.specs.Validities.{nullability_by, validity_of, of_truth, of_data, valid_rows, HasRows}
-use Rattle.vx_tree.specs.NodeValidities.{constant_validity, on_array, joined, IsCleanValidity, IsValidityFor}
+use Rattle.vx_tree.specs.NodeValidities.{slot_tree, node_validity, constant_validity, on_array, IsCleanValidity, IsValidityFor}
 use Rattle.vx_tree.specs.declared.validity.Validity.{Validity}
 use Rattle.vx_tree.specs.declared.validity.Validity.TheVariants as validity
 use Rattle.vx_tree.proofs.CellsLemmas.{rows_counted}
 use Rattle.vx_tree.proofs.KindsLemmas.{type_in, len_in}
-use Rattle.vx_tree.proofs.KeepsLemmas.{rows_refl, rows_equal, take_keep, drop_keep, chosen_keep}
+use Rattle.vx_tree.proofs.KeepsLemmas.{rows_equal}
 use Rattle.vx_tree.proofs.TypedLemmas.{CellFits, AllFit, rows_fit}
-use Rattle.vx_array.proofs.ValiditiesLemmas.{nullable_set, told as slot_cells, told_back, whole, part_clean}
-use Rattle.vx_array.proofs.JoinedLemmas.{own_told, all_valid, cells_sized, joined_sized, joined_nullable, joined_clean, joined_told}
+use Rattle.vx_array.proofs.ValiditiesLemmas.{told as slot_cells, told_back}
+use Rattle.vx_array.proofs.JoinedLemmas.{own_told, all_valid, cells_sized}
 
 -- ---- the validity that a slot tells
 
@@ -46,15 +45,15 @@ pub slot_sized : (w : Option Tree) (n : ℕ) → IsValidity Nullable n (option_m
 slot_sized None n h k = tt
 slot_sized (Some t) n h k = read_back (λ v. HasRows v n) t tt tt (k.0, ap type_in h, ap len_in h)
 
-slot_nullable : (w : Option Tree) → nullability_by (validity_of Nullable w) ≡ Nullable
+pub slot_nullable : (w : Option Tree) → nullability_by (validity_of Nullable w) ≡ Nullable
 slot_nullable None = refl
 slot_nullable (Some t) = read_back (λ v. nullability_by v ≡ Nullable) t refl refl refl
 
-slot_clean : (w : Option Tree) → AreClean (slots_of (w ∷ [])) → IsCleanValidity (validity_of Nullable w)
+pub slot_clean : (w : Option Tree) → AreClean (slots_of (w ∷ [])) → IsCleanValidity (validity_of Nullable w)
 slot_clean None h = tt
 slot_clean (Some t) h = read_back IsCleanValidity t tt tt h.0
 
-slot_told : (w : Option Tree) (cs : List Cell) → IsValidity Nullable (length cs) (option_map shape_of w) → AreWell (slots_of (w ∷ []))
+pub slot_told : (w : Option Tree) (cs : List Cell) → IsValidity Nullable (length cs) (option_map shape_of w) → AreWell (slots_of (w ∷ []))
     → valid_cells (slot_cells w) cs ≡ valid_cells (valid_rows (validity_of Nullable w) (length cs)) cs
 slot_told None cs h k = sym (all_valid (length cs) cs refl)
 slot_told (Some t) cs h k =
@@ -132,39 +131,12 @@ constant_tells v n e = by_value v.value refl
 
 -- ---- chosen rows
 
-chosen_nullable : (f : Tree → Tree) (v : Validity) → nullability_by (on_array f v) ≡ nullability_by v
+pub chosen_nullable : (f : Tree → Tree) (v : Validity) → nullability_by (on_array f v) ≡ nullability_by v
 chosen_nullable f validity.NonNullable = refl
 chosen_nullable f _ = refl
 
 pub part_copies : (c : Cell) (a b m : ℕ) → a ≤ b → b ≤ m → replicate (b - a) c ≡ take (b - a) (drop a (replicate m c))
 part_copies c a b m h k = sym (ap (take (b - a)) (drop-replicate a m c) ∙ take-replicate (b - a) (m - a) c (omega arith))
-
-part_rows : (v : Validity) (a b m : ℕ) → a ≤ b → b ≤ m → valid_rows (on_array (slice_of a b) v) (b - a) ≡ take (b - a) (drop a (valid_rows v m))
-part_rows (validity.Array t) a b m h k = refl
-part_rows validity.AllInvalid a b m h k = part_copies (value (boolean false)) a b m h k
-part_rows _ a b m h k = part_copies (value (boolean true)) a b m h k
-
-part_sized : (v : Validity) (a b m : ℕ) → a ≤ b → b ≤ m → HasRows v m → HasRows (on_array (slice_of a b) v) (b - a)
-part_sized (validity.Array t) a b m h k w = (((len t, refl, h, subst (λ n. b ≤ n) (sym w.2) k, refl), (w.0, tt)), w.1, refl)
-part_sized _ a b m h k w = tt
-
-part_kept_clean : (v : Validity) (a b : ℕ) → IsCleanValidity v → IsCleanValidity (on_array (slice_of a b) v)
-part_kept_clean (validity.Array t) a b h = part_clean a b t h
-part_kept_clean _ a b h = tt
-
-pub slice_tells : (c : Tree) (v : Validity) (a b : ℕ) → a ≤ b → b ≤ len c → Tells c v → Tells (slice_of a b c) (on_array (slice_of a b) v)
-slice_tells c v a b h k w =
-    let cells : take (b - a) (drop a (map shown_cell (rows c))) ≡ map shown_cell (take (b - a) (drop a (rows c))) =
-    ap (take (b - a)) (drop-map shown_cell a (rows c)) ∙ take-map shown_cell (b - a) (drop a (rows c)) in
-    let kept = take_keep (b - a) _ _ (drop_keep a _ _ w.told) in
-    record {
-      nullable = chosen_nullable (slice_of a b) v ∙ w.nullable;
-      sized = part_sized v a b (len c) h k w.sized;
-      told =
-          subst (RowsKeep (map shown_cell (rows (slice_of a b c)))) (sym (part_rows v a b (len c) h k))
-          (subst (λ x. RowsKeep x (take (b - a) (drop a (valid_rows v (len c))))) cells kept);
-      clean = λ d. part_kept_clean v a b (w.clean d.1.0);
-    }
 
 pub chosen_clean : (bits : List Bool) (cs : List Cell) → HasNoFault cs → HasNoFault (chosen bits cs)
 unfolding chosen
@@ -173,57 +145,6 @@ chosen_clean (b ∷ bits) [] h = tt
 chosen_clean (b ∷ bits) (fault ∷ cs) h = absurd h
 chosen_clean (true ∷ bits) (value v ∷ cs) h = chosen_clean bits cs h
 chosen_clean (false ∷ bits) (value v ∷ cs) h = chosen_clean bits cs h
-
-choice_rows : (v : Validity) (bits : List Bool) (m : ℕ) → length bits ≡ m → valid_rows (on_array (filter_of bits) v) (true_count bits) ≡ chosen bits (valid_rows v m)
-choice_rows (validity.Array t) bits m h = refl
-choice_rows validity.AllInvalid bits m h = sym (chosen-replicate bits m (value (boolean false)) h)
-choice_rows _ bits m h = sym (chosen-replicate bits m (value (boolean true)) h)
-
-choice_sized : (v : Validity) (bits : List Bool) (m : ℕ) → length bits ≡ m → HasRows v m → HasRows (on_array (filter_of bits) v) (true_count bits)
-choice_sized (validity.Array t) bits m h w = ((((λ i. Some (shape (dtype t) ((w.2 ∙ sym h) i)) ∷ []), refl), (w.0, tt)), w.1, refl)
-choice_sized _ bits m h w = tt
-
-choice_clean : (v : Validity) (bits : List Bool) → IsCleanValidity v → IsCleanValidity (on_array (filter_of bits) v)
-choice_clean (validity.Array t) bits h = (chosen_clean bits (rows t) (whole t h), (h, tt))
-choice_clean _ bits h = tt
-
-pub filter_tells : (c : Tree) (v : Validity) (bits : List Bool) → length bits ≡ len c → Tells c v → Tells (filter_of bits c) (on_array (filter_of bits) v)
-filter_tells c v bits h w =
-    let kept = chosen_keep bits _ _ w.told in
-    record {
-      nullable = chosen_nullable (filter_of bits) v ∙ w.nullable;
-      sized = choice_sized v bits (len c) h w.sized;
-      told =
-          subst (RowsKeep (map shown_cell (rows (filter_of bits c)))) (sym (choice_rows v bits (len c) h))
-          (subst (λ x. RowsKeep x (chosen bits (valid_rows v (len c)))) (chosen_map shown_cell bits (rows c)) kept);
-      clean = λ d. choice_clean v bits (w.clean d.1.0);
-    }
-
--- ---- a masked node
-
-masked_rows : (c : Tree) (w : Option Tree) → rows (masked_of c w) ≡ valid_cells (slot_cells w) (rows c)
-masked_rows c None = refl
-masked_rows c (Some t) = refl
-
-pub masked_tells : (c : Tree) (w : Option Tree) (v : Validity) → IsWell c → IsValidity Nullable (len c) (option_map shape_of w) → AreWell (slots_of (w ∷ [])) → Tells c v
-    → Tells (masked_of c w) (joined (len c) (validity_of Nullable w) v)
-masked_tells c w v well h k t =
-    let own = validity_of Nullable w in
-    let long : length (rows c) ≡ len c = rows_counted c well in
-    let sized : HasRows own (len c) = slot_sized w (len c) h k in
-    let cells : valid_cells (valid_rows own (len c)) (rows c) ≡ rows (masked_of c w) =
-    sym (masked_rows c w ∙ subst (λ n. valid_cells (slot_cells w) (rows c) ≡ valid_cells (valid_rows own n) (rows c)) long
-    (slot_told w (rows c) (subst (λ n. IsValidity Nullable n (option_map shape_of w)) (sym long) h) k)) in
-    let told : RowsKeep (map shown_cell (valid_cells (valid_rows own (len c)) (rows c))) (valid_rows (joined (len c) own v) (len c)) =
-    subst (λ n. RowsKeep (map shown_cell (valid_cells (valid_rows own n) (rows c))) (valid_rows (joined n own v) n)) long
-    (joined_told own v (rows c) (slot_nullable w) (subst (HasRows own) (sym long) sized) (subst (HasRows v) (sym long) t.sized)
-    (subst (λ n. RowsKeep (map shown_cell (rows c)) (valid_rows v n)) (sym long) t.told)) in
-    record {
-      nullable = joined_nullable (len c) own v ∙ sym (nullable_set (dtype c));
-      sized = joined_sized (len c) own v sized t.sized;
-      told = subst (λ cs. RowsKeep (map shown_cell cs) (valid_rows (joined (len c) own v) (len c))) cells told;
-      clean = λ d. joined_clean (len c) own v sized t.sized (slot_clean w d.1.1) (t.clean d.1.0);
-    }
 
 -- ---- a column
 
@@ -250,19 +171,13 @@ column_tells ty n d w stored cells long valid e h k =
       clean = λ c. slot_clean w c.1;
     }
 
--- ---- a function
+-- ---- a node, from its slots
 
-pub function_tells : (t : Tree) → IsWell t → nullability_of (dtype t) ≡ Nullable → Tells t (validity.Array (validity_in t))
-function_tells t w e =
-    record {
-      nullable = sym e;
-      sized = (((dtype t, refl, refl), (w, tt)), refl, refl);
-      told = rows_refl (map shown_cell (rows t));
-      clean = λ c. (shown_clean (rows t) (whole t c), (c, tt));
-    }
-  where
-    shown_clean : (cs : List Cell) → HasNoFault cs → HasNoFault (map shown_cell cs)
-    shown_clean [] h = tt
-    shown_clean (value null ∷ cs) h = shown_clean cs h
-    shown_clean (value _ ∷ cs) h = shown_clean cs h
-    shown_clean (fault ∷ cs) h = absurd h
+-- of the first slot's tree, if there is one
+abbrev pub FirstTells : Slots → Type 0
+FirstTells (slot t ss) = Tells t (node_validity t)
+FirstTells _ = Unit {0}
+
+pub first_tree : (w : Option Tree) → slot_tree 0 (slots_of (w ∷ [])) ≡ w
+first_tree None = refl
+first_tree (Some t) = refl

@@ -40,6 +40,7 @@ impl ArrayRefExt for ArrayRef {
 }
 
 /// Returns which rows of `array` are null: a line for each encoding. The only error is `OutOfMemory`.
+#[tactic(auto, using(crate::proofs::ScalarFnLemmas::function_told))]
 fn node_validity(alloc: Global, array: &ArrayRef) -> VortexResult<Validity>
     ensures ok { IfOk result (λ v. v ≡ node_validity array.now) }
     ensures err { IfErr result (λ e. e ≡ VortexError.OutOfMemory) }
@@ -51,6 +52,7 @@ fn node_validity(alloc: Global, array: &ArrayRef) -> VortexResult<Validity>
     let len = array.len();
     match array.kind() {
         ArrayKind::Constant(scalar) => Ok(constant_validity(scalar)),
+        #[tactic(auto, using(crate::proofs::SliceRowsLemmas::slice_bounds))]
         ArrayKind::Slice(child, start, end) => {
             slice_rows(alloc, node_validity(alloc, child)?, start..end)
         }

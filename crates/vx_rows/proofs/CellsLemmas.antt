@@ -1,30 +1,26 @@
 -- One row of a node.
-use Rattle.std.proofs.Common.{◌≡◌, inl, inr, ℕ, zero, suc, ◌+◌, ◌-◌, ◌≤◌, ◌<◌, List, [], ◌∷◌, length, map, replicate, get_or, take, drop, ◌++◌, Bool, Option, Some, None, refl, sym, ◌∙◌, ap, subst, arith, true, false, ℤ}
+use Rattle.std.proofs.Common.{◌≡◌, inl, inr, ℕ, zero, suc, ◌+◌, ◌≤◌, ◌<◌, List, [], ◌∷◌, length, map, replicate, get_or, take, ◌++◌, Bool, Option, Some, None, refl, sym, ◌∙◌, ap, subst, arith, true, false}
 use Rattle.std.specs.Prelude.{slice_get, slice_index_or, is_some, IsSome, Result, Ok, Err}
 use Rattle.std.specs.List.{AllZip, range_with_len, list_all}
-use Rattle.std.proofs.Math.Bool.{not}
-use Rattle.std.specs.Option.{option_map, option_and_then}
+use Rattle.std.specs.Option.{option_map}
 use Rattle.std.proofs.lemmas.Result.{IfOk-weaker}
 use Rattle.vx_value.specs.declared.error.VortexError.{VortexError}
-use Rattle.std.proofs.lemmas.List.{take_all, take_more, map-append, length-replicate, get_or-replicate}
+use Rattle.std.proofs.lemmas.List.{take_all, take_more, map-append, length-map, length-replicate, get_or-replicate}
 use Rattle.std.proofs.lemmas.List.FromFn.{get_or-map-range_with_len, length-map-range_with_len}
 use Rattle.std.proofs.lemmas.Option.{slice_get-get_or, slice_get-map, get_or_from_slice_get}
 use Rattle.vx_value.specs.Types.{DataType}
 use Rattle.vx_value.specs.Typed.{Typed}
-use Rattle.vx_value.specs.IsOf.{is_null}
-use Rattle.vx_value.specs.Values.{Value, null, boolean, decimal}
+use Rattle.vx_value.specs.Values.{Value, null, boolean}
 use Rattle.vx_value.specs.Cell.{Cell, value, fault}
-use Rattle.vx_mask.specs.Places.{true_place}
-use Rattle.vx_mask.proofs.ChosenLemmas.{chosen-item}
-use Rattle.vx_mask.proofs.PlacesLemmas.{place_some}
 use Rattle.vx_fn.specs.Apply.{apply, on_values, value_of}
 use Rattle.vx_fn.specs.ReturnTypes.{return_type}
 use Rattle.vx_fn.specs.declared.function.ScalarFnRef.{ScalarFnRef}
-use Rattle.vx_tree.specs.Tree.{Tree, Data, node, function, bool, column, nulls_of, constant_of, slots_of, dtype, len, height, slots_height, slice_of, filter_of, masked_of, validity_in, decimals}
-use Rattle.vx_tree.specs.Cells.{row_at, rows, node_cells, cells_at, slots_rows, valid_cell, valid_cells, shown_cell}
+use Rattle.vx_tree.specs.Tree.{Tree, Data, node, function, bool, column, nulls_of, constant_of, slots_of, dtype, len, height, slots_height, masked_of}
+use Rattle.vx_tree.specs.Tree.{types_in}
+use Rattle.vx_tree.specs.Cells.{row_at, rows, node_cells, cells_at, slots_rows, valid_cell, valid_cells}
 use Rattle.vx_tree.specs.Well.{shape, shapes, IsNode, IsWell}
 use Rattle.vx_tree.proofs.CellsLemmas.{rows_counted}
-use Rattle.vx_tree.specs.Refusals.{types_in}
+use Rattle.vx_tree.proofs.SlotsLemmas.{IsBelow, slot_below}
 use Rattle.vx_array.proofs.RefusalsLemmas.{types_back}
 use Rattle.vx_rows.specs.Arguments.{types_of_scalars, cells_of_scalars}
 use Rattle.vx_rows.specs.Nulls.{IsRowBy, validity_cells}
@@ -32,32 +28,10 @@ use Rattle.vx_rows.specs.Read.{IsRow, IsUnreadRow}
 use Rattle.vx_rows.specs.ValidRows.{null_unless}
 use Rattle.vx_rows.proofs.ValidRowsLemmas.{filled_cell, one_slot}
 use Rattle.vx_native.proofs.NativesLemmas.{map_copies}
-use Rattle.vx_array.proofs.TellsLemmas.{shown_value}
-use Rattle.vx_value.specs.Storage.{storage_of}
-use Rattle.vx_value.specs.declared.decimal.DecimalType.{DecimalType}
-use Rattle.vx_tree.specs.ColumnTypes.{scale_of}
 use Rattle.std.specs.Cmp.{first_so, second_so}
 use Rattle.std.specs.Result.{IfOk}
 
--- ---- a row of a slice
-
-get_drop : (a i : ℕ) (cs : List Cell) → slice_get (drop a cs) i ≡ slice_get cs (a + i)
-get_drop zero i cs = let e : i ≡ zero + i = omega arith in ap (slice_get cs) e
-get_drop (suc a) i [] = refl
-get_drop (suc a) i (c ∷ cs) = let e : suc (a + i) ≡ suc a + i = omega arith in get_drop a i cs ∙ ap (slice_get (c ∷ cs)) e
-
-get_take : (n i : ℕ) (cs : List Cell) → i < n → slice_get (take n cs) i ≡ slice_get cs i
-get_take zero i cs h = absurd (omega arith)
-get_take (suc n) i [] h = refl
-get_take (suc n) zero (c ∷ cs) h = refl
-get_take (suc n) (suc i) (c ∷ cs) h = get_take n i cs (omega arith)
-
-pub slice_row : (t c : Tree) (a b i : ℕ) → t ≡ slice_of a b c → i < len t → slice_get (rows t) i ≡ slice_get (rows c) (a + i)
-slice_row t c a b i e h =
-    let l = ap len e in
-    ap (λ u. slice_get (rows u) i) e ∙ get_take (b - a) i (drop a (rows c)) (omega arith) ∙ get_drop a i (rows c)
-
--- ---- of a constant
+-- ---- a row of a constant
 
 constant_row_of : (t : Tree) (v : Value) (i : ℕ) → rows t ≡ replicate (len t) (value v) → i < len t → slice_get (rows t) i ≡ Some (value v)
 constant_row_of t v i e h =
@@ -71,23 +45,7 @@ constant_row t s i e h = constant_row_of t s.value i (ap rows e) h
 pub nulls_row : (t : Tree) (i : ℕ) → t ≡ nulls_of (len t) → i < len t → slice_get (rows t) i ≡ Some (value null)
 nulls_row t i e h = constant_row_of t null i (ap rows e) h
 
--- ---- of a filter
-
-pub filter_row : (t c : Tree) (bits : List Bool) (i p : ℕ) → t ≡ filter_of bits c → true_place bits i ≡ Some p → slice_get (rows t) i ≡ slice_get (rows c) p
-filter_row t c bits i p e place = ap (λ u. slice_get (rows u) i) e ∙ chosen-item bits (rows c) i ∙ ap (option_and_then (slice_get (rows c))) place
-
-pub filter_place : (t c : Tree) (bits : List Bool) (i : ℕ) → t ≡ filter_of bits c → i < len t → true_place bits i ≡ None → ⊥
-filter_place t c bits i e h none = let there = place_some bits i (subst (λ n. i < n) (ap len e) h) in absurd (cc (there.1, none))
-
--- ---- of a test for null
-
-pub shown_row : (t c : Tree) (i : ℕ) (v : Value) → t ≡ validity_in c → slice_get (rows c) i ≡ Some (value v)
-    → slice_get (rows t) i ≡ Some (value (boolean (not (is_null v))))
-shown_row t c i v e h =
-    ap (λ u. slice_get (rows u) i) e ∙ slice_get-map shown_cell (rows c) i ∙ ap (option_map shown_cell) h ∙ ap Some (shown_value v)
-
-pub shown_fault : (t c : Tree) (i : ℕ) → t ≡ validity_in c → slice_get (rows c) i ≡ Some fault → slice_get (rows t) i ≡ Some fault
-shown_fault t c i e h = ap (λ u. slice_get (rows u) i) e ∙ slice_get-map shown_cell (rows c) i ∙ ap (option_map shown_cell) h
+pub ruleset constant_rows = (constant_row, nulls_row)
 
 -- ---- of a column
 
@@ -158,17 +116,6 @@ pub IfOk-both : {X Y : Type 0} (r : Result X Y) {P Q R : X → Type 0} → ((x :
 IfOk-both (Ok x) f p q = f x p q
 IfOk-both (Err y) f p q = tt
 
--- ---- of a column of decimals
-
--- row i, by what its validity makes of the cell that is stored there
-pub decimal_row : (t : Tree) (v : Option Tree) (w : DecimalType) (zs : List ℤ) (ty : DataType) (i : ℕ) (stored cell : Cell)
-    → t ≡ column (dtype t) (len t) (decimals w zs) v → ty ≡ dtype t
-    → slice_get (map (λ z. value (decimal z (scale_of (storage_of ty)))) zs) i ≡ Some stored → IsRowBy v i stored cell → slice_get (rows t) i ≡ Some cell
-decimal_row t v w zs ty i stored cell is typed there told =
-    let cells = map (λ z. value (decimal z (scale_of (storage_of (dtype t))))) zs in
-    let found : slice_get cells i ≡ Some stored = subst (λ x. slice_get (map (λ z. value (decimal z (scale_of (storage_of x)))) zs) i ≡ Some stored) typed there in
-    ap (λ u. slice_get (rows u) i) is ∙ ap (λ css. slice_get (valid_cells (cells_at css 0) cells) i) (one_slot v) ∙ told cells found
-
 -- what all pass, each does
 pub passes_at : {X : Type 0} (test : X → Bool) (xs : List X) (i : ℕ) (x : X) → list_all test xs ≡ true → slice_get xs i ≡ Some x → test x ≡ true
 passes_at test [] i x h e = absurd (cc)
@@ -183,20 +130,15 @@ fault_cell (value (boolean true)) = refl
 fault_cell (value (boolean false)) = refl
 fault_cell _ = refl
 
-fault_stays : (vs cs : List Cell) (i : ℕ) → slice_get cs i ≡ Some fault → slice_get (valid_cells vs cs) i ≡ Some fault
-fault_stays [] cs i h = h
-fault_stays (v ∷ vs) [] i h = absurd (cc)
-fault_stays (v ∷ vs) (c ∷ cs) zero h = let is : c ≡ fault = cc in ap Some (ap (valid_cell v) is ∙ fault_cell v)
-fault_stays (v ∷ vs) (c ∷ cs) (suc i) h = fault_stays vs cs i h
-
 pub masked_rows : (t c : Tree) (v : Option Tree) → t ≡ masked_of c v → rows t ≡ valid_cells (validity_cells v) (rows c)
 masked_rows t c None e = ap rows e
 masked_rows t c (Some u) e = ap rows e
 
-pub masked_fault : (t c : Tree) (v : Option Tree) (i : ℕ) → t ≡ masked_of c v → slice_get (rows c) i ≡ Some fault → slice_get (rows t) i ≡ Some fault
-masked_fault t c v i e h = ap (λ cs. slice_get cs i) (masked_rows t c v e) ∙ fault_stays (validity_cells v) (rows c) i h
+-- ---- of booleans that are told by bits
+pub bits_long : (t : Tree) (bits : List Bool) → length (rows t) ≡ len t → rows t ≡ map (λ b. value (boolean b)) bits → length bits ≡ len t
+bits_long t bits counted e = sym (length-map bits (λ b. value (boolean b))) ∙ ap length (sym e) ∙ counted
 
--- ---- of booleans, read up to a row
+-- read up to a row
 pub truths_more : (t : Tree) (i : ℕ) (v : Value) (bits : List Bool) (b : Bool) → IsWell t → i < len t → slice_get (rows t) i ≡ Some (value v) → v ≡ boolean b
     → take i (rows t) ≡ map (λ b. value (boolean b)) bits → take (i + 1) (rows t) ≡ map (λ b. value (boolean b)) (bits ++ b ∷ [])
 truths_more t i v bits b well lt there is h =
@@ -211,22 +153,6 @@ truths_more t i v bits b well lt there is h =
 abbrev pub IsRead : ℕ → Option Tree → Typed → Type 0
 IsRead i None s = ⊥
 IsRead i (Some t) s = IsRow t i s
-
--- the slot holds a tree of n rows, lower than h
-abbrev pub IsBelow : ℕ → ℕ → Option Tree → Type 0
-IsBelow n h None = ⊥
-IsBelow n h (Some t) = (len t ≡ n) × (height t ≤ h)
-
-pub slot_below : (n : ℕ) (xs : List (Option Tree)) (tys : List DataType) (k : ℕ) (d : Option Tree) (h : ℕ) →
-    shapes (slots_of xs) ≡ map (λ s. Some (shape s n)) tys → slots_height (slots_of xs) ≤ h → k < length xs → IsBelow n h (get_or xs k d)
-slot_below n [] tys k d h e l lt = absurd (omega arith)
-slot_below n (None ∷ xs) [] k d h e l lt = absurd (cc)
-slot_below n (None ∷ xs) (ty ∷ tys) k d h e l lt = absurd (cc)
-slot_below n (Some t ∷ xs) [] k d h e l lt = absurd (cc)
-slot_below n (Some t ∷ xs) (ty ∷ tys) zero d h e l lt = let same : len t ≡ n = cc in (same, omega arith)
-slot_below n (Some t ∷ xs) (ty ∷ tys) (suc k) d h e l lt =
-    let later : shapes (slots_of xs) ≡ map (λ s. Some (shape s n)) tys = cc in
-    slot_below n xs tys k d h later (omega arith) (omega arith)
 
 read_types : (i : ℕ) (xs : List (Option Tree)) (ss : List Typed) → AllZip (IsRead i) xs ss → types_in (shapes (slots_of xs)) ≡ types_of_scalars ss
 read_types i [] [] h = refl
@@ -269,8 +195,8 @@ module _ (t : Tree) (f : ScalarFnRef) (xs : List (Option Tree)) (i : ℕ)
       ap (λ u. slice_get (rows u) i) shown ∙ slice_get-get_or (map cell (range_with_len 0 (len t))) i fault (omega (arith, l))
       ∙ ap Some (get_or-map-range_with_len cell 0 (len t) i i fault lt (omega arith))
 
-  pub child_below : (k : ℕ) (d : Option Tree) → k < length xs → IsBelow (len t) (slots_height (slots_of xs)) (get_or xs k d)
-  child_below k d lt = slot_below (len t) xs well.0 k d (slots_height (slots_of xs)) well.1 (omega arith) lt
+  pub child_below : (k : ℕ) (d : Option Tree) → k < length xs → IsBelow (len t) (slots_height (slots_of xs) + 1) (get_or xs k d)
+  child_below k d lt = slot_below (len t) xs well.0 k d (slots_height (slots_of xs) + 1) well.1 (omega arith) lt
 
   pub child_faulted : (k : ℕ) (c : Tree) → i < len t → k < length xs → Some c ≡ get_or xs k (Some c) → slice_get (rows c) i ≡ Some fault
       → slice_get (rows t) i ≡ Some fault

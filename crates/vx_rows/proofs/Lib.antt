@@ -1,7 +1,10 @@
 pub mod ArgumentsLemmas
 pub mod CellsLemmas
+pub mod FilterLemmas
 pub mod KeepsLemmas
+pub mod MaskedLemmas
 pub mod NullsLemmas
+pub mod ScalarFnValidityLemmas
+pub mod SliceLemmas
 pub mod StoredLemmas
-mod TruthsLemmas
 pub mod ValidRowsLemmas

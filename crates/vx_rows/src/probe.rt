@@ -8,6 +8,8 @@ ghost use Rattle.vx_value.specs.Values.{Value, boolean, integer, decimal, bytes}
 ghost use Rattle.vx_value.specs.Storage.{storage_of};
 ghost use Rattle.vx_value.specs.IsOf.{is_of};
 ghost use Rattle.vx_value.specs.Cell.{value, fault};
+ghost use Rattle.vx_mask.specs.Masks.{bits_in};
+ghost use Rattle.vx_mask.specs.Places.{true_count, true_place};
 ghost use Rattle.vx_native.specs.Natives.{values_of, ptype_of};
 ghost use Rattle.vx_native.specs.DecimalNumbers.{numbers_of, decimal_type_of};
 ghost use Rattle.vx_tree.specs.ColumnTypes.{are_decimals_of, scale_of};
@@ -21,7 +23,7 @@ ghost use Rattle.vx_rows.specs.ValidRows.{null_unless};
 
 use std::alloc::{AllocError, Global};
 use vx_fn::{ScalarFnRef, apply_row};
-use vx_mask::{BitBuffer, BitBuilder};
+use vx_mask::{BitBuffer, BitBuilder, Mask};
 use vx_native::{DecimalValues, PrimitiveValues};
 use vx_tree::{ArrayKind, ArrayRef};
 use vx_value::{
@@ -77,7 +79,7 @@ fn row_at(alloc: Global, array: &ArrayRef, index: usize) -> VortexResult<Scalar>
             None => scalar_at(alloc, array, index),
         },
         ArrayKind::Decimal(values, validity) => match stored_validity(dtype, validity, index) {
-            Some(true) => Ok(decimal_at(values, index, dtype)),
+            Some(true) => Ok(decimal_at(values, index, array)),
             Some(false) => Ok(Scalar::null(dtype.clone()?)),
             None => scalar_at(alloc, array, index),
         },
@@ -104,6 +106,7 @@ fn stored_validity(dtype: &DType, validity: &Option<ArrayRef>, index: usize) -> 
 }
 
 /// Returns the value of row `index`, which must exist, of any tree.
+#[tactic(auto, using(crate::proofs::CellsLemmas::constant_rows, crate::proofs::SliceLemmas::slice_rows, crate::proofs::FilterLemmas::filter_rows, crate::proofs::MaskedLemmas::masked_fault, crate::proofs::ScalarFnValidityLemmas::validity_rows))]
 #[cycle(scalar_at)]
 fn scalar_at(alloc: Global, array: &ArrayRef, index: usize) -> VortexResult<Scalar>
     requires { index < len array.now }
@@ -120,7 +123,7 @@ fn scalar_at(alloc: Global, array: &ArrayRef, index: usize) -> VortexResult<Scal
             unless_null(alloc, validity, index, integer_at(values, index, dtype))
         }
         ArrayKind::Decimal(values, validity) => {
-            unless_null(alloc, validity, index, decimal_at(values, index, dtype))
+            unless_null(alloc, validity, index, decimal_at(values, index, array))
         }
         ArrayKind::VarBinView(rows, validity) => {
             let stored = bytes_at(alloc, rows, index, dtype)?;
@@ -128,12 +131,7 @@ fn scalar_at(alloc: Global, array: &ArrayRef, index: usize) -> VortexResult<Scal
         }
         ArrayKind::Constant(scalar) => Ok(scalar.clone()?),
         ArrayKind::Slice(child, start, _) => scalar_at(alloc, child, start + index),
-        ArrayKind::Filter(child, mask) => {
-            let Some(place) = mask.rank(index) else {
-                unreachable!()
-            };
-            scalar_at(alloc, child, place)
-        }
+        ArrayKind::Filter(child, mask) => scalar_at(alloc, child, place_in(mask, index)),
         ArrayKind::Masked(child, validity) => match scalar_at(alloc, child, index) {
             Ok(scalar) => unless_null(alloc, validity, index, scalar.into_nullable()),
             Err(e) => Err(e),
@@ -144,6 +142,18 @@ fn scalar_at(alloc: Global, array: &ArrayRef, index: usize) -> VortexResult<Scal
         },
         ArrayKind::ScalarFn(scalar_fn, slots) => function_at(alloc, array, scalar_fn, slots, index),
     }
+}
+
+/// Returns the index of the true bit of `mask` with `k` true bits before it, which must exist.
+fn place_in(mask: &Mask, k: usize) -> usize
+    requires { k < true_count (bits_in mask.now) }
+    ensures place { true_place (bits_in mask.now) k ≡ Some result }
+    ensures within { result < length (bits_in mask.now) }
+{
+    let Some(place) = mask.rank(k) else {
+        unreachable!()
+    };
+    place
 }
 
 /// Returns row `index` of a column that stores `stored` there and has `validity` in its slot: null if the row is null, else
@@ -247,14 +257,14 @@ fn integer_at(values: &PrimitiveValues, index: usize, dtype: &DType) -> Scalar
     Scalar::primitive(values.wide_at(index), values.ptype(), dtype.nullability())
 }
 
-/// Returns the decimal that a column of type `dtype`, one of decimals, stores in row `index`.
-fn decimal_at(values: &DecimalValues, index: usize, dtype: &DType) -> Scalar
+/// Returns the decimal that `array`, a column of decimals, stores in row `index` of its `values`.
+fn decimal_at(values: &DecimalValues, index: usize, array: &ArrayRef) -> Scalar
     requires index { index < length (numbers_of values.now) }
-    requires typed { are_decimals_of (storage_of (type_of dtype.now)) (decimal_type_of values.now) (numbers_of values.now) ≡ true }
-    ensures row { slice_get (map (λ z. value (decimal z (scale_of (storage_of (type_of dtype.now))))) (numbers_of values.now)) index ≡ Some (value result.value) }
-    ensures typed { result.of_type ≡ type_of dtype.now }
+    requires typed { are_decimals_of (storage_of (dtype array.now)) (decimal_type_of values.now) (numbers_of values.now) ≡ true }
+    ensures row { slice_get (map (λ z. value (decimal z (scale_of (storage_of (dtype array.now))))) (numbers_of values.now)) index ≡ Some (value result.value) }
+    ensures typed { result.of_type ≡ dtype array.now }
 {
-    let DType::Decimal(decimal, nullability) = dtype else {
+    let DType::Decimal(decimal, nullability) = array.dtype() else {
         unreachable!()
     };
     Scalar::decimal(values.wide_at(index), *decimal, *nullability)
@@ -293,6 +303,7 @@ pub fn truths_in(alloc: Global, array: &ArrayRef) -> VortexResult<BitBuffer>
 
 /// Returns the rows of `array` if it is a column of booleans without a validity, or slices and filters of one; else `None`. Fails only if
 /// there is no memory for them.
+#[tactic(auto, using(crate::proofs::CellsLemmas::bits_long, crate::proofs::SliceLemmas::slice_told, crate::proofs::FilterLemmas::filter_told))]
 #[cycle(stored_truths)]
 fn stored_truths(alloc: Global, array: &ArrayRef) -> Result<Option<BitBuffer>, AllocError>
     ensures rows { IfOk result (λ o. IfSome o (λ bits. rows array.now ≡ map (λ b. value (boolean b)) bits)) }

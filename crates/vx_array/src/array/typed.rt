@@ -81,7 +81,7 @@ impl<V: Encoded> ArrayParts<V> {
 
 impl<V: VTable> Array<V> {
     /// Makes the node of `parts`. Refuses with the error of `VTable::validate` if they break a condition of the encoding.
-    #[tactic(auto, using(crate::proofs::RefusalsLemmas::node_unless_refused))]
+    #[tactic(auto, using(crate::proofs::RefusedExactlyLemmas::node_unless_refused))]
     pub fn try_from_parts(alloc: Global, parts: ArrayParts<V>) -> VortexResult<Array<V>>
         ensures ok { IfOk result (λ a. a ≡ node (type_of parts.dtype) parts.len (V.stands_for parts.payload) (slots_of parts.slots.items)) }
         ensures valid { OnOk result (refusal (V.named parts.vtable) (type_of parts.dtype) parts.len

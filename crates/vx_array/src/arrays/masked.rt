@@ -4,9 +4,8 @@ ghost use Rattle.std.specs.Prelude.{◌≡◌, ℕ, ◌∷◌, [], MatchResult, 
 ghost use Rattle.vx_value.specs.Types.{DataType};
 ghost use Rattle.vx_value.specs.declared.id.Id.TheVariants as id;
 ghost use Rattle.vx_value.specs.declared.dtype.Nullability.TheVariants.{Nullable};
-ghost use Rattle.vx_tree.specs.Tree.{len, masked_of, slots_of};
+ghost use Rattle.vx_tree.specs.Tree.{len, masked_of, slots_of, masked_refusal};
 ghost use Rattle.vx_tree.specs.Well.{shape_of, shapes};
-ghost use Rattle.vx_tree.specs.Refusals.{masked_refusal};
 ghost use Rattle.vx_tree.specs.Validities.{HasRows, nullability_by, child_of};
 
 use crate::array::{Array, ArrayParts, VTable};
@@ -30,7 +29,7 @@ impl VTable for Masked {
         Masked
     }
 
-    #[tactic(auto, using(crate::proofs::RefusalsLemmas::masked_by_slots, vx_tree::proofs::ConditionsLemmas::in_turn))]
+    #[tactic(auto, using(crate::proofs::MaskedLemmas::masked_by_slots, vx_tree::proofs::ConditionsLemmas::in_turn))]
     fn validate(_alloc: Global, parts: &ArrayParts<Masked>) -> VortexResult<()> {
         let (child, validity) = child_and_validity(&parts.slots)?;
         check_that(
@@ -45,7 +44,7 @@ impl VTable for Masked {
 
 /// Returns the child of a masked array with these slots, and the slot of its validity. `InvalidArgument` with `SlotCount` or
 /// `SlotMissing` if they aren't two or the first is empty.
-#[tactic(auto, using(crate::proofs::RefusalsLemmas::masked_slot_count, crate::proofs::RefusalsLemmas::the_slots))]
+#[tactic(auto, using(crate::proofs::MaskedLemmas::masked_slot_count, crate::proofs::RefusalsLemmas::the_slots))]
 fn child_and_validity(slots: &[Option<ArrayRef>]) -> VortexResult<(&ArrayRef, &Option<ArrayRef>)>
     ensures { MatchResult result
         (λ p. shapes (slots_of slots.now) ≡ Some (shape_of p.0.now) ∷ option_map shape_of p.1.now ∷ [])

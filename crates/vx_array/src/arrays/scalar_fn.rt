@@ -2,11 +2,10 @@
 
 ghost use Rattle.std.specs.Prelude.{◌≡◌, ◌⊎◌, ◌++◌, map, IfOk, IfErr, OnOk, Some, None};
 ghost use Rattle.vx_value.specs.View.{type_of};
-ghost use Rattle.vx_tree.specs.Tree.{slots_of, filled_slots};
+ghost use Rattle.vx_tree.specs.Tree.{slots_of, filled_slots, arity_refusal, slots_refusal, types_refusal, result_refusal, all_present, all_long, types_in};
 ghost use Rattle.vx_tree.specs.Conditions.{Checks};
 ghost use Rattle.vx_tree.specs.Well.{shapes};
-ghost use Rattle.vx_tree.specs.Refusals.{arity_refusal, slots_refusal, types_refusal, result_refusal};
-ghost use Rattle.vx_tree.specs.Refusals.{all_present, all_long, types_in, is_long, type_in};
+ghost use Rattle.vx_tree.specs.Refusals.{is_long, type_in};
 ghost use Rattle.vx_tree.specs.Calls.{call_refusal, inferred_refusal, called, inferred};
 ghost use Rattle.vx_fn.specs.ReturnTypes.{return_type};
 

@@ -1,5 +1,5 @@
 use Rattle.vx_tree.specs.Tree.{id_of}
-use Rattle.vx_array.proofs.RefusalsLemmas.{node_unless_refused, refused_unless_node}
+use Rattle.vx_array.proofs.RefusedExactlyLemmas.{node_unless_refused, refused_unless_node}
 use Rattle.vx_array.proofs.laws.refused_exactly.Goals as goal
 
 pub returns : goal.returns

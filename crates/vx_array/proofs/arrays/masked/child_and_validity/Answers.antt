@@ -1,4 +1,4 @@
-use Rattle.vx_array.proofs.RefusalsLemmas.{masked_slot_missing}
+use Rattle.vx_array.proofs.MaskedLemmas.{masked_slot_missing}
 use Rattle.vx_array.proofs.arrays.masked.child_and_validity.Goals as goal
 
 pub returns-in-None : goal.returns-in-None

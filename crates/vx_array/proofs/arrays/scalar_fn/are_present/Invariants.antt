@@ -1,7 +1,6 @@
 use Rattle.std.proofs.Common.{◌≡◌, take, true}
-use Rattle.vx_tree.specs.Tree.{slots_of}
+use Rattle.vx_tree.specs.Tree.{slots_of, all_present}
 use Rattle.vx_tree.specs.Well.{shapes}
-use Rattle.vx_tree.specs.Refusals.{all_present}
 use Rattle.vx_array.proofs.arrays.scalar_fn.are_present.Given as goal
 
 abbrev pub invariant-loop-slot : goal.invariant-loop-slot

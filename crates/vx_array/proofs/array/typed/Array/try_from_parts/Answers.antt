@@ -1,5 +1,5 @@
 use Rattle.std.proofs.Common.{rules, arith}
-use Rattle.vx_array.proofs.RefusalsLemmas.{node_unless_refused}
+use Rattle.vx_array.proofs.RefusedExactlyLemmas.{node_unless_refused}
 use Rattle.vx_array.proofs.array.typed.Array.try_from_parts.Goals as goal
 
 pub from_parts_unchecked-requires : goal.from_parts_unchecked-requires

@@ -3,9 +3,8 @@ use Rattle.vx_value.specs.View.{type_of}
 use Rattle.vx_fn.specs.ReturnTypes.{return_type}
 use Rattle.std.specs.Prelude.{IsErrAnd}
 use Rattle.vx_value.specs.declared.error.VortexError.{VortexError}
-use Rattle.vx_tree.specs.Tree.{Tree, slots_of}
+use Rattle.vx_tree.specs.Tree.{Tree, slots_of, arity_refusal, lengths_refusal, types_in}
 use Rattle.vx_tree.specs.Well.{shapes}
-use Rattle.vx_tree.specs.Refusals.{arity_refusal, lengths_refusal, types_in}
 use Rattle.vx_array.proofs.CallsLemmas.{call_lengths_refused, call_taken, call_made, call_is_node}
 use Rattle.vx_array.proofs.arrays.scalar_fn.ScalarFnArray.try_new_with_len.Goals as goal
 
