@@ -1,5 +1,5 @@
 -- Looking into a value.
-use Rattle.std.proofs.Common.{◌≡◌, ℕ, ◌+◌, ◌<◌, ◌≤◌, max, List, [], ◌∷◌, length, refl, ap, sym, arith, Option, Some, None, option_and_then, String, zero, suc, slice_index_or}
+use Rattle.std.proofs.Common.{◌≡◌, ℕ, ◌+◌, ◌<◌, ◌≤◌, max, List, [], ◌∷◌, length, refl, ap, sym, arith, Option, Some, None, option_and_then, codes, String, zero, suc, slice_index_or}
 use Rattle.std.specs.declared.alloc.Global.{Global}
 use Rattle.std.specs.declared.cmp.Ordering.{Ordering}
 use Rattle.std.specs.declared.cmp.Ordering.TheVariants.{Less, Equal, Greater}
@@ -10,10 +10,8 @@ use Rattle.serde_json.specs.Data.{Data, array, object, Items, no_items, item, Me
 use Rattle.serde_json.specs.Find.{get, get_member, as_object, as_array}
 use Rattle.serde_json.specs.View.{view, members_view, items_view}
 use Rattle.vx_tree.specs.Tree.{Tree}
-use Rattle.vx_json.specs.Encodings.{encoding_at}
-use Rattle.vx_json.specs.Fields.{member_count, members_count, items_at}
-use Rattle.vx_json.specs.declared.encoding.Encoding.{Encoding}
-use Rattle.vx_json.specs.Spelled.{tree_spelled, trees_spelled, tree_first, trees_listed, tree_under, trees_under, tree_by, node_of}
+use Rattle.vx_json.specs.Fields.{member_count, members_count, items_at, text_at}
+use Rattle.vx_json.specs.Spelled.{tree_spelled, trees_spelled, tree_first, trees_listed, tree_under, trees_under, tree_named, node_of}
 use Rattle.vx_json.specs.SpelledValues.{all_read}
 
 -- a map's length counts its members
@@ -90,12 +88,7 @@ trees_under-get : (k : List ℕ) (ms : Members) → trees_under k ms ≡ option_
 trees_under-get k no_members = refl
 trees_under-get k (member l d ms) = trees_by (slice_cmp nat_cmp k l) d (trees_under k ms) (get_member k ms) (trees_under-get k ms)
 
-node_by : (ms : Members) (e : Option Encoding) →
-    option_and_then (node_of (object ms) (λ k. tree_under k ms) (λ k. trees_under k ms)) e ≡ tree_by (object ms) e
-node_by ms None = refl
-node_by ms (Some e) = λ i. node_of (object ms) (λ k. tree_under-get k ms i) (λ k. trees_under-get k ms i) e
-
 -- what a value spells, by its encoding and what stands under its keys
-pub spelled_by : (d : Data) → tree_spelled d ≡ tree_by d (encoding_at d)
-spelled_by (object ms) = node_by ms (encoding_at (object ms))
+pub spelled_by : (d : Data) → tree_spelled d ≡ option_and_then (tree_named d) (text_at (codes "enc") d)
+spelled_by (object ms) = λ i. node_of (object ms) (λ k. tree_under-get k ms i) (λ k. trees_under-get k ms i)
 spelled_by _ = refl

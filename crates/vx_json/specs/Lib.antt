@@ -3,7 +3,6 @@ pub use Rattle.vx_tree.specs.Tree
 pub use Rattle.vx_tree.specs.Rows
 pub use Rattle.vx_tree.specs.Validities
 pub use Rattle.vx_tree.specs.Calls
-pub mod Encodings
 pub mod Keys
 pub mod Fields
 pub mod Refused

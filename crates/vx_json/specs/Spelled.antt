@@ -1,31 +1,38 @@
 -- The tree that a JSON value spells.
-use Rattle.std.specs.Prelude.{◌≡◌, ℕ, List, [], ◌∷◌, Option, Some, None, option_map, option_and_then, codes, IsUtf8}
+use Rattle.std.specs.Prelude.{◌≡◌, ℕ, List, [], ◌∷◌, Option, Some, None, option_map, option_and_then, codes, bytes_eq, IsUtf8}
+use Rattle.std.specs.Map.{lookup}
+use Rattle.std.specs.Option.{option_flatten}
 use Rattle.std.specs.Ordering.{nat_cmp, match_ordering}
 use Rattle.std.specs.Cmp.Lexicographic.{slice_cmp}
 use Rattle.serde_json.specs.Data.{Data, null, boolean, number, string, array, object, Items, no_items, item, Members, no_members, member}
 use Rattle.serde_json.specs.Find.{get}
 use Rattle.serde_json.specs.Read.{read}
 use Rattle.vx_tree.specs.Tree.{Tree}
-use Rattle.vx_json.specs.Encodings.{encoding_at}
-use Rattle.vx_json.specs.Fields.{items_at}
-use Rattle.vx_json.specs.declared.encoding.Encoding.{Encoding}
-use Rattle.vx_json.specs.declared.encoding.Encoding.TheVariants as encoding
+use Rattle.vx_json.specs.Fields.{items_at, text_at}
 use Rattle.vx_json.specs.SpelledColumns.{col_spelled, flat_spelled}
-use Rattle.vx_json.specs.SpelledNodes.{constant_spelled, null_spelled, slice_spelled, filter_spelled, masked_spelled, is_valid_spelled, call_spelled}
+use Rattle.vx_json.specs.SpelledNodes as nodes
 use Rattle.vx_json.specs.SpelledNulls.{nulls_at}
 
--- the tree of an object by its encoding, given the tree and the list of trees under each key: a line for each encoding
-abbrev pub node_of : Data → (List ℕ → Option Tree) → (List ℕ → Option (List Tree)) → Encoding → Option Tree
-node_of d child children encoding.Column = col_spelled d
-node_of d child children encoding.Flat = option_and_then (flat_spelled d) (nulls_at d (child (codes "validity")))
-node_of d child children encoding.Constant = constant_spelled d
-node_of d child children encoding.Null = null_spelled d
-node_of d child children encoding.Slice = option_and_then (slice_spelled d) (child (codes "child"))
-node_of d child children encoding.Filter = option_and_then (filter_spelled d) (child (codes "child"))
-node_of d child children encoding.Masked =
-    option_and_then (λ t. option_and_then (masked_spelled d t) (nulls_at d (child (codes "validity")))) (child (codes "child"))
-node_of d child children encoding.IsValid = option_and_then (is_valid_spelled d) (child (codes "child"))
-node_of d child children encoding.Function = option_and_then (call_spelled d) (children (codes "args"))
+-- the names of encodings, and the tree that an object of each spells, given the tree and the list of trees under each key: a line for each
+abbrev pub named_nodes : Data → (List ℕ → Option Tree) → (List ℕ → Option (List Tree)) → List (List ℕ × Option Tree)
+named_nodes d child children =
+    (codes "col", col_spelled d)
+    ∷ (codes "flat", option_and_then (flat_spelled d) (nulls_at d (child (codes "validity"))))
+    ∷ (codes "constant", nodes.Constant.constant_spelled d)
+    ∷ (codes "null", nodes.Null.null_spelled d)
+    ∷ (codes "slice", option_and_then (nodes.Slice.slice_spelled d) (child (codes "child")))
+    ∷ (codes "filter", option_and_then (nodes.Filter.filter_spelled d) (child (codes "child")))
+    ∷ (codes "masked", option_and_then (λ t. option_and_then (nodes.Masked.masked_spelled d t) (nulls_at d (child (codes "validity")))) (child (codes "child")))
+    ∷ (codes "is_valid", option_and_then (nodes.IsValid.is_valid_spelled d) (child (codes "child")))
+    ∷ (codes "fn", option_and_then (nodes.Call.call_spelled d) (children (codes "args")))
+    ∷ []
+
+abbrev pub node_named : Data → (List ℕ → Option Tree) → (List ℕ → Option (List Tree)) → List ℕ → Option Tree
+node_named d child children name = option_flatten (lookup (bytes_eq name) (named_nodes d child children))
+
+-- the one named under `enc`
+abbrev pub node_of : Data → (List ℕ → Option Tree) → (List ℕ → Option (List Tree)) → Option Tree
+node_of d child children = option_and_then (node_named d child children) (text_at (codes "enc") d)
 
 -- a tree in front of a list of trees
 abbrev pub tree_first : Option Tree → Option (List Tree) → Option (List Tree)
@@ -39,7 +46,7 @@ abbrev mutual
   tree_spelled (number n) = None
   tree_spelled (string s) = None
   tree_spelled (array ds) = None
-  tree_spelled (object ms) = option_and_then (node_of (object ms) (λ k. tree_under k ms) (λ k. trees_under k ms)) (encoding_at (object ms))
+  tree_spelled (object ms) = node_of (object ms) (λ k. tree_under k ms) (λ k. trees_under k ms)
 
   pub trees_spelled : Items → Option (List Tree)
   trees_spelled no_items = Some []
@@ -77,6 +84,5 @@ tree_at k d = option_and_then tree_spelled (get k d)
 abbrev pub trees_at : List ℕ → Data → Option (List Tree)
 trees_at k d = option_and_then trees_spelled (items_at k d)
 
-abbrev pub tree_by : Data → Option Encoding → Option Tree
-tree_by d None = None
-tree_by d (Some e) = node_of d (λ k. tree_at k d) (λ k. trees_at k d) e
+abbrev pub tree_named : Data → List ℕ → Option Tree
+tree_named d = node_named d (λ k. tree_at k d) (λ k. trees_at k d)

@@ -5,7 +5,6 @@ mod bytes;
 mod column_values;
 mod columns;
 mod decimals;
-mod encoding;
 mod fields;
 mod functions;
 mod key;

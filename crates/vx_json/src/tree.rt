@@ -19,15 +19,13 @@ ghost use Rattle.serde_json.specs.View.{view, items_view};
 ghost use Rattle.vx_json.specs.Keys.{key_text};
 ghost use Rattle.vx_json.specs.Refused.{IsRefused};
 ghost use Rattle.vx_json.specs.SpelledNulls.{nulls_at};
-ghost use Rattle.vx_json.specs.Spelled.{tree_spelled, trees_spelled, tree_at, trees_at, tree_by, Spells, SpellsNone};
+ghost use Rattle.vx_json.specs.Spelled.{tree_spelled, trees_spelled, tree_at, trees_at, tree_named, Spells, SpellsNone};
 
-use crate::BAD_VALUE;
 use crate::columns::{col, flat};
-use crate::encoding::{Encoding, encoding_at};
-use crate::fields::items;
+use crate::fields::{items, text};
 use crate::key::Key;
-use crate::nodes::{call, constant, filter, is_valid, masked, null, slice};
 use crate::nulls::Nulls;
+use crate::{BAD_VALUE, nodes};
 use serde_json::Value;
 use std::alloc::Global;
 use vx_tree::ArrayRef;
@@ -85,25 +83,26 @@ fn nulls(alloc: Global, value: &Value) -> VortexResult<Nulls>
     Ok(Nulls::Told(tree_of(alloc, spelled)?))
 }
 
-/// Reads the tree of this encoding.
+/// Reads the tree of the encoding named `name`.
 #[cycle(tree_of)]
-fn node(alloc: Global, value: &Value, encoding: Encoding) -> VortexResult<ArrayRef>
-    ensures ok { IfOk result (λ t. tree_by (view value.now) (Some encoding) ≡ Some t) }
-    ensures err { IfErr result (IsRefused (tree_by (view value.now) (Some encoding) ≡ None)) }
+fn node(alloc: Global, value: &Value, name: &str) -> VortexResult<ArrayRef>
+    ensures ok { IfOk result (λ t. tree_named (view value.now) name.now ≡ Some t) }
+    ensures err { IfErr result (IsRefused (tree_named (view value.now) name.now ≡ None)) }
 {
-    match encoding {
-        Encoding::Column => col(alloc, value),
-        Encoding::Flat => flat(alloc, value, &nulls(alloc, value)?),
-        Encoding::Constant => constant(alloc, value),
-        Encoding::Null => null(alloc, value),
-        Encoding::Slice => slice(alloc, value, child(alloc, value, Key::Child)?),
-        Encoding::Filter => filter(alloc, value, child(alloc, value, Key::Child)?),
-        Encoding::Masked => {
+    match name {
+        "col" => col(alloc, value),
+        "flat" => flat(alloc, value, &nulls(alloc, value)?),
+        "constant" => nodes::constant::read(alloc, value),
+        "null" => nodes::null::read(alloc, value),
+        "slice" => nodes::slice::read(alloc, value, child(alloc, value, Key::Child)?),
+        "filter" => nodes::filter::read(alloc, value, child(alloc, value, Key::Child)?),
+        "masked" => {
             let child = child(alloc, value, Key::Child)?;
-            masked(alloc, value, child, &nulls(alloc, value)?)
+            nodes::masked::read(alloc, value, child, &nulls(alloc, value)?)
         }
-        Encoding::IsValid => is_valid(alloc, value, child(alloc, value, Key::Child)?),
-        Encoding::Function => call(alloc, value, children(alloc, value, Key::Args)?),
+        "is_valid" => nodes::is_valid::read(alloc, value, child(alloc, value, Key::Child)?),
+        "fn" => nodes::call::read(alloc, value, children(alloc, value, Key::Args)?),
+        _ => Err(BAD_VALUE),
     }
 }
 
@@ -120,8 +119,8 @@ pub fn tree_of(alloc: Global, value: &Value) -> VortexResult<ArrayRef>
         ⊎ ((e ≡ VortexError.InvalidArgument ArgKind.BadValue)
         × (tree_spelled (view value.now) ≡ None))) }
 {
-    match encoding_at(value) {
-        Some(encoding) => node(alloc, value, encoding),
+    match text(value, "enc") {
+        Some(name) => node(alloc, value, name),
         None => Err(BAD_VALUE),
     }
 }

@@ -3,7 +3,7 @@ use Rattle.serde_json.specs.Find.{as_bool}
 use Rattle.serde_json.specs.View.{items_view}
 use Rattle.vx_mask.proofs.MasksLemmas.{bits_in_mask_of}
 use Rattle.vx_json.proofs.ReadRowsLemmas.{none_null, none_null_unread}
-use Rattle.vx_json.proofs.nodes.filter_mask.Goals as goal
+use Rattle.vx_json.proofs.nodes.filter.filter_mask.Goals as goal
 
 pub returns-in_err-bits-clause-err : goal.returns-in_err-bits-clause-err
 returns-in_err-bits-clause-err c =

@@ -3,9 +3,9 @@ use Rattle.std.specs.Prelude.{option_and_then, is_none, if◌then◌else◌}
 use Rattle.serde_json.specs.View.{view}
 use Rattle.vx_value.specs.declared.error.VortexError.TheVariants.{OutOfMemory}
 use Rattle.vx_tree.specs.Calls.{inferred, inferred_refusal}
-use Rattle.vx_json.specs.SpelledNodes.{call_on}
+use Rattle.vx_json.specs.SpelledNodes.Call.{call_on}
 use Rattle.vx_json.specs.SpelledFunctions.{function_at}
-use Rattle.vx_json.proofs.nodes.call.Goals as goal
+use Rattle.vx_json.proofs.nodes.call.read.Goals as goal
 
 pub returns-in-Ok-clause-ok : goal.returns-in-Ok-clause-ok
 returns-in-Ok-clause-ok c =
