@@ -7,10 +7,9 @@ use Rattle.vx_value.specs.Typed.{Typed}
 use Rattle.vx_value.specs.Cell.{Cell, value, fault}
 use Rattle.vx_fn.specs.ReturnTypes.{return_type}
 use Rattle.vx_fn.specs.declared.function.ScalarFnRef.{ScalarFnRef}
-use Rattle.vx_tree.specs.Tree.{Tree, filled_slots, dtype, len}
+use Rattle.vx_tree.specs.Tree.{Tree, filled_slots, dtype, len, all_long, types_in}
 use Rattle.vx_tree.specs.Cells.{rows, row_at, slots_rows}
 use Rattle.vx_canonical.specs.Canonicals.{columnar_tree}
-use Rattle.vx_tree.specs.Refusals.{all_long, types_in}
 use Rattle.vx_tree.specs.Calls.{all_of_len}
 use Rattle.vx_canonical.specs.declared.columnar.Columnar.{Columnar}
 use Rattle.vx_array.proofs.CallsLemmas.{filled_long, filled_types}

@@ -12,10 +12,9 @@ use Rattle.vx_value.proofs.CastsLemmas.{cast_to_self}
 use Rattle.vx_fn.specs.ReturnTypes.{return_type}
 use Rattle.vx_fn.specs.declared.function.ScalarFnRef.{ScalarFnRef}
 use Rattle.vx_fn.specs.declared.function.ScalarFnRef.TheVariants as fn_of
-use Rattle.vx_tree.specs.Tree.{Tree, dtype, len, call_of}
+use Rattle.vx_tree.specs.Tree.{Tree, dtype, len, call_of, arity_refusal}
 use Rattle.vx_tree.specs.Calls.{call_refusal, called, all_of_len, row_refusal}
 use Rattle.vx_tree.specs.Conditions.{unless}
-use Rattle.vx_tree.specs.Refusals.{arity_refusal}
 use Rattle.vx_tree.specs.Keeps.{Keeps}
 use Rattle.vx_tree.specs.Well.{IsWell}
 use Rattle.vx_tree.proofs.ConditionsLemmas.{none_refused}

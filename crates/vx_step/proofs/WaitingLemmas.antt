@@ -1,9 +1,9 @@
 -- Slots that are columns, and those that are to become one.
 use Rattle.std.proofs.Common.{◌≡◌, ℕ, zero, suc, ◌<◌, List, [], ◌∷◌, ◌++◌, length, get_or, take, Bool, true, false, Option, Some, None, refl, sym, ◌∙◌, ap, arith}
 use Rattle.std.proofs.Math.Bool.{not}
-use Rattle.vx_tree.specs.Tree.{Tree, slots_of, filled_slots, datum, is_columnar}
+use Rattle.vx_tree.specs.Tree.{Tree, slots_of, filled_slots, datum, is_columnar, all_present}
 use Rattle.vx_tree.specs.Well.{shapes}
-use Rattle.vx_tree.specs.Refusals.{all_present, is_present}
+use Rattle.vx_tree.specs.Refusals.{is_present}
 use Rattle.vx_array.proofs.CallsLemmas.{filled_more}
 use Rattle.vx_step.specs.Steps.{AwaitsAt}
 use Rattle.vx_step.specs.Waiting.{AreColumns, HoldsColumn, waits, trees_of}

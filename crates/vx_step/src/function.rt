@@ -1,10 +1,9 @@
 //! One step of a function node.
 
 ghost use Rattle.std.specs.Prelude.{◌≡◌, ◌++◌, ◌∷◌, [], map, IfOk, IfErr, OnOk, MatchOption, true, Some};
-ghost use Rattle.vx_tree.specs.Tree.{Tree, dtype, len, datum, node, function, slots_of, filled_slots, is_columnar};
+ghost use Rattle.vx_tree.specs.Tree.{Tree, dtype, len, datum, node, function, slots_of, filled_slots, is_columnar, all_present};
 ghost use Rattle.vx_tree.specs.Well.{IsNode, shapes};
 ghost use Rattle.vx_canonical.specs.Canonicals.{columnar_tree};
-ghost use Rattle.vx_tree.specs.Refusals.{all_present};
 ghost use Rattle.vx_step.specs.Waiting.{AreColumns, HoldsColumn, waits, trees_of};
 ghost use Rattle.vx_step.specs.Steps.{IsStep, IsStopped, AwaitsAt};
 ghost use Rattle.vx_step.specs.declared.steps.SlotTarget.TheVariants as target;
