@@ -4,9 +4,8 @@ ghost use Rattle.std.specs.Prelude.{◌≡◌, IfOk, true, replicate};
 ghost use Rattle.vx_native.specs.Ranges.{in_native};
 ghost use Rattle.vx_native.specs.Buffers.{native_in, numbers_in};
 
-use crate::NativeType;
-use crate::buffers::copies_of;
-use crate::macros::{for_natives, made};
+use crate::buffers::{clone_of, copies_of};
+use crate::{NativeType, at_type, by_native};
 use std::alloc::{AllocError, Global};
 use vx_mask::Buffer;
 
@@ -36,7 +35,11 @@ impl NativeBuffer {
         ensures native { IfOk result (λ copies. native_in copies ≡ native) }
         ensures numbers { IfOk result (λ copies. numbers_in copies ≡ replicate len wide) }
     {
-        for_natives!(made!(native, NativeType => NativeBuffer, copies_of(alloc, wide, len)))
+        at_type!(
+            native,
+            NativeType[U8 = u8, U16 = u16, U32 = u32, U64 = u64, I8 = i8, I16 = i16, I32 = i32, I64 = i64, I128 = i128],
+            copies_of(alloc, wide, len)
+        )
     }
 }
 
@@ -44,6 +47,6 @@ impl Clone for NativeBuffer {
     ghost is_clone = { λ a b. (native_in b ≡ native_in a) × (numbers_in b ≡ numbers_in a) };
 
     fn clone(&self) -> Result<NativeBuffer, AllocError> {
-        for_natives!(made!(self, NativeBuffer(buffer) => NativeBuffer, buffer.clone()))
+        by_native!(self, |numbers| clone_of(numbers))
     }
 }

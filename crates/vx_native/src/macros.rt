@@ -92,16 +92,11 @@ macro_rules! named {
     };
 }
 
-/// Makes an enum `$to` out of the result of `$body`: of the variant that a kind names, or that a value of the enum `$from` is of.
+/// Makes an enum `$to` out of the result of `$body`, of the variant that a kind names.
 macro_rules! made {
     ([$($variant:ident),*] $kind:expr, $kinds:ident => $to:ident, $body:expr) => {
         match $kind {
             $($kinds::$variant => Ok($to::$variant($body?)),)*
-        }
-    };
-    ([$($variant:ident),*] $values:expr, $from:ident($value:ident) => $to:ident, $body:expr) => {
-        match $values {
-            $($from::$variant($value) => Ok($to::$variant($body?)),)*
         }
     };
 }

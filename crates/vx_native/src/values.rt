@@ -85,7 +85,7 @@ impl<K: NativeKind> NativeValues<K> {
         ensures value { slice_get self.now.numbers index ≡ Some result }
         ensures ranged { K.has self.now.kind result ≡ true }
     {
-        by_native!(&self.buffer, |numbers| number_at(numbers, index))
+        by_native!(&self.buffer, |numbers| number_at(self.kind, numbers, index))
     }
 
     /// Returns the values of `range`, which must be in order and in bounds. They share their storage with these.
@@ -94,10 +94,7 @@ impl<K: NativeKind> NativeValues<K> {
         requires bounds { range.end ≤ length self.now.numbers }
         ensures { IfOk result (λ part. part ≡ record { kind = self.now.kind; numbers = slice_range self.now.numbers range.start range.end }) }
     {
-        by_native!(
-            &self.buffer,
-            |numbers| Ok(NativeValues::new(self.kind, part_of(numbers, range)?))
-        )
+        by_native!(&self.buffer, |numbers| part_of(self.kind, numbers, range))
     }
 
     /// Returns the values at the true bits of `mask`, in order; it must have a bit for each value. They share their storage with
@@ -106,10 +103,7 @@ impl<K: NativeKind> NativeValues<K> {
         requires { length (bits_in mask.now) ≡ length self.now.numbers }
         ensures { IfOk result (λ kept. kept ≡ record { kind = self.now.kind; numbers = chosen (bits_in mask.now) self.now.numbers }) }
     {
-        by_native!(
-            &self.buffer,
-            |numbers| Ok(NativeValues::new(self.kind, chosen_of(numbers, alloc, mask)?))
-        )
+        by_native!(&self.buffer, |numbers| chosen_of(self.kind, numbers, alloc, mask))
     }
 
     /// Returns `len` times the number `wide`, which must be one of the type that `kind` names. Takes one allocation. (own)

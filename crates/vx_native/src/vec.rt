@@ -4,12 +4,12 @@ ghost use Rattle.std.specs.Prelude.{◌≡◌, ◌∷◌, [], ◌++◌, pos, map
 ghost use Rattle.vx_native.specs.Ranges.{in_native};
 ghost use Rattle.vx_native.specs.Vecs.{native_of_vec, numbers_of_vec};
 
+use crate::buffers::shared_of;
 use crate::macros::{for_natives, made, over};
 use crate::number::fitted;
 use crate::{NativeKind, NativeNumber, NativeType, NativeValues};
 use std::alloc::{AllocError, Global};
 use std::marker::Model;
-use vx_mask::Buffer;
 
 /// A vector of numbers of one of the nine native types.
 #[derive(Debug, Drop)]
@@ -110,8 +110,6 @@ impl<K: NativeKind> NativeVec<K> {
         ensures { IfOk result (λ v. v ≡ self) }
     {
         let NativeVec { kind, values } = self;
-        for_natives!(
-            over!(values, AnyVec(values) => Ok(NativeValues::new(kind, Buffer::from_vec(alloc, values)?)))
-        )
+        for_natives!(over!(values, AnyVec(values) => shared_of(alloc, kind, values)))
     }
 }

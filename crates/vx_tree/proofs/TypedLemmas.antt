@@ -5,6 +5,8 @@ use Rattle.std.specs.Prelude.{◌==◌, ◌&&◌}
 use Rattle.std.proofs.Math.Bool.{not}
 use Rattle.std.specs.Cmp.{unsigned_Decides, first_so}
 use Rattle.std.specs.List.{All, AllByRecursion, AllZip, range_with_len}
+use Rattle.std.proofs.lemmas.Bool.{false≢true}
+use Rattle.std.proofs.lemmas.Option.{none-some}
 use Rattle.std.proofs.lemmas.List.Elements.{All-nil, All-cons, All-head, All-tail, All-take, All-drop, All-replicate, All-map, All-weaker}
 use Rattle.std.proofs.lemmas.List.Elements.{recursion_from_All}
 use Rattle.vx_value.specs.Types as type
@@ -118,10 +120,10 @@ if_fits false ty c d h k = k
 
 if_some : {X : Type 0} (b : Bool) (o : Option X) (x : X) → (if b then o else None) ≡ Some x → (b ≡ true) × (o ≡ Some x)
 if_some true o x e = (refl, e)
-if_some false o x e = absurd (cc)
+if_some false o x e = absurd (none-some x e)
 
 widened_some : (s : DataType) (o : Option DataType) (ty : DataType) → widened s o ≡ Some ty → (r : DataType) × (o ≡ Some r) × (widen s r ≡ ty)
-widened_some s None ty e = absurd (cc)
+widened_some s None ty e = absurd (none-some ty e)
 widened_some s (Some r) ty e = (r, refl, cc)
 
 -- the result of a null argument is null, and its type is nullable
@@ -170,7 +172,7 @@ logical_bits s t ty e =
   where
     by_type : (s r : DataType) → logical_type s ≡ Some r → storage_of s ≡ Bits
     by_type (type.bool m) r e = refl
-    by_type _ r e = absurd (cc)
+    by_type _ r e = absurd (none-some r e)
 
 truth_fits : (o : Option Bool) (m : Nullability) → is_nullable m ≡ true → fits (truth o) (type.bool m) ≡ true
 truth_fits (Some b) m h = refl
@@ -182,8 +184,8 @@ joined_fits : (join : Option Bool → Option Bool → Option Bool) → Knows joi
 joined_fits join knows s t m null w h k e = truth_fits _ m (null_first operator.And s t (type.bool m) h e)
 joined_fits join knows s t m (boolean p) null h k e = truth_fits _ m (null_second operator.And s t (type.bool m) k e)
 joined_fits join knows s t m (boolean p) (boolean q) h k e = ap (λ o. fits (truth o) (type.bool m)) (knows p q).1
-joined_fits join knows s t m (boolean p) w h k e = let no = ap (is_kind w) (sym (logical_bits s t (type.bool m) e).1) ∙ k in absurd (cc)
-joined_fits join knows s t m v w h k e = let no = ap (is_kind v) (sym (logical_bits s t (type.bool m) e).0) ∙ h in absurd (cc)
+joined_fits join knows s t m (boolean p) w h k e = let no = ap (is_kind w) (sym (logical_bits s t (type.bool m) e).1) ∙ k in absurd (false≢true no)
+joined_fits join knows s t m v w h k e = let no = ap (is_kind v) (sym (logical_bits s t (type.bool m) e).0) ∙ h in absurd (false≢true no)
 
 binary_fits : (op : Operator) (s t ty : DataType) (v w : Value) → fits v s ≡ true → fits w t ≡ true → (binary op).types (s ∷ t ∷ []) ≡ Some ty
     → CellFits ty ((binary op).value ty (v ∷ w ∷ []))
@@ -218,7 +220,7 @@ not_fits s ty v h e = through_fits s (not_type s) ty v (negated v) h e (λ r fou
     by_type : (s : DataType) (v : Value) (r : DataType) → not_type s ≡ Some r → CellFits r (negated v)
     by_type (type.bool m) (boolean b) r e = test_fits r e
     by_type (type.bool m) _ r e = tt
-    by_type _ v r e = absurd (cc)
+    by_type _ v r e = absurd (none-some r e)
 
 mask_fits : (s t ty : DataType) (v w : Value) → fits v s ≡ true → fits w t ≡ true → mask_type s t ≡ Some ty → CellFits ty (masked v w)
 mask_fits s (type.bool NonNullable) ty v w h k e = let is : with_nullability Nullable s ≡ ty = cc in subst (λ x. CellFits x (masked v w)) is (by_mask w)
@@ -226,7 +228,7 @@ mask_fits s (type.bool NonNullable) ty v w h k e = let is : with_nullability Nul
     by_mask : (w : Value) → CellFits (with_nullability Nullable s) (masked v w)
     by_mask (boolean true) = set_fits Nullable s (value v) (λ n. refl) h
     by_mask _ = set_nullable Nullable s refl
-mask_fits s _ ty v w h k e = absurd (cc)
+mask_fits s _ ty v w h k e = absurd (none-some ty e)
 
 zip_fits : (s t u ty : DataType) (v w x : Value) → fits v s ≡ true → fits w t ≡ true → fits x u ≡ true → zip_type s t u ≡ Some ty → CellFits ty (zipped v w x)
 zip_fits s t (type.bool m) ty v w x h k l e =
@@ -242,7 +244,7 @@ zip_fits s t (type.bool m) ty v w x h k l e =
     by_mask : (x : Value) → fits v ty ≡ true → fits w ty ≡ true → CellFits ty (zipped v w x)
     by_mask (boolean true) h k = h
     by_mask _ h k = k
-zip_fits s t _ ty v w x h k l e = absurd (cc)
+zip_fits s t _ ty v w x h k l e = absurd (none-some ty e)
 
 fill_fits : (s t ty : DataType) (v w : Value) → fits v s ≡ true → fits w t ≡ true → fill_type s t ≡ Some ty → CellFits ty (filled v w)
 fill_fits s t ty v w h k e =
@@ -277,7 +279,7 @@ module _ (typed : DataType → Option DataType → Option DataType) (valued : Va
       → IsTyped (of_one typed None type) (λ ty. of_one valued fault (f ty))
   one_fits type f k (s ∷ []) ty (v ∷ []) e h = k s ty v h.0 e
   one_fits type f k (s ∷ []) ty _ e h = tt
-  one_fits type f k _ ty vs e h = absurd (cc)
+  one_fits type f k _ ty vs e h = absurd (none-some ty e)
 
   two_fit : (type : DataType → DataType → Option DataType) (f : DataType → Value → Value → Cell)
       → ((s t ty : DataType) (v w : Value) → fits v s ≡ true → fits w t ≡ true → typed s (typed t (type s t)) ≡ Some ty
@@ -285,7 +287,7 @@ module _ (typed : DataType → Option DataType → Option DataType) (valued : Va
       → IsTyped (of_two typed None type) (λ ty. of_two valued fault (f ty))
   two_fit type f k (s ∷ t ∷ []) ty (v ∷ w ∷ []) e h = k s t ty v w h.0 h.1.0 e
   two_fit type f k (s ∷ t ∷ []) ty _ e h = tt
-  two_fit type f k _ ty vs e h = absurd (cc)
+  two_fit type f k _ ty vs e h = absurd (none-some ty e)
 
   three_fit : (type : DataType → DataType → DataType → Option DataType) (f : DataType → Value → Value → Value → Cell)
       → ((s t u ty : DataType) (v w x : Value) → fits v s ≡ true → fits w t ≡ true → fits x u ≡ true → typed s (typed t (typed u (type s t u))) ≡ Some ty
@@ -293,7 +295,7 @@ module _ (typed : DataType → Option DataType → Option DataType) (valued : Va
       → IsTyped (of_three typed None type) (λ ty. of_three valued fault (f ty))
   three_fit type f k (s ∷ t ∷ u ∷ []) ty (v ∷ w ∷ x ∷ []) e h = k s t u ty v w x h.0 h.1.0 h.1.1.0 e
   three_fit type f k (s ∷ t ∷ u ∷ []) ty _ e h = tt
-  three_fit type f k _ ty vs e h = absurd (cc)
+  three_fit type f k _ ty vs e h = absurd (none-some ty e)
 
 -- a line for each function
 values_fit : (f : ScalarFnRef) → IsTyped (return_type f) (value_of f)

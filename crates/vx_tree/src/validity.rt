@@ -46,11 +46,12 @@ impl Validity {
             Mask::AllFalse(_) => Ok(Validity::AllInvalid),
             Mask::Values(values) => {
                 let bits = values.bit_buffer().clone()?;
+                let slots = vec![in alloc; None]?;
                 let node = Node {
                     dtype: BOOLEANS,
                     len: bits.len(),
                     encoding: Encoding::Bool(BoolData { bits }),
-                    slots: vec![in alloc; None]?,
+                    slots,
                 };
                 Ok(Validity::Array(node.into_array(alloc)?))
             }

@@ -1,6 +1,6 @@
 //! The readers of an untyped reference.
 
-ghost use Rattle.std.specs.Prelude.{◌≡◌, ◌==◌, is_some, IfSome, length, option_map, slice_get};
+ghost use Rattle.std.specs.Prelude.{◌≡◌, ◌==◌, is_some, IfSome, length, map, option_map, slice_get};
 ghost use Rattle.vx_value.specs.View.{type_of};
 ghost use Rattle.vx_tree.specs.Tree.{dtype, len, datum, slots, slots_of, id_of, slot_names};
 ghost use Rattle.vx_tree.specs.TreeView.{data_of};
@@ -10,6 +10,13 @@ ghost use Rattle.vx_tree.specs.Well.{IsWell};
 use crate::array::{ArrayRef, ArrayView, Encoding, EncodingVariant};
 use crate::matcher::Matcher;
 use vx_value::{DType, Id};
+
+/// Returns name `index` of `names`.
+fn named(names: &[&'static str], index: usize) -> Option<&'static str>
+    ensures { option_map (λ s. s.now) result ≡ slice_get (map (λ s. s.now) names.now) index }
+{
+    names.get(index).copied()
+}
 
 impl ArrayRef {
     /// Returns the number of rows.
@@ -71,18 +78,18 @@ impl ArrayRef {
     pub fn slot_name(&self, index: usize) -> Option<&'static str>
         ensures { option_map (λ s. s.now) result ≡ slice_get (slot_names (datum self.now)) index }
     {
-        match (&self.node.encoding, index) {
-            (Encoding::Slice(_), 0) => Some("child"),
-            (Encoding::Filter(_), 0) => Some("child"),
-            (Encoding::Masked(_), 0) => Some("child"),
-            (Encoding::Masked(_), 1) => Some("validity"),
-            (Encoding::ScalarFnValidity(_), 0) => Some("child"),
-            (Encoding::Bool(_), 0) => Some("validity"),
-            (Encoding::Primitive(_), 0) => Some("validity"),
-            (Encoding::Decimal(_), 0) => Some("validity"),
-            (Encoding::VarBinView(_), 0) => Some("validity"),
-            (Encoding::ScalarFn(data), _) => data.scalar_fn.child_name(index),
-            _ => None,
+        match &self.node.encoding {
+            Encoding::Constant(_) => None,
+            Encoding::Slice(_) => named(&["child"], index),
+            Encoding::Filter(_) => named(&["child"], index),
+            Encoding::Masked(_) => named(&["child", "validity"], index),
+            Encoding::ScalarFnValidity(_) => named(&["child"], index),
+            Encoding::ScalarFn(data) => data.scalar_fn.child_name(index),
+            Encoding::Null(_) => None,
+            Encoding::Bool(_) => named(&["validity"], index),
+            Encoding::Primitive(_) => named(&["validity"], index),
+            Encoding::Decimal(_) => named(&["validity"], index),
+            Encoding::VarBinView(_) => named(&["validity"], index),
         }
     }
 

@@ -124,8 +124,8 @@ impl Clone for Node {
         Ok(Node {
             dtype: self.dtype.clone()?,
             len: self.len,
-            encoding: self.encoding.clone()?,
             slots: self.slots.clone()?,
+            encoding: self.encoding.clone()?,
         })
     }
 }
