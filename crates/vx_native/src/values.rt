@@ -16,10 +16,18 @@ use vx_mask::{Buffer, Mask};
 use vx_value::{DecimalDType, DecimalType, PType};
 
 /// Numbers of the native type that a kind names, in shared storage. (own)
-#[derive(Debug, Drop)]
+#[derive(Debug)]
 pub struct NativeValues<K: NativeKind> {
     kind: K,
     buffer: NativeBuffer,
+}
+
+// by hand: where values are let go, a derived drop would be proved with all nine buffers
+impl<K: NativeKind> Drop for NativeValues<K> {
+    fn drop(self) {
+        let NativeValues { kind: _, buffer } = self;
+        drop(buffer);
+    }
 }
 
 /// Integers of one of the eight types, in shared storage.
