@@ -26,10 +26,18 @@ enum AnyVec {
 }
 
 /// A vector of numbers of the native type that a kind names. (own)
-#[derive(Debug, Drop)]
+#[derive(Debug)]
 pub struct NativeVec<K: NativeKind> {
     kind: K,
     values: AnyVec,
+}
+
+// by hand: see `NativeValues`
+impl<K: NativeKind> Drop for NativeVec<K> {
+    fn drop(self) {
+        let NativeVec { kind: _, values } = self;
+        drop(values);
+    }
 }
 
 impl<K: NativeKind> Model for NativeVec<K> {
