@@ -7,6 +7,7 @@ ghost use Rattle.vx_tree.specs.Tree.{dtype, len, datum, node, function, masked, 
 ghost use Rattle.vx_tree.specs.Tree.{is_function, is_masked, is_constant, is_canonical};
 ghost use Rattle.vx_tree.specs.Well.{IsNode, IsWell, shapes};
 ghost use Rattle.vx_tree.specs.Columns.{empty_of};
+ghost use Rattle.vx_canonical.specs.Canonicals.{canonical_tree};
 ghost use Rattle.vx_rule.specs.Pushes.{IsConstantLike, IsColumnSlice};
 
 use std::alloc::Global;
@@ -100,6 +101,17 @@ pub fn empty_column(alloc: Global, dtype: &DType) -> VortexResult<ArrayRef>
     Ok(Canonical::empty(alloc, dtype)?.into_array())
 }
 
+/// Returns `array`, which must be canonical, as a column.
+fn as_column(array: ArrayRef) -> Canonical
+    requires { is_canonical (datum array) ≡ true }
+    ensures { canonical_tree result ≡ array }
+{
+    let Ok(column) = Canonical::try_from_array_ref(array) else {
+        unreachable!()
+    };
+    column
+}
+
 /// Returns the rows of `array`, which must be canonical, in `range`, as a column that shares its buffers. The only error is `OutOfMemory`.
 pub fn column_slice(alloc: Global, array: &ArrayRef, range: Range<usize>) -> VortexResult<ArrayRef>
     requires canonical { is_canonical (datum array.now) ≡ true }
@@ -107,9 +119,7 @@ pub fn column_slice(alloc: Global, array: &ArrayRef, range: Range<usize>) -> Vor
     ensures ok { IfOk result (λ t. IsColumnSlice range.start range.end array.now t) }
     ensures err { IfErr result (λ e. e ≡ OutOfMemory) }
 {
-    let Ok(column) = Canonical::try_from_array_ref(array.clone()?) else {
-        unreachable!()
-    };
+    let column = as_column(array.clone()?);
     let part = slice_canonical(alloc, &column, range)?;
     let _canonical = part.as_array();
     Ok(part.into_array())
