@@ -27,11 +27,11 @@ pub enum Id {
     VarBinView,
 }
 
-/// Evaluates `$by` on `$value` and the text of each id: one line an id.
+/// Evaluates `$by` on `$value` and the text of each id: one line an id, in the order of the enum.
 macro_rules! by_texts {
-    ($by:ident, $value:expr) => {
+    ($by:ident $(, $value:expr)?) => {
         $by!(
-            $value,
+            $($value,)?
             Constant = "vortex.constant",
             Slice = "vortex.slice",
             Filter = "vortex.filter",
@@ -63,14 +63,14 @@ macro_rules! text_of {
     };
 }
 
-macro_rules! id_of {
-    ($text:expr, $($variant:ident = $name:literal,)*) => {
-        match $text {
-            $($name => Some(Id::$variant),)*
-            _ => None,
-        }
+macro_rules! all_of {
+    ($($variant:ident = $text:literal,)*) => {
+        &[$(Id::$variant,)*]
     };
 }
+
+/// Every id.
+const ALL: &[Id] = by_texts!(all_of);
 
 impl Id {
     /// Returns the id as text, for example `vortex.primitive`.
@@ -84,6 +84,11 @@ impl Id {
     pub fn parse(text: &str) -> Option<Id>
         ensures { MatchOption result (IsNoId text.now) (λ id. id_text id ≡ text.now) }
     {
-        by_texts!(id_of, text)
+        for id in ALL {
+            if id.as_str() == text {
+                return Some(*id);
+            }
+        }
+        None
     }
 }
