@@ -65,7 +65,6 @@ impl PartialOrd for Scalar {
 }
 
 /// Checks whether two types are the same, including their nullability.
-#[tactic(auto, using(crate::specs::Types::same_type_Decides))]
 fn same_type(left: &DType, right: &DType) -> bool
     ensures value { result ≡ same_type (type_of left.now) (type_of right.now) }
     ensures equal { IsTrue result ↔ (type_of left.now ≡ type_of right.now) }
