@@ -1,7 +1,7 @@
-use Rattle.std.proofs.Common.{◌≡◌, true, ap, ap₂, sym, subst, ◌∙◌, rules}
+use Rattle.std.proofs.Common.{◌≡◌, sym, subst, rules}
 use Rattle.std.specs.Prelude.{◌↔◌, IsTrue}
 use Rattle.vx_value.specs.View.{type_of}
-use Rattle.vx_value.specs.Types.{same_type, same_type_Decides}
+use Rattle.vx_value.specs.Types.{same_type_Decides}
 use Rattle.vx_value.proofs.compare.same_type.Goals as goal
 
 pub returns-clause-value : goal.returns-clause-value

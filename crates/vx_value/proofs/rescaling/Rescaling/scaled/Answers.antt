@@ -1,4 +1,4 @@
-use Rattle.std.proofs.Common.{◌≤◌, FitsSigned, ◌∙◌, arith, rules}
+use Rattle.std.proofs.Common.{◌≤◌, ◌∙◌, arith, rules}
 use Rattle.std.proofs.lemmas.Int.{to_z-of_z}
 use Rattle.std.specs.Int.{w128}
 use Rattle.vx_value.proofs.PowersLemmas.{fits_by, divides_by, lengthened_in, shortened_by}
@@ -21,7 +21,11 @@ returns-then-self-scale c =
 pub returns-then-number-self-eq0 : goal.returns-then-number-self-eq0
 returns-then-number-self-eq0 c =
     let s = c.args.self.now in
-    let z = c.args.number in
     let above : ¬ (s.scale ≤ s.target.scale) = λ h. omega (arith, c.scale.ensures, c.if-self-scale.false, h) in
-    let fits : FitsSigned w128 s.power = fits_by s.target s.scale s.power z s.has_power in
-    shortened_by s.target s.scale s.power z s.has_power above ∙ search rules
+    shortened_by s.target s.scale s.power c.args.number s.has_power above ∙ search rules
+
+pub returns-else-number-self-eq0 : goal.returns-else-number-self-eq0
+returns-else-number-self-eq0 c =
+    let s = c.args.self.now in
+    let above : ¬ (s.scale ≤ s.target.scale) = λ h. omega (arith, c.scale.ensures, c.if-self-scale.false, h) in
+    shortened_by s.target s.scale s.power c.args.number s.has_power above ∙ search rules
