@@ -6,7 +6,6 @@ ghost use Rattle.vx_value.specs.View.{type_of};
 ghost use Rattle.vx_value.specs.Text.{type_text, bare_text, type_mark, mark, ptype_text};
 
 use crate::{DType, DecimalDType, Nullability, PType};
-use itoa::Buffer;
 use std::alloc::{AllocError, Global};
 
 /// Returns the text of `dtype`, for example `i32` or `decimal(10,2)`, followed by `?` if the type is nullable. `null` has no mark.
@@ -40,11 +39,7 @@ fn push_decimal(text: &mut String, dtype: DecimalDType) -> Result<(), AllocError
     ensures { OnOk result (string_bytes text.new
         ≡ string_bytes text.old ++ codes "decimal(" ++ decimal dtype.precision ++ codes "," ++ decimal dtype.scale ++ codes ")") }
 {
-    text.push_str("decimal(")?;
-    text.push_str(Buffer::new().format(dtype.precision()))?;
-    text.push_str(",")?;
-    text.push_str(Buffer::new().format(dtype.scale()))?;
-    text.push_str(")")
+    write!(text, "decimal({},{})", dtype.precision(), dtype.scale())
 }
 
 /// Returns the mark of a nullable type, or the empty text.
