@@ -184,19 +184,9 @@ impl Scalar {
         ensures typed { is_of self.now.of_type self.now.value ≡ true }
         ensures stored { IsStored result }
     {
-        let dtype = &self.dtype;
-        match (dtype.storage(), &self.value) {
-            (_, None) => ScalarKind::Null(dtype),
-            (Storage::Bits, Some(ScalarValue::Bool(value))) => ScalarKind::Bool(*value, dtype),
-            (Storage::Integers(ptype), Some(ScalarValue::Integer(value))) => {
-                ScalarKind::Integer(*value, ptype, dtype)
-            }
-            (Storage::Decimals { .. }, Some(ScalarValue::Decimal(value))) => {
-                ScalarKind::Decimal(*value, dtype)
-            }
-            (Storage::Text, Some(ScalarValue::Bytes(bytes))) => ScalarKind::Utf8(bytes, dtype),
-            (Storage::Bytes, Some(ScalarValue::Bytes(bytes))) => ScalarKind::Binary(bytes, dtype),
-            _ => unreachable!(),
+        match &self.value {
+            None => ScalarKind::Null(&self.dtype),
+            Some(value) => kind_of(&self.dtype, value),
         }
     }
 
@@ -275,6 +265,27 @@ impl Scalar {
         ensures { result ≡ record { of_type = type_of dtype; value = cell_of value } }
     {
         Scalar { dtype, value }
+    }
+}
+
+/// Returns `value`, of type `dtype`, by how it is stored.
+#[inline]
+fn kind_of<'a>(dtype: &'a DType, value: &'a ScalarValue) -> ScalarKind<'a>
+    requires { is_of (type_of dtype.now) (value_of value.now) ≡ true }
+    ensures whole { scalar_of result ≡ record { of_type = type_of dtype.now; value = value_of value.now } }
+    ensures stored { IsStored result }
+{
+    match (dtype.storage(), value) {
+        (Storage::Bits, ScalarValue::Bool(value)) => ScalarKind::Bool(*value, dtype),
+        (Storage::Integers(ptype), ScalarValue::Integer(value)) => {
+            ScalarKind::Integer(*value, ptype, dtype)
+        }
+        (Storage::Decimals { .. }, ScalarValue::Decimal(value)) => {
+            ScalarKind::Decimal(*value, dtype)
+        }
+        (Storage::Text, ScalarValue::Bytes(bytes)) => ScalarKind::Utf8(bytes, dtype),
+        (Storage::Bytes, ScalarValue::Bytes(bytes)) => ScalarKind::Binary(bytes, dtype),
+        _ => unreachable!(),
     }
 }
 
