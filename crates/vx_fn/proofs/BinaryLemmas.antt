@@ -1,6 +1,8 @@
 -- The types of operators' results.
 use Rattle.std.proofs.Common.{◌≡◌, Bool, true, false, if◌then◌else◌, refl, ap, sym, ◌∙◌}
-use Rattle.std.specs.Prelude.{[], ◌∷◌, ℤ, Option, Some, None, option_map}
+use Rattle.std.proofs.lemmas.Bool.{false≢true}
+use Rattle.std.proofs.lemmas.Option.{none-some, same_Some}
+use Rattle.std.specs.Prelude.{[], ◌∷◌, ℤ, Option, Some, None, option_map, IfSome}
 use Rattle.vx_value.specs.Types as type
 use Rattle.vx_value.specs.Types.{DataType, nullability_of, is_nullable}
 use Rattle.vx_value.specs.Nullabilities.{with_nullability, union, same_but_nullability}
@@ -11,18 +13,20 @@ use Rattle.vx_value.specs.Cell.{Cell}
 use Rattle.vx_value.specs.Casts.{sized}
 use Rattle.vx_value.specs.IsOf.{is_of}
 use Rattle.vx_value.specs.Parts.{boolean_in}
+use Rattle.vx_value.specs.View.{value_of}
+use Rattle.vx_value.specs.declared.scalar.ScalarValue.{ScalarValue}
 use Rattle.vx_value.specs.declared.dtype.Nullability.{Nullability}
 use Rattle.vx_value.specs.declared.dtype.Nullability.TheVariants.{NonNullable}
-use Rattle.vx_fn.specs.Meanings.{widened}
+use Rattle.vx_fn.specs.Meanings.{widened, null_through}
 use Rattle.vx_fn.specs.Apply.{apply}
-use Rattle.vx_fn.specs.Binary.{is_logical, logical_type, operator_type, binary_type, decided, operated, binary}
+use Rattle.vx_fn.specs.Binary.{is_logical, logical_type, operator_type, binary_type, decided, operated, null_rule, binary}
 use Rattle.vx_fn.specs.Comparisons.{is_ordered, ordered_type}
 use Rattle.vx_fn.specs.Arithmetic.{summed_type, multiplied_type, number, calculated_by}
 use Rattle.vx_fn.specs.Logic.{kleene_and, kleene_or, truth}
 use Rattle.vx_fn.specs.declared.function.Operator.{Operator}
 use Rattle.vx_fn.specs.declared.function.Operator.TheVariants as operator
 use Rattle.vx_fn.specs.declared.function.ScalarFnRef.TheVariants as function
-use Rattle.vx_fn.proofs.MeaningsLemmas.{widened_twice, nullable_by_argument, nullable_before, union_with_plain}
+use Rattle.vx_fn.proofs.MeaningsLemmas.{widened_twice, nullable_by_argument, nullable_before, union_with_plain, past_value}
 use Rattle.vx_fn.proofs.LogicLemmas.{Knows, joined_typed, and_knows, or_knows, and_commutes, or_commutes, truth_back}
 
 -- two arguments of one type
@@ -31,34 +35,31 @@ of_one_type op s t e = ap (λ b. if b then operator_type op s else None) e
 
 -- no operator makes its result nullable: a line for each
 abbrev IsPlain : Option DataType → Type 0
-IsPlain o = (r : DataType) → o ≡ Some r → nullability_of r ≡ NonNullable
-
-plain_bool : IsPlain (Some (type.bool NonNullable))
-plain_bool r e = let same : type.bool NonNullable ≡ r = cc in ap nullability_of (sym same)
+IsPlain o = IfSome o (λ r. nullability_of r ≡ NonNullable)
 
 plain_ordered : (s : DataType) → IsPlain (ordered_type s)
 plain_ordered s = by_test (is_ordered s)
   where
     by_test : (b : Bool) → IsPlain (if b then Some (type.bool NonNullable) else None)
-    by_test true r e = plain_bool r e
-    by_test false r e = absurd (cc)
+    by_test true = refl
+    by_test false = tt
 
 plain_summed : (s : DataType) → IsPlain (summed_type s)
-plain_summed (type.primitive p n) r e = let same : type.primitive p NonNullable ≡ r = cc in ap nullability_of (sym same)
-plain_summed (type.decimal p k n) r e = let same : type.decimal p k NonNullable ≡ r = cc in ap nullability_of (sym same)
-plain_summed _ r e = absurd (cc)
+plain_summed (type.primitive p n) = refl
+plain_summed (type.decimal p k n) = refl
+plain_summed _ = tt
 
 plain_multiplied : (s : DataType) → IsPlain (multiplied_type s)
-plain_multiplied (type.primitive p n) r e = let same : type.primitive p NonNullable ≡ r = cc in ap nullability_of (sym same)
-plain_multiplied _ r e = absurd (cc)
+plain_multiplied (type.primitive p n) = refl
+plain_multiplied _ = tt
 
 plain_logical : (s : DataType) → IsPlain (logical_type s)
-plain_logical (type.bool n) r e = plain_bool r e
-plain_logical _ r e = absurd (cc)
+plain_logical (type.bool n) = refl
+plain_logical _ = tt
 
 plain_result : (op : Operator) (s : DataType) → IsPlain (operator_type op s)
-plain_result operator.Eq s = plain_bool
-plain_result operator.NotEq s = plain_bool
+plain_result operator.Eq s = refl
+plain_result operator.NotEq s = refl
 plain_result operator.Gt s = plain_ordered s
 plain_result operator.Gte s = plain_ordered s
 plain_result operator.Lt s = plain_ordered s
@@ -74,7 +75,7 @@ plain_result operator.Or s = plain_logical s
 plain_widened : (s t : DataType) (o : Option DataType) → IsPlain o
     → widened s (widened t o) ≡ option_map (with_nullability (union (nullability_of s) (nullability_of t))) o
 plain_widened s t None plain = refl
-plain_widened s t (Some r) plain = ap Some (widened_twice s t r (plain r refl))
+plain_widened s t (Some r) plain = ap Some (widened_twice s t r plain)
 
 pub result_type : (op : Operator) (s t : DataType) → same_but_nullability s t ≡ true
     → (binary op).types (s ∷ t ∷ []) ≡ option_map (with_nullability (union (nullability_of s) (nullability_of t))) (operator_type op s)
@@ -88,8 +89,15 @@ pub null_second : (op : Operator) (s t ty : DataType) → is_of t null ≡ true 
 null_second op s t ty h e = by_type (widened t (binary_type op s t)) refl e
   where
     by_type : (o : Option DataType) → widened t (binary_type op s t) ≡ o → widened s o ≡ Some ty → is_nullable (nullability_of ty) ≡ true
-    by_type None same e = absurd (cc)
+    by_type None same e = absurd (none-some ty e)
     by_type (Some r) same e = nullable_before s r ty (nullable_by_argument t (binary_type op s t) r h same) e
+
+-- where no argument is null, the result is the operator's
+pub of_values : (op : Operator) (ty : DataType) (x y : ScalarValue) → is_logical op ≡ false
+    → (binary op).value ty (value_of x ∷ value_of y ∷ []) ≡ operated op ty (value_of x) (value_of y)
+of_values op ty x y l =
+    let o = operated op ty (value_of x) (value_of y) in
+    ap (λ b. null_rule b (value_of x) (null_rule b (value_of y) o)) l ∙ past_value x (null_through (value_of y) o) ∙ past_value y o
 
 -- ---- logic
 
@@ -103,19 +111,18 @@ record AreTruths (s t ty : DataType) : Type 0 where
 
 logical_truths : (b : Bool) (s t ty : DataType) → b ≡ same_but_nullability s t → widened s (widened t (if b then logical_type s else None)) ≡ Some ty
     → AreTruths s t ty
-logical_truths false s t ty same e = absurd (cc)
+logical_truths false s t ty same e = absurd (none-some ty e)
 logical_truths true (type.bool m) (type.bool n) ty same e =
-    let found : type.bool (union m (union n NonNullable)) ≡ ty = cc in
     let plain : type.bool (union m n) ≡ type.bool (union m (union n NonNullable)) =
     ap (λ k. type.bool (union m k)) (sym (union_with_plain n NonNullable refl)) in
-    record { first = m; second = n; first_is = refl; second_is = refl; result_is = plain ∙ found }
-logical_truths true (type.bool m) _ ty same e = absurd (cc)
-logical_truths true _ t ty same e = absurd (cc)
+    record { first = m; second = n; first_is = refl; second_is = refl; result_is = plain ∙ same_Some _ ty e }
+logical_truths true (type.bool m) _ ty same e = absurd (false≢true (sym same))
+logical_truths true _ t ty same e = absurd (none-some ty e)
 
 truths : (op : Operator) (s t ty : DataType) → is_logical op ≡ true → (binary op).types (s ∷ t ∷ []) ≡ Some ty → AreTruths s t ty
 truths operator.And s t ty h e = logical_truths (same_but_nullability s t) s t ty refl e
 truths operator.Or s t ty h e = logical_truths (same_but_nullability s t) s t ty refl e
-truths _ s t ty h e = absurd (cc)
+truths _ s t ty h e = absurd (false≢true h)
 
 -- so the result's type has the joined value
 typed_join : (join : Option Bool → Option Bool → Option Bool) → Knows join → (s t ty : DataType) (v w : Value) → is_of s v ≡ true → is_of t w ≡ true
@@ -129,24 +136,30 @@ pub logical_result : (op : Operator) (s t ty : DataType) (v w : Value) (o : Opti
     → (op ≡ operator.And → o ≡ kleene_and (boolean_in v) (boolean_in w))
     → (op ≡ operator.Or → o ≡ kleene_or (boolean_in v) (boolean_in w))
     → (binary op).types (s ∷ t ∷ []) ≡ Some ty
-    → is_of ty (truth o) ≡ true
+    → (is_of ty (truth o) ≡ true) × ((binary op).value ty (v ∷ w ∷ []) ≡ cell.value (truth o))
 logical_result operator.And s t ty v w o l h k and or e =
-    ap (λ a. is_of ty (truth a)) (and refl) ∙ typed_join kleene_and and_knows s t ty v w h k (truths operator.And s t ty refl e)
+    let found = truths operator.And s t ty refl e in (
+      ap (λ a. is_of ty (truth a)) (and refl) ∙ typed_join kleene_and and_knows s t ty v w h k found,
+      ap (λ u. operated operator.And u v w) (sym found.result_is) ∙ ap (λ a. cell.value (truth a)) (sym (and refl)),
+    )
 logical_result operator.Or s t ty v w o l h k and or e =
-    ap (λ a. is_of ty (truth a)) (or refl) ∙ typed_join kleene_or or_knows s t ty v w h k (truths operator.Or s t ty refl e)
-logical_result _ s t ty v w o l h k and or e = absurd (cc)
+    let found = truths operator.Or s t ty refl e in (
+      ap (λ a. is_of ty (truth a)) (or refl) ∙ typed_join kleene_or or_knows s t ty v w h k found,
+      ap (λ u. operated operator.Or u v w) (sym found.result_is) ∙ ap (λ a. cell.value (truth a)) (sym (or refl)),
+    )
+logical_result _ s t ty v w o l h k and or e = absurd (false≢true l)
 
 -- ---- the logical operators commute, whatever the values and the type
 
 decided_commutes : (op : Operator) (v w : Value) → is_logical op ≡ true → decided op v w ≡ decided op w v
 decided_commutes operator.And v w l = ap (λ o. cell.value (truth o)) (and_commutes (boolean_in v) (boolean_in w))
 decided_commutes operator.Or v w l = ap (λ o. cell.value (truth o)) (or_commutes (boolean_in v) (boolean_in w))
-decided_commutes _ v w l = absurd (cc)
+decided_commutes _ v w l = absurd (false≢true l)
 
 no_number : (op : Operator) (fit : ℤ → Cell) (x y : ℤ) → is_logical op ≡ true → calculated_by op fit x y ≡ cell.fault
 no_number operator.And fit x y l = refl
 no_number operator.Or fit x y l = refl
-no_number _ fit x y l = absurd (cc)
+no_number _ fit x y l = absurd (false≢true l)
 
 operated_commutes : (op : Operator) (ty : DataType) (v w : Value) → is_logical op ≡ true → operated op ty v w ≡ operated op ty w v
 operated_commutes op (type.bool n) v w l = decided_commutes op v w l

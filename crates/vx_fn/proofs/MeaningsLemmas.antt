@@ -1,13 +1,24 @@
--- The nullability of a result by that of its arguments.
-use Rattle.std.proofs.Common.{◌≡◌, true, refl, ap, sym, ◌∙◌}
-use Rattle.std.specs.Prelude.{Option, Some, None}
+-- What arguments make of a result: whether there is one, its nullability, and null.
+use Rattle.std.proofs.Common.{◌≡◌, Bool, true, false, if◌then◌else◌, refl, ap, sym, ◌∙◌}
+use Rattle.std.proofs.lemmas.Bool.{false≢true}
+use Rattle.std.specs.Prelude.{Option, Some, None, IsSome}
 use Rattle.vx_value.specs.Types as type
 use Rattle.vx_value.specs.Types.{DataType, nullability_of, is_nullable}
 use Rattle.vx_value.specs.Nullabilities.{with_nullability, union}
 use Rattle.vx_value.specs.declared.dtype.Nullability.{Nullability}
 use Rattle.vx_value.specs.declared.dtype.Nullability.TheVariants.{NonNullable, Nullable}
 use Rattle.vx_value.proofs.NullabilitiesLemmas.{union_first, union_second}
-use Rattle.vx_fn.specs.Meanings.{widen, widened}
+use Rattle.vx_value.specs.Values.{Value, null}
+use Rattle.vx_value.specs.Cell.{Cell, value}
+use Rattle.vx_value.specs.View.{value_of}
+use Rattle.vx_value.specs.declared.scalar.ScalarValue.{ScalarValue}
+use Rattle.vx_value.specs.declared.scalar.ScalarValue.TheVariants as scalar
+use Rattle.vx_fn.specs.Meanings.{widen, widened, null_through}
+
+-- a test whose answer is there was passed
+pub passed : (b : Bool) (t : DataType) → IsSome (if b then Some t else None) → (b ≡ true) × ((if b then Some t else None) ≡ Some t)
+passed true t h = (refl, refl)
+passed false t h = absurd (false≢true h)
 
 pub union_with_plain : (m n : Nullability) → n ≡ NonNullable → union m n ≡ m
 union_with_plain NonNullable n h = h
@@ -46,3 +57,16 @@ nullable_before s r ty h e =
     let same : widen s r ≡ ty = cc in
     ap (λ u. is_nullable (nullability_of u)) (sym same)
     ∙ ap is_nullable (widened_nullability s r ∙ union_second (nullability_of s) (nullability_of r) h)
+
+-- a null gives null, and one further on does too
+pub by_null : (v : Value) (c : Cell) → null ≡ v → null_through v c ≡ value null
+by_null v c e = ap (λ x. null_through x c) (sym e)
+
+pub by_later : (v : Value) (c : Cell) → c ≡ value null → null_through v c ≡ value null
+by_later null c e = refl
+by_later _ c e = e
+
+-- a value there leaves what is given
+pub past_value : (x : ScalarValue) (c : Cell) → null_through (value_of x) c ≡ c
+past_value (scalar.Bool b) c = refl
+past_value _ c = refl

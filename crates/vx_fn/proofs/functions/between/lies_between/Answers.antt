@@ -1,33 +1,18 @@
-use Rattle.std.proofs.Common.{◌≡◌, Bool, rules, ◌&&◌, refl, ap, ap₂, sym, ◌∙◌}
+use Rattle.std.proofs.Common.{◌≡◌, Bool, rules, ◌&&◌, ap, ap₂, sym, ◌∙◌}
 use Rattle.vx_value.specs.Values.{Value, null, boolean}
 use Rattle.vx_value.specs.Cell.{Cell, value}
 use Rattle.vx_value.specs.View.{value_of}
 use Rattle.vx_value.specs.Order.{value_cmp}
-use Rattle.vx_value.specs.declared.scalar.ScalarValue.{ScalarValue}
-use Rattle.vx_value.specs.declared.scalar.ScalarValue.TheVariants as scalar
 use Rattle.vx_value.proofs.OrderLemmas.{derived_order}
 use Rattle.vx_fn.specs.Between.{is_below}
-use Rattle.vx_fn.specs.Meanings.{null_through}
+use Rattle.vx_fn.proofs.MeaningsLemmas.{by_null, by_later, past_value}
 use Rattle.vx_fn.proofs.functions.between.lies_between.Goals as goal
 use Rattle.vx_fn.proofs.functions.between.lies_between.Goals.{in_default-2-via-in-Some+in-Some+in_default, in_default-2-via-in-Some+in_default}
 use Rattle.vx_fn.proofs.functions.between.lies_between.Goals.{in_default-2-via-in_default, then-is_below, else-is_below}
 
--- a null gives null, and one further on does too
-by_null : (v : Value) (c : Cell) → null ≡ v → null_through v c ≡ value null
-by_null v c e = ap (λ x. null_through x c) (sym e)
-
-by_later : (v : Value) (c : Cell) → c ≡ value null → null_through v c ≡ value null
-by_later null c e = refl
-by_later _ c e = e
-
 -- so what is answered is null
 answered : (c : Cell) (r : Value) → r ≡ null → c ≡ value null → c ≡ value r
 answered c r e d = d ∙ ap value (sym e)
-
--- a value there leaves what is given
-past_value : (x : ScalarValue) (c : Cell) → null_through (value_of x) c ≡ c
-past_value (scalar.Bool b) c = refl
-past_value _ c = refl
 
 pub returns-in_default-2-clause-value : goal.returns-in_default-2-clause-value
 returns-in_default-2-clause-value c =
