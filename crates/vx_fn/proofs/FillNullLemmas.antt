@@ -1,5 +1,5 @@
--- Where `fill_null` takes its arguments.
-use Rattle.std.proofs.Common.{◌≡◌, Bool, true, false, refl, if◌then◌else◌, Some, None}
+-- Where `fill_null` takes its arguments, and what the result's type then is.
+use Rattle.std.proofs.Common.{◌≡◌, true, false, refl, Some}
 use Rattle.std.specs.Prelude.{IsSome}
 use Rattle.vx_value.specs.Types.{DataType}
 use Rattle.vx_value.specs.Nullabilities.{same_but_nullability}
@@ -10,13 +10,10 @@ use Rattle.vx_value.specs.IsOf.{is_null}
 use Rattle.vx_value.specs.declared.scalar.ScalarValue.{ScalarValue}
 use Rattle.vx_value.specs.declared.scalar.ScalarValue.TheVariants as scalar
 use Rattle.vx_fn.specs.FillNull.{fill_type, filled}
+use Rattle.vx_fn.proofs.MeaningsLemmas.{passed}
 
-pub fill_taken : (s t : DataType) → IsSome (fill_type s t) → same_but_nullability s t ≡ true
-fill_taken s t h = by_test (same_but_nullability s t) h
-  where
-    by_test : (b : Bool) → IsSome (if b then Some t else None) → b ≡ true
-    by_test true h = refl
-    by_test false h = absurd (cc)
+pub fill_taken : (s t : DataType) → IsSome (fill_type s t) → (same_but_nullability s t ≡ true) × (fill_type s t ≡ Some t)
+fill_taken s t h = passed (same_but_nullability s t) t h
 
 -- what a scalar holds isn't null, and stays
 pub value_there : (x : ScalarValue) → is_null (value_of x) ≡ false

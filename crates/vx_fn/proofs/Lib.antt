@@ -1,4 +1,5 @@
 pub mod MeaningsLemmas
+pub mod ArityLemmas
 pub mod ReturnTypesLemmas
 pub mod ArithmeticLemmas
 pub mod LogicLemmas

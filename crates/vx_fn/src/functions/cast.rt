@@ -34,7 +34,6 @@ impl RowFunction for DType {
 }
 
 /// Casts `input` to `target`, to which there must be a cast. `Fault` if the target doesn't have the value; `OutOfMemory`.
-#[tactic(auto, using(crate::proofs::CastLemmas::cast_taken, vx_value::proofs::CastsLemmas::cast_by_target))]
 fn converted(input: &Scalar, target: &DType) -> VortexResult<Scalar>
     requires { IsSome (cast_type (type_of target.now) input.now.of_type) }
     ensures typed { IfOk result (λ s. cast_type (type_of target.now) input.now.of_type ≡ Some s.of_type) }

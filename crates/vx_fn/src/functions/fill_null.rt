@@ -38,7 +38,6 @@ impl RowFunction for FillNull {
 }
 
 /// Returns `input`, or `fill_value` if it is null. The only error is `OutOfMemory`.
-#[tactic(auto, using(crate::proofs::FillNullLemmas::fill_taken, crate::proofs::FillNullLemmas::value_there, crate::proofs::FillNullLemmas::filled_there, vx_value::proofs::CastsLemmas::same_typed))]
 fn filled(input: &Scalar, fill_value: &Scalar) -> VortexResult<Scalar>
     requires { IsSome (fill_null.types (input.now.of_type ∷ fill_value.now.of_type ∷ [])) }
     ensures typed { IfOk result (λ s. fill_null.types (input.now.of_type ∷ fill_value.now.of_type ∷ []) ≡ Some s.of_type) }

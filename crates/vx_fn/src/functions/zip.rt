@@ -38,7 +38,6 @@ impl RowFunction for Zip {
 }
 
 /// Returns `if_true` if `choice` is true, else `if_false`. The only error is `OutOfMemory`.
-#[tactic(auto, using(crate::proofs::ZipLemmas::zip_taken, vx_value::proofs::NullabilitiesLemmas::first_typed, vx_value::proofs::NullabilitiesLemmas::second_typed))]
 fn zipped(if_true: &Scalar, if_false: &Scalar, choice: &Scalar) -> VortexResult<Scalar>
     requires { IsSome (zip.types (if_true.now.of_type ∷ if_false.now.of_type ∷ choice.now.of_type ∷ [])) }
     ensures typed { IfOk result (λ s. zip.types (if_true.now.of_type ∷ if_false.now.of_type ∷ choice.now.of_type ∷ []) ≡ Some s.of_type) }

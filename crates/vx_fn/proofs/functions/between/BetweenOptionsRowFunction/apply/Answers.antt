@@ -1,0 +1,24 @@
+use Rattle.std.proofs.Common.{ap, subst, ◌∙◌}
+use Rattle.std.specs.Prelude.{IsSome, map}
+use Rattle.vx_value.specs.Cell.{value}
+use Rattle.vx_fn.specs.Apply.{on_values}
+use Rattle.vx_fn.specs.Between.{between}
+use Rattle.vx_fn.proofs.ArityLemmas.{three_read}
+use Rattle.vx_fn.proofs.functions.between.BetweenOptionsRowFunction.apply.Goals as goal
+
+pub lies_between-requires : goal.lies_between-requires
+lies_between-requires c =
+    subst (λ xs. IsSome ((between c.args.self.now).types (map (λ s. s.of_type) xs)))
+    (three_read _ _ _ _ c.in-len3.len_at_least c.in-len3.len_below c.array-item.is c.lower-item.is c.upper-item.is) c.requires
+
+pub returns-clause-typed : goal.returns-clause-typed
+returns-clause-typed c =
+    ap (λ xs. (between c.args.self.now).types (map (λ s. s.of_type) xs))
+    (three_read _ _ _ _ c.in-len3.len_at_least c.in-len3.len_below c.array-item.is c.lower-item.is c.upper-item.is)
+    ∙ c.lies_between.ensures.typed
+
+pub returns-clause-ok : goal.returns-clause-ok
+returns-clause-ok c =
+    ap (λ xs. on_values ((between c.args.self.now).value c.lies_between.result.of_type) (map (λ s. value s.value) xs))
+    (three_read _ _ _ _ c.in-len3.len_at_least c.in-len3.len_below c.array-item.is c.lower-item.is c.upper-item.is)
+    ∙ c.lies_between.ensures.value
