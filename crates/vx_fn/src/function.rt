@@ -1,6 +1,6 @@
 //! Scalar functions, as in the original's `scalar_fn` module.
 
-ghost use Rattle.std.specs.Prelude.{◌≡◌, ◌==◌, ℕ, option_map, slice_get};
+ghost use Rattle.std.specs.Prelude.{◌≡◌, ◌==◌, ℕ, map, option_map, slice_get};
 ghost use Rattle.vx_fn.specs.Functions.{function_id, arity, argument_names};
 ghost use Rattle.vx_fn.specs.Binary.{is_comparison, is_logical};
 
@@ -103,11 +103,19 @@ impl Arity {
 }
 
 impl ScalarFnRef {
+    /// Returns the function's id, and the names of its arguments, in order.
+    fn signature(&self) -> (Id, &'static [&'static str])
+        ensures id { result.0 ≡ function_id self.now }
+        ensures names { map (λ s. s.now) result.1.now ≡ argument_names self.now }
+    {
+        by_function!(self, function => function.signature())
+    }
+
     /// Returns the function's id.
     pub fn id(&self) -> Id
         ensures { result ≡ function_id self.now }
     {
-        by_function!(self, function => function.signature()).0
+        self.signature().0
     }
 
     /// Returns the name of the argument at `index`, counted from 0, for example `lhs` or `input`. Returns `None`
@@ -115,7 +123,7 @@ impl ScalarFnRef {
     pub fn child_name(&self, index: usize) -> Option<&'static str>
         ensures { option_map (λ s. s.now) result ≡ slice_get (argument_names self.now) index }
     {
-        let (_, names) = by_function!(self, function => function.signature());
+        let (_, names) = self.signature();
         names.get(index).copied()
     }
 
@@ -123,7 +131,7 @@ impl ScalarFnRef {
     pub fn arity(&self) -> Arity
         ensures { result ≡ Arity.Exact (arity self.now) }
     {
-        let (_, names) = by_function!(self, function => function.signature());
+        let (_, names) = self.signature();
         Arity::Exact(names.len())
     }
 }
