@@ -17,7 +17,8 @@ use Rattle.vx_fn.proofs.functions.binary.operate.Goals.{After-fitted, After-oper
 use Rattle.vx_fn.proofs.functions.binary.operate.Goals.{in_default-2-via-in-Some+in_default, in_default-2-via-in_default}
 
 -- the type that is found is the operator's
-typed : (op : Operator) {s t s' t' ty : DataType} → s' ≡ s → t' ≡ t → Some ty ≡ (binary op).types (s' ∷ t' ∷ []) → (binary op).types (s ∷ t ∷ []) ≡ Some ty
+typed : (op : Operator) {s t s' t' ty : DataType} → s' ≡ s → t' ≡ t → Some ty ≡ (binary op).types (s' ∷ t' ∷ [])
+    → (binary op).types (s ∷ t ∷ []) ≡ Some ty
 typed op e e' found = (λ i. (binary op).types (sym e i ∷ sym e' i ∷ [])) ∙ sym found
 
 -- ---- logic
@@ -31,16 +32,22 @@ joined c =
     let o = c.join-answer.result in
     let ty : DataType = type_of c.in-Some.dtype in
     let same : truth o ≡ cell_of c.map.result = search rules in
-    let found = logical_result op l.of_type r.of_type ty l.value r.value o (search rules) c.dtype.ensures.typed c.dtype-2.ensures.typed (search rules) (search rules) (typed op c.dtype.ensures.dtype c.dtype-2.ensures.dtype c.in-Some.ensures) in
+    let by : (binary op).types (l.of_type ∷ r.of_type ∷ []) ≡ Some ty = typed op c.dtype.ensures.dtype c.dtype-2.ensures.dtype c.in-Some.ensures in
+    let found =
+    logical_result op l.of_type r.of_type ty l.value r.value o
+    (sym c.is_logical.ensures ∙ c.if-is_logical.true) c.dtype.ensures.typed c.dtype-2.ensures.typed (search rules) (search rules) by in
     (ap (is_of ty) (sym same) ∙ found.0, found.1 ∙ ap value same)
 
 pub returns-then-is_logical-clause-typed : goal.returns-then-is_logical-clause-typed
 returns-then-is_logical-clause-typed c =
-    IfOk-weaker c.fitted.result _ _ (λ s f. typed c.args.operator c.dtype.ensures.dtype c.dtype-2.ensures.dtype c.in-Some.ensures ∙ ap Some (sym f.0)) c.fitted.ensures.ok
+    IfOk-weaker c.fitted.result _ _
+    (λ s f. typed c.args.operator c.dtype.ensures.dtype c.dtype-2.ensures.dtype c.in-Some.ensures ∙ ap Some (sym f.0)) c.fitted.ensures.ok
 
 pub returns-then-is_logical-clause-ok : goal.returns-then-is_logical-clause-ok
 returns-then-is_logical-clause-ok c =
-    IfOk-weaker c.fitted.result _ _ (λ s f. ap (λ u. (binary c.args.operator).value u (c.args.lhs.now.value ∷ c.args.rhs.now.value ∷ [])) f.0 ∙ (joined c).1 ∙ ap value (sym f.1)) c.fitted.ensures.ok
+    IfOk-weaker c.fitted.result _ _ (λ s f.
+    ap (λ u. (binary c.args.operator).value u (c.args.lhs.now.value ∷ c.args.rhs.now.value ∷ [])) f.0
+    ∙ (joined c).1 ∙ ap value (sym f.1)) c.fitted.ensures.ok
 
 pub returns-then-is_logical-clause-fault : goal.returns-then-is_logical-clause-fault
 returns-then-is_logical-clause-fault c =
@@ -51,7 +58,8 @@ returns-then-is_logical-clause-fault c =
 -- the result's value is the operator's
 valued : (c : After-operate_values) → let ty : DataType = type_of c.in-Some.dtype in
     let there = c.in-Some-Some in
-    (binary c.args.operator).value ty (c.args.lhs.now.value ∷ c.args.rhs.now.value ∷ []) ≡ operated c.args.operator ty (value_of there.x.now) (value_of there.y.now)
+    (binary c.args.operator).value ty (c.args.lhs.now.value ∷ c.args.rhs.now.value ∷ [])
+    ≡ operated c.args.operator ty (value_of there.x.now) (value_of there.y.now)
 valued c =
     let there = c.in-Some-Some in
     let ty : DataType = type_of c.in-Some.dtype in
@@ -60,11 +68,14 @@ valued c =
 
 pub returns-in-Some-Some-clause-typed : goal.returns-in-Some-Some-clause-typed
 returns-in-Some-Some-clause-typed c =
-    IfOk-weaker c.operate_values.result _ _ (λ s f. typed c.args.operator c.dtype.ensures.dtype c.dtype-2.ensures.dtype c.in-Some.ensures ∙ ap Some (sym f.0)) c.operate_values.ensures.ok
+    IfOk-weaker c.operate_values.result _ _
+    (λ s f. typed c.args.operator c.dtype.ensures.dtype c.dtype-2.ensures.dtype c.in-Some.ensures ∙ ap Some (sym f.0)) c.operate_values.ensures.ok
 
 pub returns-in-Some-Some-clause-ok : goal.returns-in-Some-Some-clause-ok
 returns-in-Some-Some-clause-ok c =
-    IfOk-weaker c.operate_values.result _ _ (λ s f. ap (λ u. (binary c.args.operator).value u (c.args.lhs.now.value ∷ c.args.rhs.now.value ∷ [])) f.0 ∙ valued c ∙ f.1) c.operate_values.ensures.ok
+    IfOk-weaker c.operate_values.result _ _ (λ s f.
+    ap (λ u. (binary c.args.operator).value u (c.args.lhs.now.value ∷ c.args.rhs.now.value ∷ [])) f.0
+    ∙ valued c ∙ f.1) c.operate_values.ensures.ok
 
 pub returns-in-Some-Some-clause-fault : goal.returns-in-Some-Some-clause-fault
 returns-in-Some-Some-clause-fault c =
@@ -72,7 +83,8 @@ returns-in-Some-Some-clause-fault c =
       f.0,
       λ t known.
           ap (λ u. (binary c.args.operator).value u (c.args.lhs.now.value ∷ c.args.rhs.now.value ∷ []))
-          (same_Some _ _ (sym known ∙ typed c.args.operator c.dtype.ensures.dtype c.dtype-2.ensures.dtype c.in-Some.ensures)) ∙ valued c ∙ f.1,
+          (same_Some _ _ (sym known ∙ typed c.args.operator c.dtype.ensures.dtype c.dtype-2.ensures.dtype c.in-Some.ensures))
+          ∙ valued c ∙ f.1,
     )) c.operate_values.ensures.fault
 
 -- ---- null
@@ -94,7 +106,9 @@ null-requires c =
     ]
 
 pub returns-in_default-2-clause-typed : goal.returns-in_default-2-clause-typed
-returns-in_default-2-clause-typed c = typed c.args.operator c.dtype.ensures.dtype c.dtype-2.ensures.dtype c.in-Some.ensures ∙ ap (λ s. Some s.of_type) (sym c.null.ensures)
+returns-in_default-2-clause-typed c =
+    typed c.args.operator c.dtype.ensures.dtype c.dtype-2.ensures.dtype c.in-Some.ensures
+    ∙ ap (λ s. Some s.of_type) (sym c.null.ensures)
 
 pub returns-in_default-2-clause-ok : goal.returns-in_default-2-clause-ok
 returns-in_default-2-clause-ok c =

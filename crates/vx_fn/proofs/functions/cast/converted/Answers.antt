@@ -24,7 +24,9 @@ by_target c =
     cast_by_target i.of_type t i.value c.cast.ensures.typed (cast_taken t i.of_type c.requires).0
 
 pub returns-clause-typed : goal.returns-clause-typed
-returns-clause-typed c = IfOk-weaker c.cast.result _ _ (λ s e. (cast_taken (type_of c.args.target.now) c.args.input.now.of_type c.requires).1 ∙ ap Some (sym e.0)) c.cast.ensures.ok
+returns-clause-typed c =
+    let taken = cast_taken (type_of c.args.target.now) c.args.input.now.of_type c.requires in
+    IfOk-weaker c.cast.result _ _ (λ s e. taken.1 ∙ ap Some (sym e.0)) c.cast.ensures.ok
 
 pub returns-clause-ok : goal.returns-clause-ok
 returns-clause-ok c =

@@ -22,7 +22,8 @@ retyped-requires c =
     let s = c.args.if_true.now in
     let t = c.args.if_false.now in
     let both = with_nullability (union (nullability_of s.of_type) (nullability_of t.of_type)) s.of_type in
-    let of_second : is_of both t.value ≡ true = second_typed s.of_type t.of_type t.value (zip_taken s.of_type t.of_type c.args.choice.now.of_type c.requires).0 c.dtype-2.ensures.typed in
+    let taken = zip_taken s.of_type t.of_type c.args.choice.now.of_type c.requires in
+    let of_second : is_of both t.value ≡ true = second_typed s.of_type t.of_type t.value taken.0 c.dtype-2.ensures.typed in
     ap (λ u. is_of u c.match-as_bool.chosen.now.value) (typed (goal.at.retyped-requires c).In_ok-dtype)
     ∙ elim c.match-as_bool.branch [
       | in-Some-true w ↦ ap (λ b. is_of both b.now.value) w.chosen-is ∙ first_typed s.of_type t.of_type s.value c.dtype.ensures.typed
@@ -32,8 +33,9 @@ retyped-requires c =
 
 pub returns-clause-typed : goal.returns-clause-typed
 returns-clause-typed c =
-    IfOk-weaker c.retyped.result _ _ (λ s e. (zip_taken c.args.if_true.now.of_type c.args.if_false.now.of_type c.args.choice.now.of_type c.requires).1
-    ∙ ap Some (sym (ap (λ u. u.of_type) e ∙ typed (goal.at.returns-clause-typed c).In_ok-dtype))) c.retyped.ensures.ok
+    let taken = zip_taken c.args.if_true.now.of_type c.args.if_false.now.of_type c.args.choice.now.of_type c.requires in
+    let same = typed (goal.at.returns-clause-typed c).In_ok-dtype in
+    IfOk-weaker c.retyped.result _ _ (λ s e. taken.1 ∙ ap Some (sym (ap (λ u. u.of_type) e ∙ same))) c.retyped.ensures.ok
 
 pub returns-clause-value : goal.returns-clause-value
 returns-clause-value c = search rules
