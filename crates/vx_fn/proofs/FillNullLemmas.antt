@@ -12,8 +12,11 @@ use Rattle.vx_value.specs.declared.scalar.ScalarValue.TheVariants as scalar
 use Rattle.vx_fn.specs.FillNull.{fill_type, filled}
 use Rattle.vx_fn.proofs.MeaningsLemmas.{passed}
 
-pub fill_taken : (s t : DataType) → IsSome (fill_type s t) → (same_but_nullability s t ≡ true) × (fill_type s t ≡ Some t)
-fill_taken s t h = passed (same_but_nullability s t) t h
+pub fill_taken : (s t : DataType) → IsSome (fill_type s t) → same_but_nullability s t ≡ true
+fill_taken s t h = (passed (same_but_nullability s t) t h).0
+
+pub fill_typed : (s t : DataType) → IsSome (fill_type s t) → fill_type s t ≡ Some t
+fill_typed s t h = (passed (same_but_nullability s t) t h).1
 
 -- what a scalar holds isn't null, and stays
 pub value_there : (x : ScalarValue) → is_null (value_of x) ≡ false
