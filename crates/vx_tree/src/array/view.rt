@@ -5,15 +5,24 @@ ghost use Rattle.vx_value.specs.View.{type_of};
 ghost use Rattle.vx_tree.specs.Tree.{dtype, len, datum, slots, slots_of, id_of};
 
 use crate::array::{ArrayRef, Encoded};
+use std::alloc::AllocError;
 use std::ops::Deref;
 use vx_value::{DType, Id};
 
 /// A borrowed node of `V`'s encoding. If you build one yourself, `payload` must be the node's own data.
-#[derive_where(Clone, Copy, Debug)]
+#[derive_where(Copy, Debug)]
 pub struct ArrayView<'a, V: Encoded> {
     pub array: &'a ArrayRef,
     #[derive_where(skip(Debug))]
     pub payload: &'a V::TypedArrayData,
+}
+
+impl<'a, V: Encoded> Clone for ArrayView<'a, V> {
+    ghost is_clone = { λ a b. b ≡ a };
+
+    fn clone(&self) -> Result<ArrayView<'a, V>, AllocError> {
+        Ok(*self)
+    }
 }
 
 impl<'a, V: Encoded> ArrayView<'a, V> {

@@ -15,7 +15,7 @@ pub returns-in_err-check_slots-clause-refused : goal.returns-in_err-check_slots-
 returns-in_err-check_slots-clause-refused c =
     let alike : length c.args.slots.items ≡ length c.slots-old.result.now = omega arith in
     let same = slots_counted c.args.slots.items c.slots-old.result.now c.args.self c.slots-old.ensures alike in
-    let refused : with_slots_refusal (slots_of c.args.slots.items) c.args.self ≡ Some c.in_err-check_slots.field-0.0 = cc (same, c.deref.ensures.value, c.in_err-check_slots.ensures) in
+    let refused : with_slots_refusal (slots_of c.args.slots.items) c.args.self ≡ Some c.in_err-check_slots.field-0.0 = same ∙ rw c.deref.ensures.value at c.in_err-check_slots.ensures in
     search rules
 
 pub into_array-requires : goal.into_array-requires
@@ -23,7 +23,7 @@ into_array-requires c =
     let n = c.in_ok-node.node in
     let alike : length c.args.slots.items ≡ length c.slots-old.result.now = omega arith in
     let same = slots_counted c.args.slots.items c.slots-old.result.now c.args.self c.slots-old.ensures alike in
-    let taken : with_slots_refusal (slots_of c.args.slots.items) c.args.self ≡ None = cc (same, c.deref.ensures.value, c.in_ok-check_slots.ensures) in
+    let taken : with_slots_refusal (slots_of c.args.slots.items) c.args.self ≡ None = same ∙ rw c.deref.ensures.value at c.in_ok-check_slots.ensures in
     all_replaced (type_of n.dtype) n.len
     (data_of n.encoding) n.slots.items c.args.self c.in_ok-node.ensures c.well.ensures.formed (slots_of c.args.slots.items) taken
 
@@ -36,4 +36,4 @@ pub returns-clause-valid : goal.returns-clause-valid
 returns-clause-valid c =
     let alike : length c.args.slots.items ≡ length c.slots-old.result.now = omega arith in
     let same = slots_counted c.args.slots.items c.slots-old.result.now c.args.self c.slots-old.ensures alike in
-    cc (same, c.deref.ensures.value, c.in_ok-check_slots.ensures)
+    same ∙ rw c.deref.ensures.value at c.in_ok-check_slots.ensures
