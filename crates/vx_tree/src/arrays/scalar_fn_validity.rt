@@ -12,7 +12,6 @@ use std::fmt;
 pub struct ScalarFnValidity;
 
 impl EncodingKind for ScalarFnValidity {
-    #[tactic(auto, using(crate::proofs::KindsLemmas::kind_validity))]
     fn kind<'a>(node: &'a Node, _payload: &'a EmptyArrayData) -> ArrayKind<'a> {
         ArrayKind::ScalarFnValidity(present(&node.slots[0]))
     }
