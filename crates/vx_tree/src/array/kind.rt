@@ -46,8 +46,16 @@ impl ArrayRef {
     pub fn kind(&self) -> ArrayKind<'_>
         ensures { IsKindOf result self.now }
     {
-        by_encoding!(&self.node.encoding, kind_of(&self.node))
+        opened(&self.node)
     }
+}
+
+/// Returns the data and children of `node`: a line for each encoding.
+fn opened(node: &Node) -> ArrayKind<'_>
+    requires { IsNodeOf (tree_of node.now) }
+    ensures { IsKindOf result (tree_of node.now) }
+{
+    by_encoding!(&node.encoding, kind_of(node))
 }
 
 /// Returns the data and children of `node`, whose encoding is `V` and whose data is `payload`.
