@@ -70,18 +70,12 @@ fn between_rows(
             ArgumentRows::Integers(array),
             ArgumentRows::Integers(lower),
             ArgumentRows::Integers(upper),
-        ) => by_type!(
-            array.ptype(),
-            between_natives(alloc, options, array, lower, upper, valid, len)
-        ),
+        ) => between_integers(alloc, options, array, lower, upper, valid, len),
         (
             ArgumentRows::Decimals(array),
             ArgumentRows::Decimals(lower),
             ArgumentRows::Decimals(upper),
-        ) => by_decimal_type!(
-            DecimalType::smallest_decimal_value_type(&array.decimal),
-            between_unscaled(alloc, options, array, lower, upper, valid, len)
-        ),
+        ) => between_decimals(alloc, options, array, lower, upper, valid, len),
         (ArgumentRows::Bytes(array), ArgumentRows::Bytes(lower), ArgumentRows::Bytes(upper)) => {
             between_ordered::<BytesOperand<'_>>(alloc, options, array, lower, upper, valid, len)
         }
@@ -132,6 +126,25 @@ fn between_bits(
     keep_valid(alloc, bits, valid, len)
 }
 
+/// Checks the `valid` rows of integers, `len` rows each, which must be of one type; `false` stands for the others.
+fn between_integers(
+    alloc: Global,
+    options: BetweenOptions,
+    array: IntegerOperand<'_>,
+    lower: IntegerOperand<'_>,
+    upper: IntegerOperand<'_>,
+    valid: &ValidRows,
+    len: usize,
+) -> Result<BitBuffer, AllocError>
+    requires { AreBounded (Integers array) (Integers lower) (Integers upper) valid.now len }
+    ensures { IfOk result (AreBetween options valid.now (Integers array.entry) (Integers lower.entry) (Integers upper.entry) len) }
+{
+    by_type!(
+        array.ptype(),
+        between_natives(alloc, options, array, lower, upper, valid, len)
+    )
+}
+
 /// Checks the `valid` rows of integers, `len` rows each, which must be of the type `T`; `false` stands for the others.
 fn between_natives<T: NativeInteger>(
     alloc: Global,
@@ -149,6 +162,25 @@ fn between_natives<T: NativeInteger>(
     let array: Operand<'_, T> = operand_of(array);
     let (lower, upper) = (operand_of(lower), operand_of(upper));
     between_ordered(alloc, options, array, lower, upper, valid, len)
+}
+
+/// Checks the `valid` rows of decimals, `len` rows each, which must be of one type; `false` stands for the others.
+fn between_decimals(
+    alloc: Global,
+    options: BetweenOptions,
+    array: DecimalOperand<'_>,
+    lower: DecimalOperand<'_>,
+    upper: DecimalOperand<'_>,
+    valid: &ValidRows,
+    len: usize,
+) -> Result<BitBuffer, AllocError>
+    requires { AreBounded (Decimals array) (Decimals lower) (Decimals upper) valid.now len }
+    ensures { IfOk result (AreBetween options valid.now (Decimals array.entry) (Decimals lower.entry) (Decimals upper.entry) len) }
+{
+    by_decimal_type!(
+        DecimalType::smallest_decimal_value_type(&array.decimal),
+        between_unscaled(alloc, options, array, lower, upper, valid, len)
+    )
 }
 
 /// Checks the `valid` rows of decimals, `len` rows each, which must be of one type and stored in the width of `T`: numbers of one
