@@ -16,9 +16,13 @@ use vx_mask::{Buffer, Mask};
 use vx_value::DecimalDType;
 
 /// Returns the number at `index`, counted from 0. It must be in bounds.
-pub(crate) fn number_at<K: NativeKind, T: NativeNumber>(kind: K, buffer: &Buffer<T>, index: usize) -> i128
+pub(crate) fn number_at<K: NativeKind, T: NativeNumber>(
+    kind: K,
+    buffer: &Buffer<T>,
+    index: usize,
+) -> i128
     requires named { T.native ≡ K.native kind }
-    requires bounds { index < length buffer.now }
+    requires bounds { index < length (map T.value buffer.now) }
     ensures value { slice_get (map T.value buffer.now) index ≡ Some result }
     ensures ranged { K.has kind result ≡ true }
 {
@@ -34,7 +38,7 @@ pub(crate) fn part_of<K: NativeKind, T: NativeNumber>(
 ) -> Result<NativeValues<K>, AllocError>
     requires named { T.native ≡ K.native kind }
     requires order { range.start ≤ range.end }
-    requires bounds { range.end ≤ length buffer.now }
+    requires bounds { range.end ≤ length (map T.value buffer.now) }
     ensures { IfOk result (λ part. part ≡ record { kind = kind; numbers = slice_range (map T.value buffer.now) range.start range.end }) }
 {
     Ok(NativeValues::new(kind, buffer.slice(range)?))
@@ -50,7 +54,7 @@ pub(crate) fn chosen_of<K: NativeKind, T: NativeNumber>(
     mask: &Mask,
 ) -> Result<NativeValues<K>, AllocError>
     requires named { T.native ≡ K.native kind }
-    requires sized { length (bits_in mask.now) ≡ length buffer.now }
+    requires sized { length (bits_in mask.now) ≡ length (map T.value buffer.now) }
     ensures { IfOk result (λ kept. kept ≡ record { kind = kind; numbers = chosen (bits_in mask.now) (map T.value buffer.now) }) }
 {
     Ok(NativeValues::new(kind, buffer.filter(alloc, mask)?))

@@ -111,7 +111,10 @@ impl<K: NativeKind> NativeValues<K> {
         requires { length (bits_in mask.now) ≡ length self.now.numbers }
         ensures { IfOk result (λ kept. kept ≡ record { kind = self.now.kind; numbers = chosen (bits_in mask.now) self.now.numbers }) }
     {
-        by_native!(&self.buffer, |numbers| chosen_of(self.kind, numbers, alloc, mask))
+        by_native!(
+            &self.buffer,
+            |numbers| chosen_of(self.kind, numbers, alloc, mask)
+        )
     }
 
     /// Returns `len` times the number `wide`, which must be one of the type that `kind` names. Takes one allocation. (own)
