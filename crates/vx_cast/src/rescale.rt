@@ -114,7 +114,7 @@ fn rescale_buffer<T: NativeNumber, U: NativeDecimalType>(
     len: usize,
 ) -> VortexResult<Canonical>
     requires kind { U.kind ≡ smallest_width rescaling.target.precision }
-    requires rows { length buffer.now ≡ len }
+    requires rows { length (map T.value buffer.now) ≡ len }
     requires valid { HasValidity valid.now len }
     ensures ok { IfOk result (λ c. AreCalculated rescaling.target valid.now (rescaled_item rescaling (map T.value buffer.now)) len (canonical_tree c)) }
     ensures err { IfErr result (IsFaultyRow (is_valid valid.now) (rescaled_item rescaling (map T.value buffer.now)) len) }
