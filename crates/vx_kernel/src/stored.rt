@@ -94,7 +94,6 @@ pub fn byte_rows(
 
 /// Makes the column of `rows`, `len` rows, that are null unless they are `valid`. Shares the buffer of `rows`, and writes out one
 /// value. The only error is `OutOfMemory`. (own)
-#[tactic(auto, using(vx_rows::proofs::ValidRowsLemmas::counted))]
 pub fn stored_column(
     alloc: Global,
     rows: ArgumentRows<'_>,

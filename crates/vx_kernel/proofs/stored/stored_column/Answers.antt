@@ -10,9 +10,34 @@ use Rattle.vx_tree.specs.Tree.{dtype}
 use Rattle.vx_rows.specs.Arguments.{plain_type, value_at, integer_in, unscaled_in, bytes_in, HasStored}
 use Rattle.vx_rows.specs.ValidRows.{nullability_in}
 use Rattle.vx_kernel.specs.Computed.{IsMade}
+use Rattle.vx_rows.proofs.ValidRowsLemmas.{counted}
 use Rattle.vx_kernel.proofs.MadeLemmas.{nulls_made, rows_made}
 use Rattle.vx_kernel.proofs.ViewsLemmas.{rows_stored, row_stored}
 use Rattle.vx_kernel.proofs.stored.stored_column.Goals as goal
+
+pub bit_rows-requires : goal.bit_rows-requires
+bit_rows-requires c = subst (λ r. HasStored r c.args.len) c.in-Bits.is c.requires.rows
+
+pub valid_bools-requires-clause-bits : goal.valid_bools-requires-clause-bits
+valid_bools-requires-clause-bits c = counted (bit_in c.in-Bits.bits) (c.in_ok-bits-in-Bits.bits) c.args.len c.in_ok-bits-in-Bits.ensures
+
+pub integer_rows-requires : goal.integer_rows-requires
+integer_rows-requires c = subst (λ r. HasStored r c.args.len) c.in-Integers.is c.requires.rows
+
+pub valid_integers-requires-clause-values : goal.valid_integers-requires-clause-values
+valid_integers-requires-clause-values c = counted (integer_in c.in-Integers.integers) (values_of c.in_ok-values-in-Integers.values) c.args.len c.in_ok-values-in-Integers.ensures.values
+
+pub decimal_rows-requires : goal.decimal_rows-requires
+decimal_rows-requires c = subst (λ r. HasStored r c.args.len) c.in-Decimals.is c.requires.rows
+
+pub valid_decimals-requires-clause-values : goal.valid_decimals-requires-clause-values
+valid_decimals-requires-clause-values c = counted (unscaled_in c.in-Decimals.decimals) (numbers_of c.in_ok-values-in-Decimals.values) c.args.len c.in_ok-values-in-Decimals.ensures.values
+
+pub byte_rows-requires : goal.byte_rows-requires
+byte_rows-requires c = subst (λ r. HasStored r c.args.len) c.in-Bytes.is c.requires.rows
+
+pub valid_bytes-requires-clause-rows : goal.valid_bytes-requires-clause-rows
+valid_bytes-requires-clause-rows c = counted (bytes_in c.in-Bytes.bytes) (c.in_ok-rows-in-Bytes.rows) c.args.len c.in_ok-rows-in-Bytes.ensures
 
 pub returns-in_ok-new-in-Nulls-clause-ok : goal.returns-in_ok-new-in-Nulls-clause-ok
 returns-in_ok-new-in-Nulls-clause-ok c =
