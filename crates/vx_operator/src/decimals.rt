@@ -22,33 +22,13 @@ use vx_fn::Operator;
 use vx_kernel::{
     Calculation, DecimalCalculation, Operand, calculated_decimals, decimal_operand_of,
 };
-use vx_native::{NativeDecimalType, by_decimal_type, narrowed};
+use vx_native::{NativeDecimalType, narrowed};
 use vx_rows::{DecimalOperand, ValidRows};
-use vx_value::{DecimalDType, DecimalType, VortexResult};
-
-/// Applies `operator` to the `valid` rows of `lhs` and `rhs`, `len` rows each, which must be of one type. The other rows are null. `Fault`
-/// if a row has no value.
-pub(crate) fn operate_decimals(
-    alloc: Global,
-    operator: Operator,
-    lhs: DecimalOperand<'_>,
-    rhs: DecimalOperand<'_>,
-    valid: &ValidRows,
-    len: usize,
-) -> VortexResult<Canonical>
-    requires { Operates operator (Decimals lhs) (Decimals rhs) valid.now len }
-    ensures ok { IfOk result (λ c. IsOperated operator (Decimals lhs.entry) (Decimals rhs.entry) valid.now len (canonical_tree c)) }
-    ensures err { IfErr result (IsNotOperated operator (Decimals lhs.entry) (Decimals rhs.entry) valid.now len) }
-{
-    by_decimal_type!(
-        DecimalType::smallest_decimal_value_type(&lhs.decimal),
-        operate_unscaled(alloc, operator, lhs, rhs, valid, len)
-    )
-}
+use vx_value::{DecimalDType, VortexResult};
 
 /// Applies `operator` to the `valid` rows of `lhs` and `rhs`, `len` rows each, which must be of one type and stored in the width
 /// of `T`: numbers of one scale are ordered as without their points. The other rows are null. `Fault` if a row has no value.
-fn operate_unscaled<T: NativeDecimalType + CheckedNumber>(
+pub(crate) fn operate_decimals<T: NativeDecimalType + CheckedNumber>(
     alloc: Global,
     operator: Operator,
     lhs: DecimalOperand<'_>,

@@ -19,9 +19,9 @@ use vx_canonical::Canonical;
 use vx_fn::Operator;
 use vx_kernel::{Operand, operand_of, valid_bools};
 use vx_mask::BitBuffer;
-use vx_native::{NativeInteger, by_type};
+use vx_native::{NativeInteger, by_decimal_type, by_type};
 use vx_rows::{Argument, ArgumentRows, BytesOperand, IntegerOperand, ValidRows};
-use vx_value::VortexResult;
+use vx_value::{DecimalType, VortexResult};
 
 /// Applies `operator` to `lhs` and `rhs`, `len` rows each, whose types it must accept. `Fault` if a row has no value. (own)
 pub fn operate(
@@ -66,35 +66,22 @@ fn operate_rows(
             operate_bools(alloc, operator, lhs, rhs, valid, len)
         }
         (ArgumentRows::Integers(lhs), ArgumentRows::Integers(rhs)) => {
-            operate_integers(alloc, operator, lhs, rhs, valid, len)
+            by_type!(
+                lhs.ptype(),
+                operate_natives(alloc, operator, lhs, rhs, valid, len)
+            )
         }
         (ArgumentRows::Decimals(lhs), ArgumentRows::Decimals(rhs)) => {
-            operate_decimals(alloc, operator, lhs, rhs, valid, len)
+            by_decimal_type!(
+                DecimalType::smallest_decimal_value_type(&lhs.decimal),
+                operate_decimals(alloc, operator, lhs, rhs, valid, len)
+            )
         }
         (ArgumentRows::Bytes(lhs), ArgumentRows::Bytes(rhs)) => {
             compare_ordered::<BytesOperand<'_>>(alloc, operator, lhs, rhs, valid, len)
         }
         _ => unreachable!(),
     }
-}
-
-/// Applies `operator` to the `valid` rows of `lhs` and `rhs`, `len` rows each, which must be of one type. `Fault` if a row has no value.
-fn operate_integers(
-    alloc: Global,
-    operator: Operator,
-    lhs: IntegerOperand<'_>,
-    rhs: IntegerOperand<'_>,
-    valid: &ValidRows,
-    len: usize,
-) -> VortexResult<Canonical>
-    requires { Operates operator (Integers lhs) (Integers rhs) valid.now len }
-    ensures ok { IfOk result (λ c. IsOperated operator (Integers lhs.entry) (Integers rhs.entry) valid.now len (canonical_tree c)) }
-    ensures err { IfErr result (IsNotOperated operator (Integers lhs.entry) (Integers rhs.entry) valid.now len) }
-{
-    by_type!(
-        lhs.ptype(),
-        operate_natives(alloc, operator, lhs, rhs, valid, len)
-    )
 }
 
 /// Applies `operator` to the `valid` rows of `lhs` and `rhs`, `len` rows each, which must be of the type `T`. `Fault` if a row

@@ -152,10 +152,16 @@ fn select_rows(
             valid_bools(alloc, bits, valid, len)
         }
         (ArgumentRows::Integers(if_true), ArgumentRows::Integers(if_false)) => {
-            select_integers(alloc, choice, if_true, if_false, valid, len)
+            by_type!(
+                if_true.ptype(),
+                select_natives(alloc, choice, if_true, if_false, valid, len)
+            )
         }
         (ArgumentRows::Decimals(if_true), ArgumentRows::Decimals(if_false)) => {
-            select_decimals(alloc, choice, if_true, if_false, valid, len)
+            by_decimal_type!(
+                DecimalType::smallest_decimal_value_type(&if_true.decimal),
+                select_unscaled(alloc, choice, if_true, if_false, valid, len)
+            )
         }
         (ArgumentRows::Bytes(if_true), ArgumentRows::Bytes(if_false)) => {
             let rows = select_views(alloc, choice, if_true, if_false, len)?;
@@ -192,26 +198,6 @@ fn select_bits(
     }
 }
 
-/// Makes the column of `if_true` at the true bits of `choice`, else `if_false`, `len` rows each, which must be of one type; its `valid`
-/// rows aren't null. The only error is `OutOfMemory`.
-fn select_integers(
-    alloc: Global,
-    choice: &BitBuffer,
-    if_true: IntegerOperand<'_>,
-    if_false: IntegerOperand<'_>,
-    valid: &ValidRows,
-    len: usize,
-) -> VortexResult<Canonical>
-    requires { AreSides choice.now (Integers if_true) (Integers if_false) valid.now len }
-    ensures ok { IfOk result (λ c. AreSelected choice.now (Integers if_true.entry) (Integers if_false.entry) valid.now len (canonical_tree c)) }
-    ensures err { IfErr result (λ e. e ≡ VortexError.OutOfMemory) }
-{
-    by_type!(
-        if_true.ptype(),
-        select_natives(alloc, choice, if_true, if_false, valid, len)
-    )
-}
-
 /// Makes the column of `if_true` at the true bits of `choice`, else `if_false`, `len` rows each, which must be of the type `T`; its
 /// `valid` rows aren't null. The only error is `OutOfMemory`.
 fn select_natives<T: NativeInteger>(
@@ -230,26 +216,6 @@ fn select_natives<T: NativeInteger>(
     let left: Operand<'_, T> = operand_of(if_true);
     let numbers = select_numbers(alloc, choice, left, operand_of(if_false), len)?;
     valid_integers(alloc, T::wrap(numbers), valid, len)
-}
-
-/// Makes the column of `if_true` at the true bits of `choice`, else `if_false`, `len` rows each, which must be of one type; its `valid`
-/// rows aren't null. The only error is `OutOfMemory`.
-fn select_decimals(
-    alloc: Global,
-    choice: &BitBuffer,
-    if_true: DecimalOperand<'_>,
-    if_false: DecimalOperand<'_>,
-    valid: &ValidRows,
-    len: usize,
-) -> VortexResult<Canonical>
-    requires { AreSides choice.now (Decimals if_true) (Decimals if_false) valid.now len }
-    ensures ok { IfOk result (λ c. AreSelected choice.now (Decimals if_true.entry) (Decimals if_false.entry) valid.now len (canonical_tree c)) }
-    ensures err { IfErr result (λ e. e ≡ VortexError.OutOfMemory) }
-{
-    by_decimal_type!(
-        DecimalType::smallest_decimal_value_type(&if_true.decimal),
-        select_unscaled(alloc, choice, if_true, if_false, valid, len)
-    )
 }
 
 /// Makes the column of `if_true` at the true bits of `choice`, else `if_false`, `len` rows each, which must be of one type and stored

@@ -7,7 +7,7 @@ use Rattle.vx_rows.specs.declared.argument.ArgumentRows.TheVariants.{Decimals}
 use Rattle.vx_kernel.specs.Operands.{number_in}
 use Rattle.vx_operator.proofs.ComparisonLemmas.{ordered_filled, decimals_ordered}
 use Rattle.vx_operator.proofs.OperatorLemmas.{decimals_compared}
-use Rattle.vx_operator.proofs.decimals.operate_unscaled.Goals as goal
+use Rattle.vx_operator.proofs.decimals.operate_decimals.Goals as goal
 
 pub compare_ordered-requires-clause-operator : goal.compare_ordered-requires-clause-operator
 compare_ordered-requires-clause-operator g c =
