@@ -1,6 +1,6 @@
 //! Building columns of bytes row by row.
 
-ghost use Rattle.std.specs.Prelude.{◌≡◌, ◌↔◌, ◌∷◌, [], ◌++◌, IsTrue, IfOk, OnOk, OnErr, length, replicate};
+ghost use Rattle.std.specs.Prelude.{◌≡◌, ◌∷◌, [], ◌++◌, IfOk, OnOk, OnErr, replicate};
 
 use crate::view::View;
 use crate::views::BinaryViews;
@@ -35,20 +35,6 @@ impl BinaryBuilder {
             views: Vec::with_capacity(alloc, len)?,
             bytes: Vec::new(alloc),
         })
-    }
-
-    /// Returns the number of rows.
-    pub fn len(&self) -> usize
-        ensures { result ≡ length self.now }
-    {
-        self.views.len()
-    }
-
-    /// Checks whether there are no rows.
-    pub fn is_empty(&self) -> bool
-        ensures { IsTrue result ↔ (length self.now ≡ 0) }
-    {
-        self.views.is_empty()
     }
 
     /// Appends a row, copying its bytes. Fails only if there is no memory for the bytes or the view; the rows are then

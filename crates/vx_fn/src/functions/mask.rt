@@ -7,7 +7,7 @@ ghost use Rattle.vx_fn.specs.Mask.{mask};
 
 use crate::row_function::RowFunction;
 use std::alloc::AllocError;
-use vx_value::{DType, Id, Nullability, Scalar, VortexError, VortexResult};
+use vx_value::{DType, Id, Nullability, Scalar, VortexResult};
 
 /// `input` if the argument `mask` is true, else null. (own)
 pub(crate) struct Mask;
@@ -28,18 +28,17 @@ impl RowFunction for Mask {
 
     fn apply(&self, arguments: &[Scalar]) -> VortexResult<Scalar> {
         match arguments {
-            [input, mask] => masked(input, mask),
+            [input, mask] => Ok(masked(input, mask)?),
             _ => unreachable!(),
         }
     }
 }
 
-/// Returns `input` if `choice` is true, else null. The only error is `OutOfMemory`.
-fn masked(input: &Scalar, choice: &Scalar) -> VortexResult<Scalar>
+/// Returns `input` if `choice` is true, else null.
+fn masked(input: &Scalar, choice: &Scalar) -> Result<Scalar, AllocError>
     requires { IsSome (mask.types (input.now.of_type ∷ choice.now.of_type ∷ [])) }
     ensures typed { IfOk result (λ s. mask.types (input.now.of_type ∷ choice.now.of_type ∷ []) ≡ Some s.of_type) }
     ensures value { IfOk result (λ s. mask.value s.of_type (input.now.value ∷ choice.now.value ∷ []) ≡ value s.value) }
-    ensures err { IfErr result (λ e. e ≡ VortexError.OutOfMemory) }
 {
     match choice.as_bool() {
         Some(true) => Ok(input.clone()?.into_nullable()),
