@@ -1,5 +1,5 @@
 -- The validities that are spelled are those of their columns.
-use Rattle.std.proofs.Common.{◌≡◌, ◌≢◌, ℕ, suc, pos, List, [], ◌∷◌, length, map, Bool, true, false, ◌&&◌, Option, Some, None, refl, sym, ap, subst, ◌∙◌}
+use Rattle.std.proofs.Common.{◌≡◌, ◌≢◌, ℕ, suc, pos, List, [], ◌∷◌, length, map, Bool, true, false, ◌&&◌, Option, Some, None, Result, Ok, Err, IfOk, IfErr, inl, refl, sym, ap, subst, ◌∙◌}
 use Rattle.std.proofs.lemmas.Bool.{and_from}
 use Rattle.std.proofs.lemmas.List.{length-map}
 use Rattle.std.proofs.lemmas.Option.{same_Some}
@@ -19,6 +19,8 @@ use Rattle.vx_value.specs.declared.dtype.Nullability.{Nullability}
 use Rattle.vx_value.specs.declared.dtype.Nullability.TheVariants.{NonNullable, Nullable}
 use Rattle.vx_value.specs.Storage.{storage_of}
 use Rattle.vx_value.specs.View.{type_of}
+use Rattle.vx_value.specs.declared.error.VortexError.{VortexError}
+use Rattle.vx_value.specs.declared.error.VortexError.TheVariants.{OutOfMemory}
 use Rattle.vx_value.specs.declared.dtype.DType.{DType}
 use Rattle.vx_value.specs.declared.dtype.DType.TheVariants as dtype_of
 use Rattle.vx_value.specs.declared.dtype.Storage.TheVariants.{Text, Bytes}
@@ -33,6 +35,7 @@ use Rattle.vx_tree.specs.declared.validity.Validity.TheVariants as validity
 use Rattle.vx_tree.proofs.ConditionsLemmas.{none_refused, none_unless}
 use Rattle.vx_json.specs.SpelledValues.{integer_spelled, decimal_spelled, bytes_spelled, is_null, or_null, all_read}
 use Rattle.vx_json.specs.SpelledColumns.{column_of_rows, column_of_values, flat_of}
+use Rattle.vx_json.specs.Refused.{IsRead}
 use Rattle.vx_json.specs.SpelledNulls.{validity_spelled}
 use Rattle.vx_json.specs.declared.nulls.Nulls.{Nulls}
 use Rattle.vx_json.specs.declared.nulls.Nulls.TheVariants.{Absent}
@@ -280,3 +283,8 @@ nulls_unread (v ∷ vs) h = by_item (view v) (nulls_unread vs) h
         all_read as_null (item d (items_view vs)) ≡ None
     by_item null rest h = ap (option_map (λ rows. tt ∷ rows)) (rest h)
     by_item _ rest h = refl
+
+-- a column that is spelled is read, unless memory runs out
+pub read_made : {A : Type 0} (o : Option A) (a : A) (r : Result A VortexError) → o ≡ Some a → IfOk r (λ b. b ≡ a) → IfErr r (λ e. e ≡ OutOfMemory) → IsRead o r
+read_made o a (Ok b) made same full = made ∙ ap Some (sym same)
+read_made o a (Err e) made same full = inl full

@@ -1,9 +1,11 @@
 -- The rows that a list spells: the value of each, and whether it isn't null.
-use Rattle.std.specs.Prelude.{◌≡◌, List, [], ◌∷◌, ◌++◌, map, Bool, if◌then◌else◌, Option, Some, is_some}
+use Rattle.std.specs.Prelude.{◌≡◌, List, [], ◌∷◌, ◌++◌, map, Bool, if◌then◌else◌, Option, Some, None, is_some, Result, MatchResult}
 use Rattle.serde_json.specs.Data.{Data, Items}
 use Rattle.vx_value.specs.declared.dtype.Nullability.{Nullability}
 use Rattle.vx_value.specs.declared.dtype.Nullability.TheVariants.{NonNullable, Nullable}
+use Rattle.vx_value.specs.declared.error.VortexError.{VortexError}
 use Rattle.vx_tree.specs.Rows.{item_or}
+use Rattle.vx_json.specs.Refused.{IsRefused}
 use Rattle.vx_json.specs.SpelledValues.{or_null, all_read}
 
 -- whether each of these rows isn't null, if rows may be
@@ -26,3 +28,8 @@ pub record AreRead {A : Type 0} (m : Nullability) (zero : A) (read : Data → Op
   pub are_read : all_read (or_null m read) ds ≡ Some rows
   pub held : values ≡ map (item_or zero) rows
   pub are_told : valid ≡ told m rows
+
+-- the rows that the list spells are read, of which the result has these values, and a list that spells none is refused
+abbrev pub RowsRead : {A R : Type 0} → Nullability → A → (Data → Option A) → Items → Result R VortexError → (R → List A) → List Bool → Type 0
+RowsRead m zero read ds result values valid =
+    MatchResult result (λ r. AreRead m zero read ds (values r) valid) (IsRefused (all_read (or_null m read) ds ≡ None))

@@ -6,9 +6,9 @@ ghost use Rattle.std.specs.Char.{is_ascii_uppercase};
 ghost use Rattle.hex.specs.Hex.{IsBytes, encode_lower};
 ghost use Rattle.serde_json.specs.View.{view, items_view};
 ghost use Rattle.vx_tree.specs.ColumnTypes.{are_bytes_of};
-ghost use Rattle.vx_json.specs.ReadRows.{read_unless, AreRead};
+ghost use Rattle.vx_json.specs.ReadRows.{read_unless, RowsRead};
 ghost use Rattle.vx_json.specs.Refused.{IsRefused};
-ghost use Rattle.vx_json.specs.SpelledValues.{hex_bytes, bytes_spelled, or_null, all_read};
+ghost use Rattle.vx_json.specs.SpelledValues.{hex_bytes, bytes_spelled};
 
 use crate::BAD_VALUE;
 use crate::row_nulls::RowNulls;
@@ -54,7 +54,9 @@ fn bytes<'v>(storage: Storage, value: &'v Value, decoded: &'v mut Vec<u8>) -> Vo
     ensures typed { IfOk result (λ bytes. are_bytes_of storage (bytes.now ∷ []) ≡ true) }
     ensures err { IfErr result (IsRefused (bytes_spelled storage (view value.now) ≡ None)) }
 {
-    let text = value.as_str().ok_or(BAD_VALUE)?;
+    let Some(text) = value.as_str() else {
+        return Err(BAD_VALUE);
+    };
     match storage {
         Storage::Text => Ok(text.as_bytes()),
         Storage::Bytes => {
@@ -109,9 +111,8 @@ pub(crate) fn byte_rows<N: RowNulls>(
     list: &Vec<Value>,
 ) -> VortexResult<BinaryViews>
     requires { N.told nulls.old ≡ [] }
-    ensures ok { IfOk result (λ rows. AreRead N.mode [] (bytes_spelled storage) (items_view list.now.items) rows (N.told nulls.new)) }
+    ensures rows { RowsRead N.mode [] (bytes_spelled storage) (items_view list.now.items) result (λ rows. rows) (N.told nulls.new) }
     ensures typed { IfOk result (λ rows. are_bytes_of storage rows ≡ true) }
-    ensures err { IfErr result (IsRefused (all_read (or_null N.mode (bytes_spelled storage)) (items_view list.now.items) ≡ None)) }
 {
     let mut rows = BinaryBuilder::with_capacity(alloc, list.len())?;
     let mut decoded = Vec::new(alloc);

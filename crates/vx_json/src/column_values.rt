@@ -1,6 +1,6 @@
 //! The values of a column, by their storage.
 
-ghost use Rattle.std.specs.Prelude.{◌≡◌, [], None, IfOk, IfErr};
+ghost use Rattle.std.specs.Prelude.{◌≡◌, [], None, IfOk, IfErr, MatchResult};
 ghost use Rattle.serde_json.specs.View.{items_view};
 ghost use Rattle.vx_value.specs.View.{type_of};
 ghost use Rattle.vx_value.specs.Storage.{storage_of};
@@ -55,8 +55,9 @@ pub(crate) fn column_values<N: RowNulls>(
     list: &Vec<Value>,
 ) -> VortexResult<ColumnValues>
     requires { N.told nulls.old ≡ [] }
-    ensures ok { IfOk result (λ v. AreStored N.mode (storage_of (type_of dtype.now)) (items_view list.now.items) v (N.told nulls.new)) }
-    ensures err { IfErr result (IsRefused (AreUnread N.mode (storage_of (type_of dtype.now)) (items_view list.now.items))) }
+    ensures { MatchResult result
+        (λ v. AreStored N.mode (storage_of (type_of dtype.now)) (items_view list.now.items) v (N.told nulls.new))
+        (IsRefused (AreUnread N.mode (storage_of (type_of dtype.now)) (items_view list.now.items))) }
 {
     Ok(match dtype {
         DType::Bool(_) => ColumnValues::Bits(booleans(alloc, nulls, list)?),

@@ -1,13 +1,13 @@
 //! Columns: by their rows, or by their values and their validity.
 
-ghost use Rattle.std.specs.Prelude.{◌≡◌, length, Some, None, option_map, IfOk, IfErr};
+ghost use Rattle.std.specs.Prelude.{◌≡◌, length, option_map, IfOk, IfErr};
 ghost use Rattle.serde_json.specs.View.{view, items_view};
 ghost use Rattle.serde_json.specs.Find.{as_null};
 ghost use Rattle.vx_value.specs.Types.{nullability_of};
 ghost use Rattle.vx_value.specs.View.{type_of};
 ghost use Rattle.vx_tree.specs.Tree.{nulls_of};
 ghost use Rattle.vx_tree.specs.Validities.{child_of, child_by, nullability_by};
-ghost use Rattle.vx_json.specs.Refused.{IsRefused};
+ghost use Rattle.vx_json.specs.Refused.{IsRead};
 ghost use Rattle.vx_json.specs.SpelledValues.{all_read};
 ghost use Rattle.vx_json.specs.SpelledColumns.{column_of_rows, col_spelled, column_of_values, flat_spelled};
 
@@ -27,19 +27,21 @@ use vx_value::{DType, Nullability, VortexError, VortexResult};
 
 /// Reads a column by its rows.
 pub(crate) fn col(alloc: Global, value: &Value) -> VortexResult<ArrayRef>
-    ensures ok { IfOk result (λ t. col_spelled (view value.now) ≡ Some t) }
-    ensures err { IfErr result (IsRefused (col_spelled (view value.now) ≡ None)) }
+    ensures { IsRead (col_spelled (view value.now)) result }
 {
     check_keys(value, 3)?;
-    let dtype = type_at(value).ok_or(BAD_VALUE)?;
-    let list = items(value, "rows").ok_or(BAD_VALUE)?;
+    let Some(dtype) = type_at(value) else {
+        return Err(BAD_VALUE);
+    };
+    let Some(list) = items(value, "rows") else {
+        return Err(BAD_VALUE);
+    };
     column_of_rows(alloc, dtype, list)
 }
 
 /// Reads a column of `dtype` with the rows in `list`, null among them if the type is nullable.
 fn column_of_rows(alloc: Global, dtype: DType, list: &Vec<Value>) -> VortexResult<ArrayRef>
-    ensures ok { IfOk result (λ t. column_of_rows (type_of dtype) (items_view list.now.items) ≡ Some t) }
-    ensures err { IfErr result (IsRefused (column_of_rows (type_of dtype) (items_view list.now.items) ≡ None)) }
+    ensures { IsRead (column_of_rows (type_of dtype) (items_view list.now.items)) result }
 {
     match dtype.nullability() {
         Nullability::NonNullable => column_of_values(alloc, dtype, list, &Nulls::Absent),
@@ -50,8 +52,7 @@ fn column_of_rows(alloc: Global, dtype: DType, list: &Vec<Value>) -> VortexResul
 /// Reads a nullable column with the rows in `list`, null among them.
 fn nullable_column(alloc: Global, dtype: DType, list: &Vec<Value>) -> VortexResult<ArrayRef>
     requires { nullability_of (type_of dtype) ≡ Nullability.Nullable }
-    ensures ok { IfOk result (λ t. column_of_rows (type_of dtype) (items_view list.now.items) ≡ Some t) }
-    ensures err { IfErr result (IsRefused (column_of_rows (type_of dtype) (items_view list.now.items) ≡ None)) }
+    ensures { IsRead (column_of_rows (type_of dtype) (items_view list.now.items)) result }
 {
     if let DType::Null = dtype {
         return null_column(alloc, list);
@@ -79,8 +80,7 @@ fn bits_validity(alloc: Global, bits: BitBuilder) -> VortexResult<Validity>
 /// Reads a column of type null: each item of `list` must be null.
 #[tactic(auto, using(crate::proofs::SpelledColumnsLemmas::nulls_read, crate::proofs::SpelledColumnsLemmas::nulls_unread))]
 fn null_column(alloc: Global, list: &Vec<Value>) -> VortexResult<ArrayRef>
-    ensures ok { IfOk result (λ t. option_map (λ rows. nulls_of (length rows)) (all_read as_null (items_view list.now.items)) ≡ Some t) }
-    ensures err { IfErr result (IsRefused (all_read as_null (items_view list.now.items) ≡ None)) }
+    ensures { IsRead (option_map (λ rows. nulls_of (length rows)) (all_read as_null (items_view list.now.items))) result }
 {
     if are_nulls(list) {
         Ok(NullArray::new(alloc, list.len())?.into_array())
@@ -91,12 +91,15 @@ fn null_column(alloc: Global, list: &Vec<Value>) -> VortexResult<ArrayRef>
 
 /// Reads a column by its values, which are never null, and by `nulls`, which is what its `validity` spells.
 pub(crate) fn flat(alloc: Global, value: &Value, nulls: &Nulls) -> VortexResult<ArrayRef>
-    ensures ok { IfOk result (λ t. flat_spelled (view value.now) nulls.now ≡ Some t) }
-    ensures err { IfErr result (IsRefused (flat_spelled (view value.now) nulls.now ≡ None)) }
+    ensures { IsRead (flat_spelled (view value.now) nulls.now) result }
 {
     check_keys(value, 3 + nulls.keys())?;
-    let dtype = type_at(value).ok_or(BAD_VALUE)?;
-    let list = items(value, "values").ok_or(BAD_VALUE)?;
+    let Some(dtype) = type_at(value) else {
+        return Err(BAD_VALUE);
+    };
+    let Some(list) = items(value, "values") else {
+        return Err(BAD_VALUE);
+    };
     column_of_values(alloc, dtype, list, nulls)
 }
 
@@ -107,8 +110,7 @@ fn column_of_values(
     list: &Vec<Value>,
     nulls: &Nulls,
 ) -> VortexResult<ArrayRef>
-    ensures ok { IfOk result (λ t. column_of_values nulls.now (type_of dtype) (items_view list.now.items) ≡ Some t) }
-    ensures err { IfErr result (IsRefused (column_of_values nulls.now (type_of dtype) (items_view list.now.items) ≡ None)) }
+    ensures { IsRead (column_of_values nulls.now (type_of dtype) (items_view list.now.items)) result }
 {
     let validity = nulls.validity(dtype.nullability(), list.len())?;
     let values = column_values(alloc, &dtype, &mut NoNulls, list)?;

@@ -5,9 +5,9 @@ ghost use Rattle.std.specs.Fmt.{signed_decimal};
 ghost use Rattle.serde_json.specs.View.{view, items_view};
 ghost use Rattle.vx_value.specs.Decimals.{has_digits, smallest_width};
 ghost use Rattle.vx_native.specs.DecimalNumbers.{numbers_of, decimal_type_of};
-ghost use Rattle.vx_json.specs.ReadRows.{AreRead};
+ghost use Rattle.vx_json.specs.ReadRows.{RowsRead};
 ghost use Rattle.vx_json.specs.Refused.{IsRefused};
-ghost use Rattle.vx_json.specs.SpelledValues.{decimal_in, decimal_spelled, or_null, all_read};
+ghost use Rattle.vx_json.specs.SpelledValues.{decimal_in, decimal_spelled};
 
 use crate::BAD_VALUE;
 use crate::numbers::{NumberReader, numbers};
@@ -49,7 +49,9 @@ pub(crate) fn decimal_value(dtype: &DecimalDType, value: &Value) -> VortexResult
     ensures scale { IfOk result (λ d. d.scale ≡ dtype.now.scale) }
     ensures err { IfErr result (IsRefused (decimal_spelled dtype.now.precision (view value.now) ≡ None)) }
 {
-    let unscaled = decimal(dtype.digits(), value).ok_or(BAD_VALUE)?;
+    let Some(unscaled) = decimal(dtype.digits(), value) else {
+        return Err(BAD_VALUE);
+    };
     let scale = dtype.scale();
     Ok(DecimalValue { unscaled, scale })
 }
@@ -75,9 +77,7 @@ pub(crate) fn decimals<N: RowNulls>(
 ) -> VortexResult<DecimalValues>
     requires { N.told nulls.old ≡ [] }
     ensures kind { IfOk result (λ v. decimal_type_of v ≡ smallest_width decimal.now.precision) }
-    ensures ok { IfOk result (λ v. AreRead N.mode (pos 0) (decimal_spelled decimal.now.precision) (items_view list.now.items) (numbers_of v)
-        (N.told nulls.new)) }
-    ensures err { IfErr result (IsRefused (all_read (or_null N.mode (decimal_spelled decimal.now.precision)) (items_view list.now.items) ≡ None)) }
+    ensures rows { RowsRead N.mode (pos 0) (decimal_spelled decimal.now.precision) (items_view list.now.items) result (λ v. numbers_of v) (N.told nulls.new) }
 {
     let digits = decimal.digits();
     let width = DecimalType::smallest_decimal_value_type(decimal);

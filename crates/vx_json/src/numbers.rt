@@ -1,11 +1,9 @@
 //! Lists of numbers of a native type.
 
-ghost use Rattle.std.specs.Prelude.{◌≡◌, ℤ, pos, [], map, Option, None, option_map, IfOk, IfErr};
+ghost use Rattle.std.specs.Prelude.{◌≡◌, ℤ, pos, [], Option, option_map, IfOk};
 ghost use Rattle.serde_json.specs.Data.{Data};
 ghost use Rattle.serde_json.specs.View.{view, items_view};
-ghost use Rattle.vx_json.specs.ReadRows.{read_unless, AreRead};
-ghost use Rattle.vx_json.specs.Refused.{IsRefused};
-ghost use Rattle.vx_json.specs.SpelledValues.{or_null, all_read};
+ghost use Rattle.vx_json.specs.ReadRows.{read_unless, RowsRead};
 
 use crate::BAD_VALUE;
 use crate::row_nulls::RowNulls;
@@ -59,8 +57,7 @@ pub(crate) fn numbers<T: NativeNumber, K: NativeKind, R: NumberReader<T>, N: Row
     requires fits { R.fits reader.now }
     requires untold { N.told nulls.old ≡ [] }
     ensures kind { IfOk result (λ v. v.kind ≡ kind) }
-    ensures ok { IfOk result (λ v. AreRead N.mode (pos 0) (R.spelled reader.now) (items_view list.now.items) v.numbers (N.told nulls.new)) }
-    ensures err { IfErr result (IsRefused (all_read (or_null N.mode (R.spelled reader.now)) (items_view list.now.items) ≡ None)) }
+    ensures rows { RowsRead N.mode (pos 0) (R.spelled reader.now) (items_view list.now.items) result (λ v. v.numbers) (N.told nulls.new) }
 {
     let mut numbers: Vec<T> = Vec::with_capacity(alloc, list.len())?;
     for value in list {

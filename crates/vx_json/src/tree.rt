@@ -17,7 +17,7 @@
 ghost use Rattle.std.specs.Prelude.{◌≡◌, ◌⊎◌, Some, None, IfOk, IfErr};
 ghost use Rattle.serde_json.specs.View.{view, items_view};
 ghost use Rattle.vx_json.specs.Keys.{key_text};
-ghost use Rattle.vx_json.specs.Refused.{IsRefused};
+ghost use Rattle.vx_json.specs.Refused.{IsRefused, IsRead};
 ghost use Rattle.vx_json.specs.SpelledNulls.{nulls_at};
 ghost use Rattle.vx_json.specs.Spelled.{tree_spelled, trees_spelled, tree_at, trees_at, tree_named, Spells, SpellsNone};
 
@@ -59,8 +59,7 @@ fn children(alloc: Global, value: &Value, key: Key) -> VortexResult<Vec<ArrayRef
 /// Reads the tree under `key`.
 #[cycle(tree_of)]
 fn child(alloc: Global, value: &Value, key: Key) -> VortexResult<ArrayRef>
-    ensures ok { IfOk result (λ t. tree_at (key_text key) (view value.now) ≡ Some t) }
-    ensures err { IfErr result (IsRefused (tree_at (key_text key) (view value.now) ≡ None)) }
+    ensures { IsRead (tree_at (key_text key) (view value.now)) result }
 {
     match value.get(key.text()) {
         Some(child) => tree_of(alloc, child),
@@ -71,8 +70,7 @@ fn child(alloc: Global, value: &Value, key: Key) -> VortexResult<ArrayRef>
 /// Reads which rows are null from what stands under `validity`.
 #[cycle(tree_of)]
 fn nulls(alloc: Global, value: &Value) -> VortexResult<Nulls>
-    ensures ok { IfOk result (λ n. nulls_at (view value.now) (tree_at (key_text Key.Validity) (view value.now)) ≡ Some n) }
-    ensures err { IfErr result (IsRefused (nulls_at (view value.now) (tree_at (key_text Key.Validity) (view value.now)) ≡ None)) }
+    ensures { IsRead (nulls_at (view value.now) (tree_at (key_text Key.Validity) (view value.now))) result }
 {
     let Some(spelled) = value.get(Key::Validity.text()) else {
         return Ok(Nulls::Absent);
@@ -86,8 +84,7 @@ fn nulls(alloc: Global, value: &Value) -> VortexResult<Nulls>
 /// Reads the tree of the encoding named `name`.
 #[cycle(tree_of)]
 fn node(alloc: Global, value: &Value, name: &str) -> VortexResult<ArrayRef>
-    ensures ok { IfOk result (λ t. tree_named (view value.now) name.now ≡ Some t) }
-    ensures err { IfErr result (IsRefused (tree_named (view value.now) name.now ≡ None)) }
+    ensures { IsRead (tree_named (view value.now) name.now) result }
 {
     match name {
         "col" => col(alloc, value),

@@ -1,14 +1,15 @@
 //! Single values of a type, and lists of them.
 
-ghost use Rattle.std.specs.Prelude.{◌≡◌, pos, false, [], Some, None, option_and_then, IfOk, IfErr};
+ghost use Rattle.std.specs.Prelude.{◌≡◌, pos, false, [], option_and_then, IfOk};
 ghost use Rattle.std.specs.List.{list_all};
 ghost use Rattle.serde_json.specs.View.{view, items_view};
 ghost use Rattle.serde_json.specs.Find.{as_bool, as_number, as_integer};
 ghost use Rattle.vx_value.specs.View.{type_of};
 ghost use Rattle.vx_native.specs.Natives.{values_of, ptype_of};
-ghost use Rattle.vx_json.specs.Refused.{IsRefused};
-ghost use Rattle.vx_json.specs.ReadRows.{read_unless, AreRead};
-ghost use Rattle.vx_json.specs.SpelledValues.{integer_spelled, is_null, value_spelled, or_null, all_read};
+ghost use Rattle.vx_json.specs.Refused.{IsRead};
+ghost use Rattle.vx_json.specs.ReadRows.{read_unless, RowsRead};
+ghost use Rattle.vx_json.specs.SpelledNodes.Constant.{scalar_of};
+ghost use Rattle.vx_json.specs.SpelledValues.{integer_spelled, is_null};
 
 use crate::BAD_VALUE;
 use crate::bytes::byte_buffer;
@@ -58,8 +59,7 @@ pub(crate) fn integers<N: RowNulls>(
 ) -> VortexResult<PrimitiveValues>
     requires { N.told nulls.old ≡ [] }
     ensures kind { IfOk result (λ v. ptype_of v ≡ ptype) }
-    ensures ok { IfOk result (λ v. AreRead N.mode (pos 0) (integer_spelled ptype) (items_view list.now.items) (values_of v) (N.told nulls.new)) }
-    ensures err { IfErr result (IsRefused (all_read (or_null N.mode (integer_spelled ptype)) (items_view list.now.items) ≡ None)) }
+    ensures rows { RowsRead N.mode (pos 0) (integer_spelled ptype) (items_view list.now.items) result (λ v. values_of v) (N.told nulls.new) }
 {
     match ptype {
         PType::U8 => numbers::<u8, PType, InRange, N>(alloc, ptype, &InRange, nulls, list),
@@ -89,8 +89,7 @@ pub(crate) fn booleans<N: RowNulls>(
     list: &Vec<Value>,
 ) -> VortexResult<BitBuffer>
     requires { N.told nulls.old ≡ [] }
-    ensures ok { IfOk result (λ bits. AreRead N.mode false as_bool (items_view list.now.items) bits (N.told nulls.new)) }
-    ensures err { IfErr result (IsRefused (all_read (or_null N.mode as_bool) (items_view list.now.items) ≡ None)) }
+    ensures { RowsRead N.mode false as_bool (items_view list.now.items) result (λ bits. bits) (N.told nulls.new) }
 {
     let mut bits = BitBuilder::with_capacity(alloc, list.len())?;
     for value in list {
@@ -106,9 +105,7 @@ pub(crate) fn booleans<N: RowNulls>(
 
 /// Reads a value of type `dtype`, or null if the type is nullable. `InvalidArgument(BadValue)` if it isn't one.
 pub(crate) fn scalar(alloc: Global, dtype: DType, value: &Value) -> VortexResult<Scalar>
-    ensures ok { IfOk result (λ s. value_spelled (type_of dtype) (view value.now) ≡ Some s.value) }
-    ensures typed { IfOk result (λ s. s.of_type ≡ type_of dtype) }
-    ensures err { IfErr result (IsRefused (value_spelled (type_of dtype) (view value.now) ≡ None)) }
+    ensures { IsRead (scalar_of (view value.now) (type_of dtype)) result }
 {
     if value.is_null() {
         return Scalar::try_new(dtype, None);

@@ -1,8 +1,7 @@
 //! A lazy function.
 
-ghost use Rattle.std.specs.Prelude.{◌≡◌, Some, None, IfOk, IfErr};
 ghost use Rattle.serde_json.specs.View.{view};
-ghost use Rattle.vx_json.specs.Refused.{IsRefused};
+ghost use Rattle.vx_json.specs.Refused.{IsRead};
 ghost use Rattle.vx_json.specs.SpelledNodes.Call.{call_spelled};
 
 use crate::BAD_VALUE;
@@ -15,10 +14,11 @@ use vx_value::{VortexError, VortexResult};
 
 /// Reads a lazy function of `children`, if it accepts them.
 pub(crate) fn read(alloc: Global, value: &Value, children: Vec<ArrayRef>) -> VortexResult<ArrayRef>
-    ensures ok { IfOk result (λ t. call_spelled (view value.now) children.items ≡ Some t) }
-    ensures err { IfErr result (IsRefused (call_spelled (view value.now) children.items ≡ None)) }
+    ensures { IsRead (call_spelled (view value.now) children.items) result }
 {
-    let function = function_at(value).ok_or(BAD_VALUE)?;
+    let Some(function) = function_at(value) else {
+        return Err(BAD_VALUE);
+    };
     match ScalarFnArray::try_new(alloc, function, children) {
         Ok(node) => Ok(node.into_array()),
         Err(VortexError::OutOfMemory) => Err(VortexError::OutOfMemory),

@@ -4,7 +4,7 @@ ghost use Rattle.std.specs.Prelude.{◌≡◌, length, Some, None, IfOk, IfErr};
 ghost use Rattle.serde_json.specs.View.{view};
 ghost use Rattle.vx_mask.specs.Masks.{bits_in};
 ghost use Rattle.vx_tree.specs.Tree.{len, filter_of};
-ghost use Rattle.vx_json.specs.Refused.{IsRefused};
+ghost use Rattle.vx_json.specs.Refused.{IsRefused, IsRead};
 ghost use Rattle.vx_json.specs.SpelledNodes.Filter.{filter_spelled};
 
 use crate::BAD_VALUE;
@@ -25,7 +25,9 @@ fn filter_mask(alloc: Global, value: &Value, child: &ArrayRef) -> VortexResult<M
     ensures err { IfErr result (IsRefused (filter_spelled (view value.now) child.now ≡ None)) }
 {
     check_keys(value, 3)?;
-    let list = items(value, "mask").ok_or(BAD_VALUE)?;
+    let Some(list) = items(value, "mask") else {
+        return Err(BAD_VALUE);
+    };
     let bits = booleans(alloc, &mut NoNulls, list)?;
     if bits.len() != child.len() {
         return Err(BAD_VALUE);
@@ -35,8 +37,7 @@ fn filter_mask(alloc: Global, value: &Value, child: &ArrayRef) -> VortexResult<M
 
 /// Reads a lazy filter of `child`, whose mask is a list of booleans.
 pub(crate) fn read(alloc: Global, value: &Value, child: ArrayRef) -> VortexResult<ArrayRef>
-    ensures ok { IfOk result (λ t. filter_spelled (view value.now) child ≡ Some t) }
-    ensures err { IfErr result (IsRefused (filter_spelled (view value.now) child ≡ None)) }
+    ensures { IsRead (filter_spelled (view value.now) child) result }
 {
     let mask = filter_mask(alloc, value, &child)?;
     Ok(FilterArray::new(alloc, child, mask)?.into_array())

@@ -1,8 +1,7 @@
 //! A lazy test of which rows are valid.
 
-ghost use Rattle.std.specs.Prelude.{◌≡◌, Some, None, IfOk, IfErr};
 ghost use Rattle.serde_json.specs.View.{view};
-ghost use Rattle.vx_json.specs.Refused.{IsRefused};
+ghost use Rattle.vx_json.specs.Refused.{IsRead};
 ghost use Rattle.vx_json.specs.SpelledNodes.IsValid.{is_valid_spelled};
 
 use crate::fields::check_keys;
@@ -14,8 +13,7 @@ use vx_value::VortexResult;
 
 /// Reads the lazy test of which rows of `child` are valid.
 pub(crate) fn read(alloc: Global, value: &Value, child: ArrayRef) -> VortexResult<ArrayRef>
-    ensures ok { IfOk result (λ t. is_valid_spelled (view value.now) child ≡ Some t) }
-    ensures err { IfErr result (IsRefused (is_valid_spelled (view value.now) child ≡ None)) }
+    ensures { IsRead (is_valid_spelled (view value.now) child) result }
 {
     check_keys(value, 2)?;
     Ok(ScalarFnValidityArray::new(alloc, child)?.into_array())

@@ -4,7 +4,7 @@ ghost use Rattle.std.specs.Prelude.{◌≡◌, Some, None, IfOk, IfErr};
 ghost use Rattle.serde_json.specs.View.{view};
 ghost use Rattle.vx_tree.specs.Tree.{len, masked_of};
 ghost use Rattle.vx_tree.specs.Validities.{HasRows, child_of, nullability_by};
-ghost use Rattle.vx_json.specs.Refused.{IsRefused};
+ghost use Rattle.vx_json.specs.Refused.{IsRefused, IsRead};
 ghost use Rattle.vx_json.specs.SpelledNodes.Masked.{masked_spelled};
 
 use crate::fields::check_keys;
@@ -33,8 +33,7 @@ pub(crate) fn read(
     child: ArrayRef,
     nulls: &Nulls,
 ) -> VortexResult<ArrayRef>
-    ensures ok { IfOk result (λ t. masked_spelled (view value.now) child nulls.now ≡ Some t) }
-    ensures err { IfErr result (IsRefused (masked_spelled (view value.now) child nulls.now ≡ None)) }
+    ensures { IsRead (masked_spelled (view value.now) child nulls.now) result }
 {
     let validity = masked_validity(value, &child, nulls)?;
     Ok(MaskedArray::new_unchecked(alloc, child, &validity)?.into_array())

@@ -1,8 +1,7 @@
 //! A column of type null.
 
-ghost use Rattle.std.specs.Prelude.{◌≡◌, Some, None, IfOk, IfErr};
 ghost use Rattle.serde_json.specs.View.{view};
-ghost use Rattle.vx_json.specs.Refused.{IsRefused};
+ghost use Rattle.vx_json.specs.Refused.{IsRead};
 ghost use Rattle.vx_json.specs.SpelledNodes.Null.{null_spelled};
 
 use crate::BAD_VALUE;
@@ -15,10 +14,11 @@ use vx_value::VortexResult;
 
 /// Reads a column of type null: `len` rows.
 pub(crate) fn read(alloc: Global, value: &Value) -> VortexResult<ArrayRef>
-    ensures ok { IfOk result (λ t. null_spelled (view value.now) ≡ Some t) }
-    ensures err { IfErr result (IsRefused (null_spelled (view value.now) ≡ None)) }
+    ensures { IsRead (null_spelled (view value.now)) result }
 {
     check_keys(value, 2)?;
-    let len = number(value, "len").ok_or(BAD_VALUE)?;
+    let Some(len) = number(value, "len") else {
+        return Err(BAD_VALUE);
+    };
     Ok(NullArray::new(alloc, len as usize)?.into_array())
 }

@@ -3,7 +3,7 @@
 ghost use Rattle.std.specs.Prelude.{◌≡◌, ◌≤◌, Some, None, IfOk, IfErr};
 ghost use Rattle.serde_json.specs.View.{view};
 ghost use Rattle.vx_tree.specs.Tree.{len, slice_of};
-ghost use Rattle.vx_json.specs.Refused.{IsRefused};
+ghost use Rattle.vx_json.specs.Refused.{IsRefused, IsRead};
 ghost use Rattle.vx_json.specs.SpelledNodes.Slice.{slice_spelled};
 
 use crate::BAD_VALUE;
@@ -22,8 +22,12 @@ fn slice_rows(value: &Value, child: &ArrayRef) -> VortexResult<Range<usize>>
     ensures err { IfErr result (IsRefused (slice_spelled (view value.now) child.now ≡ None)) }
 {
     check_keys(value, 4)?;
-    let start = number(value, "start").ok_or(BAD_VALUE)?;
-    let stop = number(value, "stop").ok_or(BAD_VALUE)?;
+    let Some(start) = number(value, "start") else {
+        return Err(BAD_VALUE);
+    };
+    let Some(stop) = number(value, "stop") else {
+        return Err(BAD_VALUE);
+    };
     if stop < start || stop > child.len() as u64 {
         return Err(BAD_VALUE);
     }
@@ -32,8 +36,7 @@ fn slice_rows(value: &Value, child: &ArrayRef) -> VortexResult<Range<usize>>
 
 /// Reads a lazy slice of `child`.
 pub(crate) fn read(alloc: Global, value: &Value, child: ArrayRef) -> VortexResult<ArrayRef>
-    ensures ok { IfOk result (λ t. slice_spelled (view value.now) child ≡ Some t) }
-    ensures err { IfErr result (IsRefused (slice_spelled (view value.now) child ≡ None)) }
+    ensures { IsRead (slice_spelled (view value.now) child) result }
 {
     let rows = slice_rows(value, &child)?;
     Ok(SliceArray::new(alloc, child, rows)?.into_array())

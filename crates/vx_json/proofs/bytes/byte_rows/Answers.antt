@@ -10,8 +10,8 @@ use Rattle.vx_json.proofs.bytes.byte_rows.Goals as goal
 pub loop-value-init : goal.loop-value-init
 loop-value-init g c = record { read = none_yet _ _ _ _ _ _ c.in_ok-rows.ensures c.requires; typed = search rules }
 
-pub returns-in_err-bytes_or_none-clause-err : goal.returns-in_err-bytes_or_none-clause-err
-returns-in_err-bytes_or_none-clause-err g c =
+pub returns-in_err-bytes_or_none-clause-rows : goal.returns-in_err-bytes_or_none-clause-rows
+returns-in_err-bytes_or_none-clause-rows g c =
     let list = c.args.list.now.items in
     let spelled = bytes_spelled c.args.storage in
     let within = rw c.deref-value-items.ensures.value at c.loop-value-test.true in
@@ -33,7 +33,7 @@ loop-value-preserved g c =
           ∙ typed_more c.args.storage c.loop-value.rows _ before.typed c.in_ok-bytes_or_none.ensures.typed;
     }
 
-pub returns-clause-ok : goal.returns-clause-ok
-returns-clause-ok g c =
+pub returns-clause-rows : goal.returns-clause-rows
+returns-clause-rows g c =
     let past = rw c.deref-value-items.ensures.value at c.loop-value-test.false in
     past_all _ _ _ _ _ _ _ c.loop-value.invariant.read past _ c.in_ok-finish.ensures

@@ -12,8 +12,8 @@ loop-value-init g c = record {
   read = none_yet _ _ _ _ _ _ (ap (map g.T.Number.value) c.in_ok-numbers.ensures.items) c.requires.untold;
 }
 
-pub returns-in_default-clause-err : goal.returns-in_default-clause-err
-returns-in_default-clause-err g c =
+pub returns-in_default-clause-rows : goal.returns-in_default-clause-rows
+returns-in_default-clause-rows g c =
     let within = rw c.deref-value-items.ensures.value at c.loop-value-test.true in
     let item = rw c.deref-value-items.ensures.value at c.value-item.is in
     let spelled = g.R.NumberReader.spelled c.args.reader.now (view c.value-item.result) in
@@ -34,7 +34,7 @@ loop-value-preserved g c =
           c.in-Some.ensures pushed c.in_ok-tell.ensures;
     }
 
-pub returns-clause-ok : goal.returns-clause-ok
-returns-clause-ok g c =
+pub returns-clause-rows : goal.returns-clause-rows
+returns-clause-rows g c =
     let past = rw c.deref-value-items.ensures.value at c.loop-value-test.false in
     past_all _ _ _ _ _ _ _ c.loop-value.invariant.read past _ (ap (λ v. v.numbers) c.new.ensures ∙ ap (map g.T.Number.value) c.in_ok-from_vec.ensures)

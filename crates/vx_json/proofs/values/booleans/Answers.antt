@@ -8,8 +8,8 @@ use Rattle.vx_json.proofs.values.booleans.Goals as goal
 pub loop-value-init : goal.loop-value-init
 loop-value-init g c = none_yet _ _ _ _ _ _ c.in_ok-bits.ensures c.requires
 
-pub returns-in_default-clause-err : goal.returns-in_default-clause-err
-returns-in_default-clause-err g c =
+pub returns-in_default : goal.returns-in_default
+returns-in_default g c =
     let within = rw c.deref-value-items.ensures.value at c.loop-value-test.true in
     let item = rw c.deref-value-items.ensures.value at c.value-item.is in
     let none = sym {b = read_unless c.is_null_row-null.result false (as_bool (view c.value-item.result))} c.in_default.ensures in
@@ -22,7 +22,7 @@ loop-value-preserved g c =
     one_more _ _ _ _ _ _ _ c.loop-value.invariant c.value-item.result c.is_null_row-null.result _ _ _ within item c.is_null_row-null.ensures c.in-Some.ensures
     c.in_ok-push.ensures.ok c.in_ok-tell.ensures
 
-pub returns-clause-ok : goal.returns-clause-ok
-returns-clause-ok g c =
+pub returns : goal.returns
+returns g c =
     let past = rw c.deref-value-items.ensures.value at c.loop-value-test.false in
     past_all _ _ _ _ _ _ _ c.loop-value.invariant past _ c.in_ok-finish.ensures
