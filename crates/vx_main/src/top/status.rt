@@ -38,12 +38,12 @@ impl From<VortexError> for Status {
     fn from(error: VortexError) -> Status {
         match error {
             VortexError::OutOfMemory => Status::Memory,
-            VortexError::Fault => Status::Fault,
             VortexError::IterationLimit { limit } => Status::TurnLimit {
                 limit,
                 turns: limit,
             },
             VortexError::RewriteLimit { at_root, total } => Status::RewriteLimit { at_root, total },
+            VortexError::Fault => Status::Fault,
             VortexError::TooLong { .. } => Status::BadInput,
             VortexError::OutOfBounds { .. } => Status::BadInput,
             VortexError::InvalidArgument(_) => Status::BadInput,
