@@ -1,5 +1,7 @@
 -- Columns with their validities as arguments.
-use Rattle.std.specs.Prelude.{slice_get}
+use Rattle.std.specs.Prelude.{slice_get, Result}
+use Rattle.std.specs.Result.{IfOk}
+use Rattle.std.proofs.lemmas.Result.{IfOk-weaker}
 use Rattle.std.proofs.lemmas.List.{length-map, length-replicate}
 use Rattle.std.proofs.lemmas.Option.{slice_get-get_or}
 use Rattle.vx_value.specs.declared.error.VortexError.{VortexError}
@@ -14,7 +16,7 @@ use Rattle.vx_value.specs.Types.{DataType, bool, utf8, binary, nullability_of, s
 use Rattle.vx_value.specs.Nullabilities.{with_nullability}
 use Rattle.vx_value.specs.View.{type_of}
 use Rattle.vx_value.specs.Typed.{Typed}
-use Rattle.vx_value.specs.IsOf.{is_null}
+use Rattle.vx_value.specs.IsOf.{is_null, is_of, is_stored}
 use Rattle.vx_value.specs.Values.{Value, null, boolean, integer, bytes}
 use Rattle.vx_value.specs.Cell.{Cell, value, fault}
 use Rattle.vx_value.specs.Storage.{storage_of}
@@ -27,20 +29,20 @@ use Rattle.vx_tree.specs.Tree as enc
 use Rattle.vx_tree.specs.ColumnTypes.{bytes_type, are_bytes_of, are_decimals_of, scale_of}
 use Rattle.vx_tree.specs.Tree.{Tree, Data, slots_of, dtype, len, column, nulls_of, constant_of}
 use Rattle.vx_tree.specs.Cells.{rows, slots_rows, node_cells, cells_at, valid_cells}
-use Rattle.vx_tree.specs.Well.{Shape, shape_of, shapes, IsValidity, IsFlat, IsNodeOf}
+use Rattle.vx_tree.specs.Well.{IsNodeOf}
 use Rattle.vx_tree.specs.Validities.{nullability_by, array_refusal, flat_refusal, bytes_refusal, HasRows, decimal_refusal}
 use Rattle.vx_canonical.specs.Canonicals.{columnar_tree}
 use Rattle.vx_canonical.specs.declared.columnar.Columnar.{Columnar}
 use Rattle.vx_tree.specs.declared.validity.Validity.{Validity}
 use Rattle.vx_tree.specs.declared.validity.Validity.TheVariants as validity
 use Rattle.vx_tree.proofs.ConditionsLemmas.{none_refused, none_unless}
-use Rattle.vx_tree.proofs.KindsLemmas.{type_in, len_in}
 use Rattle.vx_mask.specs.Logic.{bit_row}
 use Rattle.vx_mask.specs.Operands.{bit_in, HasBits}
 use Rattle.vx_mask.specs.declared.operand.BitOperand.{BitOperand}
-use Rattle.vx_rows.specs.Arguments.{IsArgument, IsUnread, AreUnread, IsRepeated, AreStored, AreShown, IsInRange, HasIntegers, type_of_rows, value_at, ptype_in, integer_in, bytes_in, AreBytes, stored_decimals, unscaled_at, HasDecimals}
+use Rattle.vx_rows.specs.Arguments.{IsArgument, IsTold, IsUnread, AreUnread, IsRepeated, AreStored, AreShown, IsInRange, HasIntegers, type_of_rows, value_at, ptype_in, integer_in, bytes_in, AreBytes, stored_decimals, unscaled_at, HasDecimals}
 use Rattle.vx_rows.specs.Nulls.{validity_cells}
-use Rattle.vx_rows.specs.ValidRows.{is_valid, HasValidity, nullability_in, AreTold, TellsRows, IsRepeatedValidity, null_unless}
+use Rattle.vx_rows.specs.ValidRows.{is_valid, HasValidity, nullability_in, AreTold, IsRepeatedValidity, null_unless}
+use Rattle.vx_rows.specs.declared.argument.Argument.{Argument}
 use Rattle.vx_rows.specs.declared.argument.ArgumentRows.{ArgumentRows}
 use Rattle.vx_rows.specs.declared.argument.ArgumentRows.TheVariants as stored
 use Rattle.vx_rows.specs.declared.argument.BytesOperand.{BytesOperand}
@@ -81,18 +83,6 @@ decimals_taken d ty w zs v h k e =
     (none_refused _ _ (flat_taken (of_type NonNullable) (of_type (nullability_by v)) (length zs) v h refl) (none_unless _ _ k))
 
 -- ---- a column's validity tells of its rows
-
-pub flat_tells : (of_type ty : DataType) (k n : ℕ) (v : Option Tree) → IsFlat of_type k ty n (shapes (slots_of (v ∷ []))) → TellsRows (nullability_of ty) n v
-flat_tells of_type ty k n None h = tt
-flat_tells of_type ty k n (Some t) h = by_nullability (nullability_of ty) h.0 (sym h.3) h.4
-  where
-    by_nullability : (m : Nullability) (s : Option Shape) → s ∷ [] ≡ Some (shape_of t) ∷ [] → IsValidity m n s
-        → (m ≡ Nullable) × (dtype t ≡ bool NonNullable) × (len t ≡ n)
-    by_nullability m None same h = absurd (cc)
-    by_nullability NonNullable (Some s) same h = absurd h
-    by_nullability Nullable (Some s) same h =
-        let is : shape_of t ≡ s = cc in
-        (refl, ap type_in (is ∙ h), ap len_in (is ∙ h))
 
 -- its cells by row
 told_row : {X : Type 0} (read : X → Value) (d : X) (bits : List Bool) (xs : List X) (i : ℕ) → i < length xs → length bits ≡ length xs
@@ -194,6 +184,14 @@ module _ (c : Columnar) (v : Option Tree) (valid : ValidRows) (told : AreTold (l
         sized = (rows_of (len t) (sym flat.0.2) (ap (λ st. are_bytes_of st rs) kind ∙ flat.1), sized, tt);
       }
 
+-- the rows of a column make an argument with any valid rows that its validity tells
+pub told_argument : (c : Columnar) (rs : ArgumentRows) (v : Option Tree)
+    → ((valid : ValidRows) → AreTold (len (columnar_tree c)) v valid → nullability_in valid ≡ nullability_of (dtype (columnar_tree c))
+    → HasValidity valid (len (columnar_tree c)) → IsArgument c (record { rows = rs; valid = valid }))
+    → (r : Result Argument VortexError) → IfOk r (IsTold (columnar_tree c) rs v) → IfOk r (IsArgument c)
+told_argument c rs v made r =
+    IfOk-weaker r _ _ (λ a h. subst (λ x. IsArgument c (record { rows = x; valid = a.valid })) (sym h.rows) (made a.valid h.told h.nullability h.sized))
+
 -- a fault in the validity is one in the column
 flat_unread : {X : Type 0} (read : X → Value) (v : Option Tree) (xs : List X) (n : ℕ) (e : VortexError) → length xs ≡ n → AreUnread n v e →
     (e ≡ OutOfMemory) ⊎ ((e ≡ Fault) × (i : ℕ) × (i < n) × (slice_get (valid_cells (validity_cells v) (map (λ x. value (read x)) xs)) i ≡ Some fault))
@@ -221,6 +219,20 @@ module _ (c : Columnar) (v : Option Tree) (e : VortexError) (array : Tree) (is :
 null_is : (v : Value) → is_null v ≡ true → v ≡ null
 null_is null h = refl
 null_is _ h = absurd (cc)
+
+-- no row of a null constant is valid
+false_row : (n i : ℕ) → bit_row (replicate n false) i ≡ false
+false_row zero i = refl
+false_row (suc n) zero = refl
+false_row (suc n) (suc i) = false_row n i
+
+null_nullable : (m : Nullability) (st : Storage) (v : Value) → is_stored m st v ≡ true → v ≡ null → Nullable ≡ m
+null_nullable Nullable st v h e = refl
+null_nullable NonNullable st v h e = let no : false ≡ true = ap (is_stored NonNullable st) (sym e) ∙ h in absurd (cc)
+
+pub null_repeated : (s : Typed) (n : ℕ) → is_of s.of_type s.value ≡ true → is_null s.value ≡ true → IsRepeatedValidity s n (rows_valid.Bits (replicate n false))
+null_repeated s n typed h =
+    (length-replicate n false, null_nullable (nullability_of s.of_type) (storage_of s.of_type) s.value typed (null_is s.value h), λ i. false_row n i ∙ ap not (sym h))
 
 -- a value of type null isn't shown
 repeated_shown : (s : Typed) (a : ArgumentRows) (valid : ValidRows) (n : ℕ) → ((i : ℕ) → is_null s.value ≡ false → value_at a i ≡ s.value)

@@ -39,7 +39,7 @@ use Rattle.vx_rows.specs.declared.argument.Argument.{Argument}
 use Rattle.vx_rows.specs.declared.argument.ArgumentRows.{ArgumentRows}
 use Rattle.vx_rows.specs.declared.argument.ArgumentRows.TheVariants as stored
 use Rattle.vx_rows.specs.declared.valid.ValidRows.{ValidRows}
-use Rattle.vx_rows.specs.ValidRows.{is_valid, HasValidity, nullability_in, null_unless}
+use Rattle.vx_rows.specs.ValidRows.{is_valid, HasValidity, AreTold, nullability_in, null_unless}
 
 -- the integer at row i, or 0 past the last one
 abbrev pub integer_at : IntegerRows → ℕ → ℤ
@@ -173,6 +173,13 @@ pub record IsArgument (c : Columnar) (a : Argument) : Type 0 where
   pub typed : dtype (columnar_tree c) ≡ type_of_argument a
   pub shown : (i : ℕ) → i < len (columnar_tree c) → slice_index_or (rows (columnar_tree c)) i fault ≡ cell_at a i
   pub sized : IsSized (len (columnar_tree c)) a
+
+-- a has the rows r of a column t, and those that its validity v tells are valid
+pub record IsTold (t : Tree) (r : ArgumentRows) (v : Option Tree) (a : Argument) : Type 0 where
+  pub rows : a.rows ≡ r
+  pub told : AreTold (len t) v a.valid
+  pub nullability : nullability_in a.valid ≡ nullability_of (dtype t)
+  pub sized : HasValidity a.valid (len t)
 
 -- why a tree's rows can't be read: out of memory, or one of them is a fault
 abbrev pub IsUnread : Tree → VortexError → Type 0

@@ -1,21 +1,23 @@
 //! Columns as the arguments of a function.
 
-ghost use Rattle.std.specs.Prelude.{◌≡◌, ◌<◌, ℕ, IfOk, IfErr, true, Some};
+ghost use Rattle.std.specs.Prelude.{◌≡◌, ◌<◌, ℕ, IfOk, IfErr, false, replicate};
 ghost use Rattle.std.specs.List.{AllZip};
+ghost use Rattle.vx_value.specs.Types.{nullability_of};
 ghost use Rattle.vx_canonical.specs.Canonicals.{columnar_tree};
-ghost use Rattle.vx_tree.specs.Cells.{rows};
-ghost use Rattle.vx_rows.specs.Arguments.{IsArgument, IsUnread, IsRepeated, AreUnread, AnyUnread, AreBytes, ptype_in, bytes_in, unscaled_of};
-ghost use Rattle.vx_rows.specs.ValidRows.{HasValidity, AreTold, TellsRows, IsRepeatedValidity, nullability_in};
+ghost use Rattle.vx_tree.specs.Tree.{dtype, len};
+ghost use Rattle.vx_rows.specs.Arguments.{IsArgument, IsTold, IsUnread, IsRepeated, AreUnread, AnyUnread, AreBytes, ptype_in, bytes_in, unscaled_of};
+ghost use Rattle.vx_rows.specs.ValidRows.{TellsRows, IsRepeatedValidity};
 ghost use Rattle.vx_rows.specs.declared.argument.ArgumentRows.TheVariants.{Integers, Decimals, Bytes};
+ghost use Rattle.vx_rows.specs.declared.valid.ValidRows.TheVariants.{Bits};
 
 use crate::probe::truths_in;
 use crate::valid::ValidRows;
-use std::alloc::{AllocError, Global};
+use std::alloc::Global;
 use vx_canonical::Columnar;
 use vx_mask::{BitBuffer, BitOperand};
 use vx_native::{DecimalValues, PrimitiveValues};
 use vx_tree::{ArrayKind, ArrayRef};
-use vx_value::{DType, DecimalDType, Nullability, PType, Scalar, Storage, VortexResult};
+use vx_value::{DType, DecimalDType, PType, Scalar, Storage, VortexError, VortexResult};
 use vx_views::BinaryViews;
 
 /// An argument: its rows, and which of them aren't null.
@@ -115,56 +117,63 @@ pub fn argument_of(alloc: Global, column: &Columnar) -> VortexResult<Argument<'_
     ensures err { IfErr result (IsUnread (columnar_tree column.now)) }
 {
     let dtype = column.dtype();
-    let len = column.len();
     match column.as_array().kind() {
-        ArrayKind::Null => Ok(Argument {
-            rows: ArgumentRows::Nulls,
-            valid: ValidRows::Bits(BitBuffer::repeat(alloc, false, len)?),
-        }),
+        ArrayKind::Null => null_argument(alloc, ArgumentRows::Nulls, column.len()),
         ArrayKind::Bool(bits, validity) => {
-            match valid_rows(alloc, validity, dtype.nullability(), len) {
-                Ok(valid) => Ok(Argument {
-                    rows: ArgumentRows::Bits(BitOperand::Bits(bits)),
-                    valid,
-                }),
-                Err(e) => Err(e),
-            }
+            column_argument(
+                alloc,
+                column,
+                ArgumentRows::Bits(BitOperand::Bits(bits)),
+                validity,
+            )
         }
         ArrayKind::Primitive(values, validity) => {
-            match valid_rows(alloc, validity, dtype.nullability(), len) {
-                Ok(valid) => Ok(Argument {
-                    rows: integers_of(dtype, IntegerRows::Rows(values)),
-                    valid,
-                }),
-                Err(e) => Err(e),
-            }
+            column_argument(
+                alloc,
+                column,
+                integers_of(dtype, IntegerRows::Rows(values)),
+                validity,
+            )
         }
         ArrayKind::Decimal(values, validity) => {
             let DType::Decimal(decimal, _) = dtype else {
                 unreachable!()
             };
-            match valid_rows(alloc, validity, dtype.nullability(), len) {
-                Ok(valid) => Ok(Argument {
-                    rows: decimals_of(*decimal, DecimalRows::Rows(values)),
-                    valid,
-                }),
-                Err(e) => Err(e),
-            }
+            let rows = decimals_of(*decimal, DecimalRows::Rows(values));
+            column_argument(alloc, column, rows, validity)
         }
         ArrayKind::VarBinView(rows, validity) => {
-            match valid_rows(alloc, validity, dtype.nullability(), len) {
-                Ok(valid) => Ok(Argument {
-                    rows: bytes_of(dtype.storage(), BytesRows::Rows(rows)),
-                    valid,
-                }),
-                Err(e) => Err(e),
-            }
+            let rows = bytes_of(dtype.storage(), BytesRows::Rows(rows));
+            column_argument(alloc, column, rows, validity)
         }
-        ArrayKind::Constant(scalar) => Ok(Argument {
-            rows: repeated_rows(scalar),
-            valid: repeated_valid_rows(alloc, scalar, len)?,
-        }),
+        ArrayKind::Constant(scalar) => constant_argument(alloc, scalar, column.len()),
         _ => unreachable!(),
+    }
+}
+
+/// Returns `rows`, those of `column`, and which of them aren't null by its `validity`. `Fault` if that has no value in a row.
+fn column_argument<'a>(
+    alloc: Global,
+    column: &Columnar,
+    rows: ArgumentRows<'a>,
+    validity: &Option<ArrayRef>,
+) -> VortexResult<Argument<'a>>
+    requires { TellsRows (nullability_of (dtype (columnar_tree column.now))) (len (columnar_tree column.now)) validity.now }
+    ensures ok { IfOk result (IsTold (columnar_tree column.now) rows.entry validity.now) }
+    ensures err { IfErr result (AreUnread (len (columnar_tree column.now)) validity.now) }
+{
+    let Some(child) = validity else {
+        return Ok(Argument {
+            rows,
+            valid: ValidRows::All(column.dtype().nullability()),
+        });
+    };
+    match truths_in(alloc, child) {
+        Ok(bits) => Ok(Argument {
+            rows,
+            valid: ValidRows::from_bits(bits),
+        }),
+        Err(e) => Err(e),
     }
 }
 
@@ -225,38 +234,30 @@ pub fn unscaled_of(scalar: &Scalar) -> i128
     }
 }
 
-/// Returns the valid rows of a constant of `len` rows, each `scalar`.
-fn repeated_valid_rows(alloc: Global, scalar: &Scalar, len: usize) -> Result<ValidRows, AllocError>
-    ensures { IfOk result (IsRepeatedValidity scalar.now len) }
+/// Returns the rows of a constant of `len` rows, each `scalar`. The only error is `OutOfMemory`.
+fn constant_argument(alloc: Global, scalar: &Scalar, len: usize) -> VortexResult<Argument<'_>>
+    ensures rows { IfOk result (λ a. IsRepeated scalar.now a.rows) }
+    ensures valid { IfOk result (λ a. IsRepeatedValidity scalar.now len a.valid) }
+    ensures err { IfErr result (λ e. e ≡ VortexError.OutOfMemory) }
 {
     let dtype = scalar.dtype();
+    let rows = repeated_rows(scalar);
     if scalar.is_null() {
-        Ok(ValidRows::Bits(BitBuffer::repeat(alloc, false, len)?))
+        null_argument(alloc, rows, len)
     } else {
-        Ok(ValidRows::All(dtype.nullability()))
+        let valid = ValidRows::All(dtype.nullability());
+        Ok(Argument { rows, valid })
     }
 }
 
-/// Returns the valid rows of a column of `len` rows from its validity. `Fault` if that has no value in a row.
-fn valid_rows(
-    alloc: Global,
-    validity: &Option<ArrayRef>,
-    nullability: Nullability,
-    len: usize,
-) -> VortexResult<ValidRows>
-    requires { TellsRows nullability len validity.now }
-    ensures told { IfOk result (AreTold len validity.now) }
-    ensures nullability { IfOk result (λ v. nullability_in v ≡ nullability) }
-    ensures sized { IfOk result (λ v. HasValidity v len) }
-    ensures err { IfErr result (AreUnread len validity.now) }
+/// Returns `rows`, none of which is valid, as an argument of `len` rows. The only error is `OutOfMemory`.
+fn null_argument(alloc: Global, rows: ArgumentRows<'_>, len: usize) -> VortexResult<Argument<'_>>
+    ensures ok { IfOk result (λ a. a ≡ record { rows = rows.entry; valid = Bits (replicate len false) }) }
+    ensures err { IfErr result (λ e. e ≡ VortexError.OutOfMemory) }
 {
-    let Some(child) = validity else {
-        return Ok(ValidRows::All(nullability));
-    };
-    match truths_in(alloc, child) {
-        Ok(bits) => Ok(ValidRows::from_bits(bits)),
-        Err(e) => Err(e),
-    }
+    let bits = BitBuffer::repeat(alloc, false, len)?;
+    let valid = ValidRows::Bits(bits);
+    Ok(Argument { rows, valid })
 }
 
 /// Returns the rows of each of `columns`. `Fault` if a row of one has no value.
