@@ -15,10 +15,10 @@ use Rattle.vx_value.specs.Cell.{Cell, value, fault}
 use Rattle.vx_fn.specs.Apply.{apply, on_values, value_of}
 use Rattle.vx_fn.specs.ReturnTypes.{return_type}
 use Rattle.vx_fn.specs.declared.function.ScalarFnRef.{ScalarFnRef}
-use Rattle.vx_tree.specs.Tree.{Tree, Data, node, function, bool, column, nulls_of, constant_of, slots_of, dtype, len, height, slots_height, masked_of}
+use Rattle.vx_tree.specs.Tree.{Tree, Data, node, function, bool, column, nulls_of, constant_of, slots_of, dtype, len, slots_height, masked_of}
 use Rattle.vx_tree.specs.Tree.{types_in}
 use Rattle.vx_tree.specs.Cells.{row_at, rows, node_cells, cells_at, slots_rows, valid_cell, valid_cells}
-use Rattle.vx_tree.specs.Well.{shape, shapes, IsNode, IsWell}
+use Rattle.vx_tree.specs.Well.{shapes, IsNode, IsWell}
 use Rattle.vx_tree.proofs.CellsLemmas.{rows_counted}
 use Rattle.vx_tree.proofs.SlotsLemmas.{IsBelow, slot_below}
 use Rattle.vx_array.proofs.RefusalsLemmas.{types_back}
@@ -85,11 +85,15 @@ constant_truths t s b bits is truth made =
     ap rows is ∙ ap (λ v. replicate (len t) (value v)) truth ∙ sym (map_copies (λ x. value (boolean x)) (len t) b)
     ∙ ap (map (λ x. value (boolean x))) (sym made)
 
+-- null of a type
+abbrev pub null_typed : DataType → Typed
+null_typed ty = record { of_type = ty; value = null }
+
 -- a row that is null, of a column of any values
 pub null_row : {X : Type 0} (read : X → Value) (of_items : List X → Data) (d : X) (t : Tree)
     → ((n : ℕ) (xs : List X) (css : List (List Cell)) → node_cells (dtype t) n (of_items xs) css ≡ valid_cells (cells_at css 0) (map (λ x. value (read x)) xs))
     → (v : Option Tree) (xs : List X) (i : ℕ) (b : Bool) (s : Typed) → t ≡ column (dtype t) (len t) (of_items xs) v → length xs ≡ len t → i < len t
-    → ((w : Value) → IsRowBy v i (value w) (null_unless b (value w))) → b ≡ false → s ≡ record { of_type = dtype t; value = null }
+    → ((w : Value) → IsRowBy v i (value w) (null_unless b (value w))) → b ≡ false → s ≡ null_typed (dtype t)
     → IsRow t i s
 null_row read of_items d t cells v xs i b s is long lt told none made =
     let stored = map (λ x. value (read x)) xs in

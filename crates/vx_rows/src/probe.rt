@@ -4,7 +4,7 @@ ghost use Rattle.std.specs.Prelude.{◌≡◌, ◌⊎◌, ◌≤◌, ◌<◌, If
 ghost use Rattle.vx_value.specs.Types as type;
 ghost use Rattle.vx_value.specs.Types.{nullability_of};
 ghost use Rattle.vx_value.specs.View.{type_of};
-ghost use Rattle.vx_value.specs.Values.{Value, boolean, integer, decimal, bytes};
+ghost use Rattle.vx_value.specs.Values.{Value, null, boolean, integer, decimal, bytes};
 ghost use Rattle.vx_value.specs.Storage.{storage_of};
 ghost use Rattle.vx_value.specs.IsOf.{is_of};
 ghost use Rattle.vx_value.specs.Cell.{value, fault};
@@ -70,17 +70,17 @@ fn row_at(alloc: Global, array: &ArrayRef, index: usize) -> VortexResult<Scalar>
     match array.kind() {
         ArrayKind::Bool(bits, validity) => match stored_validity(dtype, validity, index) {
             Some(true) => Ok(bool_at(bits, index, dtype)),
-            Some(false) => Ok(Scalar::null(dtype.clone()?)),
+            Some(false) => null_of(dtype),
             None => scalar_at(alloc, array, index),
         },
         ArrayKind::Primitive(values, validity) => match stored_validity(dtype, validity, index) {
             Some(true) => Ok(integer_at(values, index, dtype)),
-            Some(false) => Ok(Scalar::null(dtype.clone()?)),
+            Some(false) => null_of(dtype),
             None => scalar_at(alloc, array, index),
         },
         ArrayKind::Decimal(values, validity) => match stored_validity(dtype, validity, index) {
             Some(true) => Ok(decimal_at(values, index, array)),
-            Some(false) => Ok(Scalar::null(dtype.clone()?)),
+            Some(false) => null_of(dtype),
             None => scalar_at(alloc, array, index),
         },
         _ => scalar_at(alloc, array, index),
@@ -126,8 +126,10 @@ fn scalar_at(alloc: Global, array: &ArrayRef, index: usize) -> VortexResult<Scal
             unless_null(alloc, validity, index, decimal_at(values, index, array))
         }
         ArrayKind::VarBinView(rows, validity) => {
-            let stored = bytes_at(alloc, rows, index, dtype)?;
-            unless_null(alloc, validity, index, stored)
+            match bytes_at(alloc, rows, index, dtype) {
+                Ok(stored) => unless_null(alloc, validity, index, stored),
+                Err(e) => Err(e),
+            }
         }
         ArrayKind::Constant(scalar) => Ok(scalar.clone()?),
         ArrayKind::Slice(child, start, _) => scalar_at(alloc, child, start + index),
@@ -180,7 +182,7 @@ fn unless_null(
         return kept_or_null(stored, bits.value(index));
     }
     match scalar_at(alloc, child, index) {
-        Ok(valid) => kept_or_null(stored, is_true(&valid)),
+        Ok(valid) => kept_or_null(stored, into_truth(valid)),
         Err(e) => Err(e),
     }
 }
@@ -196,8 +198,18 @@ fn kept_or_null(stored: Scalar, valid: bool) -> VortexResult<Scalar>
     if valid {
         Ok(stored)
     } else {
-        Ok(Scalar::null(stored.dtype().clone()?))
+        null_of(stored.dtype())
     }
+}
+
+/// Returns null of type `dtype`, which must be nullable. The only error is `OutOfMemory`.
+#[inline]
+fn null_of(dtype: &DType) -> VortexResult<Scalar>
+    requires { nullability_of (type_of dtype.now) ≡ Nullability.Nullable }
+    ensures ok { IfOk result (λ s. s ≡ record { of_type = type_of dtype.now; value = null }) }
+    ensures err { IfErr result (λ e. e ≡ VortexError.OutOfMemory) }
+{
+    Ok(Scalar::null(dtype.clone()?))
 }
 
 /// Returns the value of `scalar`, which must be a non-nullable boolean.
@@ -209,6 +221,15 @@ fn is_true(scalar: &Scalar) -> bool
         ScalarKind::Bool(bit, _) => bit,
         _ => unreachable!(),
     }
+}
+
+/// Returns the value of `scalar`, which must be a non-nullable boolean, and drops it.
+#[inline]
+fn into_truth(scalar: Scalar) -> bool
+    requires { scalar.of_type ≡ type.bool Nullability.NonNullable }
+    ensures { scalar.value ≡ boolean result }
+{
+    is_true(&scalar)
 }
 
 /// Returns the value of row `index` of `array`, which applies `scalar_fn` to `slots`.
@@ -279,8 +300,8 @@ fn bytes_at(alloc: Global, rows: &BinaryViews, index: usize, dtype: &DType) -> V
     ensures err { IfErr result (λ e. e ≡ VortexError.OutOfMemory) }
 {
     let bytes = ByteBuffer::copy_from(alloc, rows.value(index))?;
-    let value = Some(ScalarValue::Bytes(bytes));
-    Ok(Scalar::new_unchecked(dtype.clone()?, value))
+    let dtype = dtype.clone()?;
+    Ok(Scalar::new_unchecked(dtype, Some(ScalarValue::Bytes(bytes))))
 }
 
 /// Returns the rows of `array`, which must be non-nullable booleans. Shares those of a column without a validity, repeats a constant, and
@@ -312,13 +333,15 @@ fn stored_truths(alloc: Global, array: &ArrayRef) -> Result<Option<BitBuffer>, A
     array.well();
     match array.kind() {
         ArrayKind::Bool(bits, None) => Ok(Some(bits.clone()?)),
-        ArrayKind::Slice(child, start, end) => match stored_truths(alloc, child)? {
-            Some(bits) => Ok(Some(bits.slice(start..end)?)),
-            None => Ok(None),
+        ArrayKind::Slice(child, start, end) => match stored_truths(alloc, child) {
+            Ok(Some(bits)) => Ok(Some(bits.slice(start..end)?)),
+            Ok(None) => Ok(None),
+            Err(e) => Err(e),
         },
-        ArrayKind::Filter(child, mask) => match stored_truths(alloc, child)? {
-            Some(bits) => Ok(Some(bits.filter(alloc, mask)?)),
-            None => Ok(None),
+        ArrayKind::Filter(child, mask) => match stored_truths(alloc, child) {
+            Ok(Some(bits)) => Ok(Some(bits.filter(alloc, mask)?)),
+            Ok(None) => Ok(None),
+            Err(e) => Err(e),
         },
         _ => Ok(None),
     }
@@ -336,7 +359,7 @@ fn read_truths(alloc: Global, array: &ArrayRef) -> VortexResult<BitBuffer>
     let mut bits = BitBuilder::with_capacity(alloc, array.len())?;
     for index in 0..array.len() {
         match scalar_at(alloc, array, index) {
-            Ok(scalar) => bits.push(is_true(&scalar))?,
+            Ok(scalar) => bits.push(into_truth(scalar))?,
             Err(e) => return Err(e),
         }
     }

@@ -73,8 +73,8 @@ unless_null-returns-in-Bool-default-None-clause-ok t c =
 
 pub unless_null-returns-in-Ok-clause-ok : goal.unless_null-returns-in-Ok-clause-ok
 unless_null-returns-in-Ok-clause-ok t c =
-    let told = c.in-Ok.ensures.ok.0 ∙ ap (λ v. Some (value v)) c.is_true.ensures in
-    let known = row_known c.args.validity.now c.in-Some.child c.args.index c.is_true.result c.args.stored.value c.in-Some.is told in
+    let told = c.in-Ok.ensures.ok.0 ∙ ap (λ v. Some (value v)) c.into_truth.ensures in
+    let known = row_known c.args.validity.now c.in-Some.child c.args.index c.into_truth.result c.args.stored.value c.in-Some.is told in
     IfOk-weaker c.kept_or_null-in-Ok.result _ _ (λ s e. subst (IsRowBy c.args.validity.now c.args.index (value c.args.stored.value)) (sym e) known)
     c.kept_or_null-in-Ok.ensures.ok
 
