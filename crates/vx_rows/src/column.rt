@@ -9,8 +9,9 @@ ghost use Rattle.vx_canonical.specs.Canonicals.{canonical_tree};
 ghost use Rattle.vx_rows.specs.Arguments.{stored_decimals};
 ghost use Rattle.vx_rows.specs.Stored.{boolean_column, integer_column, decimal_column, bytes_column};
 
+use crate::reader::bytes_type;
 use std::alloc::Global;
-use vx_array::{BoolArray, DecimalArray, PrimitiveArray, VarBinViewArray, bytes_type};
+use vx_array::{BoolArray, DecimalArray, PrimitiveArray, VarBinViewArray};
 use vx_canonical::Canonical;
 use vx_mask::BitBuffer;
 use vx_native::{DecimalValues, PrimitiveValues};
@@ -77,7 +78,7 @@ pub fn varbinview_column(
     ensures ok { IfOk result (λ c. canonical_tree c ≡ bytes_column storage rows validity.now) }
     ensures err { IfErr result (λ e. e ≡ VortexError.OutOfMemory) }
 {
-    let dtype = bytes_type(storage).with_nullability(validity.nullability())?;
+    let dtype = bytes_type(storage, validity.nullability());
     let column = VarBinViewArray::new_unchecked(alloc, dtype, rows, validity)?;
     Ok(Canonical::VarBinView(column))
 }

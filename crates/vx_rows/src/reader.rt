@@ -129,7 +129,7 @@ fn bytes_scalar(
 }
 
 /// Returns the type of text or bytes that are stored so: text, else bytes.
-fn bytes_type(storage: Storage, nullability: Nullability) -> DType
+pub(crate) fn bytes_type(storage: Storage, nullability: Nullability) -> DType
     ensures { type_of result ≡ with_nullability nullability (bytes_type storage) }
 {
     match storage {
