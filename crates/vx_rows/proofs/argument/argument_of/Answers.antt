@@ -49,9 +49,8 @@ returns-in-Bool-clause-ok c =
 pub returns-in-Bool-clause-err : goal.returns-in-Bool-clause-err
 returns-in-Bool-clause-err c =
     let k = c.in-Bool in
-    let flat = subst IsNodeOf k.ensures.0 k.ensures.1 in
     IfErr-weaker c.column_argument.result _ _
-    (λ e h. column_unread c.args.column.now k.validity.now e c.as_array.result.now c.as_array.ensures.of h boolean enc.bool (λ n xs css. refl) k.bits.now (sym flat.2)
+    (λ e h. column_unread c.args.column.now k.validity.now e c.as_array.result.now c.as_array.ensures.of h boolean enc.bool (λ n xs css. refl) k.bits.now (sym (subst IsNodeOf k.ensures.0 k.ensures.1).2)
     k.ensures.0) c.column_argument.ensures.err
 
 pub returns-in-Primitive-clause-ok : goal.returns-in-Primitive-clause-ok
@@ -66,10 +65,9 @@ returns-in-Primitive-clause-ok c =
 pub returns-in-Primitive-clause-err : goal.returns-in-Primitive-clause-err
 returns-in-Primitive-clause-err c =
     let k = c.in-Primitive in
-    let flat = subst IsNodeOf k.ensures.0 k.ensures.1 in
     IfErr-weaker c.column_argument-in-Primitive.result _ _
     (λ e h. column_unread c.args.column.now k.validity.now e c.as_array.result.now c.as_array.ensures.of h integer (enc.primitive (ptype_of k.values.now))
-    (λ n xs css. refl) (values_of k.values.now) (sym flat.2) k.ensures.0) c.column_argument-in-Primitive.ensures.err
+    (λ n xs css. refl) (values_of k.values.now) (sym (subst IsNodeOf k.ensures.0 k.ensures.1).2) k.ensures.0) c.column_argument-in-Primitive.ensures.err
 
 pub unreachable-requires : goal.unreachable-requires
 unreachable-requires c =
@@ -91,11 +89,10 @@ returns-in-Decimal-dtype-clause-ok c =
 pub returns-in-Decimal-dtype-clause-err : goal.returns-in-Decimal-dtype-clause-err
 returns-in-Decimal-dtype-clause-err c =
     let k = c.in-Decimal in
-    let flat = subst IsNodeOf k.ensures.0 k.ensures.1 in
     IfErr-weaker c.column_argument-in-Decimal.result _ _
     (λ e h. column_unread c.args.column.now k.validity.now e c.as_array.result.now c.as_array.ensures.of h
     (λ z. decimal z (scale_of (storage_of (dtype (columnar_tree c.args.column.now))))) (enc.decimals (decimal_type_of k.values.now)) (λ n xs css. refl)
-    (numbers_of k.values.now) (sym flat.0.2) k.ensures.0) c.column_argument-in-Decimal.ensures.err
+    (numbers_of k.values.now) (sym (subst IsNodeOf k.ensures.0 k.ensures.1).0.2) k.ensures.0) c.column_argument-in-Decimal.ensures.err
 
 pub returns-in-VarBinView-clause-ok : goal.returns-in-VarBinView-clause-ok
 returns-in-VarBinView-clause-ok c =
@@ -109,7 +106,6 @@ returns-in-VarBinView-clause-ok c =
 pub returns-in-VarBinView-clause-err : goal.returns-in-VarBinView-clause-err
 returns-in-VarBinView-clause-err c =
     let k = c.in-VarBinView in
-    let flat = subst IsNodeOf k.ensures.0 k.ensures.1 in
     IfErr-weaker c.column_argument-in-VarBinView.result _ _
     (λ e h. column_unread c.args.column.now k.validity.now e c.as_array.result.now c.as_array.ensures.of h bytes enc.views (λ n xs css. refl) k.rows.now
-    (sym flat.0.2) k.ensures.0) c.column_argument-in-VarBinView.ensures.err
+    (sym (subst IsNodeOf k.ensures.0 k.ensures.1).0.2) k.ensures.0) c.column_argument-in-VarBinView.ensures.err
