@@ -32,7 +32,8 @@ decimals_node (Decimals p s) w zs h ty n ss flat =
 decimals_node _ w zs h ty n ss flat = absurd (cc)
 
 -- a range of numbers of a type is of it too
-pub decimals_part : (s : Storage) (w : DecimalType) (xs ys : List ℤ) (a b : ℕ) → are_decimals_of s w xs ≡ true → ys ≡ slice_range xs a b → are_decimals_of s w ys ≡ true
+pub decimals_part : (s : Storage) (w : DecimalType) (xs ys : List ℤ) (a b : ℕ) → are_decimals_of s w xs ≡ true → ys ≡ slice_range xs a b
+    → are_decimals_of s w ys ≡ true
 decimals_part (Decimals p s) w xs ys a b h range =
     let width : same_width w (smallest_width p) ≡ true = first_so _ _ h in
     and_from _ _ width (ap (list_all (has_digits p)) range ∙ range_passes (has_digits p) xs a b (second_so (same_width w (smallest_width p)) _ h))

@@ -41,8 +41,11 @@ module _ (t u : Tree) (n : ℕ) (first : HasRows (validity.Array t) n) (second :
   and_made = ap (option_map (λ ty. call_of (Binary And) ty n (t ∷ u ∷ []))) returned
 
   and_sized : HasRows (validity.Array (both_of n t u)) n
-  and_sized =
-      (((dtype t ∷ dtype u ∷ [], (λ i. Some (shape (dtype t) (first.2 i)) ∷ Some (shape (dtype u) (second.2 i)) ∷ []), returned), (first.0, (second.0, tt))), refl, refl)
+  and_sized = (
+    ((dtype t ∷ dtype u ∷ [], (λ i. Some (shape (dtype t) (first.2 i)) ∷ Some (shape (dtype u) (second.2 i)) ∷ []), returned), (first.0, (second.0, tt))),
+    refl,
+    refl,
+  )
 
 abbrev pub and_cell : Cell → Cell → Cell
 and_cell c d = apply (Binary And) (type.bool NonNullable) (c ∷ d ∷ [])
@@ -124,7 +127,8 @@ null_told (v ∷ vs) [] e h = absurd (omega arith)
 null_told (v ∷ vs) (c ∷ cs) e h = (null_shown v c h.0, null_told vs cs (omega arith) h.1)
 
 -- by one that makes all null, and by one that makes none
-none_told : (cs : List Cell) → RowsKeep (map shown_cell (valid_cells (replicate (length cs) (value (boolean false))) cs)) (replicate (length cs) (value (boolean false)))
+none_told : (cs : List Cell) → RowsKeep (map shown_cell (valid_cells (replicate (length cs) (value (boolean false))) cs))
+    (replicate (length cs) (value (boolean false)))
 none_told [] = tt
 none_told (value x ∷ cs) = (refl, none_told cs)
 none_told (fault ∷ cs) = (tt, none_told cs)

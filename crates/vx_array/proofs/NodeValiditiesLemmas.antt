@@ -33,7 +33,8 @@ slots_back no_slots = ([], refl)
 slots_back (absent ss) = let r = slots_back ss in (None ∷ r.0, ap absent r.1)
 slots_back (slot t ss) = let r = slots_back ss in (Some t ∷ r.0, ap (slot t) r.1)
 
-constant_node : (ty : DataType) (n : ℕ) (v : Typed) (xs : List (Option Tree)) → IsNode ty n (enc.constant v) (shapes (slots_of xs)) → nullability_of ty ≡ Nullable
+constant_node : (ty : DataType) (n : ℕ) (v : Typed) (xs : List (Option Tree)) → IsNode ty n (enc.constant v) (shapes (slots_of xs))
+    → nullability_of ty ≡ Nullable
     → Tells (node ty n (enc.constant v) (slots_of xs)) (constant_validity v.value)
 constant_node ty n v xs h e =
     let is : constant_of v n ≡ node ty n (enc.constant v) (slots_of xs) = λ i. node (sym h.0 i) n (enc.constant v) (slots_of (sym (none_there xs h.2) i)) in

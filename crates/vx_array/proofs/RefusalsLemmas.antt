@@ -137,7 +137,8 @@ pub column_by_slot : (ty : DataType) (n : ℕ) (of_type : DataType) (k : ℕ) (x
     column_refusal ty n of_type k (shapes (slots_of xs)) ≡ column_refusal ty n of_type k (option_map shape_of v ∷ [])
 column_by_slot ty n of_type k xs v h = ap (column_refusal ty n of_type k) (ap (λ l. shapes (slots_of l)) h ∙ one_shape v)
 
-pub some_slot : (later : Option VortexError) (xs : List (Option Tree)) → length xs ≢ 0 → without_slots later (shapes (slots_of xs)) ≡ Some (InvalidArgument SlotCount)
+pub some_slot : (later : Option VortexError) (xs : List (Option Tree)) → length xs ≢ 0
+    → without_slots later (shapes (slots_of xs)) ≡ Some (InvalidArgument SlotCount)
 some_slot later [] h = absurd (h refl)
 some_slot later (None ∷ xs) h = refl
 some_slot later (Some t ∷ xs) h = refl

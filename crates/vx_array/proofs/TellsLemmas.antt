@@ -100,7 +100,8 @@ fits_valid : (ty : DataType) (w : Value) → nullability_of ty ≡ NonNullable �
 fits_valid ty null e h = let no : is_nullable (nullability_of ty) ≡ false = ap is_nullable e in absurd (cc (no, h))
 fits_valid ty _ e h = refl
 
-never_null : (ty : DataType) (cs : List Cell) → nullability_of ty ≡ NonNullable → AllFit ty cs → RowsKeep (map shown_cell cs) (replicate (length cs) (value (boolean true)))
+never_null : (ty : DataType) (cs : List Cell) → nullability_of ty ≡ NonNullable → AllFit ty cs
+    → RowsKeep (map shown_cell cs) (replicate (length cs) (value (boolean true)))
 never_null ty [] e h = tt
 never_null ty (value w ∷ cs) e h = (shown_valid w (fits_valid ty w e h.0), never_null ty cs e h.1)
 never_null ty (fault ∷ cs) e h = (tt, never_null ty cs e h.1)
@@ -153,8 +154,10 @@ pub stored_valid : {X : Type 0} (read : X → Value) → ((x : X) → is_null (r
 stored_valid read h [] = tt
 stored_valid read h (x ∷ xs) = (shown_valid (read x) (h x), stored_valid read h xs)
 
-pub column_tells : (ty : DataType) (n : ℕ) (d : Data) (w : Option Tree) (stored : List Cell) → rows (column ty n d w) ≡ valid_cells (slot_cells w) stored → length stored ≡ n
-    → RowsKeep (map shown_cell stored) (replicate (length stored) (value (boolean true))) → nullability_of ty ≡ Nullable → IsValidity Nullable n (option_map shape_of w)
+pub column_tells : (ty : DataType) (n : ℕ) (d : Data) (w : Option Tree) (stored : List Cell) → rows (column ty n d w) ≡ valid_cells (slot_cells w) stored
+    → length stored ≡ n
+    → RowsKeep (map shown_cell stored) (replicate (length stored) (value (boolean true))) → nullability_of ty ≡ Nullable
+    → IsValidity Nullable n (option_map shape_of w)
     → AreWell (slots_of (w ∷ [])) → Tells (column ty n d w) (validity_of Nullable w)
 column_tells ty n d w stored cells long valid e h k =
     let own = validity_of Nullable w in

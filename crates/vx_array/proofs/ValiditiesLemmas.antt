@@ -270,8 +270,10 @@ told_back validity.AllInvalid n h = refl
 told_back (validity.Array t) n h = by_data (datum t) refl
   where
     by_value : (s : Typed) (x : Value) → datum t ≡ enc.constant s → s.value ≡ x → valid_rows (of_truth x t) n ≡ rows t
-    by_value s (boolean true) e k = ap (λ m. replicate m (value (boolean true))) (sym h.2) ∙ sym (constant_rows s t h.0 e ∙ ap (λ y. replicate (len t) (value y)) k)
-    by_value s (boolean false) e k = ap (λ m. replicate m (value (boolean false))) (sym h.2) ∙ sym (constant_rows s t h.0 e ∙ ap (λ y. replicate (len t) (value y)) k)
+    by_value s (boolean true) e k = ap (λ m. replicate m (value (boolean true))) (sym h.2)
+        ∙ sym (constant_rows s t h.0 e ∙ ap (λ y. replicate (len t) (value y)) k)
+    by_value s (boolean false) e k = ap (λ m. replicate m (value (boolean false))) (sym h.2)
+        ∙ sym (constant_rows s t h.0 e ∙ ap (λ y. replicate (len t) (value y)) k)
     by_value s _ e k = refl
 
     by_data : (d : Data) → datum t ≡ d → valid_rows (of_data d t) n ≡ rows t

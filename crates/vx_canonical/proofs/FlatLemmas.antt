@@ -27,19 +27,22 @@ pub flat_range_kept : (t : Tree) (v w : Option Tree) (a b : ℕ) → IsWell t �
     → IsNode (dtype t) (b - a) (data_range a b (datum t)) (shapes (slots_of (w ∷ [])))
     × KeepsExactly (slice_of a b t) (column (dtype t) (b - a) (data_range a b (datum t)) w)
 flat_range_kept (node ty n (enc.bool bs) ss) v w a b well h s within part =
-    flat_part (type.bool NonNullable) boolean enc.bool a b bs (slice_range bs a b) v (node ty n (enc.bool bs) ss) (λ n xs css. refl) (ap (node ty n (enc.bool bs)) s) well within
+    flat_part (type.bool NonNullable) boolean enc.bool a b bs (slice_range bs a b) v (node ty n (enc.bool bs) ss) (λ n xs css. refl)
+    (ap (node ty n (enc.bool bs)) s) well within
     refl (λ ss h. h) (λ ty n ss h. h) w part
 flat_range_kept (node ty n (enc.primitive p zs) ss) v w a b well h s within part =
     flat_part (type.primitive p NonNullable) integer (enc.primitive p) a b zs (slice_range zs a b) v (node ty n (enc.primitive p zs) ss) (λ n xs css. refl)
     (ap (node ty n (enc.primitive p zs)) s) well within refl (λ ss h. h) (λ ty n ss h. h) w part
 flat_range_kept (node ty n (enc.decimals d zs) ss) v w a b well h s within part =
     let stored = storage_of ty in
-    flat_part (decimal_type stored) (λ z. decimal z (scale_of stored)) (enc.decimals d) a b zs (slice_range zs a b) v (node ty n (enc.decimals d zs) ss) (λ n xs css. refl)
+    flat_part (decimal_type stored) (λ z. decimal z (scale_of stored)) (enc.decimals d) a b zs (slice_range zs a b) v (node ty n (enc.decimals d zs) ss)
+    (λ n xs css. refl)
     (ap (node ty n (enc.decimals d zs)) s) well within refl (λ ss h. h.0)
     (decimals_node stored d (slice_range zs a b) (decimals_part stored d zs (slice_range zs a b) a b well.0.1 refl)) w part
 flat_range_kept (node ty n (enc.views rs) ss) v w a b well h s within part =
     let stored = storage_of ty in
-    flat_part (bytes_type stored) bytes enc.views a b rs (slice_range rs a b) v (node ty n (enc.views rs) ss) (λ n xs css. refl) (ap (node ty n (enc.views rs)) s) well within
+    flat_part (bytes_type stored) bytes enc.views a b rs (slice_range rs a b) v (node ty n (enc.views rs) ss) (λ n xs css. refl)
+    (ap (node ty n (enc.views rs)) s) well within
     refl (λ ss h. h.0) (bytes_node stored (slice_range rs a b) (bytes_part stored rs (slice_range rs a b) a b well.0.1 refl)) w part
 flat_range_kept _ v w a b well h s within part = absurd (cc)
 
@@ -48,7 +51,8 @@ flat_root : (t : Tree) → IsWell t → is_flat (datum t) ≡ true → (of_type 
 flat_root (node ty n d ss) w h = flat_node ty n d (shapes ss) h w.0
 
 -- its validity has the range of its rows
-pub flat_has_range : (t : Tree) (v : Option Tree) (a b : ℕ) → IsWell t → is_flat (datum t) ≡ true → slots t ≡ slots_of (v ∷ []) → a ≤ b → b ≤ len t → HasRange a b v
+pub flat_has_range : (t : Tree) (v : Option Tree) (a b : ℕ) → IsWell t → is_flat (datum t) ≡ true → slots t ≡ slots_of (v ∷ []) → a ≤ b → b ≤ len t
+    → HasRange a b v
 flat_has_range t v a b w h s p q =
     let flat = flat_root t w h in
     flat_range flat.0 (dtype t) (count_in (datum t)) (len t) a b v (subst (λ ss. IsFlat flat.0 (count_in (datum t)) (dtype t) (len t) (shapes ss)) s flat.1) p q

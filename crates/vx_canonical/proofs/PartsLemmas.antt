@@ -18,7 +18,8 @@ use Rattle.vx_canonical.proofs.FlatLemmas.{flat_has_range, flat_range_kept}
 -- a part has the rows of the slice
 pub part_exact : (a b : ℕ) (t : Tree) → IsWell t → a ≤ b → b ≤ len t → KeepsExactly (slice_of a b t) (part_of a b t)
 part_exact a b (node ty n (enc.constant v) ss) w h k =
-    subst (λ t. KeepsExactly (slice_of a b t) (constant_of v (b - a))) (λ i. node (sym w.0.0 i) n (enc.constant v) (sym (no_shapes ss w.0.2) i)) (constant_part v n a b h k)
+    subst (λ t. KeepsExactly (slice_of a b t) (constant_of v (b - a))) (λ i. node (sym w.0.0 i) n (enc.constant v) (sym (no_shapes ss w.0.2) i))
+    (constant_part v n a b h k)
 part_exact a b (node ty n d ss) w h k = exactly_refl (slice_of a b (node ty n d ss))
 
 in_validity : (a b : ℕ) (v w : Option Tree) → AreWell (slots_of (v ∷ [])) → HasRange a b v → w ≡ option_map (part_of a b) v → IsValidityPart a b v w

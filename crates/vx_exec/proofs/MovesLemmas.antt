@@ -38,7 +38,8 @@ put_target i c (node ty n d ss) = refl
 
 -- a child is taken out of the node, and becomes the current one
 pub move_push : (fits : Tree → Bool) (fs gs : List Frame) (i : ℕ) (t p c : Tree) (g : SlotTarget) → is_reached fits fs t ≡ false → put i c p ≡ t → IsHole i p
-    → IsNodeOf t → HasNoShortcut t → Awaits i t → g ≡ target_of t → AreFrames fs t → gs ≡ fs ++ record { parent = p; slot = i; target = g } ∷ [] → IsMove fits fs t gs c
+    → IsNodeOf t → HasNoShortcut t → Awaits i t → g ≡ target_of t → AreFrames fs t → gs ≡ fs ++ record { parent = p; slot = i; target = g } ∷ []
+    → IsMove fits fs t gs c
 move_push fits fs gs i t p c g going e hole formed direct w aim h join =
     let f : Frame = record { parent = p; slot = i; target = g } in
     let frame : IsFrame f c = record { hole = hole; fits = subst IsNodeOf (sym e) formed; target = aim ∙ ap target_of (sym e) ∙ put_target i c p } in

@@ -11,7 +11,8 @@ use Rattle.serde_json.specs.View.{view, items_view}
 use Rattle.vx_json.specs.SpelledValues.{all_read}
 
 -- a list of which each item is read, and then mapped
-pub mapped_read : {A B : Type 0} (f : A → B) (read : Data → Option A) (ds : Items) → all_read (λ d. option_map f (read d)) ds ≡ option_map (map f) (all_read read ds)
+pub mapped_read : {A B : Type 0} (f : A → B) (read : Data → Option A) (ds : Items)
+    → all_read (λ d. option_map f (read d)) ds ≡ option_map (map f) (all_read read ds)
 mapped_read f read no_items = refl
 mapped_read f read (item d ds) = by_item (read d) (all_read (λ e. option_map f (read e)) ds) (all_read read ds) (mapped_read f read ds)
   where
@@ -22,7 +23,8 @@ mapped_read f read (item d ds) = by_item (read d) (all_read (λ e. option_map f 
     by_item (Some a) x (Some l) e = ap (option_map (λ rest. f a ∷ rest)) e
 
 -- the items from a place on: the one there, and those behind it
-items_from : (vs : List Value) (i : ℕ) (v : Value) → i < length vs → v ≡ slice_index_or vs i v → items_view (drop i vs) ≡ item (view v) (items_view (drop (i + 1) vs))
+items_from : (vs : List Value) (i : ℕ) (v : Value) → i < length vs → v ≡ slice_index_or vs i v
+    → items_view (drop i vs) ≡ item (view v) (items_view (drop (i + 1) vs))
 items_from vs i v h p =
     ap items_view (drop-cons vs i v h) ∙ ap (λ u. item (view u) (items_view (drop (suc i) vs))) (sym p)
     ∙ ap (λ k. item (view v) (items_view (drop k vs))) (sym (add-one i))
@@ -33,13 +35,15 @@ IsReadTo read vs i done = all_read read (items_view vs) ≡ option_map (λ l. do
 
 module _ {A : Type 0} (read : Data → Option A) (vs : List Value) (i : ℕ) (done : List A) (so_far : IsReadTo read vs i done) where
   one_behind : (v : Value) (o : Option A) → i < length vs → v ≡ slice_index_or vs i v → read (view v) ≡ o →
-      all_read read (items_view vs) ≡ option_map (λ l. done ++ l) (option_and_then (λ a. option_map (λ rest. a ∷ rest) (all_read read (items_view (drop (i + 1) vs)))) o)
+      all_read read (items_view vs) ≡ option_map (λ l. done ++ l) (option_and_then
+      (λ a. option_map (λ rest. a ∷ rest) (all_read read (items_view (drop (i + 1) vs)))) o)
   one_behind v o h p e =
       so_far ∙ ap (λ ds. option_map (λ l. done ++ l) (all_read read ds)) (items_from vs i v h p)
       ∙ ap (λ x. option_map (λ l. done ++ l) (option_and_then (λ a. option_map (λ rest. a ∷ rest) (all_read read (items_view (drop (i + 1) vs)))) x)) e
 
   -- an item that is read goes behind those so far
-  pub read_one : (v : Value) (a : A) (now : List A) → i < length vs → v ≡ slice_index_or vs i v → read (view v) ≡ Some a → now ≡ done ++ a ∷ [] → IsReadTo read vs (i + 1) now
+  pub read_one : (v : Value) (a : A) (now : List A) → i < length vs → v ≡ slice_index_or vs i v → read (view v) ≡ Some a → now ≡ done ++ a ∷ []
+      → IsReadTo read vs (i + 1) now
   read_one v a now h p e same =
       one_behind v (Some a) h p e ∙ by_rest (all_read read (items_view (drop (i + 1) vs)))
       ∙ ap (λ s. option_map (λ l. s ++ l) (all_read read (items_view (drop (i + 1) vs)))) (sym same)

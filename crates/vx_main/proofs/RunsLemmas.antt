@@ -28,7 +28,8 @@ source_keeps Help t s e = absurd e
 source_keeps Version t s e = absurd e
 
 -- the column that a command's source is executed to shows the answer for the bytes that spell the tree
-pub answers_of : (c : Command) (bytes text : List ℕ) (turns : ℕ) (t s u : Tree) → Spells bytes t → IsSource c t s → KeepsExactly s u → IsExecuted is_column s turns u
+pub answers_of : (c : Command) (bytes text : List ℕ) (turns : ℕ) (t s u : Tree) → Spells bytes t → IsSource c t s → KeepsExactly s u
+    → IsExecuted is_column s turns u
     → (1 ≤ turns) × (turns ≤ limit_of c) → (is_column s ≡ true → u ≡ s)
     → Shows (dtype u) (id_of (datum u)) (rows u) text → IsLawful (id_of (datum u)) (dtype u) (rows u) → Answers c bytes text
 answers_of c bytes text turns t s u spelled from k executed within as_it_is shown lawful =
@@ -60,7 +61,8 @@ unprepared c bytes t (error.RewriteLimit at_root total) s h = record { tree = t;
 unprepared c bytes t _ s h = absurd h
 
 -- nor has one whose source faults, or isn't executed within the turns
-pub stopped : (c : Command) (bytes : List ℕ) (t s : Tree) (e : VortexError) → Spells bytes t → IsSource c t s → IsStopped s e → HasNoAnswer c bytes (status_of e)
+pub stopped : (c : Command) (bytes : List ℕ) (t s : Tree) (e : VortexError) → Spells bytes t → IsSource c t s → IsStopped s e
+    → HasNoAnswer c bytes (status_of e)
 stopped c bytes t s e spelled from (inl m) = subst (λ x. HasNoAnswer c bytes (status_of x)) (sym m) tt
 stopped c bytes t s e spelled from (inr f) =
     subst (λ x. HasNoAnswer c bytes (status_of x)) (sym f.0) (record { tree = t; spelled = spelled; unclean = unclean_source c t s from f.1 })

@@ -11,7 +11,8 @@ use Rattle.vx_mask.specs.Places.{true_count, true_place, chosen, IsRun}
 use Rattle.vx_mask.proofs.PlacesLemmas.{chosen-nil, true_count-trues, true_count-le-length}
 
 -- ---- item by item
-place_after : {A : Type 0} (x : A) (items : List A) (o : Option ℕ) → option_and_then (slice_get items) o ≡ option_and_then (slice_get (x ∷ items)) (option_map suc o)
+place_after : {A : Type 0} (x : A) (items : List A) (o : Option ℕ) → option_and_then (slice_get items) o ≡ option_and_then (slice_get (x ∷ items))
+    (option_map suc o)
 place_after x items None = refl
 place_after x items (Some p) = refl
 
@@ -19,7 +20,8 @@ place_none : {A : Type 0} (o : Option ℕ) → None ≡ option_and_then (slice_g
 place_none None = refl
 place_none (Some p) = refl
 
-pub chosen-item : {A : Type 0} (bits : List Bool) (items : List A) (k : ℕ) → slice_get (chosen bits items) k ≡ option_and_then (slice_get items) (true_place bits k)
+pub chosen-item : {A : Type 0} (bits : List Bool) (items : List A) (k : ℕ) → slice_get (chosen bits items) k ≡ option_and_then (slice_get items)
+    (true_place bits k)
 unfolding chosen true_place
 chosen-item [] items k = refl
 chosen-item (bit ∷ bits) [] k = ap (λ l. slice_get l k) (chosen-nil (bit ∷ bits)) ∙ place_none (true_place (bit ∷ bits) k)
@@ -31,11 +33,13 @@ chosen-item (false ∷ bits) (x ∷ items) k = chosen-item bits items k ∙ plac
 pub chosen-append : {A : Type 0} (xs ys : List Bool) (items : List A) → chosen (xs ++ ys) items ≡ chosen xs items ++ chosen ys (drop (length xs) items)
 unfolding chosen
 chosen-append [] ys items = refl
-chosen-append (x ∷ xs) ys [] = chosen-nil (x ∷ (xs ++ ys)) ∙ sym (ap₂ (λ l r. l ++ r) (chosen-nil (x ∷ xs)) (ap (chosen ys) (drop-nil (length (x ∷ xs))) ∙ chosen-nil ys))
+chosen-append (x ∷ xs) ys [] = chosen-nil (x ∷ (xs ++ ys)) ∙ sym (ap₂ (λ l r. l ++ r) (chosen-nil (x ∷ xs))
+    (ap (chosen ys) (drop-nil (length (x ∷ xs))) ∙ chosen-nil ys))
 chosen-append (true ∷ xs) ys (y ∷ items) = ap (λ l. y ∷ l) (chosen-append xs ys items)
 chosen-append (false ∷ xs) ys (y ∷ items) = chosen-append xs ys items
 
-pub chosen-parts : {A : Type 0} (xs ys : List Bool) (items more : List A) → length xs ≡ length items → chosen (xs ++ ys) (items ++ more) ≡ chosen xs items ++ chosen ys more
+pub chosen-parts : {A : Type 0} (xs ys : List Bool) (items more : List A) → length xs ≡ length items
+    → chosen (xs ++ ys) (items ++ more) ≡ chosen xs items ++ chosen ys more
 unfolding chosen
 chosen-parts [] ys [] more h = refl
 chosen-parts [] ys (y ∷ items) more h = absurd (omega arith)

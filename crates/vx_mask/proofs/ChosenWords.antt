@@ -40,7 +40,8 @@ none_first [] h = refl
 none_first (x ∷ xs) h = absurd (none-some x (sym h))
 
 -- there is an item at the lowest true bit if there is one at each
-pub first_within : {A : Type 0} (bits : List Bool) (items : List A) (p : ℕ) → length (chosen bits items) ≡ true_count bits → true_place bits 0 ≡ Some p → p < length items
+pub first_within : {A : Type 0} (bits : List Bool) (items : List A) (p : ℕ) → length (chosen bits items) ≡ true_count bits → true_place bits 0 ≡ Some p
+    → p < length items
 first_within bits items p each place = elim (cases_lt p (length items)) [
   | inl lt ↦ lt
   | inr ge ↦
@@ -76,7 +77,8 @@ next_part items before after tail from w is none size start end =
     let rest = slice_range items from (length items) in
     let left : rest ≡ drop from items = take_all (length items - from) (drop from items) (omega (arith, length-drop from items)) in
     let all : chosen after items ≡ chosen before items ++ chosen (low_bits 64 w) rest =
-    sym (chosen-append after tail items ∙ ap (λ l. chosen after items ++ l) (chosen-none tail (drop (length after) items) none) ∙ append-nil (chosen after items))
+    sym (chosen-append after tail items ∙ ap (λ l. chosen after items ++ l) (chosen-none tail (drop (length after) items) none)
+    ∙ append-nil (chosen after items))
     ∙ ap (λ l. chosen l items) (sym is) ∙ chosen-append before (low_bits 64 w) items
     ∙ ap (λ l. chosen before items ++ chosen (low_bits 64 w) l) (ap (λ n. drop n items) size ∙ sym left) in
     let counts = ap true_count is ∙ true_count-append after tail in
@@ -86,7 +88,8 @@ next_part items before after tail from w is none size start end =
     let lengths = ap length all ∙ length-append (chosen before items) (chosen (low_bits 64 w) rest) in
     record { chosen_after = all; each = omega arith; count = omega arith }
 
-more_bits : (bits : List Bool) (from next w : ℕ) → IsWordFrom bits from w → next ≡ from + 64 → next ≤ length bits → take from bits ++ low_bits 64 w ≡ take next bits ++ []
+more_bits : (bits : List Bool) (from next w : ℕ) → IsWordFrom bits from w → next ≡ from + 64 → next ≤ length bits
+    → take from bits ++ low_bits 64 w ≡ take next bits ++ []
 more_bits bits from next w is at within =
     sym (next_word bits from w is (omega arith)) ∙ ap (λ n. take n bits) (sym at) ∙ sym (append-nil (take next bits))
 
@@ -105,7 +108,8 @@ part_last bits items k full w at same is size =
     (omega (arith, length-take (64 * k) bits)) (omega arith) (omega arith)
 
 -- what is kept with the items of one more part
-pub part_pushed : {A : Type 0} (items old new : List A) (before after : List Bool) (from w : ℕ) → IsNextPart items before after from w → old ≡ chosen before items
+pub part_pushed : {A : Type 0} (items old new : List A) (before after : List Bool) (from w : ℕ) → IsNextPart items before after from w
+    → old ≡ chosen before items
     → new ≡ old ++ chosen (low_bits 64 w) (slice_range items from (length items)) → new ≡ chosen after items
 part_pushed items old new before after from w part is pushed =
     pushed ∙ ap (λ l. l ++ chosen (low_bits 64 w) (slice_range items from (length items))) is ∙ sym part.chosen_after

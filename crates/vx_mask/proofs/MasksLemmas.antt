@@ -92,7 +92,8 @@ all_false_is bits count count_is = elim (cases_lt 0 (true_count bits)) [
 ]
 
 -- ---- what a mask of one bit chooses
-pub chosen_by_all : {A : Type 0} (mask : Mask) (n : ℕ) (items : List A) → mask ≡ AllTrue n → length (bits_in mask) ≡ length items → chosen (bits_in mask) items ≡ items
+pub chosen_by_all : {A : Type 0} (mask : Mask) (n : ℕ) (items : List A) → mask ≡ AllTrue n → length (bits_in mask) ≡ length items
+    → chosen (bits_in mask) items ≡ items
 chosen_by_all mask n items is size =
     ap (λ m. chosen (bits_in m) items) is ∙ chosen-trues n items (sym size ∙ ap (λ m. length (bits_in m)) is ∙ length-replicate n true)
 

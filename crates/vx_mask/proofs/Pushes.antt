@@ -99,7 +99,8 @@ push_in ws last fill w count small h fits =
 
 -- and if they fill it
 pub push_full : (ws : List ℕ) (last fill w count : ℕ) → last < 2 ^ fill → fill < 64 → count ≤ 64 → 64 ≤ fill + count
-    → take (64 * length (ws ++ (w * 2 ^ fill % 2 ^ 64 + last) ∷ []) + (fill + count - 64)) (bits_of ((ws ++ (w * 2 ^ fill % 2 ^ 64 + last) ∷ []) ++ (w / 2 / 2 ^ (63 - fill)) ∷ []))
+    → take (64 * length (ws ++ (w * 2 ^ fill % 2 ^ 64 + last) ∷ []) + (fill + count - 64))
+    (bits_of ((ws ++ (w * 2 ^ fill % 2 ^ 64 + last) ∷ []) ++ (w / 2 / 2 ^ (63 - fill)) ∷ []))
     ≡ take (64 * length ws + fill) (bits_of (ws ++ last ∷ [])) ++ low_bits count w
 push_full ws last fill w count small h few many =
     let word = w * 2 ^ fill % 2 ^ 64 + last in
@@ -129,7 +130,8 @@ pub flag_in : (ws : List ℕ) (last fill : ℕ) (b : Bool) → last < 2 ^ fill �
     → take (64 * length ws + (fill + 1)) (bits_of (ws ++ (bool_byte b * 2 ^ fill % 2 ^ 64 + last) ∷ []))
     ≡ take (64 * length ws + fill) (bits_of (ws ++ last ∷ [])) ++ b ∷ []
 flag_in ws last fill b small h =
-    push_in ws last fill (bool_byte b) 1 small (omega arith) (omega arith) ∙ ap (λ l. take (64 * length ws + fill) (bits_of (ws ++ last ∷ [])) ++ l) (flag_bits b)
+    push_in ws last fill (bool_byte b) 1 small (omega arith) (omega arith) ∙ ap (λ l. take (64 * length ws + fill) (bits_of (ws ++ last ∷ [])) ++ l)
+    (flag_bits b)
 
 pub flag_full : (ws : List ℕ) (last fill : ℕ) (b : Bool) → last < 2 ^ fill → fill ≡ 63
     → take (64 * length (ws ++ (bool_byte b * 2 ^ fill % 2 ^ 64 + last) ∷ []) + 0) (bits_of ((ws ++ (bool_byte b * 2 ^ fill % 2 ^ 64 + last) ∷ []) ++ 0 ∷ []))

@@ -86,7 +86,8 @@ bit_from words place by i low high within low_is high_is h =
     ]
 
 -- bit i of a word that is read from the words is row `index + i` of the bits, the part that begins at s
-pub row_of_part : (words : List ℕ) (s n place by index i : ℕ) (bit : Bool) (bits : List Bool) → bits ≡ take n (drop s (bits_of words)) → s + n ≤ 64 * length words
+pub row_of_part : (words : List ℕ) (s n place by index i : ℕ) (bit : Bool) (bits : List Bool) → bits ≡ take n (drop s (bits_of words))
+    → s + n ≤ 64 * length words
     → 64 * place + by ≡ s + index → index + i < length bits → bit ≡ bit_of words (64 * place + by + i) → bit ≡ get_or bits (index + i) false
 row_of_part words s n place by index i bit bits part bounds at within is =
     let from : 64 * place + by + i ≡ s + (index + i) = omega arith in

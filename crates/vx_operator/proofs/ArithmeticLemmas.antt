@@ -58,7 +58,8 @@ number_no : (p : PType) (z : ℤ) → ¬ (in_range p z ≡ true) → number p z 
 number_no p z h = ap (λ b. if b then value (integer z) else fault) (not_true (in_range p z) h)
 
 -- the cell of a row, from what the operator gives of any cells of the type's numbers
-pub integer_calculated : {T : Type 0} (read : T → ℤ) (fits : ℤ → Type 0) (p : PType) → ((z : ℤ) → fits z ↔ (in_range p z ≡ true)) → (op : Operator) (x y u v : ℤ)
+pub integer_calculated : {T : Type 0} (read : T → ℤ) (fits : ℤ → Type 0) (p : PType) → ((z : ℤ) → fits z ↔ (in_range p z ≡ true))
+    → (op : Operator) (x y u v : ℤ)
     → x ≡ u → y ≡ v → (r : Option T)
     → ((fit : ℤ → Cell) → IsWithin fits fit → MatchOption r (calculated_by op fit x y ≡ fault) (λ w. calculated_by op fit x y ≡ fit (read w)))
     → IfSome r (λ w. fits (read w)) → MatchOption r (calculated op p u v ≡ fault) (λ w. calculated op p u v ≡ value (integer (read w)))

@@ -39,7 +39,8 @@ module _ (target : DType) (t : Tree) (e : type_of target ≡ dtype t) where
   cast_taken : call_refusal (fn_of.Cast target) (t ∷ []) (len t) ≡ None
   cast_taken =
       none_refused (arity_refusal (fn_of.Cast target) 1) _ refl
-      (none_refused (unless (all_of_len (len t) (t ∷ [])) (InvalidArgument ChildLen)) _ (ap (λ b. unless (b && true) (InvalidArgument ChildLen)) (eq-eqb (len t) (len t) refl)) (ap row_refusal cast_given))
+      (none_refused (unless (all_of_len (len t) (t ∷ [])) (InvalidArgument ChildLen)) _
+      (ap (λ b. unless (b && true) (InvalidArgument ChildLen)) (eq-eqb (len t) (len t) refl)) (ap row_refusal cast_given))
 
   cast_made : called (fn_of.Cast target) (t ∷ []) (len t) ≡ Some (call_of (fn_of.Cast target) (type_of target) (len t) (t ∷ []))
   cast_made = ap (option_map (λ ty. call_of (fn_of.Cast target) ty (len t) (t ∷ []))) cast_given

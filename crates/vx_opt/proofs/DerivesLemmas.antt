@@ -33,7 +33,8 @@ same_self i = eq-eqb i i refl
 
 pub count_inside : (i : ℕ) (q : List ℕ) (ps : List Step) → count_at (i ∷ q) (below_all i ps) ≡ count_at q ps
 count_inside i q [] = refl
-count_inside i q (p ∷ ps) = ap (λ b. cond (b && same_place q p.place) 1 0 + count_at (i ∷ q) (below_all i ps)) (same_self i) ∙ ap (λ n. cond (same_place q p.place) 1 0 + n) (count_inside i q ps)
+count_inside i q (p ∷ ps) = ap (λ b. cond (b && same_place q p.place) 1 0 + count_at (i ∷ q) (below_all i ps)) (same_self i)
+    ∙ ap (λ n. cond (same_place q p.place) 1 0 + n) (count_inside i q ps)
 
 pub count_below : (i : ℕ) (ps : List Step) → count_at [] (below_all i ps) ≡ 0
 count_below i [] = refl
@@ -59,14 +60,23 @@ derives_trans t u v (p ∷ ps) qs h g = (h.0, h.1, derives_trans h.0 u v ps qs h
 
 pub derives_inside : (i : ℕ) (c d t : Tree) (ps : List Step) → HasSlot i c t → Derives c d ps → Derives t (put i d t) (below_all i ps)
 derives_inside i c d t [] h e = sym (put_same i c t h) ∙ ap (λ x. put i x t) e
-derives_inside i c d t (p ∷ ps) h e =
-    (put i e.0 t, (c, e.0, h, e.1, refl), subst (λ x. Derives (put i e.0 t) x (below_all i ps)) (put_twice i e.0 d t) (derives_inside i e.0 d (put i e.0 t) ps (put_has i e.0 t (has_present i c t h)) e.2))
+derives_inside i c d t (p ∷ ps) h e = (
+  put i e.0 t,
+  (c, e.0, h, e.1, refl),
+  subst (λ x. Derives (put i e.0 t) x (below_all i ps)) (put_twice i e.0 d t)
+      (derives_inside i e.0 d (put i e.0 t) ps (put_has i e.0 t (has_present i c t h)) e.2),
+)
 
 pub reaches_refl : (t : Tree) → Reaches t t []
 reaches_refl t = record { derives = refl; keeps = keeps_refl t; lighter = λ z. omega arith }
 
 pub reaches_row : (t u : Tree) (os : List ℕ) → IsWell t → Rewrites t u os → Reaches t u (at_here ∷ [])
-reaches_row t u os g r = record { derives = (u, (os, r), refl); keeps = row_keeps r.0 t u os g r.1; lighter = λ z. let l : weight u < weight t = row_lighter r.0 t u os r.1 in omega arith }
+reaches_row t u os g r = record {
+  derives = (u, (os, r), refl);
+  keeps = row_keeps r.0 t u os g r.1;
+  lighter = λ z. let l : weight u < weight t = row_lighter
+      r.0 t u os r.1 in omega arith;
+}
 
 -- the answer of an entry that was handed in
 pub reaches_answer : (t u : Tree) → Keeps t u → Reaches t u (record { place = []; spent = suc (weight u) } ∷ [])

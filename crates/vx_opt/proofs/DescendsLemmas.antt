@@ -47,8 +47,10 @@ upto_end (suc i) (slot a rs) (absent us) e h = absurd h
 upto_end (suc i) (slot a rs) (slot b us) e h = (h.0, upto_end i rs us (omega arith) h.1)
 
 upto_step : (i : ℕ) (t u v : Tree) → IsDescended i t u → IsSunk i u v → IsDescended (i + 1) t v
-upto_step i (node ty n d rs) (node uy m e us) v h (inl g) = subst (IsDescended (i + 1) (node ty n d rs)) (sym g.1) (h.0, h.1, h.2, rw add-one (upto_absent i rs us h.3 g.0))
-upto_step i (node ty n d rs) (node uy m e us) v h (inr g) = subst (IsDescended (i + 1) (node ty n d rs)) (sym g.4) (h.0, h.1, h.2, rw add-one (upto_put i rs us g.0 g.1 h.3 g.2 g.3))
+upto_step i (node ty n d rs) (node uy m e us) v h (inl g) = subst (IsDescended (i + 1) (node ty n d rs)) (sym g.1)
+    (h.0, h.1, h.2, rw add-one (upto_absent i rs us h.3 g.0))
+upto_step i (node ty n d rs) (node uy m e us) v h (inr g) = subst (IsDescended (i + 1) (node ty n d rs)) (sym g.4)
+    (h.0, h.1, h.2, rw add-one (upto_put i rs us g.0 g.1 h.3 g.2 g.3))
 
 pub sink_start : (t : Tree) (a : ℕ) → a < call_limit → IsSinking 0 t t a a
 sink_start (node ty n d rs) a l = record { below = below_refl (node ty n d rs) a l; sunk = (refl, refl, refl, refl) }

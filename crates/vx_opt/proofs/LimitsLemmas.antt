@@ -39,7 +39,11 @@ made_trans t u v a b c x y h g = record {
 pub made_row : (t u v : Tree) (os : List ℕ) (a b x : ℕ) → IsWell u → IsMade t u a b x → IsFirst u v os → IsMade t v a (b + 1) (x + 1)
 made_row t u v os a b x w h f =
     let reaches = reaches_row u v os w (first_row u v os f) in
-    made_trans t u v a b (b + 1) x 1 h (record { steps = at_here ∷ []; leads = record { reaches = reaches; unspent = refl; counted = omega arith }; at_top = refl })
+    made_trans t u v a b (b + 1) x 1 h (record {
+      steps = at_here ∷ [];
+      leads = record { reaches = reaches; unspent = refl; counted = omega arith };
+      at_top = refl;
+    })
 
 -- and more below it
 made_then : (t u v : Tree) (a b c x : ℕ) → IsMade t u a b x → IsMadeBelow u v b c → IsMade t v a c x

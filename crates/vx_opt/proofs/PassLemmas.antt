@@ -34,7 +34,8 @@ pub one_more : (os : List ℕ) (i k : ℕ) (u v x : Tree) → i < length os → 
     → OptimizesIn (drop i os) u x
 one_more os i k u v x w o h =
     let e : i + 1 ≡ suc i = omega arith in
-    let g : OptimizesIn (drop (suc i) os) (put (get_or os i k) o.1 u) x = subst (λ n. OptimizesIn (drop n os) (put (get_or os i k) o.1 u) x) e (subst (λ y. OptimizesIn (drop (i + 1) os) y x) o.4 h) in
+    let g : OptimizesIn (drop (suc i) os) (put (get_or os i k) o.1 u) x = subst (λ n. OptimizesIn (drop n os) (put (get_or os i k) o.1 u) x) e
+    (subst (λ y. OptimizesIn (drop (i + 1) os) y x) o.4 h) in
     subst (λ l. OptimizesIn l u x) (sym (drop-cons os i k w)) (next (get_or os i k) (drop (suc i) os) u o.0 o.1 x o.2 o.3 g)
 
 pub none_left : (os : List ℕ) (i : ℕ) (u : Tree) → i ≡ length os → OptimizesIn (drop i os) u u

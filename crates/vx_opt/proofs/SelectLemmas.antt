@@ -32,18 +32,23 @@ slice_kept : (a b : ℕ) (t u : Tree) → Keeps t u → Keeps (slice_of a b t) (
 slice_kept a b t u h = subst (λ ty. Keeps (slice_of a b t) (node ty (b - a) (slice a b) (slot u no_slots))) h.same_type (put_keeps 0 t u (slice_of a b t) h)
 
 filter_kept : (bits : List Bool) (t u : Tree) → Keeps t u → Keeps (filter_of bits t) (filter_of bits u)
-filter_kept bits t u h = subst (λ ty. Keeps (filter_of bits t) (node ty (true_count bits) (filter bits) (slot u no_slots))) h.same_type (put_keeps 0 t u (filter_of bits t) h)
+filter_kept bits t u h = subst (λ ty. Keeps (filter_of bits t) (node ty (true_count bits) (filter bits) (slot u no_slots))) h.same_type
+    (put_keeps 0 t u (filter_of bits t) h)
 
-pub slice_again : (t u v : Tree) (a b c d : ℕ) → IsRange a b t → IsRange c d (slice_of a b t) → Keeps (slice_of a b t) u → Keeps (slice_of c d u) v → Keeps (slice_of (a + c) (a + d) t) v
+pub slice_again : (t u v : Tree) (a b c d : ℕ) → IsRange a b t → IsRange c d (slice_of a b t) → Keeps (slice_of a b t) u → Keeps (slice_of c d u) v
+    → Keeps (slice_of (a + c) (a + d) t) v
 slice_again t u v a b c d r s h k =
     let one = slice_of (a + c) (a + d) t in
     let two = slice_of c d (slice_of a b t) in
-    let first : Keeps one two = (exactly_by one two refl (omega arith) (sym (slice_twice t a b c d r.0 r.1 s.0 s.1)) (λ x. part_clean c d (slice_of a b t) (part_clean a b t x.1.0))).keeps in
+    let first : Keeps one two = (exactly_by one two refl (omega arith) (sym (slice_twice t a b c d r.0 r.1 s.0 s.1))
+    (λ x. part_clean c d (slice_of a b t) (part_clean a b t x.1.0))).keeps in
     keeps_trans one (slice_of c d u) v (keeps_trans one two (slice_of c d u) first (slice_kept c d (slice_of a b t) u h)) k
 
-pub filter_again : (t u v : Tree) (outer inner : List Bool) → IsMaskOf inner (filter_of outer t) → Keeps (filter_of outer t) u → Keeps (filter_of inner u) v → Keeps (filter_of (combined outer inner) t) v
+pub filter_again : (t u v : Tree) (outer inner : List Bool) → IsMaskOf inner (filter_of outer t) → Keeps (filter_of outer t) u → Keeps (filter_of inner u) v
+    → Keeps (filter_of (combined outer inner) t) v
 filter_again t u v outer inner m h k =
     let one = filter_of (combined outer inner) t in
     let two = filter_of inner (filter_of outer t) in
-    let first : Keeps one two = (exactly_by one two refl (true_count-combined outer inner (omega (arith, m))) (sym (filter_twice t outer inner)) (λ x. filter_clean inner (filter_of outer t) (filter_clean outer t x.1.0))).keeps in
+    let first : Keeps one two = (exactly_by one two refl (true_count-combined outer inner (omega (arith, m))) (sym (filter_twice t outer inner))
+    (λ x. filter_clean inner (filter_of outer t) (filter_clean outer t x.1.0))).keeps in
     keeps_trans one (filter_of inner u) v (keeps_trans one two (filter_of inner u) first (filter_kept inner (filter_of outer t) u h)) k

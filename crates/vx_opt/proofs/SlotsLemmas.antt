@@ -21,7 +21,8 @@ holds_some (Some t ∷ xs) (suc i) c d h e = holds_some xs i c d (omega arith) e
 pub counted_slots : (xs : List (Option Tree)) (t : Tree) → slots_of xs ≡ slots t → length xs ≡ count_slots (slots t)
 counted_slots xs t e = sym (slots-length xs) ∙ ap count_slots e
 
-pub child_found : (xs : List (Option Tree)) (t c : Tree) (i : ℕ) (k : Option Tree) → slots_of xs ≡ slots t → i < length xs → get_or xs i k ≡ Some c → HasSlot i c t
+pub child_found : (xs : List (Option Tree)) (t c : Tree) (i : ℕ) (k : Option Tree) → slots_of xs ≡ slots t → i < length xs → get_or xs i k ≡ Some c
+    → HasSlot i c t
 child_found xs (node ty n d ss) c i k e w h = subst (HoldsAt i c) e (holds_some xs i c k w h)
 
 pub no_child : (xs : List (Option Tree)) (t : Tree) (i : ℕ) (k : Option Tree) → slots_of xs ≡ slots t → get_or xs i k ≡ None → IsPresent i t → ⊥

@@ -40,7 +40,8 @@ first_quiet c t e h u os (F8 ty mty n k bits x vs) = absurd (cc (none_of (node m
 first_quiet c t e h u os (M1 ty mty n k x m vs) = absurd (cc (none_of (node mty k enc.masked (slot x vs)) c (enc.function fn_of.Mask) e h))
 first_quiet c t e h u os (K1 ty s n k target v w g) = absurd (cc (none_of (node s k (enc.constant v) no_slots) c (enc.function (fn_of.Cast target)) e h))
 first_quiet c t e h u os (K2 ty s n k v w g) = absurd (cc (none_of (node s k (enc.constant v) no_slots) c (enc.function fn_of.Not) e h))
-first_quiet c t e h u os (K3 ty s r q n i j k options x y z w g) = absurd (cc (none_of (node s i (enc.constant x) no_slots) c (enc.function (fn_of.Between options)) e h))
+first_quiet c t e h u os (K3 ty s r q n i j k options x y z w g) = absurd (cc (none_of (node s i (enc.constant x) no_slots) c
+    (enc.function (fn_of.Between options)) e h))
 first_quiet c t e h u os (K4 ty s r n j k x y w g) = absurd (cc (none_of (node s j (enc.constant x) no_slots) c (enc.function fn_of.FillNull) e h))
 
 child_quiet : (i : ℕ) (c t : Tree) → HasSlot i c t → has_row (datum t) (datum c) ≡ false → IsQuiet (Some i) t
@@ -74,7 +75,8 @@ no_rows (enc.filter bits) d s f m k = f
 no_rows (enc.function g) d s f m k = λ i. (m i && is_mask g) || (k i && folds g)
 no_rows _ d s f m k = refl
 
-pub quiet : (i : ℕ) (d : Data) (c t : Tree) → d ≡ datum c → HasSlot i c t → lets_slice d ≡ false → lets_filter d ≡ false → is_masked d ≡ false → is_constant d ≡ false
+pub quiet : (i : ℕ) (d : Data) (c t : Tree) → d ≡ datum c → HasSlot i c t → lets_slice d ≡ false → lets_filter d ≡ false → is_masked d ≡ false
+    → is_constant d ≡ false
     → IsQuiet (Some i) t
 quiet i d c t e held s f m k = quiet_by i d c t e held (no_rows (datum t) d s f m k)
 
@@ -83,7 +85,8 @@ function_rows f (enc.slice a b) s h = absurd (cc (s))
 function_rows f (enc.filter bits) s h = absurd (cc (h))
 function_rows f _ s h = refl
 
-pub function_quiet : (i : ℕ) (f : ScalarFnRef) (c t : Tree) → enc.function f ≡ datum c → HasSlot i c t → is_slice (datum t) ≡ false → is_filter (datum t) ≡ false → IsQuiet (Some i) t
+pub function_quiet : (i : ℕ) (f : ScalarFnRef) (c t : Tree) → enc.function f ≡ datum c → HasSlot i c t → is_slice (datum t) ≡ false
+    → is_filter (datum t) ≡ false → IsQuiet (Some i) t
 function_quiet i f c t e held s h = quiet_by i (enc.function f) c t e held (function_rows f (datum t) s h)
 
 masked_rows : (p : Data) → is_slice p ≡ false → is_filter p ≡ false → applies is_mask p ≡ false → has_row p enc.masked ≡ false
@@ -92,7 +95,8 @@ masked_rows (enc.filter bits) s h m = absurd (cc (h))
 masked_rows (enc.function f) s h m = ap (λ b. b || false) m
 masked_rows _ s h m = refl
 
-pub masked_quiet : (i : ℕ) (c t : Tree) → enc.masked ≡ datum c → HasSlot i c t → is_slice (datum t) ≡ false → is_filter (datum t) ≡ false → applies is_mask (datum t) ≡ false
+pub masked_quiet : (i : ℕ) (c t : Tree) → enc.masked ≡ datum c → HasSlot i c t → is_slice (datum t) ≡ false → is_filter (datum t) ≡ false
+    → applies is_mask (datum t) ≡ false
     → IsQuiet (Some i) t
 masked_quiet i c t e held s h m = quiet_by i enc.masked c t e held (masked_rows (datum t) s h m)
 
@@ -110,7 +114,8 @@ constant_rows v (enc.filter bits) b c n h k s = absurd (cc (h))
 constant_rows v (enc.function f) b c n h k s = unfolded f b c n k
 constant_rows v _ b c n h k s = refl
 
-pub constant_quiet : (i : ℕ) (v : Typed) (x t : Tree) → enc.constant v ≡ datum x → HasSlot i x t → applies is_between (datum t) ≡ false → applies is_cast (datum t) ≡ false
+pub constant_quiet : (i : ℕ) (v : Typed) (x t : Tree) → enc.constant v ≡ datum x → HasSlot i x t → applies is_between (datum t) ≡ false
+    → applies is_cast (datum t) ≡ false
     → applies is_fill_null (datum t) ≡ false → is_filter (datum t) ≡ false → applies is_not (datum t) ≡ false → is_slice (datum t) ≡ false → IsQuiet (Some i) t
 constant_quiet i v x t e held b c n h k s = quiet_by i (enc.constant v) x t e held (constant_rows v (datum t) b c n h k s)
 

@@ -18,7 +18,8 @@ module _ (outer inner : List Bool) (long : length inner ≡ true_count outer) wh
   there : (o : Option Mask) → o ≡ both_by (length inner == true_count outer) (combined outer inner) → o ≡ Some (mask_of (combined outer inner))
   there o e = found (length inner == true_count outer) o ((unsigned_Decides (length inner) (true_count outer)).1 long) e
 
-  pub both_is : (o : Option Mask) (m : Mask) → o ≡ both_by (length inner == true_count outer) (combined outer inner) → o ≡ Some m → bits_in m ≡ combined outer inner
+  pub both_is : (o : Option Mask) (m : Mask) → o ≡ both_by (length inner == true_count outer) (combined outer inner) → o ≡ Some m
+      → bits_in m ≡ combined outer inner
   both_is o m e h = let same : m ≡ mask_of (combined outer inner) = cc (there o e, h) in ap bits_in same ∙ bits_in_mask_of (combined outer inner)
 
 pub combined_long : (outer inner : List Bool) (m : Mask) (n : ℕ) → bits_in m ≡ combined outer inner → length outer ≡ n → length (bits_in m) ≡ n

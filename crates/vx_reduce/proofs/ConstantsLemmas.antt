@@ -102,7 +102,8 @@ constant_type : (t : Tree) (v : Typed) → IsWell t → datum t ≡ enc.constant
 constant_type (node ty n (enc.constant u) ss) v w e = let same : u ≡ v = cc (e) in w.0.0 ∙ ap (λ x. x.of_type) same
 constant_type (node ty n _ ss) v w e = absurd (cc (e))
 
-types_are : (n : ℕ) (ss : Slots) (tys : List DataType) (vs : List Typed) → AreWell ss → shapes ss ≡ map (λ s. Some (shape s n)) tys → constant_values ss ≡ Some vs
+types_are : (n : ℕ) (ss : Slots) (tys : List DataType) (vs : List Typed) → AreWell ss → shapes ss ≡ map (λ s. Some (shape s n)) tys
+    → constant_values ss ≡ Some vs
     → map (λ v. v.of_type) vs ≡ tys
 types_are n no_slots [] vs w s e = let none : [] ≡ vs = cc (e) in ap (map (λ v. v.of_type)) (sym none)
 types_are n no_slots (ty ∷ tys) vs w s e = absurd (cc (s))
@@ -129,7 +130,8 @@ module _ (ty : DataType) (n : ℕ) (f : ScalarFnRef) (ss : Slots) (t : Tree) (vs
       let same : x.of_type ≡ ty = cc (typed, folded_type) in
       (vs, x.value, e, subst (λ s. apply f s (map (λ v. value v.value) vs) ≡ value x.value) same h, made ∙ ap (λ s. constants s x.value n) same)
 
-  pub folded_none : ((s : DataType) → return_type f (map (λ v. v.of_type) vs) ≡ Some s → apply f s (map (λ v. value v.value) vs) ≡ fault) → IsFolded f ty n ss None
+  pub folded_none : ((s : DataType) → return_type f (map (λ v. v.of_type) vs) ≡ Some s → apply f s (map (λ v. value v.value) vs) ≡ fault)
+      → IsFolded f ty n ss None
   folded_none all ws h =
       let same : vs ≡ ws = cc (e, h) in
       subst (λ us. apply f ty (map (λ v. value v.value) us) ≡ fault) same (all ty folded_type)
@@ -144,7 +146,8 @@ shaped n (ty ∷ tys) = ap suc (shaped n tys)
 pub counted : (ty : DataType) (n : ℕ) (f : ScalarFnRef) (ss : Slots) → IsNode ty n (enc.function f) (shapes ss) → length (shapes ss) ≡ arity f
 counted ty n f ss w = ap length w.1 ∙ shaped n w.0 ∙ (meaning f).taken w.0 ty w.2
 
-row_at : (ty : DataType) (n : ℕ) (f : ScalarFnRef) (ss ts : Slots) (u v : Tree) (os : List ℕ) → Row (Some 0) (node ty n (enc.function f) ts) u [] → ss ≡ ts → v ≡ u → os ≡ []
+row_at : (ty : DataType) (n : ℕ) (f : ScalarFnRef) (ss ts : Slots) (u v : Tree) (os : List ℕ) → Row (Some 0) (node ty n (enc.function f) ts) u [] → ss ≡ ts
+    → v ≡ u → os ≡ []
     → Row (Some 0) (node ty n (enc.function f) ss) v os
 row_at ty n f ss ts u v os h e same none =
     row_by (Some 0) (node ty n (enc.function f) ts) (node ty n (enc.function f) ss) u v [] os h (ap (node ty n (enc.function f)) (sym e)) (sym same) (sym none)
@@ -184,6 +187,7 @@ folded_by ty n f ss h none u os (K2 ty' s n' k v w e) = absurd (cc (none (v ∷ 
 folded_by ty n f ss h none u os (K3 ty' s t r n' i j k options x y z w e) = absurd (cc (none (x ∷ y ∷ z ∷ []) refl, e))
 folded_by ty n f ss h none u os (K4 ty' s t n' j k x y w e) = absurd (cc (none (x ∷ y ∷ []) refl, e))
 
-pub folded_quiet : (ty : DataType) (n : ℕ) (f : ScalarFnRef) (ss : Slots) (t : Tree) → t ≡ node ty n (enc.function f) ss → folds f ≡ true → IsFolded f ty n ss None
+pub folded_quiet : (ty : DataType) (n : ℕ) (f : ScalarFnRef) (ss : Slots) (t : Tree) → t ≡ node ty n (enc.function f) ss → folds f ≡ true
+    → IsFolded f ty n ss None
     → IsQuiet (Some 0) t
 folded_quiet ty n f ss t is h none = subst (IsQuiet (Some 0)) (sym is) (folded_by ty n f ss h none)

@@ -116,7 +116,8 @@ fit_S5 a b x c s u v w os e p slices parts made g =
     made ∙ (λ i. node (dtype (e i)) (len (slices i)) enc.masked (slots_of (Some (slices i) ∷ parts i ∷ [])))
     ∙ ap (node ty (b - a) enc.masked) (masked_mapped (part_of a b) (slice_of a b c) v) in
     row_by (Some 0) (slice_of a b (masked_of c v)) (slice_of a b x) (node ty (b - a) enc.masked told) u (present_from 0 told) os
-    (S5 ty ty (b - a) a b (len c) c vs (subst (λ y. IsPart a b (len y)) e p)) (ap (slice_of a b) (sym e)) (sym made) (sym (g ∙ ap (λ y. present_from 0 (slots y)) made))
+    (S5 ty ty (b - a) a b (len c) c vs (subst (λ y. IsPart a b (len y)) e p)) (ap (slice_of a b) (sym e)) (sym made)
+    (sym (g ∙ ap (λ y. present_from 0 (slots y)) made))
 
 -- ---- of a child for a filter
 
@@ -133,10 +134,12 @@ fit_F6 bits x c u os like f g =
     (F6 v.of_type v.of_type (true_count bits) (len x) bits v) (ap (filter_of bits) (sym like.1)) (sym (f ∙ like.2)) (sym g)
 
 pub fit_F7 : (k : ℕ) (bits : List Bool) (ty : DataType) (f : ScalarFnRef) (ss us : Slots) (x u : Tree) (os : List ℕ) → x ≡ node ty k (enc.function f) ss
-    → us ≡ map_slots (choice_of bits) ss → u ≡ node ty (true_count bits) (enc.function f) us → os ≡ present_from 0 (slots u) → Row (Some 0) (filter_of bits x) u os
+    → us ≡ map_slots (choice_of bits) ss → u ≡ node ty (true_count bits) (enc.function f) us → os ≡ present_from 0 (slots u)
+    → Row (Some 0) (filter_of bits x) u os
 fit_F7 k bits ty f ss us x u os e m made g =
     let made = made ∙ ap (node ty (true_count bits) (enc.function f)) m in
-    row_by (Some 0) (filter_of bits (node ty k (enc.function f) ss)) (filter_of bits x) (node ty (true_count bits) (enc.function f) (map_slots (choice_of bits) ss)) u
+    row_by (Some 0) (filter_of bits (node ty k (enc.function f) ss)) (filter_of bits x)
+    (node ty (true_count bits) (enc.function f) (map_slots (choice_of bits) ss)) u
     (present_from 0 (map_slots (choice_of bits) ss)) os (F7 ty ty (true_count bits) k bits f ss)
     (ap (filter_of bits) (sym e)) (sym made) (sym (g ∙ ap (λ y. present_from 0 (slots y)) made))
 

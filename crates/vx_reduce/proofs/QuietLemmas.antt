@@ -16,7 +16,8 @@ use Rattle.vx_rule.specs.Rules.{IsQuiet, F1, F2, F3, C1, N1_null, N1_valid, S_wh
 
 -- ---- the node itself
 
-pub filter_quiet : (bits : List Bool) (c : Tree) → is_all_true bits ≡ false → (true_count bits ≡ 0 → ⊥) → ((a b : ℕ) → IsRun bits a b → ⊥) → IsQuiet None (filter_of bits c)
+pub filter_quiet : (bits : List Bool) (c : Tree) → is_all_true bits ≡ false → (true_count bits ≡ 0 → ⊥) → ((a b : ℕ) → IsRun bits a b → ⊥)
+    → IsQuiet None (filter_of bits c)
 filter_quiet bits c some more apart u os (F1 ty n m x e) = absurd (cc (some, e))
 filter_quiet bits c some more apart u os (F2 ty n m x e z) = more z
 filter_quiet bits c some more apart u os (F3 ty n m x a b e r) = apart a b r
@@ -33,7 +34,8 @@ function_own_quiet ty n f ss h u os (C1 ty' n' target c e) = absurd (cc (h))
 function_own_quiet ty n f ss h u os (N1_null ty' n' c e) = absurd (cc (h))
 function_own_quiet ty n f ss h u os (N1_valid ty' n' c e) = absurd (cc (h))
 
-cast_by : (ty : DataType) (n : ℕ) (target : DType) (c : Tree) → (dtype c ≡ type_of target → ⊥) → IsQuiet None (node ty n (enc.function (fn_of.Cast target)) (slot c no_slots))
+cast_by : (ty : DataType) (n : ℕ) (target : DType) (c : Tree) → (dtype c ≡ type_of target → ⊥)
+    → IsQuiet None (node ty n (enc.function (fn_of.Cast target)) (slot c no_slots))
 cast_by ty n target c other u os (C1 ty' n' target' c' e) = other e
 
 pub cast_quiet : (ty : DataType) (n : ℕ) (target : DType) (t c : Tree) → t ≡ node ty n (enc.function (fn_of.Cast target)) (slot c no_slots)

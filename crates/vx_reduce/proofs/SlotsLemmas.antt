@@ -43,7 +43,8 @@ mapped_more f xs ys s r e h =
 
 -- ---- the lengths and types of slots
 
-pub long_at : (n : ℕ) (xs : List (Option Tree)) (i : ℕ) (d : Option Tree) → all_long n (shapes (slots_of xs)) ≡ true → i < length xs → IfSome (get_or xs i d) (λ c. len c ≡ n)
+pub long_at : (n : ℕ) (xs : List (Option Tree)) (i : ℕ) (d : Option Tree) → all_long n (shapes (slots_of xs)) ≡ true → i < length xs
+    → IfSome (get_or xs i d) (λ c. len c ≡ n)
 long_at n [] i d h k = absurd (omega (arith, k))
 long_at n (None ∷ xs) zero d h k = tt
 long_at n (None ∷ xs) (suc i) d h k = long_at n xs i d h (omega (arith, k))
@@ -51,7 +52,8 @@ long_at n (Some t ∷ xs) zero d h k = (unsigned_Decides (len t) n).0 (and_parts
 long_at n (Some t ∷ xs) (suc i) d h k = long_at n xs i d (and_parts (len t == n) (all_long n (shapes (slots_of xs))) h).1 (omega (arith, k))
 
 -- the same of a slot that is that one
-pub long_here : (n : ℕ) (xs : List (Option Tree)) (i : ℕ) (s : Option Tree) → all_long n (shapes (slots_of xs)) ≡ true → i < length xs → s ≡ get_or xs i s → IfSome s (λ c. len c ≡ n)
+pub long_here : (n : ℕ) (xs : List (Option Tree)) (i : ℕ) (s : Option Tree) → all_long n (shapes (slots_of xs)) ≡ true → i < length xs → s ≡ get_or xs i s
+    → IfSome s (λ c. len c ≡ n)
 long_here n xs i s h k e = subst (λ x. IfSome x (λ c. len c ≡ n)) (sym e) (long_at n xs i s h k)
 
 pub within : (b n : ℕ) (s : Option Tree) → b ≤ n → IfSome s (λ c. len c ≡ n) → IfSome s (λ c. b ≤ len c)
@@ -66,7 +68,8 @@ all_long_of : (n : ℕ) (tys : List DataType) → all_long n (map (λ s. Some (s
 all_long_of n [] = refl
 all_long_of n (ty ∷ tys) = ap (λ b. b && all_long n (map (λ s. Some (shape s n)) tys)) ((unsigned_Decides n n).1 refl) ∙ all_long_of n tys
 
-pub called_long : (ty : DataType) (n : ℕ) (f : ScalarFnRef) (xs : List (Option Tree)) → IsNode ty n (enc.function f) (shapes (slots_of xs)) → all_long n (shapes (slots_of xs)) ≡ true
+pub called_long : (ty : DataType) (n : ℕ) (f : ScalarFnRef) (xs : List (Option Tree)) → IsNode ty n (enc.function f) (shapes (slots_of xs))
+    → all_long n (shapes (slots_of xs)) ≡ true
 called_long ty n f xs w = ap (all_long n) w.1 ∙ all_long_of n w.0
 
 -- ---- the arguments of a function
@@ -135,7 +138,8 @@ sliced_shape : (a b : ℕ) (t : Tree) → MapsTo (slice_of a b) (b - a) t
 sliced_shape a b t = refl
 
 part_shape_by : (d : Data) (a b : ℕ) (t : Tree) → datum t ≡ d → IsWell t → shape_of (part_by d a b t) ≡ shape (dtype t) (b - a)
-part_shape_by (enc.constant v) a b (node ty n (enc.constant u) ss) e w = let same : u ≡ v = cc (e) in ap (λ x. shape x (b - a)) (sym (w.0.0 ∙ ap (λ x. x.of_type) same))
+part_shape_by (enc.constant v) a b (node ty n (enc.constant u) ss) e w = let same : u ≡ v = cc (e) in ap (λ x. shape x (b - a))
+    (sym (w.0.0 ∙ ap (λ x. x.of_type) same))
 part_shape_by (enc.constant v) a b (node ty n _ ss) e w = absurd (cc (e))
 part_shape_by _ a b t e w = refl
 
@@ -143,7 +147,8 @@ pub part_shape : (a b : ℕ) (t : Tree) → IsWell t → MapsTo (part_of a b) (b
 part_shape a b t w = part_shape_by (datum t) a b t refl w
 
 choice_shape_by : (d : Data) (bits : List Bool) (t : Tree) → datum t ≡ d → IsWell t → shape_of (choice_by d bits t) ≡ shape (dtype t) (true_count bits)
-choice_shape_by (enc.constant v) bits (node ty n (enc.constant u) ss) e w = let same : u ≡ v = cc (e) in ap (λ x. shape x (true_count bits)) (sym (w.0.0 ∙ ap (λ x. x.of_type) same))
+choice_shape_by (enc.constant v) bits (node ty n (enc.constant u) ss) e w = let same : u ≡ v = cc (e) in ap (λ x. shape x (true_count bits))
+    (sym (w.0.0 ∙ ap (λ x. x.of_type) same))
 choice_shape_by (enc.constant v) bits (node ty n _ ss) e w = absurd (cc (e))
 choice_shape_by _ bits t e w = refl
 
@@ -155,7 +160,8 @@ mapped_node : (g : Tree → Tree) (m : ℕ) (ty : DataType) (n : ℕ) (f : Scala
 mapped_node g m ty n f ss us h w ok e = (ok.0, ap shapes e ∙ shapes_mapped g n m ss ok.0 h w ok.1, ok.2)
 
 -- x is the function's node over ss
-module _ (ty : DataType) (n : ℕ) (f : ScalarFnRef) (ss us : Slots) (x : Tree) (well : IsWell x) (is : x ≡ node ty n (enc.function f) ss) (ok : IsNode ty n (enc.function f) (shapes ss)) where
+module _ (ty : DataType) (n : ℕ) (f : ScalarFnRef) (ss us : Slots) (x : Tree) (well : IsWell x) (is : x ≡ node ty n (enc.function f) ss)
+    (ok : IsNode ty n (enc.function f) (shapes ss)) where
   under : AreWell ss
   under = let w : IsWell (node ty n (enc.function f) ss) = subst IsWell is well in w.1
 
@@ -167,7 +173,8 @@ module _ (ty : DataType) (n : ℕ) (f : ScalarFnRef) (ss us : Slots) (x : Tree) 
 
 -- ---- the masked node over a mapped child and validity
 
-validity_mapped : (g : Tree → Tree) (m n : ℕ) (v : Option Tree) → ((t : Tree) → IsWell t → MapsTo g m t) → IfSome v IsWell → IsValidity Nullable n (option_map shape_of v)
+validity_mapped : (g : Tree → Tree) (m n : ℕ) (v : Option Tree) → ((t : Tree) → IsWell t → MapsTo g m t) → IfSome v IsWell
+    → IsValidity Nullable n (option_map shape_of v)
     → IsValidity Nullable m (option_map shape_of (option_map g v))
 validity_mapped g m n None h w ok = tt
 validity_mapped g m n (Some t) h w ok = h t w ∙ ap (λ s. shape s m) (let e : dtype t ≡ type.bool NonNullable = cc (ok) in e)
@@ -187,11 +194,18 @@ masked_parts c v ok =
     let same : ok.1 ≡ option_map shape_of v = cc (e) in
     subst (IsValidity Nullable (len c)) same ok.4
 
-masked_mapped_node : (g : Tree → Tree) (c s : Tree) (v w : Option Tree) → ((t : Tree) → IsWell t → MapsTo g (len s) t) → IsWell (masked_of c v) → dtype s ≡ dtype c → w ≡ option_map g v
+masked_mapped_node : (g : Tree → Tree) (c s : Tree) (v w : Option Tree) → ((t : Tree) → IsWell t → MapsTo g (len s) t) → IsWell (masked_of c v)
+    → dtype s ≡ dtype c → w ≡ option_map g v
     → IsNode (dtype (masked_of c v)) (len s) enc.masked (shapes (slots_of (Some s ∷ w ∷ [])))
 masked_mapped_node g c s v w h ok typed e =
-    let told = validity_mapped g (len s) (len c) v h (well_second c v ok.1) (masked_parts c v ok.0) in
-    (dtype s, option_map shape_of w, two_shapes s w, ap (with_nullability Nullable) (sym typed), subst (λ x. IsValidity Nullable (len s) (option_map shape_of x)) (sym e) told)
+    let told = validity_mapped g (len s) (len c) v h (well_second c v ok.1) (masked_parts c v ok.0) in (
+      dtype s,
+      option_map shape_of w,
+      two_shapes s w,
+      ap (with_nullability Nullable) (sym typed),
+      subst
+          (λ x. IsValidity Nullable (len s) (option_map shape_of x)) (sym e) told,
+    )
 
 len_by : (k n : ℕ) (v : Option Tree) → k ≡ n → IsValidity Nullable n (option_map shape_of v) → HasLen k v
 len_by k n None h w = tt
@@ -202,14 +216,16 @@ module _ (x c s : Tree) (v w : Option Tree) (well : IsWell x) (is : x ≡ masked
   known : IsWell (masked_of c v)
   known = subst IsWell is well
 
-  pub sliced_masked : (a b : ℕ) → s ≡ slice_of a b c → w ≡ option_map (part_of a b) v → IsNode (dtype x) (len s) enc.masked (shapes (slots_of (Some s ∷ w ∷ [])))
+  pub sliced_masked : (a b : ℕ) → s ≡ slice_of a b c → w ≡ option_map (part_of a b) v
+      → IsNode (dtype x) (len s) enc.masked (shapes (slots_of (Some s ∷ w ∷ [])))
   sliced_masked a b slices e =
       let here : IsNode (dtype (masked_of c v)) (b - a) enc.masked (shapes (slots_of (Some (slice_of a b c) ∷ w ∷ []))) =
       masked_mapped_node (part_of a b) c (slice_of a b c) v w (part_shape a b) known refl e in
       subst (λ y. IsNode (dtype y) (len s) enc.masked (shapes (slots_of (Some s ∷ w ∷ [])))) (sym is)
       (subst (λ y. IsNode (dtype (masked_of c v)) (len y) enc.masked (shapes (slots_of (Some y ∷ w ∷ [])))) (sym slices) here)
 
-  pub chosen_masked : (bits : List Bool) → s ≡ filter_of bits c → w ≡ option_map (choice_of bits) v → IsNode (dtype x) (len s) enc.masked (shapes (slots_of (Some s ∷ w ∷ [])))
+  pub chosen_masked : (bits : List Bool) → s ≡ filter_of bits c → w ≡ option_map (choice_of bits) v
+      → IsNode (dtype x) (len s) enc.masked (shapes (slots_of (Some s ∷ w ∷ [])))
   chosen_masked bits filters e =
       let here : IsNode (dtype (masked_of c v)) (true_count bits) enc.masked (shapes (slots_of (Some (filter_of bits c) ∷ w ∷ []))) =
       masked_mapped_node (choice_of bits) c (filter_of bits c) v w (choice_shape bits) known refl e in

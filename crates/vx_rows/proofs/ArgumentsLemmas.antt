@@ -21,7 +21,8 @@ pub any_memory : (xs : List Columnar) → AnyUnread xs OutOfMemory
 any_memory [] = refl
 any_memory (x ∷ xs) = inr (any_memory xs)
 
-pub any_unread : (xs : List Columnar) (k : ℕ) (x : Columnar) (e : VortexError) → k < length xs → x ≡ get_or xs k x → IsUnread (columnar_tree x) e → AnyUnread xs e
+pub any_unread : (xs : List Columnar) (k : ℕ) (x : Columnar) (e : VortexError) → k < length xs → x ≡ get_or xs k x → IsUnread (columnar_tree x) e
+    → AnyUnread xs e
 any_unread [] k x e lt is h = absurd (omega arith)
 any_unread (y ∷ xs) zero x e lt is h = inl (subst (λ z. IsUnread (columnar_tree z) e) is h)
 any_unread (y ∷ xs) (suc k) x e lt is h = inr (any_unread xs k x e (omega arith) is h)

@@ -73,10 +73,12 @@ row_known validity t i b stored is told =
 
 -- ---- of a column of booleans
 
-pub bits_row : (t : Tree) (v : Option Tree) (bits : List Bool) (i : ℕ) (b : Bool) → t ≡ column (dtype t) (len t) (bool bits) v → v ≡ None → slice_get bits i ≡ Some b
+pub bits_row : (t : Tree) (v : Option Tree) (bits : List Bool) (i : ℕ) (b : Bool) → t ≡ column (dtype t) (len t) (bool bits) v → v ≡ None
+    → slice_get bits i ≡ Some b
     → slice_get (rows t) i ≡ Some (value (boolean b))
 bits_row t v bits i b is none there =
-    ap (λ u. slice_get (rows u) i) (is ∙ ap (column (dtype t) (len t) (bool bits)) none) ∙ slice_get-map (λ x. value (boolean x)) bits i ∙ ap (option_map (λ x. value (boolean x))) there
+    ap (λ u. slice_get (rows u) i) (is ∙ ap (column (dtype t) (len t) (bool bits)) none) ∙ slice_get-map (λ x. value (boolean x)) bits i
+    ∙ ap (option_map (λ x. value (boolean x))) there
 
 -- a constant
 pub constant_truths : (t : Tree) (s : Typed) (b : Bool) (bits : List Bool) → t ≡ constant_of s (len t) → s.value ≡ boolean b → bits ≡ replicate (len t) b

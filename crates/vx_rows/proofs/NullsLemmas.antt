@@ -69,7 +69,8 @@ flat_taken s ty n v h typed =
 pub bytes_taken : (st : Storage) (ty : DataType) (rs : List (List ℕ)) (v : Validity) → HasRows v (length rs) → are_bytes_of st rs ≡ true
     → ty ≡ with_nullability (nullability_by v) (bytes_type st) → bytes_refusal ty rs v ≡ None
 bytes_taken storage.Text ty rs v h k e =
-    subst (λ t. bytes_refusal t rs v ≡ None) (sym e) (none_refused _ _ (flat_taken (utf8 NonNullable) (utf8 (nullability_by v)) (length rs) v h refl) (none_unless _ _ k))
+    subst (λ t. bytes_refusal t rs v ≡ None) (sym e) (none_refused _ _ (flat_taken (utf8 NonNullable) (utf8 (nullability_by v)) (length rs) v h refl)
+    (none_unless _ _ k))
 bytes_taken _ ty rs v h k e =
     subst (λ t. bytes_refusal t rs v ≡ None) (sym e)
     (none_refused _ _ (flat_taken (binary NonNullable) (binary (nullability_by v)) (length rs) v h refl) refl)
@@ -86,7 +87,8 @@ decimals_taken d ty w zs v h k e =
 
 -- its cells by row
 told_row : {X : Type 0} (read : X → Value) (d : X) (bits : List Bool) (xs : List X) (i : ℕ) → i < length xs → length bits ≡ length xs
-    → get_or (valid_cells (map (λ b. value (boolean b)) bits) (map (λ x. value (read x)) xs)) i fault ≡ null_unless (bit_row bits i) (value (read (get_or xs i d)))
+    → get_or (valid_cells (map (λ b. value (boolean b)) bits) (map (λ x. value (read x)) xs)) i fault ≡ null_unless (bit_row bits i)
+    (value (read (get_or xs i d)))
 told_row read d [] [] i lt e = absurd (omega arith)
 told_row read d [] (x ∷ xs) i lt e = absurd (omega arith)
 told_row read d (b ∷ bits) [] i lt e = absurd (omega arith)
@@ -111,7 +113,8 @@ abbrev pub AreCells : {X : Type 0} → DataType → (X → Value) → (List X �
 AreCells {X = X} ty read of_items =
     (n : ℕ) (xs : List X) (css : List (List Cell)) → node_cells ty n (of_items xs) css ≡ valid_cells (cells_at css 0) (map (λ x. value (read x)) xs)
 
-module _ (c : Columnar) (v : Option Tree) (valid : ValidRows) (told : AreTold (len (columnar_tree c)) v valid) (same : nullability_in valid ≡ nullability_of (dtype (columnar_tree c)))
+module _ (c : Columnar) (v : Option Tree) (valid : ValidRows) (told : AreTold (len (columnar_tree c)) v valid)
+    (same : nullability_in valid ≡ nullability_of (dtype (columnar_tree c)))
     (sized : HasValidity valid (len (columnar_tree c))) (array : Tree) (is : array ≡ columnar_tree c) (well : IsNodeOf array) where
   -- the column, as it is stored
   shown_by : (d : Data) → array ≡ column (dtype array) (len array) d v → columnar_tree c ≡ column (dtype (columnar_tree c)) (len (columnar_tree c)) d v
@@ -121,7 +124,8 @@ module _ (c : Columnar) (v : Option Tree) (valid : ValidRows) (told : AreTold (l
   flat_by d h = subst IsNodeOf (shown_by d h) (subst IsNodeOf is well)
 
   -- and each of its rows
-  rows_by : {X : Type 0} (read : X → Value) (d : X) (of_items : List X → Data) → AreCells (dtype (columnar_tree c)) read of_items → (xs : List X) → length xs ≡ len (columnar_tree c)
+  rows_by : {X : Type 0} (read : X → Value) (d : X) (of_items : List X → Data) → AreCells (dtype (columnar_tree c)) read of_items → (xs : List X)
+      → length xs ≡ len (columnar_tree c)
       → array ≡ column (dtype array) (len array) (of_items xs) v → (i : ℕ) → i < len (columnar_tree c)
       → get_or (rows (columnar_tree c)) i fault ≡ null_unless (is_valid valid i) (value (read (get_or xs i d)))
   rows_by read d of_items cells xs long is_column i lt =
@@ -155,9 +159,11 @@ module _ (c : Columnar) (v : Option Tree) (valid : ValidRows) (told : AreTold (l
         sized = (((refl, there.0, there.1, ap storage_of (typed ∙ flat.1) ∙ ap storage.Integers (sym kind)), ap nullability_of typed ∙ sym same), sized, tt);
       }
 
-  pub decimals_argument : (d : DecimalDType) (ds : DecimalRows) (w : DecimalType) (zs : List ℤ) (m : Nullability) → ((i : ℕ) → unscaled_at ds i ≡ get_or zs i (pos 0))
+  pub decimals_argument : (d : DecimalDType) (ds : DecimalRows) (w : DecimalType) (zs : List ℤ) (m : Nullability)
+      → ((i : ℕ) → unscaled_at ds i ≡ get_or zs i (pos 0))
       → dtype (columnar_tree c) ≡ decimal d.precision d.scale m
-      → ((n : ℕ) → length zs ≡ n → are_decimals_of (stored_decimals d) w zs ≡ true → HasDecimals d ds n) → array ≡ column (dtype array) (len array) (enc.decimals w zs) v
+      → ((n : ℕ) → length zs ≡ n → are_decimals_of (stored_decimals d) w zs ≡ true → HasDecimals d ds n)
+      → array ≡ column (dtype array) (len array) (enc.decimals w zs) v
       → IsArgument c (record { rows = stored.Decimals (record { decimal = d; rows = ds }); valid = valid })
   decimals_argument d ds w zs m read typed rows_of is_column =
       let t = columnar_tree c in
@@ -165,7 +171,8 @@ module _ (c : Columnar) (v : Option Tree) (valid : ValidRows) (told : AreTold (l
       let kind : storage_of (dtype t) ≡ stored_decimals d = ap storage_of typed in
       record {
         typed = typed ∙ ap (decimal d.precision d.scale) (ap nullability_of (sym typed) ∙ sym same);
-        shown = λ i lt. rows_by (λ z. of.decimal z (scale_of (storage_of (dtype t)))) (pos 0) (enc.decimals w) (λ n xs css. refl) zs (sym flat.0.2) is_column i lt
+        shown = λ i lt. rows_by (λ z. of.decimal z (scale_of (storage_of (dtype t)))) (pos 0) (enc.decimals w) (λ n xs css. refl) zs
+            (sym flat.0.2) is_column i lt
             ∙ ap (λ z. null_unless (is_valid valid i) (value (of.decimal z (scale_of (storage_of (dtype t)))))) (sym (read i))
             ∙ ap (λ st. null_unless (is_valid valid i) (value (of.decimal (unscaled_at ds i) (scale_of st)))) kind;
         sized = (rows_of (len t) (sym flat.0.2) (ap (λ st. are_decimals_of st w zs) (sym kind) ∙ flat.1), sized, tt);
@@ -204,7 +211,8 @@ flat_unread read (Some t) xs n e long (inr h) =
     inr (h.0, i, h.2, row_told (Some t) t i fault (get_or cs i fault) refl h.3 cs (slice_get-get_or cs i fault there))
 
 module _ (c : Columnar) (v : Option Tree) (e : VortexError) (array : Tree) (is : array ≡ columnar_tree c) (unread : AreUnread (len (columnar_tree c)) v e) where
-  pub column_unread : {X : Type 0} (read : X → Value) (of_items : List X → Data) → AreCells (dtype (columnar_tree c)) read of_items → (xs : List X) → length xs ≡ len array
+  pub column_unread : {X : Type 0} (read : X → Value) (of_items : List X → Data) → AreCells (dtype (columnar_tree c)) read of_items → (xs : List X)
+      → length xs ≡ len array
       → array ≡ column (dtype array) (len array) (of_items xs) v → IsUnread (columnar_tree c) e
   column_unread read of_items cells xs long is_column =
       let t = columnar_tree c in
@@ -231,8 +239,12 @@ null_nullable Nullable st v h e = refl
 null_nullable NonNullable st v h e = let no : false ≡ true = ap (is_stored NonNullable st) (sym e) ∙ h in absurd (cc)
 
 pub null_repeated : (s : Typed) (n : ℕ) → is_of s.of_type s.value ≡ true → is_null s.value ≡ true → IsRepeatedValidity s n (rows_valid.Bits (replicate n false))
-null_repeated s n typed h =
-    (length-replicate n false, null_nullable (nullability_of s.of_type) (storage_of s.of_type) s.value typed (null_is s.value h), λ i. false_row n i ∙ ap not (sym h))
+null_repeated s n typed h = (
+  length-replicate n false,
+  null_nullable (nullability_of s.of_type) (storage_of s.of_type) s.value typed (null_is s.value h),
+  λ i. false_row n i
+      ∙ ap not (sym h),
+)
 
 -- a value of type null isn't shown
 repeated_shown : (s : Typed) (a : ArgumentRows) (valid : ValidRows) (n : ℕ) → ((i : ℕ) → is_null s.value ≡ false → value_at a i ≡ s.value)
@@ -263,7 +275,8 @@ nulls_argument c bits t same h e =
       sized = (refl, ap length e ∙ length-replicate n false, λ i lt. ap (λ bs. bit_row bs i) e ∙ get_or-replicate n i false false lt);
     }
 
-pub constant_argument : (c : Columnar) (s : Typed) (a : ArgumentRows) (valid : ValidRows) → columnar_tree c ≡ constant_of s (len (columnar_tree c)) → IsRepeated s a
+pub constant_argument : (c : Columnar) (s : Typed) (a : ArgumentRows) (valid : ValidRows) → columnar_tree c ≡ constant_of s (len (columnar_tree c))
+    → IsRepeated s a
     → IsRepeatedValidity s (len (columnar_tree c)) valid → IsArgument c (record { rows = a; valid = valid })
 constant_argument c s a valid is stored valids =
     let n = len (columnar_tree c) in

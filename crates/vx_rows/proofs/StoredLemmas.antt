@@ -90,7 +90,8 @@ decimals_repeated s d z m is number typed =
 -- ---- of text and bytes
 
 -- their type by how they are stored
-pub column_of_bytes : (ty : DataType) → (storage_of ty ≡ Text) ⊎ (storage_of ty ≡ Bytes) → with_nullability (nullability_of ty) (bytes_type (storage_of ty)) ≡ ty
+pub column_of_bytes : (ty : DataType) → (storage_of ty ≡ Text) ⊎ (storage_of ty ≡ Bytes)
+    → with_nullability (nullability_of ty) (bytes_type (storage_of ty)) ≡ ty
 column_of_bytes (utf8 n) h = refl
 column_of_bytes (binary n) h = refl
 column_of_bytes _ (inl e) = absurd (cc)

@@ -58,7 +58,8 @@ counted_row bits i h lt = all_true_row bits i (all_true_yes bits h) lt
 
 -- ---- its cells
 
-all_true_cells : (bits : List Bool) (cs : List Cell) → is_all_true bits ≡ true → length cs ≡ length bits → cs ≡ valid_cells (map (λ b. value (boolean b)) bits) cs
+all_true_cells : (bits : List Bool) (cs : List Cell) → is_all_true bits ≡ true → length cs ≡ length bits
+    → cs ≡ valid_cells (map (λ b. value (boolean b)) bits) cs
 all_true_cells [] [] h l = refl
 all_true_cells [] (c ∷ cs) h l = absurd (omega arith)
 all_true_cells (b ∷ bits) [] h l = absurd (omega arith)
@@ -109,14 +110,16 @@ pub filled_cell : (b : Bool) (w : Value) → valid_cell (value (boolean b)) (val
 filled_cell true w = refl
 filled_cell false w = refl
 
-filled_from : (v : ℕ → Bool) (g : ℕ → Value) (s m : ℕ) → valid_cells (map (λ b. value (boolean b)) (map v (range_with_len s m))) (map (λ i. value (g i)) (range_with_len s m))
+filled_from : (v : ℕ → Bool) (g : ℕ → Value) (s m : ℕ) → valid_cells (map (λ b. value (boolean b)) (map v (range_with_len s m)))
+    (map (λ i. value (g i)) (range_with_len s m))
     ≡ map (λ i. null_unless (v i) (value (g i))) (range_with_len s m)
 filled_from v g s zero = refl
 filled_from v g s (suc m) = λ j. filled_cell (v s) (g s) j ∷ filled_from v g (s + 1) m j
 
 -- the cells of a column that stores the values of `g`
 pub filled_rows : (valid : ValidRows) (n : ℕ) (g : ℕ → Value) → HasValidity valid n
-    → valid_cells (validity_cells (child_in valid)) (map (λ i. value (g i)) (range_with_len 0 n)) ≡ map (λ i. null_unless (is_valid valid i) (value (g i))) (range_with_len 0 n)
+    → valid_cells (validity_cells (child_in valid)) (map (λ i. value (g i)) (range_with_len 0 n)) ≡ map (λ i. null_unless (is_valid valid i) (value (g i)))
+    (range_with_len 0 n)
 filled_rows (rows_valid.All m) n g sized = refl
 filled_rows (rows_valid.Bits bits) n g sized =
     let counted : length (map (λ i. value (g i)) (range_with_len 0 n)) ≡ length bits = length-map-range_with_len (λ i. value (g i)) 0 n ∙ sym sized in

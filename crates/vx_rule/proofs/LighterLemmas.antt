@@ -64,7 +64,8 @@ column_heavy zero ws h = absurd (omega (arith, h))
 column_heavy (suc n) ws h = refl
 
 -- a range of a column weighs at most twice as much as its slots, and 3
-range_light : (a b k : ℕ) (ty : DataType) (d : Data) (ss : Slots) → is_canonical d ≡ true → weight (column_range a b (node ty k d ss)) ≤ 3 + 2 * total (slots_weights ss)
+range_light : (a b k : ℕ) (ty : DataType) (d : Data) (ss : Slots) → is_canonical d ≡ true
+    → weight (column_range a b (node ty k d ss)) ≤ 3 + 2 * total (slots_weights ss)
 range_light a b k ty (enc.nulls) ss h = omega (arith, column_light (b - a) (slots_weights (map_slots (part_of a b) ss)), parts_light a b ss)
 range_light a b k ty (enc.bool bs) ss h = omega (arith, column_light (b - a) (slots_weights (map_slots (part_of a b) ss)), parts_light a b ss)
 range_light a b k ty (enc.primitive p zs) ss h = omega (arith, column_light (b - a) (slots_weights (map_slots (part_of a b) ss)), parts_light a b ss)
@@ -92,7 +93,12 @@ row_lighter w t u os (S_whole ty n a b c l z y) = omega (arith, weight_low c)
 row_lighter w t u os (S_empty ty n a b c l z y) = omega (arith, weight_low c, no_rows_light (enc.dtype c))
 row_lighter w t u os (S1 ty sty n a b k s r c p) = omega (arith, weight_low c)
 row_lighter w t u os (S2 ty cty n a b k v p) = omega arith
-row_lighter w t u os (S3 ty cty n a b k d ss h p) = omega (arith, range_light a b k cty d ss h, canonical_heavy k cty d ss h (omega (arith, p.some_rows, p.not_all)))
+row_lighter w t u os (S3 ty cty n a b k d ss h p) = omega (
+  arith,
+  range_light a b k cty d ss h,
+  canonical_heavy k cty d ss h
+      (omega (arith, p.some_rows, p.not_all)),
+)
 row_lighter w t u os (S4 ty fty n a b k f ss p) = omega (arith, slices_light a b ss)
 row_lighter w t u os (S5 ty mty n a b k c vs p) = omega (arith, parts_light a b vs)
 row_lighter w t u os (F5 ty fty n k outer inner c) = omega (arith, weight_low c)
@@ -115,8 +121,11 @@ present_are : (k : ℕ) (ss : Slots) (t : Tree) → ((j : ℕ) → IsPresentAt j
 present_are k no_slots t f = tt
 present_are k (absent ss) t f = present_are (k + 1) ss t (λ j h. let e : k + suc j ≡ k + 1 + j = omega arith in subst (λ n. IsPresent n t) e (f (suc j) h))
 present_are k (slot c ss) t f =
-    let z : k + 0 ≡ k = omega arith in
-    (subst (λ n. IsPresent n t) z (f 0 tt), present_are (k + 1) ss t (λ j h. let e : k + suc j ≡ k + 1 + j = omega arith in subst (λ n. IsPresent n t) e (f (suc j) h)))
+    let z : k + 0 ≡ k = omega arith in (
+      subst (λ n. IsPresent n t) z (f 0 tt),
+      present_are (k + 1) ss t (λ j h. let e : k + suc j ≡ k + 1 + j = omega arith in subst (λ n. IsPresent n t) e
+          (f (suc j) h)),
+    )
 
 all_present : (t : Tree) → ArePresent (present_in t) t
 all_present (node ty n d ss) = present_are 0 ss (node ty n d ss) (λ j h. rw zero-add h)

@@ -229,7 +229,8 @@ module _ (a b : ℕ) (x c : Tree) (v : Option Tree) (shown : x ≡ masked_of c v
         let kept : KeepsExactly (slice_of a b child) lazily =
         S5_keeps ty ty (b - a) a b (len c) c vs (subst (λ y. IsWell (slice_of a b y)) shown (sliced a b x well order bounds)) in
         let swapped : KeepsExactly lazily whole = put_exactly 0 (slice_of a b c) u lazily pushed.exactly in
-        let slots : slots_of (Some u ∷ w ∷ []) ≡ slot u (map_slots (part_of a b) vs) = ap (λ y. slots_of (Some u ∷ y ∷ [])) part ∙ masked_mapped (part_of a b) u v in
+        let slots : slots_of (Some u ∷ w ∷ []) ≡ slot u (map_slots (part_of a b) vs) = ap (λ y. slots_of (Some u ∷ y ∷ [])) part
+        ∙ masked_mapped (part_of a b) u v in
         let made : t ≡ whole = e ∙ (let sized = sym pushed.exactly.keeps.same_len in λ i. node (dtype (shown i)) (sized i) enc.masked (slots i)) in
         subst (λ y. IsPushed a b y t) (sym shown) (subst (IsPushed a b child) (sym made) (record {
           exactly = exactly_trans (slice_of a b child) lazily whole kept swapped;

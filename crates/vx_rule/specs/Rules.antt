@@ -52,7 +52,8 @@ pub data Row : Option ℕ → Tree → Tree → List ℕ → Type 0 where
   F3 : (ty : DataType) (n : ℕ) (bits : List Bool) (c : Tree) (a b : ℕ) → is_all_true bits ≡ false → IsRun bits a b
       → Row None (node ty n (enc.filter bits) (slot c no_slots)) (slice_of a b c) []
   -- a cast to the child's own type is the child
-  C1 : (ty : DataType) (n : ℕ) (target : DType) (c : Tree) → dtype c ≡ type_of target → Row None (node ty n (enc.function (fn_of.Cast target)) (slot c no_slots)) c []
+  C1 : (ty : DataType) (n : ℕ) (target : DType) (c : Tree) → dtype c ≡ type_of target
+      → Row None (node ty n (enc.function (fn_of.Cast target)) (slot c no_slots)) c []
   -- a test for null of a non-nullable child is a constant
   N1_null : (ty : DataType) (n : ℕ) (c : Tree) → nullability_of (dtype c) ≡ NonNullable
       → Row None (node ty n (enc.function fn_of.IsNull) (slot c no_slots)) (truths false n) []
@@ -71,10 +72,12 @@ pub data Row : Option ℕ → Tree → Tree → List ℕ → Type 0 where
       → Row (Some 0) (node ty n (enc.slice a b) (slot (node cty k (enc.constant v) no_slots) no_slots)) (constant_of v (b - a)) []
   -- of a canonical column, one of that range
   S3 : (ty cty : DataType) (n a b k : ℕ) (d : Data) (ss : Slots) → is_canonical d ≡ true → IsPart a b k
-      → Row (Some 0) (node ty n (enc.slice a b) (slot (node cty k d ss) no_slots)) (column_range a b (node cty k d ss)) (present_in (column_range a b (node cty k d ss)))
+      → Row (Some 0) (node ty n (enc.slice a b) (slot (node cty k d ss) no_slots)) (column_range a b (node cty k d ss))
+      (present_in (column_range a b (node cty k d ss)))
   -- of a function, the function of slices
   S4 : (ty fty : DataType) (n a b k : ℕ) (f : ScalarFnRef) (ss : Slots) → IsPart a b k
-      → Row (Some 0) (node ty n (enc.slice a b) (slot (node fty k (enc.function f) ss) no_slots)) (node fty (b - a) (enc.function f) (map_slots (slice_of a b) ss)) (present_from 0 (map_slots (slice_of a b) ss))
+      → Row (Some 0) (node ty n (enc.slice a b) (slot (node fty k (enc.function f) ss) no_slots))
+      (node fty (b - a) (enc.function f) (map_slots (slice_of a b) ss)) (present_from 0 (map_slots (slice_of a b) ss))
   -- of a masked array, a masked slice
   S5 : (ty mty : DataType) (n a b k : ℕ) (c : Tree) (vs : Slots) → IsPart a b k
       → Row (Some 0) (node ty n (enc.slice a b) (slot (node mty k enc.masked (slot c vs)) no_slots))
@@ -105,7 +108,8 @@ pub data Row : Option ℕ → Tree → Tree → List ℕ → Type 0 where
   K3 : (ty s t u : DataType) (n i j k : ℕ) (options : BetweenOptions) (x y z : Typed) (w : Value)
       → apply (fn_of.Between options) ty (value x.value ∷ value y.value ∷ value z.value ∷ []) ≡ value w
       → Row (Some 0) (node ty n (enc.function (fn_of.Between options))
-      (slot (node s i (enc.constant x) no_slots) (slot (node t j (enc.constant y) no_slots) (slot (node u k (enc.constant z) no_slots) no_slots)))) (constants ty w n) []
+      (slot (node s i (enc.constant x) no_slots) (slot (node t j (enc.constant y) no_slots) (slot (node u k (enc.constant z) no_slots) no_slots))))
+      (constants ty w n) []
   K4 : (ty s t : DataType) (n j k : ℕ) (x y : Typed) (w : Value) → apply fn_of.FillNull ty (value x.value ∷ value y.value ∷ []) ≡ value w
       → Row (Some 0) (node ty n (enc.function fn_of.FillNull) (slot (node s j (enc.constant x) no_slots) (slot (node t k (enc.constant y) no_slots) no_slots)))
       (constants ty w n) []

@@ -34,7 +34,8 @@ first_in other (slot t ss) = t
 module _ (bits : List Bool) (c : Tree) (counted_bits : length bits ≡ len c) (counted_rows : length (rows c) ≡ len c) where
   -- ---- it has no shortcut
 
-  none_short : 0 < true_count bits → is_all_true bits ≡ false → (is_canonical (datum c) ≡ true) ⊎ ((a b : ℕ) → IsRun bits a b → ⊥) → (u : Tree) → IsShort bits c u → ⊥
+  none_short : 0 < true_count bits → is_all_true bits ≡ false → (is_canonical (datum c) ≡ true) ⊎ ((a b : ℕ) → IsRun bits a b → ⊥) → (u : Tree)
+      → IsShort bits c u → ⊥
   none_short some not_all unready u (inl h) = absurd (omega (arith, some, h.0))
   none_short some not_all unready u (inr (inl h)) = absurd (cc (not_all, h.1))
   none_short some not_all (inl column) u (inr (inr h)) = absurd (cc (column, h.1))

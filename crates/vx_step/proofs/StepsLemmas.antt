@@ -54,27 +54,32 @@ pub slice_done : (a b : ℕ) (s t u : Tree) → t ≡ slice_of a b s → is_cano
     → IsDone t u
 slice_done a b s t u shown whole known c same =
     subst (λ x. IsDone x u) (sym shown)
-    (canonical_done (slice_of a b s) u known (unless_filter (slice_of a b s) refl) ((λ h. whole), tt) (subst (λ x. KeepsExactly x u) shown same) c refl (omega arith))
+    (canonical_done (slice_of a b s) u known (unless_filter (slice_of a b s) refl) ((λ h. whole), tt) (subst (λ x. KeepsExactly x u) shown same) c refl
+    (omega arith))
 
 -- the range of a column, as what is pushed down
-pub part_done : (a b : ℕ) (s t u : Tree) → t ≡ slice_of a b s → is_canonical (datum s) ≡ true → IsWell u → (is_canonical (datum s) ≡ true → is_canonical (datum u) ≡ true)
+pub part_done : (a b : ℕ) (s t u : Tree) → t ≡ slice_of a b s → is_canonical (datum s) ≡ true → IsWell u
+    → (is_canonical (datum s) ≡ true → is_canonical (datum u) ≡ true)
     → KeepsExactly (slice_of a b s) u → IsDone t u
 part_done a b s t u shown whole well kept same =
     let canonical : is_canonical (datum u) ≡ true = kept whole in
     slice_done a b s t u shown whole (column_known u well (canonical_columnar (datum u) canonical)) canonical (subst (λ x. KeepsExactly x u) (sym shown) same)
 
-pub masked_done : (c t u : Tree) (v : Option Tree) → t ≡ masked_of c v → is_canonical (datum c) ≡ true → IsColumn u → is_canonical (datum u) ≡ true → KeepsExactly t u
+pub masked_done : (c t u : Tree) (v : Option Tree) → t ≡ masked_of c v → is_canonical (datum c) ≡ true → IsColumn u → is_canonical (datum u) ≡ true
+    → KeepsExactly t u
     → IsDone t u
 masked_done c t u None shown whole known canonical same =
     subst (λ x. IsDone x u) (sym shown)
-    (canonical_done (masked_of c None) u known (unless_filter (masked_of c None) refl) ((λ h. whole), tt) (subst (λ x. KeepsExactly x u) shown same) canonical refl
+    (canonical_done (masked_of c None) u known (unless_filter (masked_of c None) refl) ((λ h. whole), tt)
+    (subst (λ x. KeepsExactly x u) shown same) canonical refl
     (omega arith))
 masked_done c t u (Some v) shown whole known canonical same =
     subst (λ x. IsDone x u) (sym shown)
     (canonical_done (masked_of c (Some v)) u known (unless_filter (masked_of c (Some v)) refl) ((λ h. whole), ((λ h. absurd (cc)), tt))
     (subst (λ x. KeepsExactly x u) shown same) canonical refl (omega arith))
 
-pub validity_done : (c t u : Tree) → t ≡ validity_in c → is_columnar (datum c) ≡ true → IsColumn u → is_canonical (datum u) ≡ true → KeepsExactly (validity_in c) u → IsDone t u
+pub validity_done : (c t u : Tree) → t ≡ validity_in c → is_columnar (datum c) ≡ true → IsColumn u → is_canonical (datum u) ≡ true
+    → KeepsExactly (validity_in c) u → IsDone t u
 validity_done c t u shown whole known canonical same =
     subst (λ x. IsDone x u) (sym shown)
     (canonical_done (validity_in c) u known (unless_filter (validity_in c) refl) ((λ h. whole), tt) same canonical refl (omega arith))
@@ -152,7 +157,8 @@ module _ (f : ScalarFnRef) (t : Tree) (ss : Slots) (ts : List Tree) (shown : t �
       let type : dtype u ≡ dtype t = some_same (dtype u) (dtype t) (sym h.typed ∙ typed) in
       let same : call_of f (dtype u) (len t) ts ≡ t = ap (λ x. call_of f x (len t) ts) type ∙ whole in
       let own : base_cost (datum t) ≡ 3 = ap (λ x. base_cost (datum x)) shown in
-      column_done t u known (subst HasNoShortcut (sym shown) (unless_filter (node (dtype t) (len t) (function f) ss) refl)) (ready columns) (subst (λ x. KeepsExactly x u) same h.exactly) c (h.constant_kept ∙ sym gives) (omega (arith, known.settled, own))
+      column_done t u known (subst HasNoShortcut (sym shown) (unless_filter (node (dtype t) (len t) (function f) ss) refl)) (ready columns)
+      (subst (λ x. KeepsExactly x u) same h.exactly) c (h.constant_kept ∙ sym gives) (omega (arith, known.settled, own))
 
   pub unapplied_stopped : (e : VortexError) → IsUnapplied f ts (len t) e → IsStopped t e
   unapplied_stopped e (inl m) = inl m

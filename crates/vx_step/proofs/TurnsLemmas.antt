@@ -61,7 +61,8 @@ awaited_put g (suc i) c (slot s ss) h w = awaited_put g i c ss h w.1
 pub take_falls : (i : ℕ) (c p : Tree) → IsHole i p → Awaits i (put i c p) → top p + top c < top (put i c p)
 take_falls i c (node ty n d ss) h w =
     let awaited = awaited_put (slot_target d) i c ss h w.1 in
-    let weighs : counted (is_executed (executed d) i) (slot_top (meets (slot_target d) c) (slot_cost d (cost c) (extra c))) ≡ slot_cost d (cost c) (extra c) = λ j.
+    let weighs : counted (is_executed (executed d) i) (slot_top (meets (slot_target d) c) (slot_cost d (cost c) (extra c))) ≡ slot_cost d (cost c)
+    (extra c) = λ j.
     counted (w.0 j) (slot_top (awaited j) (slot_cost d (cost c) (extra c))) in
     omega (arith, put_top d (executed d) i c ss h, top_paid c, weighs, slot_paid d (cost c) (extra c))
 

@@ -45,7 +45,8 @@ valid_counted [] cs h = refl
 valid_counted (v ∷ vs) [] h = absurd (omega arith)
 valid_counted (v ∷ vs) (c ∷ cs) h = ap suc (valid_counted vs cs (omega arith))
 
-by_validity : (m : Nullability) (n : ℕ) (v : Option Shape) (css : List (List Cell)) (cs : List Cell) → IsValidity m n v → AreCounted css (v ∷ []) → length cs ≡ n
+by_validity : (m : Nullability) (n : ℕ) (v : Option Shape) (css : List (List Cell)) (cs : List Cell) → IsValidity m n v → AreCounted css (v ∷ [])
+    → length cs ≡ n
     → length (valid_cells (cells_at css 0) cs) ≡ n
 by_validity m n v [] cs h k e = absurd (none v k)
   where
@@ -84,8 +85,10 @@ node_counted ty n enc.masked css ss h k = mask_counted h.0 n h.1 css h.4 (subst 
 node_counted ty n enc.is_valid css ss h k = length-map (cells_at css 0) shown_cell ∙ one_counted css h.0 n (subst (AreCounted css) h.1 k)
 node_counted ty n (enc.function f) css ss h k = length-map-range_with_len (λ i. apply f ty (row_at css i)) 0 n
 node_counted ty n enc.nulls css ss h k = length-replicate n (value null)
-node_counted ty n (enc.bool bs) css ss h k = flat_counted (bool NonNullable) _ ty n css ss (map (λ b. value (boolean b)) bs) h k (length-map bs (λ b. value (boolean b)))
-node_counted ty n (enc.primitive p zs) css ss h k = flat_counted (primitive p NonNullable) _ ty n css ss (map (λ z. value (integer z)) zs) h k (length-map zs (λ z. value (integer z)))
+node_counted ty n (enc.bool bs) css ss h k = flat_counted (bool NonNullable) _ ty n css ss (map (λ b. value (boolean b)) bs) h k
+    (length-map bs (λ b. value (boolean b)))
+node_counted ty n (enc.primitive p zs) css ss h k = flat_counted (primitive p NonNullable) _ ty n css ss (map (λ z. value (integer z)) zs) h k
+    (length-map zs (λ z. value (integer z)))
 node_counted ty n (enc.decimals w zs) css ss h k =
     let cell : ℤ → Cell = λ z. value (decimal z (scale_of (storage_of ty))) in
     flat_counted (decimal_type (storage_of ty)) _ ty n css ss (map cell zs) h.0 k (length-map zs cell)

@@ -51,7 +51,8 @@ module _ (n : Node) (well : IsNodeOf (tree_of n)) where
       λ j. node (h.0 j) n.len (e j) (slots_of (i j))
 
   -- a node with one child, of type s and m rows
-  pub child_is : (s : DataType) (m : ℕ) (z : Option Tree) (c : Tree) → shapes (slots_of n.slots.items) ≡ Some (shape s m) ∷ [] → z ≡ get_or n.slots.items 0 z → z ≡ Some c
+  pub child_is : (s : DataType) (m : ℕ) (z : Option Tree) (c : Tree) → shapes (slots_of n.slots.items) ≡ Some (shape s m) ∷ [] → z ≡ get_or n.slots.items 0 z
+      → z ≡ Some c
       → (n.slots.items ≡ Some c ∷ []) × (dtype c ≡ s) × (len c ≡ m)
   child_is s m z c h g e =
       let o = one_slot n.slots.items s m h in
@@ -79,7 +80,8 @@ module _ (n : Node) (well : IsNodeOf (tree_of n)) where
       let o = child_is v.0 n.len z c v.1 g s in
       λ j. node (v.2 j) (sym o.2 j) (e j) (slots_of (o.0 j))
 
-  pub kind_masked : (z w v : Option Tree) (c : Tree) → data_of n.encoding ≡ enc.masked → z ≡ get_or n.slots.items 0 z → z ≡ Some c → v ≡ get_or n.slots.items 1 w →
+  pub kind_masked : (z w v : Option Tree) (c : Tree) → data_of n.encoding ≡ enc.masked → z ≡ get_or n.slots.items 0 z → z ≡ Some c
+      → v ≡ get_or n.slots.items 1 w →
       (tree_of n ≡ masked_of c v) × IsNodeOf (tree_of n)
   kind_masked z w v c e g s i =
       let h = of_data enc.masked e in

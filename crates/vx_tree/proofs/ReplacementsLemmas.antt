@@ -66,11 +66,13 @@ none_found (Some u ∷ ss) (suc i) h = none_found ss i h
 module _ (xs : List (Option Tree)) (i : ℕ) (c t : Tree) (e : slots_of xs ≡ slots t) where
   pub slot_found : (x : Option Tree) → i < length xs → x ≡ get_or xs i x → with_slot_refusal i c t ≡ slot_refusal i (option_map shape_of x) (Some (shape_of c))
   slot_found x h g =
-      ap (λ z. found_refusal i (slice_get (shapes z) i) (Some (shape_of c))) (sym e) ∙ ap (λ z. found_refusal i z (Some (shape_of c))) (shape_found xs i x (slice_get_read xs (length xs) i x refl h g))
+      ap (λ z. found_refusal i (slice_get (shapes z) i) (Some (shape_of c))) (sym e)
+      ∙ ap (λ z. found_refusal i z (Some (shape_of c))) (shape_found xs i x (slice_get_read xs (length xs) i x refl h g))
 
   pub slot_not_found : length xs ≤ i → with_slot_refusal i c t ≡ Some (InvalidArgument SlotCount)
   slot_not_found h =
-      ap (λ z. found_refusal i (slice_get (shapes z) i) (Some (shape_of c))) (sym e) ∙ ap (λ z. found_refusal i z (Some (shape_of c))) (none_found xs i (slice_get_past xs i h))
+      ap (λ z. found_refusal i (slice_get (shapes z) i) (Some (shape_of c))) (sym e)
+      ∙ ap (λ z. found_refusal i z (Some (shape_of c))) (none_found xs i (slice_get_past xs i h))
 
 set_alike : (i j : ℕ) (c : Tree) (ss : Slots) → found_refusal j (slice_get (shapes ss) i) (Some (shape_of c)) ≡ None → shapes (set_slot i c ss) ≡ shapes ss
 set_alike i j c no_slots h = refl
@@ -96,9 +98,12 @@ module _ (xs ys : List (Option Tree)) (t : Tree) (e : slots_of ys ≡ slots t) w
   compared : with_slots_refusal (slots_of xs) t
       ≡ first_of_both (unless (length xs == length ys) (InvalidArgument SlotCount)) (each_refusal (shapes (slots_of ys)) (shapes (slots_of xs)))
   compared =
-      ap (λ z. first_of_both (unless (length (shapes (slots_of xs)) == length (shapes z)) (InvalidArgument SlotCount)) (each_refusal (shapes z) (shapes (slots_of xs)))) (sym e)
-      ∙ ap (λ z. first_of_both (unless (length (shapes (slots_of xs)) == z) (InvalidArgument SlotCount)) (each_refusal (shapes (slots_of ys)) (shapes (slots_of xs)))) (count_slots ys)
-      ∙ ap (λ z. first_of_both (unless (z == length ys) (InvalidArgument SlotCount)) (each_refusal (shapes (slots_of ys)) (shapes (slots_of xs)))) (count_slots xs)
+      ap (λ z. first_of_both (unless (length (shapes (slots_of xs)) == length (shapes z)) (InvalidArgument SlotCount))
+      (each_refusal (shapes z) (shapes (slots_of xs)))) (sym e)
+      ∙ ap (λ z. first_of_both (unless (length (shapes (slots_of xs)) == z) (InvalidArgument SlotCount))
+      (each_refusal (shapes (slots_of ys)) (shapes (slots_of xs)))) (count_slots ys)
+      ∙ ap (λ z. first_of_both (unless (z == length ys) (InvalidArgument SlotCount)) (each_refusal (shapes (slots_of ys)) (shapes (slots_of xs))))
+      (count_slots xs)
 
   pub slots_counted : length xs ≡ length ys → with_slots_refusal (slots_of xs) t ≡ each_refusal (shapes (slots_of ys)) (shapes (slots_of xs))
   slots_counted h =

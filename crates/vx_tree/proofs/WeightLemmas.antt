@@ -124,12 +124,14 @@ node_less k n d vs ws g h = weighed_less k (charge d).weighing (charge d) n vs w
 set_less : (i k : ℕ) (c d : Tree) (ss : Slots) → HoldsAt i c ss → k + weight d ≤ weight c → IsLess k (slots_weights (set_slot i d ss)) (slots_weights ss)
 set_less i k c d no_slots h l = absurd h
 set_less zero k c d (absent ss) h l = absurd h
-set_less zero k c d (slot t ss) h l = let e : weight t ≡ weight c = ap weight h in let m : k + weight d ≤ weight t = omega arith in inl (m, λ i. slots_weights ss)
+set_less zero k c d (slot t ss) h l = let e : weight t ≡ weight c = ap weight h in let m : k + weight d ≤ weight t = omega arith in inl
+    (m, λ i. slots_weights ss)
 set_less (suc i) k c d (absent ss) h l = set_less i k c d ss h l
 set_less (suc i) k c d (slot t ss) h l = inr (λ i. weight t, set_less i k c d ss h l)
 
 pub put_lighter : (i k : ℕ) (c d t : Tree) → HasSlot i c t → k + weight d ≤ weight c → k + weight (put i d t) ≤ weight t
-put_lighter i k c d (node ty n e ss) h l = node_less k n e (slots_weights (set_slot i d ss)) (slots_weights ss) (slots_low (set_slot i d ss)) (set_less i k c d ss h l)
+put_lighter i k c d (node ty n e ss) h l = node_less k n e (slots_weights (set_slot i d ss)) (slots_weights ss) (slots_low (set_slot i d ss))
+    (set_less i k c d ss h l)
 
 -- ---- above the bounds on turns
 
@@ -176,15 +178,18 @@ reach_by (added k) c n ss p h =
     let es = slots_extra c.executed ss in omega (arith, (added_pays k c p).0, extended_below c.extent es, slots_reach c.executed ss h)
 reach_by (scaled k) c n ss p h =
     let es = slots_extra c.executed ss in
-    times_reach k (extended c.extent es) (slots_weights ss) (scaled_pays k c p).0 (omega (arith, extended_below c.extent es, slots_reach c.executed ss h)) (slots_low ss)
+    times_reach k (extended c.extent es) (slots_weights ss) (scaled_pays k c p).0 (omega (arith, extended_below c.extent es, slots_reach c.executed ss h))
+    (slots_low ss)
 
 -- slots of a node that doesn't pay for their reach
 plain_cost : (d : Data) (e : Executed) (ss : Slots) → (charge d).by_reach ≡ 0 → AreBounded ss → slots_cost d e ss ≤ total (slots_weights ss)
 plain_cost d e no_slots z h = omega arith
 plain_cost d e (absent ss) z h = plain_cost d (after e) ss z h
 plain_cost d none (slot t ss) z h = omega (arith, plain_cost d none ss z h.1)
-plain_cost d first (slot t ss) z h = let p : (charge d).by_reach * extra t ≡ 0 * extra t = ap (λ b. b * extra t) z in omega (arith, h.0.0, plain_cost d none ss z h.1)
-plain_cost d all (slot t ss) z h = let p : (charge d).by_reach * extra t ≡ 0 * extra t = ap (λ b. b * extra t) z in omega (arith, h.0.0, plain_cost d all ss z h.1)
+plain_cost d first (slot t ss) z h = let p : (charge d).by_reach * extra t ≡ 0 * extra t = ap (λ b. b * extra t) z in omega
+    (arith, h.0.0, plain_cost d none ss z h.1)
+plain_cost d all (slot t ss) z h = let p : (charge d).by_reach * extra t ≡ 0 * extra t = ap (λ b. b * extra t) z in omega
+    (arith, h.0.0, plain_cost d all ss z h.1)
 
 -- those of one that pays at most three times
 reached_cost : (d : Data) (e : Executed) (ss : Slots) → (charge d).by_reach ≤ 3 → AreBounded ss

@@ -28,7 +28,8 @@ all_chosen P (bit ∷ bits) [] all = All-same P (chosen (bit ∷ bits) []) [] (c
 all_chosen P (true ∷ bits) (x ∷ xs) all = All-cons P x (chosen bits xs) (All-head P x xs all) (all_chosen P bits xs (All-tail P x xs all))
 all_chosen P (false ∷ bits) (x ∷ xs) all = all_chosen P bits xs (All-tail P x xs all)
 
-pub lie_in_chosen : (buffers shared : List (List ℕ)) (bits : List Bool) (views kept : List View) → shared ≡ buffers → kept ≡ chosen bits views → AllLieIn buffers views → AllLieIn shared kept
+pub lie_in_chosen : (buffers shared : List (List ℕ)) (bits : List Bool) (views kept : List View) → shared ≡ buffers → kept ≡ chosen bits views
+    → AllLieIn buffers views → AllLieIn shared kept
 lie_in_chosen buffers shared bits views kept same are lie = rw (same, are) (all_chosen (LiesIn buffers) bits views lie)
 
 pub rows_chosen : (buffers : List (List ℕ)) (bits : List Bool) (views : List View) → rows_of buffers (chosen bits views) ≡ chosen bits (rows_of buffers views)

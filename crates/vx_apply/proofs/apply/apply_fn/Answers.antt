@@ -63,4 +63,5 @@ returns-in_err-rows-in-None-clause-err c =
     let f = c.args.function.now in
     let xs = c.args.arguments.now in
     let p = err_from_is_err_and c.from_residual-in_err-rows-in-None.result c.from_residual-in_err-rows-in-None.ensures.1 in
-    rw p.1 (subst (IsUnapplied f (map columnar_tree xs) c.args.len) (sym p.2) (unread f xs c.args.len c.in_err-rows-in-None.field-0.0 c.requires c.in_err-rows-in-None.ensures.err))
+    rw p.1 (subst (IsUnapplied f (map columnar_tree xs) c.args.len) (sym p.2) (unread f xs c.args.len c.in_err-rows-in-None.field-0.0 c.requires
+    c.in_err-rows-in-None.ensures.err))

@@ -34,7 +34,8 @@ over-requires g c = (cut g c).0
 
 pub returns-clause-ok : goal.returns-clause-ok
 returns-clause-ok g c =
-    IfOk-weaker c.over.result _ _ (λ u made. subst (KeepsExactly (slice_of c.args.range.start c.args.range.end c.args.column.now)) (sym made) (cut g c.before).1) c.over.ensures.ok
+    IfOk-weaker c.over.result _ _ (λ u made. subst (KeepsExactly (slice_of c.args.range.start c.args.range.end c.args.column.now)) (sym made)
+    (cut g c.before).1) c.over.ensures.ok
 
 pub returns-clause-range : goal.returns-clause-range
 returns-clause-range g c = IfOk-weaker c.over.result _ _ (λ u made. made ∙ (cut g c.before).2) c.over.ensures.ok

@@ -32,7 +32,8 @@ returns-in-Integers-Primitive-clause-ok c =
 pub returns-in-Integers-Decimal-clause-ok : goal.returns-in-Integers-Decimal-clause-ok
 returns-in-Integers-Decimal-clause-ok c =
     let arm = c.in-Integers-Decimal in
-    cast_made (decimal arm.decimal.precision arm.decimal.scale) _ _ _ arm.is-0 (ap type_of arm.is-1) refl c.requires.nullability c.integers_to_decimals.ensures.ok
+    cast_made (decimal arm.decimal.precision arm.decimal.scale) _ _ _ arm.is-0 (ap type_of arm.is-1) refl c.requires.nullability
+    c.integers_to_decimals.ensures.ok
 
 pub returns-in-Decimals-Decimal-clause-ok : goal.returns-in-Decimals-Decimal-clause-ok
 returns-in-Decimals-Decimal-clause-ok c =

@@ -25,13 +25,15 @@ pub integer_rows-requires : goal.integer_rows-requires
 integer_rows-requires c = subst (λ r. HasStored r c.args.len) c.in-Integers.is c.requires.rows
 
 pub valid_integers-requires-clause-values : goal.valid_integers-requires-clause-values
-valid_integers-requires-clause-values c = counted (integer_in c.in-Integers.integers) (values_of c.in_ok-values-in-Integers.values) c.args.len c.in_ok-values-in-Integers.ensures.values
+valid_integers-requires-clause-values c = counted (integer_in c.in-Integers.integers)
+    (values_of c.in_ok-values-in-Integers.values) c.args.len c.in_ok-values-in-Integers.ensures.values
 
 pub decimal_rows-requires : goal.decimal_rows-requires
 decimal_rows-requires c = subst (λ r. HasStored r c.args.len) c.in-Decimals.is c.requires.rows
 
 pub valid_decimals-requires-clause-values : goal.valid_decimals-requires-clause-values
-valid_decimals-requires-clause-values c = counted (unscaled_in c.in-Decimals.decimals) (numbers_of c.in_ok-values-in-Decimals.values) c.args.len c.in_ok-values-in-Decimals.ensures.values
+valid_decimals-requires-clause-values c = counted (unscaled_in c.in-Decimals.decimals)
+    (numbers_of c.in_ok-values-in-Decimals.values) c.args.len c.in_ok-values-in-Decimals.ensures.values
 
 pub byte_rows-requires : goal.byte_rows-requires
 byte_rows-requires c = subst (λ r. HasStored r c.args.len) c.in-Bytes.is c.requires.rows

@@ -17,7 +17,11 @@ returns-then-word-eq18446744073709551615-clause-items g c =
     rw (chosen_of_ones c.args.word c.args.items.now c.if-word-eq18446744073709551615.true) (search rules)
 
 pub offset_bounds-items-first_one : goal.offset_bounds-items-first_one
-offset_bounds-items-first_one g c = omega (arith, first_within (low_bits 64 c.loop-left.left) c.args.items.now c.first_one.result c.loop-left.invariant.each c.first_one.ensures)
+offset_bounds-items-first_one g c = omega (
+  arith,
+  first_within (low_bits 64 c.loop-left.left) c.args.items.now c.first_one.result c.loop-left.invariant.each
+      c.first_one.ensures,
+)
 
 pub bounds-items-first_one : goal.bounds-items-first_one
 bounds-items-first_one g c =

@@ -12,7 +12,8 @@ returns-clause-value g c =
     let items = c.as_slice.result.now in
     let wide = c.widened.result in
     slice_get-map value c.args.buffer.now c.args.index ∙ ap (λ l. option_map value (slice_get l c.args.index)) (sym c.as_slice.ensures)
-    ∙ ap (option_map value) (slice_get_read items _ c.args.index c.index-as_slice-index.result (length-map c.args.buffer.now value ∙ ap length (sym c.as_slice.ensures))
+    ∙ ap (option_map value) (slice_get_read items _ c.args.index c.index-as_slice-index.result
+    (length-map c.args.buffer.now value ∙ ap length (sym c.as_slice.ensures))
     c.requires.bounds c.index-as_slice-index.is)
     ∙ ap Some (sym (is_wide wide c.widened.type_inv ∙ c.widened.ensures.value))
 

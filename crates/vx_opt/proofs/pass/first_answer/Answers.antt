@@ -5,8 +5,11 @@ use Rattle.vx_opt.proofs.pass.first_answer.Goals as goal
 
 pub loop-slot-preserved : goal.loop-slot-preserved
 loop-slot-preserved c =
-    let t = c.args.array.now in
-    (c.loop-slot.invariant.0, quiet_more t c.loop-slot.slot c.loop-slot.invariant.1 (subst (IsAnswer (Some c.loop-slot.slot) t) c.in_default-2.is c.in_ok-raw-2.ensures.answer))
+    let t = c.args.array.now in (
+      c.loop-slot.invariant.0,
+      quiet_more t c.loop-slot.slot c.loop-slot.invariant.1
+          (subst (IsAnswer (Some c.loop-slot.slot) t) c.in_default-2.is c.in_ok-raw-2.ensures.answer),
+    )
 
 pub returns-clause-answer : goal.returns-clause-answer
 returns-clause-answer c =

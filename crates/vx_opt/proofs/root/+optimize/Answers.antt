@@ -17,8 +17,10 @@ pub optimize_root-returns-then-at_root-gt-MAX_OPTIMIZER_REWRITE_PASS-clause-with
 optimize_root-returns-then-at_root-gt-MAX_OPTIMIZER_REWRITE_PASS-clause-within t c =
     let l : (c.loop-current.at_root + 1 ≡ root_limit + 1) ⊎ (c.loop-current.total + 1 ≡ call_limit) =
     elim c.then-at_root-gt-MAX_OPTIMIZER_REWRITE_PASS.branch [
-      | optimize_root-then-at_root-gt-MAX_OPTIMIZER_REWRITE_PASS-via-then-at_root-gt-MAX_OPTIMIZER_REWRITE_PASS w ↦ inl (omega (arith, c.loop-current.invariant.few))
-      | optimize_root-then-at_root-gt-MAX_OPTIMIZER_REWRITE_PASS-via-else-at_root-gt-MAX_OPTIMIZER_REWRITE_PASS+then-total-eq-MAX_OPTIMIZER_REWRITES w ↦ inr (omega arith)
+      | optimize_root-then-at_root-gt-MAX_OPTIMIZER_REWRITE_PASS-via-then-at_root-gt-MAX_OPTIMIZER_REWRITE_PASS w ↦ inl
+          (omega (arith, c.loop-current.invariant.few))
+      | optimize_root-then-at_root-gt-MAX_OPTIMIZER_REWRITE_PASS-via-else-at_root-gt-MAX_OPTIMIZER_REWRITE_PASS+then-total-eq-MAX_OPTIMIZER_REWRITES w ↦ inr
+          (omega arith)
     ] in
     let w = c.loop-current in
     let r = c.in-Some.raw in
@@ -86,7 +88,8 @@ optimize_slots-loop-i-preserved t c =
     let w = c.loop-i in
     let b : w.i < length os = omega (arith, c.args.raw.optimize.ok.0) in
     let next = c.in_ok-current in
-    between_go os w.i c.index.result.now c.args.raw.tree w.current next.current c.args.total.now w.total c.optimize_slot.new.total b w.invariant next.ensures.below
+    between_go os w.i c.index.result.now c.args.raw.tree w.current next.current c.args.total.now w.total c.optimize_slot.new.total b w.invariant
+    next.ensures.below
     (subst (λ n. InSlot n Optimizes w.current next.current) c.index.ensures next.ensures.passes) next.ensures.same_slots
 
 pub optimize_slots-returns-clause-passes : goal.optimize_slots-returns-clause-passes

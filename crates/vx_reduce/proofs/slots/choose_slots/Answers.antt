@@ -15,5 +15,6 @@ pub loop-index-preserved : goal.loop-index-preserved
 loop-index-preserved c =
     let s = c.index-slots-index.result in
     rw (take_more c.args.slots.now c.loop-index.index s c.loop-index-test.true, ← c.index-slots-index.is, c.in_ok-push.ensures.items)
-    (mapped_more (choice_of (bits_in c.args.mask.now)) (take c.loop-index.index c.args.slots.now) c.loop-index.choices.items s c.in_ok-choice.choice c.loop-index.invariant
+    (mapped_more (choice_of (bits_in c.args.mask.now)) (take c.loop-index.index c.args.slots.now) c.loop-index.choices.items s c.in_ok-choice.choice
+    c.loop-index.invariant
     c.in_ok-choice.ensures.ok)

@@ -15,4 +15,5 @@ loop-index-preserved c =
     let s = c.index-slots-index.result in
     let f = slice_of c.args.range.start c.args.range.end in
     rw (take_more c.args.slots.now c.loop-index.index s c.loop-index-test.true, ← c.index-slots-index.is, c.in_ok-push.ensures.items)
-    (mapped_more f (take c.loop-index.index c.args.slots.now) c.loop-index.slices.items s c.in_ok-slice_slot.field-0 c.loop-index.invariant c.in_ok-slice_slot.ensures.ok)
+    (mapped_more f (take c.loop-index.index c.args.slots.now) c.loop-index.slices.items s c.in_ok-slice_slot.field-0 c.loop-index.invariant
+    c.in_ok-slice_slot.ensures.ok)

@@ -50,7 +50,8 @@ pub returns-in-Bool-clause-err : goal.returns-in-Bool-clause-err
 returns-in-Bool-clause-err c =
     let k = c.in-Bool in
     IfErr-weaker c.column_argument.result _ _
-    (λ e h. column_unread c.args.column.now k.validity.now e c.as_array.result.now c.as_array.ensures.of h boolean enc.bool (λ n xs css. refl) k.bits.now (sym (subst IsNodeOf k.ensures.0 k.ensures.1).2)
+    (λ e h. column_unread c.args.column.now k.validity.now e c.as_array.result.now c.as_array.ensures.of h boolean enc.bool (λ n xs css. refl) k.bits.now
+    (sym (subst IsNodeOf k.ensures.0 k.ensures.1).2)
     k.ensures.0) c.column_argument.ensures.err
 
 pub returns-in-Primitive-clause-ok : goal.returns-in-Primitive-clause-ok
@@ -58,7 +59,8 @@ returns-in-Primitive-clause-ok c =
     let k = c.in-Primitive in
     told_argument c.args.column.now c.integers_of.result k.validity.now
     (λ valid told same sized. rw c.integers_of.ensures (integers_argument c.args.column.now k.validity.now valid told same sized c.as_array.result.now
-    c.as_array.ensures.of k.ensures.1 (record { dtype = c.dtype-dtype.result; rows = Rows k.values }) (ptype_of k.values.now) (values_of k.values.now) refl (λ i. refl)
+    c.as_array.ensures.of k.ensures.1 (record { dtype = c.dtype-dtype.result; rows = Rows k.values }) (ptype_of k.values.now) (values_of k.values.now) refl
+    (λ i. refl)
     (λ n e. (tt, e)) c.dtype-dtype.ensures k.ensures.0))
     c.column_argument-in-Primitive.result c.column_argument-in-Primitive.ensures.ok
 

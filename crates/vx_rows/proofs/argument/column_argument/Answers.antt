@@ -12,4 +12,10 @@ returns-in-Ok-clause-ok c =
     let long = c.in-Ok.ensures.sized ∙ tells.2 in
     let known = subst (λ v. AreTold (len t) v c.from_bits.result) (sym c.in-Some.is)
     (c.in-Ok.bits, long, c.in-Ok.ensures.ok, λ i lt. c.from_bits.ensures.rows i (subst (λ n. i < n) (sym long) lt)) in
-    record { rows = refl; told = known; nullability = c.from_bits.ensures.nullability ∙ sym tells.0; sized = subst (HasValidity c.from_bits.result) long c.from_bits.ensures.sized }
+    record {
+      rows = refl;
+      told = known;
+      nullability = c.from_bits.ensures.nullability
+          ∙ sym tells.0;
+      sized = subst (HasValidity c.from_bits.result) long c.from_bits.ensures.sized;
+    }

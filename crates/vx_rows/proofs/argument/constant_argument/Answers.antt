@@ -7,7 +7,8 @@ use Rattle.vx_rows.proofs.argument.constant_argument.Goals as goal
 
 pub returns-then-is_null-clause-rows : goal.returns-then-is_null-clause-rows
 returns-then-is_null-clause-rows c =
-    IfOk-weaker c.null_argument.result _ _ (λ a e. subst (IsRepeated c.args.scalar.now) (sym (ap (λ x. x.rows) e)) c.repeated_rows-rows.ensures) c.null_argument.ensures.ok
+    IfOk-weaker c.null_argument.result _ _ (λ a e. subst (IsRepeated c.args.scalar.now) (sym (ap (λ x. x.rows) e)) c.repeated_rows-rows.ensures)
+    c.null_argument.ensures.ok
 
 pub returns-then-is_null-clause-valid : goal.returns-then-is_null-clause-valid
 returns-then-is_null-clause-valid c =

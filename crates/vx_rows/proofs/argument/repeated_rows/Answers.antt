@@ -26,5 +26,6 @@ returns-in-Text c =
     let known = subst (λ st. (st ≡ Text) ⊎ (st ≡ Bytes)) same c.in-Text.is in
     let there : c.unwrap_or-bytes.result.now ≡ unwrap_or (bytes_in s.value) [] = search rules in
     rw c.bytes_of.ensures
-    (bytes_repeated s (record { storage = c.storage-in-Text.result; rows = Value c.unwrap_or-bytes.result }) c.unwrap_or-bytes.result.now kind known there (λ i. refl)
+    (bytes_repeated s (record { storage = c.storage-in-Text.result; rows = Value c.unwrap_or-bytes.result }) c.unwrap_or-bytes.result.now kind known there
+    (λ i. refl)
     (λ n h. h) c.dtype-dtype.ensures.typed)

@@ -17,7 +17,8 @@ returns-in-Some-false-clause-ok c =
     let flat = subst IsNodeOf c.in-Bool.ensures.0 c.in-Bool.ensures.1 in
     IfOk-weaker c.null_of.result _ _
     (λ s made. null_row boolean enc.bool false t (λ n xs css. refl) c.in-Bool.validity.now c.in-Bool.bits.now c.args.index c.in-Some-false.field-0 s
-    c.in-Bool.ensures.0 (sym flat.2) c.requires c.in-Some-false.ensures.row c.in-Some-false.field-0-test (made ∙ ap null_typed c.dtype-dtype.ensures)) c.null_of.ensures.ok
+    c.in-Bool.ensures.0 (sym flat.2) c.requires c.in-Some-false.ensures.row c.in-Some-false.field-0-test (made ∙ ap null_typed c.dtype-dtype.ensures))
+    c.null_of.ensures.ok
 
 pub returns-in-Some-false-stored_validity-clause-ok : goal.returns-in-Some-false-stored_validity-clause-ok
 returns-in-Some-false-stored_validity-clause-ok c =
@@ -28,7 +29,8 @@ returns-in-Some-false-stored_validity-clause-ok c =
     let call = c.null_of-in-Some-false-stored_validity in
     IfOk-weaker call.result _ _
     (λ s made. null_row integer (enc.primitive (ptype_of values)) (pos 0) t (λ n xs css. refl) c.in-Primitive.validity.now (values_of values) c.args.index
-    null_here.field-0 s c.in-Primitive.ensures.0 (sym flat.2) c.requires null_here.ensures.row null_here.field-0-test (made ∙ ap null_typed c.dtype-dtype.ensures))
+    null_here.field-0 s c.in-Primitive.ensures.0 (sym flat.2) c.requires null_here.ensures.row null_here.field-0-test
+    (made ∙ ap null_typed c.dtype-dtype.ensures))
     call.ensures.ok
 
 pub returns-in-Some-false-stored_validity-2-clause-ok : goal.returns-in-Some-false-stored_validity-2-clause-ok

@@ -37,11 +37,13 @@ loop-k-preserved g c =
 
 pub push_items-requires-2-clause-each : goal.push_items-requires-2-clause-each
 push_items-requires-2-clause-each g c =
-    (part_last c.args.self.now c.args.items.now c.loop-k.k (c.len-full.result / 64) c.last_word.result (omega arith) (omega arith) c.last_word.ensures (omega arith)).each
+    (part_last c.args.self.now c.args.items.now c.loop-k.k (c.len-full.result / 64) c.last_word.result (omega arith) (omega arith) c.last_word.ensures
+    (omega arith)).each
 
 pub push_items-requires-2-clause-room : goal.push_items-requires-2-clause-room
 push_items-requires-2-clause-room g c =
-    let part = part_last c.args.self.now c.args.items.now c.loop-k.k (c.len-full.result / 64) c.last_word.result (omega arith) (omega arith) c.last_word.ensures (omega arith) in
+    let part = part_last c.args.self.now c.args.items.now c.loop-k.k (c.len-full.result / 64) c.last_word.result (omega arith)
+    (omega arith) c.last_word.ensures (omega arith) in
     omega (arith, part.count, ap length c.loop-k.invariant.done, c.loop-k.invariant.room, c.loop-k.kept.ok.0)
 
 pub returns : goal.returns

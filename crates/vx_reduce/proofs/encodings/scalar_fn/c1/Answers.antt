@@ -16,5 +16,6 @@ pub returns : goal.returns
 returns c =
     let own : same_type (dtype c.args.child.now) (type_of c.args.target.now) ≡ true = search rules in
     let same : c.done.result.tree ≡ c.args.child.now = search rules in
-    fit_C1 (dtype c.args.array.now) (len c.args.array.now) c.args.target.now c.args.array.now c.args.child.now c.done.result.tree c.done.result.optimize.items c.requires
+    fit_C1 (dtype c.args.array.now) (len c.args.array.now) c.args.target.now c.args.array.now c.args.child.now c.done.result.tree c.done.result.optimize.items
+    c.requires
     ((same_type_Decides (dtype c.args.child.now) (type_of c.args.target.now)).0 own) same c.done.ensures.optimize

@@ -21,12 +21,14 @@ invariant_of-result c =
     let n = c.in_ok-root.root.now in
     let same = own_or_copy tree_of n c.self.inside.node.value c.args.self c.in_ok-root.ensures.value c.self.view_is in
     let filled = slot_filled (type_of n.dtype) n.len (data_of n.encoding) n.slots.items c.args.slot c.args.child c.args.self same in
-    rw (c.make_mut.follows.holds (record { dtype = n.dtype; len = n.len; encoding = n.encoding; slots = with_item n.slots c.args.slot (Some c.args.child) }) (ap is_ok c.in_ok-root.was))
+    rw (c.make_mut.follows.holds (record { dtype = n.dtype; len = n.len; encoding = n.encoding; slots = with_item n.slots c.args.slot (Some c.args.child) })
+    (ap is_ok c.in_ok-root.was))
     (subst IsNodeOf (sym filled) c.requires.fits, subst (λ xs. AreWell (slots_of xs)) c.deref.ensures.value c.know_well.ensures)
 
 pub returns : goal.returns
 returns c =
     let n = c.in_ok-root.root.now in
     let same = own_or_copy tree_of n c.self.inside.node.value c.args.self c.in_ok-root.ensures.value c.self.view_is in
-    rw (c.make_mut.follows.holds (record { dtype = n.dtype; len = n.len; encoding = n.encoding; slots = with_item n.slots c.args.slot (Some c.args.child) }) (ap is_ok c.in_ok-root.was))
+    rw (c.make_mut.follows.holds (record { dtype = n.dtype; len = n.len; encoding = n.encoding; slots = with_item n.slots c.args.slot (Some c.args.child) })
+    (ap is_ok c.in_ok-root.was))
     (slot_filled (type_of n.dtype) n.len (data_of n.encoding) n.slots.items c.args.slot c.args.child c.args.self same)

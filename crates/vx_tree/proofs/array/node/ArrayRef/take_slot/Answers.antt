@@ -25,7 +25,8 @@ pub returns : goal.returns
 returns c =
     let n = c.in_ok-root.root.now in
     let same = own_or_copy tree_of n c.into_root-node.result.value c.args.self c.in_ok-root.ensures.value c.into_root-node.ensures in
-    rw (c.make_mut.follows.holds (record { dtype = n.dtype; len = n.len; encoding = n.encoding; slots = with_item n.slots c.args.slot c.take-taken.new.self }) (ap is_ok c.in_ok-root.was))
+    rw (c.make_mut.follows.holds (record { dtype = n.dtype; len = n.len; encoding = n.encoding; slots = with_item n.slots c.args.slot c.take-taken.new.self })
+    (ap is_ok c.in_ok-root.was))
     (slot_taken (type_of n.dtype) n.len
     (data_of n.encoding) n.slots.items c.args.slot c.in-Some.child c.args.self same c.index_mut.result.now c.take-taken.new.self
     c.requires c.well.ensures.formed (sym c.index_mut.ensures.value ∙ sym c.take-taken.ensures.value ∙ c.in-Some.is) c.take-taken.ensures.after)

@@ -11,14 +11,16 @@ returns-in_default-clause-refused c = inr (slot_not_found c.slots.result.now c.a
 
 pub returns-in_err-check_slot-clause-refused : goal.returns-in_err-check_slot-clause-refused
 returns-in_err-check_slot-clause-refused c =
-    let same = slot_found c.slots.result.now c.args.slot c.args.child c.args.self c.slots.ensures c.in-Some.old.now c.in-Some.ensures.lookup.3.0 c.in-Some.ensures.lookup.1 in
+    let same = slot_found c.slots.result.now c.args.slot c.args.child c.args.self c.slots.ensures c.in-Some.old.now c.in-Some.ensures.lookup.3.0
+    c.in-Some.ensures.lookup.1 in
     let refused : with_slot_refusal c.args.slot c.args.child c.args.self ≡ Some c.in_err-check_slot.field-0.0 = same ∙ c.in_err-check_slot.ensures in
     search rules
 
 pub index_mut-requires : goal.index_mut-requires
 index_mut-requires c =
     let n = c.in_ok-node.node in
-    let same = slot_found c.slots.result.now c.args.slot c.args.child c.args.self c.slots.ensures c.in-Some.old.now c.in-Some.ensures.lookup.3.0 c.in-Some.ensures.lookup.1 in
+    let same = slot_found c.slots.result.now c.args.slot c.args.child c.args.self c.slots.ensures c.in-Some.old.now c.in-Some.ensures.lookup.3.0
+    c.in-Some.ensures.lookup.1 in
     let within : c.args.slot < length n.slots.items =
     slot_within (type_of n.dtype) n.len
     (data_of n.encoding) n.slots.items c.args.self c.in_ok-node.ensures c.args.slot c.args.child (same ∙ c.in_ok-check_slot.ensures) in
@@ -27,7 +29,8 @@ index_mut-requires c =
 pub into_array-requires : goal.into_array-requires
 into_array-requires c =
     let n = c.in_ok-node.node in
-    let same = slot_found c.slots.result.now c.args.slot c.args.child c.args.self c.slots.ensures c.in-Some.old.now c.in-Some.ensures.lookup.3.0 c.in-Some.ensures.lookup.1 in
+    let same = slot_found c.slots.result.now c.args.slot c.args.child c.args.self c.slots.ensures c.in-Some.old.now c.in-Some.ensures.lookup.3.0
+    c.in-Some.ensures.lookup.1 in
     slot_replaced (type_of n.dtype) n.len
     (data_of n.encoding) n.slots.items c.args.self c.in_ok-node.ensures c.well.ensures.formed c.args.slot c.args.child (same ∙ c.in_ok-check_slot.ensures)
 
@@ -39,4 +42,5 @@ returns-clause-ok c =
 
 pub returns-clause-valid : goal.returns-clause-valid
 returns-clause-valid c =
-    slot_found c.slots.result.now c.args.slot c.args.child c.args.self c.slots.ensures c.in-Some.old.now c.in-Some.ensures.lookup.3.0 c.in-Some.ensures.lookup.1 ∙ c.in_ok-check_slot.ensures
+    slot_found c.slots.result.now c.args.slot c.args.child c.args.self c.slots.ensures c.in-Some.old.now c.in-Some.ensures.lookup.3.0
+    c.in-Some.ensures.lookup.1 ∙ c.in_ok-check_slot.ensures

@@ -15,7 +15,8 @@ pub returns-in_err-check_slots-clause-refused : goal.returns-in_err-check_slots-
 returns-in_err-check_slots-clause-refused c =
     let alike : length c.args.slots.items ≡ length c.slots-old.result.now = omega arith in
     let same = slots_counted c.args.slots.items c.slots-old.result.now c.args.self c.slots-old.ensures alike in
-    let refused : with_slots_refusal (slots_of c.args.slots.items) c.args.self ≡ Some c.in_err-check_slots.field-0.0 = same ∙ rw c.deref.ensures.value at c.in_err-check_slots.ensures in
+    let refused : with_slots_refusal (slots_of c.args.slots.items) c.args.self ≡ Some c.in_err-check_slots.field-0.0 = same
+    ∙ rw c.deref.ensures.value at c.in_err-check_slots.ensures in
     search rules
 
 pub into_array-requires : goal.into_array-requires
@@ -30,7 +31,8 @@ into_array-requires c =
 pub returns-clause-ok : goal.returns-clause-ok
 returns-clause-ok c =
     let n = c.in_ok-node.node in
-    c.in_ok-into_array.ensures ∙ all_put (type_of n.dtype) n.len (data_of n.encoding) n.slots.items c.args.self c.in_ok-node.ensures (slots_of c.args.slots.items)
+    c.in_ok-into_array.ensures ∙ all_put (type_of n.dtype) n.len (data_of n.encoding) n.slots.items c.args.self c.in_ok-node.ensures
+    (slots_of c.args.slots.items)
 
 pub returns-clause-valid : goal.returns-clause-valid
 returns-clause-valid c =
