@@ -18,8 +18,8 @@ returns-in_ok-clone-in-Rows-clause-values c =
 pub returns-in-Value-clause-values : goal.returns-in-Value-clause-values
 returns-in-Value-clause-values c =
     IfOk-weaker c.repeat.result _ _
-    (λ v made. number_repeated unscaled_at c.args.decimals.rows _ c.args.len c.in-Value.unscaled (numbers_of v) (search rules) c.in-Value.is
-    (ap (λ r. r.numbers) made) (λ i. refl))
+    (λ v made. let number = c.in-Value.unscaled in
+    number_repeated unscaled_at c.args.decimals.rows _ c.args.len number (numbers_of v) (search rules) c.in-Value.is (ap (λ r. r.numbers) made) (λ i. refl))
     c.repeat.ensures
 
 pub returns-in-Value-clause-stored : goal.returns-in-Value-clause-stored
