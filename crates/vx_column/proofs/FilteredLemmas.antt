@@ -123,7 +123,8 @@ same_choice bits m None v tells well is none =
 same_choice bits m (Some t) v tells well is none =
     by_validity v is none (ap (λ x. valid_rows x (length bits)) is ∙ told_back (validity.Array t) (length bits) (well.0, tells.1, tells.2))
   where
-    by_validity : (v : Validity) → v ≡ of_data (datum t) t → ((u : Tree) → v ≡ validity.Array u → ⊥) → valid_rows v (length bits) ≡ rows t → IsRead bits m (Some t) v
+    by_validity : (v : Validity) → v ≡ of_data (datum t) t → ((u : Tree) → v ≡ validity.Array u → ⊥) → valid_rows v (length bits) ≡ rows t
+        → IsRead bits m (Some t) v
     by_validity validity.NonNullable is none e = absurd (none_by_data (datum t) t (sym is))
     by_validity validity.AllValid is none e = (sym tells.0, tt, choice_all bits t (sym e))
     by_validity validity.AllInvalid is none e = (sym tells.0, tt, choice_false bits t (sym e))
@@ -131,7 +132,8 @@ same_choice bits m (Some t) v tells well is none =
 
 -- ---- a column of values of one type, each read from an item
 
-pub chosen_count : {X : Type 0} (bits : List Bool) (xs ys : List X) (n : ℕ) → length xs ≡ n → length bits ≡ n → ys ≡ chosen bits xs → true_count bits ≡ length ys
+pub chosen_count : {X : Type 0} (bits : List Bool) (xs ys : List X) (n : ℕ) → length xs ≡ n → length bits ≡ n → ys ≡ chosen bits xs
+    → true_count bits ≡ length ys
 chosen_count bits xs ys n long masked kept = sym (ap length kept ∙ length-chosen bits xs (omega (arith, long, masked)))
 
 -- a validity of the chosen rows is one of the chosen values
@@ -147,7 +149,8 @@ module _ {X : Type 0} (read : X → Value) (of_items : List X → Data) (of_type
       → rows (column (with_nullability m of_type) n (of_items xs) v) ≡ valid_cells (validity_cells v) (map (λ x. value (read x)) xs)
   column_cells m n xs v = ap (node_cells (with_nullability m of_type) n (of_items xs)) (one_slot v) ∙ cells m n xs (validity_cells v ∷ [])
 
-  pub filtered_exactly : (bits : List Bool) (xs ys : List X) (v w : Option Tree) (m : Nullability) (n : ℕ) → length xs ≡ n → length bits ≡ n → ys ≡ chosen bits xs
+  pub filtered_exactly : (bits : List Bool) (xs ys : List X) (v w : Option Tree) (m : Nullability) (n : ℕ) → length xs ≡ n → length bits ≡ n
+      → ys ≡ chosen bits xs
       → IsChoice bits v w
       → KeepsExactly (filter_of bits (column (with_nullability m of_type) n (of_items xs) v)) (column (with_nullability m of_type) (length ys) (of_items ys) w)
   filtered_exactly bits xs ys v w m n long masked kept choice =
@@ -191,7 +194,8 @@ booleans_filtered bits bs kept t is typed well long e =
     let whole_is : t ≡ column (bool NonNullable) (len t) (enc.bool bs) None = is ∙ ap (λ ty. column ty (len t) (enc.bool bs) None) typed in
     let flat : IsFlat (bool NonNullable) (length bs) (dtype t) (len t) (shapes (slots_of (None ∷ []))) = subst IsNodeOf is well in
     subst (λ x. KeepsExactly (filter_of bits x) (booleans kept)) (sym whole_is)
-    (filtered_exactly boolean enc.bool (bool NonNullable) (λ m n xs css. refl) bits bs kept None None NonNullable (len t) (sym flat.2) long e (choice_none bits))
+    (filtered_exactly boolean enc.bool (bool NonNullable) (λ m n xs css. refl) bits bs kept None None NonNullable (len t) (sym flat.2) long e
+    (choice_none bits))
 
 -- ---- values that pass a test
 
@@ -216,4 +220,5 @@ pub decimals_chosen : (d : DecimalDType) (bits : List Bool) (w u : DecimalType) 
     → kept ≡ chosen bits zs → are_decimals_of (stored_decimals d) u kept ≡ true
 decimals_chosen d bits w u zs kept h same made =
     let width = ap (λ x. same_width x (smallest_width d.precision)) same ∙ first_so _ _ h in
-    and_from _ _ width (ap (list_all (has_digits d.precision)) made ∙ all_chosen (has_digits d.precision) bits zs (second_so (same_width w (smallest_width d.precision)) _ h))
+    and_from _ _ width (ap (list_all (has_digits d.precision)) made ∙ all_chosen (has_digits d.precision) bits zs
+    (second_so (same_width w (smallest_width d.precision)) _ h))

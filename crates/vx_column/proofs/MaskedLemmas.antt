@@ -141,7 +141,8 @@ module _ {X : Type 0} (read : X → Value) (of_items : List X → Data) (of_type
     → node_cells (with_nullability m of_type) n (of_items xs) css ≡ valid_cells (cells_at css 0) (map (λ x. value (read x)) xs))
     (set : (m : Nullability) → with_nullability Nullable (with_nullability m of_type) ≡ with_nullability Nullable of_type) where
   masked_exactly : (xs : List X) (v c w : Option Tree) (m : Nullability) → IsBoth (length xs) v c w
-      → KeepsExactly (masked_of (column (with_nullability m of_type) (length xs) (of_items xs) v) c) (column (with_nullability Nullable of_type) (length xs) (of_items xs) w)
+      → KeepsExactly (masked_of (column (with_nullability m of_type) (length xs) (of_items xs) v) c)
+      (column (with_nullability Nullable of_type) (length xs) (of_items xs) w)
   masked_exactly xs v c w m both =
       let n = length xs in
       let t = column (with_nullability m of_type) n (of_items xs) v in

@@ -17,7 +17,8 @@ use Rattle.vx_tree.specs.Cells.{rows, valid_cells}
 use Rattle.vx_tree.specs.Keeps.{KeepsExactly}
 use Rattle.vx_tree.proofs.KeepsLemmas.{exactly_of_rows}
 
-pub nulls_filtered : (bits : List Bool) (t u : Tree) → t ≡ nulls_of (len t) → length bits ≡ len t → u ≡ nulls_of (true_count bits) → KeepsExactly (filter_of bits t) u
+pub nulls_filtered : (bits : List Bool) (t u : Tree) → t ≡ nulls_of (len t) → length bits ≡ len t → u ≡ nulls_of (true_count bits)
+    → KeepsExactly (filter_of bits t) u
 nulls_filtered bits t u is long made =
     let n = len t in
     let kept = exactly_of_rows type.null (true_count bits) (enc.filter bits) enc.nulls (slot (nulls_of n) no_slots) no_slots
@@ -26,7 +27,8 @@ nulls_filtered bits t u is long made =
 
 -- ---- by a validity of values
 
-told_nulls : (bits : List Bool) (n : ℕ) → length bits ≡ n → valid_cells (map (λ b. value (boolean b)) bits) (replicate n (value null)) ≡ replicate n (value null)
+told_nulls : (bits : List Bool) (n : ℕ) → length bits ≡ n → valid_cells (map (λ b. value (boolean b)) bits) (replicate n (value null)) ≡ replicate n
+    (value null)
 told_nulls [] n h = refl
 told_nulls (b ∷ bits) zero h = absurd (omega arith)
 told_nulls (true ∷ bits) (suc n) h = ap (λ cs. value null ∷ cs) (told_nulls bits n (omega arith))
@@ -55,9 +57,11 @@ null_stored : (m : Nullability) (v : Value) → is_stored m Nulls v ≡ true →
 null_stored m null h = refl
 null_stored m _ h = absurd (cc)
 
-pub nulls_repeated : (s : Typed) (n : ℕ) (u : Tree) → storage_of s.of_type ≡ Nulls → is_of s.of_type s.value ≡ true → u ≡ nulls_of n → KeepsExactly (constant_of s n) u
+pub nulls_repeated : (s : Typed) (n : ℕ) (u : Tree) → storage_of s.of_type ≡ Nulls → is_of s.of_type s.value ≡ true → u ≡ nulls_of n
+    → KeepsExactly (constant_of s n) u
 nulls_repeated s n u stored typed made =
     let kind : is_stored (nullability_of s.of_type) Nulls s.value ≡ true = ap (λ st. is_stored (nullability_of s.of_type) st s.value) (sym stored) ∙ typed in
     let shown = ap (λ v. replicate n (value v)) (null_stored (nullability_of s.of_type) s.value kind) in
     let kept = exactly_of_rows s.of_type n (enc.constant s) enc.nulls no_slots no_slots shown (λ h. tt) in
-    subst (KeepsExactly (constant_of s n)) (sym made) (subst (λ ty. KeepsExactly (constant_of s n) (node ty n enc.nulls no_slots)) (of_nulls s.of_type stored) kept)
+    subst (KeepsExactly (constant_of s n)) (sym made) (subst (λ ty. KeepsExactly (constant_of s n) (node ty n enc.nulls no_slots))
+    (of_nulls s.of_type stored) kept)

@@ -149,7 +149,8 @@ module _ (s : Typed) (n : ℕ) (typed : is_of s.of_type s.value ≡ true) (v : V
       let there : is_stored (nullability_of s.of_type) (stored_decimals d) s.value ≡ true =
       ap (λ ty. is_stored (nullability_of s.of_type) (storage_of ty) s.value) (sym stored) ∙ typed in
       IfOk-weaker r _ _
-      (λ c new. repeated_exactly (λ x. of.decimal x d.scale) (decimals w) s (λ n xs css. ap (λ ty. node_cells ty n (decimals w xs) css) stored) z n (canonical_tree c)
+      (λ c new. repeated_exactly (λ x. of.decimal x d.scale) (decimals w) s (λ n xs css. ap (λ ty. node_cells ty n (decimals w xs) css) stored) z n
+      (canonical_tree c)
       (λ k. ap (λ x. of.decimal x d.scale) valued ∙ stored_decimal d.precision d.scale (nullability_of s.of_type) s.value there k) (new ∙ is)) column_made
 
 -- what passes, repeated, passes everywhere

@@ -17,7 +17,8 @@ use Rattle.vx_rows.specs.declared.argument.ArgumentRows.TheVariants as stored
 use Rattle.vx_rows.proofs.KeepsLemmas.{same_exactly}
 
 -- a row is valid exactly if it isn't null: of a row whose stored value isn't, whatever is said of it
-shown_by : (a : ArgumentRows) (i : ℕ) (b : Bool) → shown_cell (value (value_at a i)) ≡ value (boolean true) → shown_cell (null_unless b (value (value_at a i))) ≡ value (boolean b)
+shown_by : (a : ArgumentRows) (i : ℕ) (b : Bool) → shown_cell (value (value_at a i)) ≡ value (boolean true)
+    → shown_cell (null_unless b (value (value_at a i))) ≡ value (boolean b)
 shown_by a i true h = h
 shown_by a i false h = refl
 
@@ -45,5 +46,6 @@ shown_exactly c a bits counted is long told =
     let within : (i : ℕ) → i < length (rows t) → i < len t = λ i lt. omega (arith, counted) in
     same_exactly (validity_in t) (booleans bits) refl (sym long)
     (shown_cells (rows t) bits (counted ∙ sym long)
-    (λ i lt. ap shown_cell (is.shown i (within i lt)) ∙ shown_stored a.rows a.valid (len t) i is.sized.2 (within i lt) ∙ ap (λ b. value (boolean b)) (sym (told i (within i lt)))))
+    (λ i lt. ap shown_cell (is.shown i (within i lt)) ∙ shown_stored a.rows a.valid (len t) i is.sized.2 (within i lt)
+    ∙ ap (λ b. value (boolean b)) (sym (told i (within i lt)))))
     tt

@@ -61,8 +61,10 @@ returns-in_ok-filter-in-Primitive-clause-ok c =
     let column_made = rw (ap (λ v. v.kind) kept.ensures) at c.primitive_column.ensures.ok in
     IfOk-weaker c.primitive_column.result _ _
     (λ u made. subst (λ x. KeepsExactly (filter_of bits x) (canonical_tree u)) c.as_array-array.ensures.of
-    (column_filtered integer (enc.primitive p) (primitive p NonNullable) (λ m n xs css. refl) bits (values_of c.in-Primitive.values.now) (values_of kept.field-0)
-    c.in-Primitive.validity.now validity.validity t (canonical_tree u) c.in-Primitive.ensures.0 flat long (ap (λ v. v.numbers) kept.ensures) same validity.ensures.chosen made))
+    (column_filtered integer (enc.primitive p) (primitive p NonNullable) (λ m n xs css. refl) bits (values_of c.in-Primitive.values.now)
+    (values_of kept.field-0)
+    c.in-Primitive.validity.now validity.validity t (canonical_tree u) c.in-Primitive.ensures.0 flat long
+    (ap (λ v. v.numbers) kept.ensures) same validity.ensures.chosen made))
     column_made
 
 pub unreachable-requires : goal.unreachable-requires
@@ -86,8 +88,10 @@ decimal_column-requires-clause-stored c =
     let values = c.in-Decimal.values.now in
     let kept = c.in_ok-filter-in-Decimal in
     let stored = ap storage_of (sym c.dtype-in-Decimal.ensures ∙ ap type_of c.in-Decimal-dtype.is) in
-    decimals_chosen c.in-Decimal-dtype.decimal (bits_in c.args.mask.now) (decimal_type_of values) (decimal_type_of kept.field-0) (numbers_of values) (numbers_of kept.field-0)
-    (subst (λ st. are_decimals_of st (decimal_type_of values) (numbers_of values) ≡ true) stored flat.1) (ap (λ v. v.kind) kept.ensures) (ap (λ v. v.numbers) kept.ensures)
+    decimals_chosen c.in-Decimal-dtype.decimal (bits_in c.args.mask.now) (decimal_type_of values) (decimal_type_of kept.field-0) (numbers_of values)
+    (numbers_of kept.field-0)
+    (subst (λ st. are_decimals_of st (decimal_type_of values) (numbers_of values) ≡ true) stored flat.1) (ap (λ v. v.kind) kept.ensures)
+    (ap (λ v. v.numbers) kept.ensures)
 
 pub returns-in_ok-filter-in-Decimal-clause-ok : goal.returns-in_ok-filter-in-Decimal-clause-ok
 returns-in_ok-filter-in-Decimal-clause-ok c =
