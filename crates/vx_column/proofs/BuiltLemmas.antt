@@ -1,7 +1,17 @@
 -- The column of the rows that a builder keeps.
-use Rattle.std.proofs.Common.{◌≡◌, ◌⊎◌, inl, inr, ◌<◌, ◌≤◌, ◌+◌, ◌-◌, ℕ, zero, suc, ℤ, pos, Bool, true, false, Option, Some, None}
-use Rattle.std.proofs.Common.{List, [], ◌∷◌, ◌++◌, length, map, replicate}
-use Rattle.std.proofs.Common.{refl, sym, ap, ap₂, ◌∙◌, arith}
+use Rattle.std.proofs.Common.{◌≡◌, ◌⊎◌, inl, inr, ◌<◌, ◌≤◌, ◌+◌, ◌-◌, ℕ, zero, suc, ℤ, pos, Bool, true, false, Option, Some, None, List}
+use Rattle.std.proofs.Common.{[]}
+use Rattle.std.proofs.Common.{◌∷◌}
+use Rattle.std.proofs.Common.{◌++◌}
+use Rattle.std.proofs.Common.{length}
+use Rattle.std.proofs.Common.{map}
+use Rattle.std.proofs.Common.{replicate}
+use Rattle.std.proofs.Common.{refl}
+use Rattle.std.proofs.Common.{sym}
+use Rattle.std.proofs.Common.{ap}
+use Rattle.std.proofs.Common.{ap₂}
+use Rattle.std.proofs.Common.{◌∙◌}
+use Rattle.std.proofs.Common.{arith}
 use Rattle.std.specs.Prelude.{is_some, ◌==◌, if◌then◌else◌}
 use Rattle.std.specs.Cmp.{unsigned_Decides, first_so, second_so}
 use Rattle.std.specs.List.{list_all}
@@ -23,12 +33,12 @@ use Rattle.vx_value.specs.declared.dtype.Nullability.TheVariants.{Nullable}
 use Rattle.vx_value.specs.declared.dtype.PType.{PType}
 use Rattle.vx_value.specs.declared.dtype.Storage.TheVariants as storage
 use Rattle.vx_mask.specs.Masks.{is_all_true, is_all_false}
-use Rattle.vx_native.specs.Numbers.{Numbers}
+use Rattle.vx_tree.specs.Numbers.{Numbers}
 use Rattle.vx_value.specs.Decimals.{has_digits, smallest_width}
 use Rattle.vx_value.specs.declared.decimal.DecimalDType.{DecimalDType}
 use Rattle.vx_value.specs.declared.decimal.DecimalType.{DecimalType}
 use Rattle.vx_value.specs.declared.dtype.Storage.{Storage}
-use Rattle.vx_rows.specs.Arguments.{stored_decimals}
+use Rattle.vx_column.specs.Arguments.{stored_decimals}
 use Rattle.vx_tree.specs.Tree as enc
 use Rattle.vx_tree.specs.Tree.{Tree, Data, column, nulls_of, booleans, slots_of}
 use Rattle.vx_tree.specs.Cells.{rows, slots_rows, cells_at, valid_cell, valid_cells}
@@ -36,10 +46,10 @@ use Rattle.vx_tree.specs.Rows.{item_or, bytes_rows}
 use Rattle.vx_tree.specs.ColumnTypes.{width_in, bytes_type, are_bytes_of}
 use Rattle.vx_tree.specs.Validities.{nullability_by, child_of, child_by, truths}
 use Rattle.vx_tree.specs.declared.validity.Validity.{Validity}
-use Rattle.vx_rows.specs.Stored.{decimal_column}
-use Rattle.vx_rows.specs.ValidRows.{child_in, nullability_in}
-use Rattle.vx_rows.proofs.StoredLemmas.{column_of_bytes}
-use Rattle.vx_rows.proofs.ValidRowsLemmas.{child_told, one_slot}
+use Rattle.vx_column.specs.Stored.{decimal_column}
+use Rattle.vx_column.specs.ValidRows.{child_in, nullability_in}
+use Rattle.vx_column.proofs.StoredLemmas.{column_of_bytes}
+use Rattle.vx_column.proofs.ValidRowsLemmas.{child_told, one_slot}
 use Rattle.vx_column.specs.Built.{without_point, built_stored, built}
 use Rattle.vx_column.specs.declared.builder.values.Values.{Values}
 use Rattle.vx_column.specs.declared.builder.values.Values.TheVariants.{Nulls, Bits, Integers, Decimals, Bytes}

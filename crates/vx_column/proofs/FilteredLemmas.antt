@@ -1,6 +1,8 @@
 -- Columns at the true bits of a mask: their values, and their validity.
-use Rattle.std.proofs.Common.{◌≡◌, ℕ, List, [], ◌∷◌, length, map, replicate, Bool, true, false, Option, Some, None, ℤ}
-use Rattle.std.proofs.Common.{refl, sym, ap, subst, ◌∙◌, arith}
+use Rattle.std.proofs.Common.{◌≡◌, ℕ, List, [], ◌∷◌, length, map, replicate, Bool, true, false, Option, Some, None, ℤ, refl, sym, ap}
+use Rattle.std.proofs.Common.{subst}
+use Rattle.std.proofs.Common.{◌∙◌}
+use Rattle.std.proofs.Common.{arith}
 use Rattle.std.proofs.lemmas.List.{length-map, length-replicate}
 use Rattle.std.specs.List.{list_all}
 use Rattle.std.specs.Str.{is_utf8}
@@ -26,20 +28,20 @@ use Rattle.vx_tree.specs.Keeps.{KeepsExactly}
 use Rattle.vx_tree.specs.Validities.{nullability_by, without_nulls, child_of, validity_of, of_truth, of_data, truths, valid_rows, HasRows}
 use Rattle.vx_tree.specs.declared.validity.Validity.{Validity}
 use Rattle.vx_tree.specs.declared.validity.Validity.TheVariants as validity
-use Rattle.vx_array.proofs.JoinedLemmas.{all_valid}
+use Rattle.vx_tree.proofs.JoinedLemmas.{all_valid}
 use Rattle.vx_tree.proofs.KeepsLemmas.{rows_equal}
-use Rattle.vx_array.proofs.TellsLemmas.{chosen_clean}
+use Rattle.vx_tree.proofs.TellsLemmas.{chosen_clean}
 use Rattle.vx_tree.proofs.CellsLemmas.{rows_counted}
-use Rattle.vx_array.proofs.ValiditiesLemmas.{told_back, whole, no_child, same_nullability}
+use Rattle.vx_tree.proofs.ValiditiesLemmas.{told_back, whole, no_child, same_nullability}
 use Rattle.vx_column.specs.Filtered.{IsChoice}
-use Rattle.vx_rows.specs.Nulls.{validity_cells}
-use Rattle.vx_rows.specs.ValidRows.{TellsRows}
-use Rattle.vx_rows.proofs.KeepsLemmas.{any_rows, copies_clean}
-use Rattle.vx_rows.proofs.ValidRowsLemmas.{one_slot}
+use Rattle.vx_column.specs.Nulls.{validity_cells}
+use Rattle.vx_column.specs.ValidRows.{TellsRows}
+use Rattle.vx_column.proofs.KeepsLemmas.{any_rows, copies_clean}
+use Rattle.vx_column.proofs.ValidRowsLemmas.{one_slot}
 use Rattle.vx_value.specs.declared.decimal.DecimalDType.{DecimalDType}
 use Rattle.vx_value.specs.declared.decimal.DecimalType.{DecimalType}
 use Rattle.vx_value.specs.Decimals.{has_digits, smallest_width, same_width}
-use Rattle.vx_rows.specs.Arguments.{stored_decimals}
+use Rattle.vx_column.specs.Arguments.{stored_decimals}
 
 -- ---- cells chosen by a mask
 

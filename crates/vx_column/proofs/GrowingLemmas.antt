@@ -1,7 +1,19 @@
 -- The rows that a builder keeps: more of them at the end, and their types.
-use Rattle.std.proofs.Common.{◌≡◌, inl, inr, ◌<◌, ◌≤◌, ◌+◌, ◌-◌, ℕ, zero, suc, Bool, true, false, Some, None}
-use Rattle.std.proofs.Common.{List, [], ◌∷◌, ◌++◌, length, map, take, replicate}
-use Rattle.std.proofs.Common.{refl, sym, ap, ap₂, subst, ◌∙◌, arith, lt-ltb, ltb-true, ◌^◌, nat_lt}
+use Rattle.std.proofs.Common.{◌≡◌, inl, inr, ◌<◌, ◌≤◌, ◌+◌, ◌-◌, ℕ, zero, suc, Bool, true, false, Some, None, List, [], ◌∷◌, ◌++◌, length}
+use Rattle.std.proofs.Common.{map}
+use Rattle.std.proofs.Common.{take}
+use Rattle.std.proofs.Common.{replicate}
+use Rattle.std.proofs.Common.{refl}
+use Rattle.std.proofs.Common.{sym}
+use Rattle.std.proofs.Common.{ap}
+use Rattle.std.proofs.Common.{ap₂}
+use Rattle.std.proofs.Common.{subst}
+use Rattle.std.proofs.Common.{◌∙◌}
+use Rattle.std.proofs.Common.{arith}
+use Rattle.std.proofs.Common.{lt-ltb}
+use Rattle.std.proofs.Common.{ltb-true}
+use Rattle.std.proofs.Common.{◌^◌}
+use Rattle.std.proofs.Common.{nat_lt}
 use Rattle.std.proofs.lemmas.Bool.{and_parts, and_from, le-ltb}
 use Rattle.std.proofs.lemmas.List.{map-append, replicate-append-replicate, append-nil, append_assoc, length-append, length-replicate, take-append-le, take_all}
 use Rattle.std.proofs.lemmas.List.Folds.{list_all-append}
@@ -24,12 +36,12 @@ use Rattle.vx_value.specs.declared.dtype.Storage.TheVariants as storage
 use Rattle.vx_value.proofs.DefaultsLemmas.{zero_typed}
 use Rattle.std.specs.Prelude.{◌==◌}
 use Rattle.std.specs.Cmp.{unsigned_Decides, first_so, second_so}
-use Rattle.vx_native.specs.Numbers.{Numbers}
-use Rattle.vx_native.proofs.DecimalNumbersLemmas.{digits_fit}
+use Rattle.vx_tree.specs.Numbers.{Numbers}
+use Rattle.vx_tree.proofs.DecimalNumbersLemmas.{digits_fit}
 use Rattle.vx_column.proofs.RepeatedLemmas.{all_copies}
 use Rattle.vx_column.specs.declared.builder.values.Values.{Values}
 use Rattle.vx_column.specs.declared.builder.values.Values.TheVariants.{Nulls, Bits, Integers, Decimals, Bytes}
-use Rattle.vx_native.proofs.NativesLemmas.{map_copies}
+use Rattle.vx_tree.proofs.NativesLemmas.{map_copies}
 use Rattle.vx_value.specs.declared.error.VortexError.TheVariants.{InvalidArgument, TooLong}
 use Rattle.vx_value.specs.declared.error.ArgKind.TheVariants.{BadType}
 use Rattle.vx_tree.specs.Conditions.{unless}

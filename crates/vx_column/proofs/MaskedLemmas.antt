@@ -1,6 +1,12 @@
 -- Columns with some of their rows made null: the two validities joined.
-use Rattle.std.proofs.Common.{◌≡◌, ℕ, suc, ◌+◌, List, [], ◌∷◌, length, map, Bool, true, false, ◌&&◌, Option, Some, None}
-use Rattle.std.proofs.Common.{refl, sym, ap, subst, ◌∙◌, arith, rules, Result, IfOk}
+use Rattle.std.proofs.Common.{◌≡◌, ℕ, suc, ◌+◌, List, [], ◌∷◌, length, map, Bool, true, false, ◌&&◌, Option, Some, None, refl, sym}
+use Rattle.std.proofs.Common.{ap}
+use Rattle.std.proofs.Common.{subst}
+use Rattle.std.proofs.Common.{◌∙◌}
+use Rattle.std.proofs.Common.{arith}
+use Rattle.std.proofs.Common.{rules}
+use Rattle.std.proofs.Common.{Result}
+use Rattle.std.proofs.Common.{IfOk}
 use Rattle.std.proofs.lemmas.Result.{IfOk-weaker}
 use Rattle.std.specs.List.{range_with_len}
 use Rattle.std.proofs.lemmas.List.{length-map}
@@ -18,26 +24,26 @@ use Rattle.vx_tree.specs.ColumnTypes.{bytes_type}
 use Rattle.vx_tree.specs.Tree.{Tree, Data, slots_of, dtype, len, column, call_of, masked_of}
 use Rattle.vx_tree.specs.Well.{shapes, IsFlat}
 use Rattle.vx_tree.specs.Cells.{rows, node_cells, cells_at, valid_cell, valid_cells, HasNoFault}
-use Rattle.vx_canonical.specs.Canonicals.{canonical_tree}
-use Rattle.vx_canonical.specs.declared.canonical.Canonical.{Canonical}
+use Rattle.vx_tree.specs.Canonicals.{canonical_tree}
+use Rattle.vx_tree.specs.declared.canonical.canonical.Canonical.{Canonical}
 use Rattle.vx_tree.specs.Keeps.{KeepsExactly}
 use Rattle.vx_tree.specs.Validities.{nullability_by, child_of, HasRows}
 use Rattle.vx_tree.specs.declared.validity.Validity.{Validity}
 use Rattle.vx_tree.specs.declared.validity.Validity.TheVariants as validity
 use Rattle.vx_tree.proofs.CellsLemmas.{rows_counted}
 use Rattle.vx_tree.proofs.KeepsLemmas.{rows_equal}
-use Rattle.vx_array.proofs.ValiditiesLemmas.{whole}
+use Rattle.vx_tree.proofs.ValiditiesLemmas.{whole}
 use Rattle.vx_mask.specs.Logic.{bit_row}
 use Rattle.std.proofs.lemmas.List.FromFn.{length-map-range_with_len}
 use Rattle.vx_column.specs.Masked.{TellsAll, IsBoth}
-use Rattle.vx_rows.specs.ValidRows.{IsValidityOf}
-use Rattle.vx_rows.specs.declared.valid.ValidRows.TheVariants as rows_valid
-use Rattle.vx_rows.proofs.ValidRowsLemmas.{child_told, filled_clean}
-use Rattle.vx_rows.specs.Nulls.{validity_cells}
-use Rattle.vx_rows.proofs.CellsLemmas.{fault_cell, masked_rows}
+use Rattle.vx_column.specs.ValidRows.{IsValidityOf}
+use Rattle.vx_column.specs.declared.rows.valid.ValidRows.TheVariants as rows_valid
+use Rattle.vx_column.proofs.ValidRowsLemmas.{child_told, filled_clean}
+use Rattle.vx_column.specs.Nulls.{validity_cells}
+use Rattle.vx_column.proofs.CellsLemmas.{fault_cell, masked_rows}
 use Rattle.vx_column.proofs.FilteredLemmas.{column_cells}
 use Rattle.vx_tree.proofs.TypedLemmas.{CellFits, AllFit, rows_fit}
-use Rattle.vx_array.proofs.JoinedLemmas.{and_cell, and_cells, and_rows, and_clean}
+use Rattle.vx_tree.proofs.JoinedLemmas.{and_cell, and_cells, and_rows, and_clean}
 
 -- ---- the cells of a conjunction
 

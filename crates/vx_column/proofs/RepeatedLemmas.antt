@@ -25,22 +25,22 @@ use Rattle.std.proofs.lemmas.Bool.{and_from}
 use Rattle.vx_tree.specs.ColumnTypes.{bytes_type, are_bytes_of}
 use Rattle.vx_tree.specs.Tree.{Tree, Data, bool, primitive, views, slots_of, column, constant_of, decimals}
 use Rattle.vx_tree.specs.Cells.{rows, slots_rows, node_cells, cells_at, valid_cells, AreClean}
-use Rattle.vx_canonical.specs.Canonicals.{canonical_tree}
+use Rattle.vx_tree.specs.Canonicals.{canonical_tree}
 use Rattle.vx_tree.specs.Keeps.{KeepsExactly}
 use Rattle.vx_tree.specs.Validities.{nullability_by, without_nulls, child_of, HasRows}
-use Rattle.vx_canonical.specs.declared.canonical.Canonical.{Canonical}
+use Rattle.vx_tree.specs.declared.canonical.canonical.Canonical.{Canonical}
 use Rattle.vx_tree.specs.declared.validity.Validity.{Validity}
 use Rattle.vx_tree.specs.declared.validity.Validity.TheVariants.{AllInvalid}
 use Rattle.vx_tree.proofs.ColumnTypesLemmas.{column_of_bits, column_of_integers}
-use Rattle.vx_array.proofs.ValiditiesLemmas.{no_child, same_nullability}
-use Rattle.vx_native.proofs.NativesLemmas.{map_copies}
-use Rattle.vx_rows.specs.Stored.{boolean_column, integer_column, bytes_column, decimal_column}
-use Rattle.vx_rows.proofs.KeepsLemmas.{same_exactly, any_rows, copies_clean}
-use Rattle.vx_rows.proofs.StoredLemmas.{column_of_bytes, stored_boolean, stored_number, stored_as_bytes, stored_decimal}
+use Rattle.vx_tree.proofs.ValiditiesLemmas.{no_child, same_nullability}
+use Rattle.vx_tree.proofs.NativesLemmas.{map_copies}
+use Rattle.vx_column.specs.Stored.{boolean_column, integer_column, bytes_column, decimal_column}
+use Rattle.vx_column.proofs.KeepsLemmas.{same_exactly, any_rows, copies_clean}
+use Rattle.vx_column.proofs.StoredLemmas.{column_of_bytes, stored_boolean, stored_number, stored_as_bytes, stored_decimal}
 use Rattle.vx_column.specs.Expanded.{repeated_validity}
 use Rattle.vx_value.specs.declared.decimal.DecimalDType.{DecimalDType}
 use Rattle.vx_value.specs.declared.decimal.DecimalType.{DecimalType}
-use Rattle.vx_rows.specs.Arguments.{stored_decimals, unscaled_of}
+use Rattle.vx_column.specs.Arguments.{stored_decimals, unscaled_of}
 use Rattle.std.specs.List.{list_all}
 
 nullable_null : (m : Nullability) → is_nullable m ≡ true → m ≡ Nullable

@@ -6,15 +6,15 @@ use Rattle.vx_mask.specs.Logic.{bit_row}
 use Rattle.vx_tree.specs.Tree.{len, booleans, validity_in}
 use Rattle.vx_tree.specs.Cells.{rows, shown_cell}
 use Rattle.vx_tree.specs.Keeps.{KeepsExactly}
-use Rattle.vx_canonical.specs.Canonicals.{columnar_tree}
-use Rattle.vx_canonical.specs.declared.columnar.Columnar.{Columnar}
-use Rattle.vx_rows.specs.Arguments.{IsArgument, AreShown, value_at}
-use Rattle.vx_rows.specs.ValidRows.{is_valid, null_unless}
-use Rattle.vx_rows.specs.declared.valid.ValidRows.{ValidRows}
-use Rattle.vx_rows.specs.declared.argument.Argument.{Argument}
-use Rattle.vx_rows.specs.declared.argument.ArgumentRows.{ArgumentRows}
-use Rattle.vx_rows.specs.declared.argument.ArgumentRows.TheVariants as stored
-use Rattle.vx_rows.proofs.KeepsLemmas.{same_exactly}
+use Rattle.vx_tree.specs.Canonicals.{columnar_tree}
+use Rattle.vx_tree.specs.declared.canonical.columnar.Columnar.{Columnar}
+use Rattle.vx_column.specs.Arguments.{IsArgument, AreShown, value_at}
+use Rattle.vx_column.specs.ValidRows.{is_valid, null_unless}
+use Rattle.vx_column.specs.declared.rows.valid.ValidRows.{ValidRows}
+use Rattle.vx_column.specs.declared.rows.argument.Argument.{Argument}
+use Rattle.vx_column.specs.declared.rows.argument.ArgumentRows.{ArgumentRows}
+use Rattle.vx_column.specs.declared.rows.argument.ArgumentRows.TheVariants as stored
+use Rattle.vx_column.proofs.KeepsLemmas.{same_exactly}
 
 -- a row is valid exactly if it isn't null: of a row whose stored value isn't, whatever is said of it
 shown_by : (a : ArgumentRows) (i : ℕ) (b : Bool) → shown_cell (value (value_at a i)) ≡ value (boolean true)

@@ -4,7 +4,7 @@ use Rattle.vx_value.specs.Cell.{Cell}
 use Rattle.vx_mask.specs.Places.{chosen}
 use Rattle.vx_tree.specs.Tree.{Tree, slots_of}
 use Rattle.vx_tree.specs.Cells.{valid_cells, AreClean}
-use Rattle.vx_rows.specs.Nulls.{validity_cells}
+use Rattle.vx_column.specs.Nulls.{validity_cells}
 
 -- w tells of the chosen rows what v tells of all, and has a fault only if v has one
 pub record IsChoice (bits : List Bool) (v w : Option Tree) : Type 0 where

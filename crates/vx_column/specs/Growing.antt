@@ -12,14 +12,14 @@ use Rattle.vx_value.specs.declared.dtype.Storage.TheVariants as storage
 use Rattle.vx_value.specs.declared.dtype.PType.{PType}
 use Rattle.vx_value.specs.declared.dtype.Nullability.{Nullability}
 use Rattle.vx_value.specs.declared.dtype.Nullability.TheVariants.{Nullable}
-use Rattle.vx_native.specs.Widths.{fits_width}
+use Rattle.vx_tree.specs.Widths.{fits_width}
 use Rattle.vx_value.specs.declared.decimal.DecimalDType.{DecimalDType}
 use Rattle.vx_tree.specs.Tree.{Tree, nulls_of}
 use Rattle.vx_tree.specs.declared.validity.Validity.{Validity}
-use Rattle.vx_rows.specs.Arguments.{stored_decimals}
-use Rattle.vx_rows.specs.Stored.{boolean_column, integer_column, decimal_column, bytes_column}
-use Rattle.vx_rows.specs.declared.valid.ValidRows.{ValidRows}
-use Rattle.vx_rows.specs.declared.valid.ValidRows.TheVariants as valid
+use Rattle.vx_column.specs.Arguments.{stored_decimals}
+use Rattle.vx_column.specs.Stored.{boolean_column, integer_column, decimal_column, bytes_column}
+use Rattle.vx_column.specs.declared.rows.valid.ValidRows.{ValidRows}
+use Rattle.vx_column.specs.declared.rows.valid.ValidRows.TheVariants as valid
 use Rattle.vx_column.specs.declared.builder.values.Values.{Values}
 use Rattle.vx_column.specs.declared.builder.values.Values.TheVariants.{Nulls, Bits, Integers, Decimals, Bytes}
 

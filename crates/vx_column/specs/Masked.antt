@@ -5,7 +5,7 @@ use Rattle.vx_tree.specs.Tree.{Tree, slots_of}
 use Rattle.vx_tree.specs.Cells.{valid_cells, AreClean}
 use Rattle.vx_tree.specs.Validities.{HasRows}
 use Rattle.vx_tree.specs.declared.validity.Validity.TheVariants.{Array}
-use Rattle.vx_rows.specs.Nulls.{validity_cells}
+use Rattle.vx_column.specs.Nulls.{validity_cells}
 
 -- the tree of a validity of n rows, or none
 abbrev pub TellsAll : ℕ → Option Tree → Type 0

@@ -1,7 +1,6 @@
 //! Columns that grow row by row.
 
-ghost use Rattle.std.specs.Prelude.{◌≡◌, ◌⊎◌, ◌↔◌, ◌+◌, ◌<◌, ◌^◌, ◌∷◌, [], true, length, map, replicate, Some, None};
-ghost use Rattle.std.specs.Prelude.{IsTrue, IfOk, IfErr, OnOk, OnErr, MatchResult};
+ghost use Rattle.std.specs.Prelude.{◌≡◌, ◌⊎◌, ◌↔◌, ◌+◌, ◌<◌, ◌^◌, ◌∷◌, [], true, length, map, replicate, Some, None, IsTrue, IfOk, IfErr, OnOk, OnErr, MatchResult};
 ghost use Rattle.std.specs.List.{list_all};
 ghost use Rattle.vx_value.specs.Types.{nullability_of};
 ghost use Rattle.vx_value.specs.declared.dtype.Nullability.TheVariants.{Nullable};
@@ -10,7 +9,7 @@ ghost use Rattle.vx_value.specs.View.{type_of};
 ghost use Rattle.vx_value.specs.Cell.{value};
 ghost use Rattle.vx_value.specs.IsOf.{is_of};
 ghost use Rattle.vx_tree.specs.Cells.{rows};
-ghost use Rattle.vx_canonical.specs.Canonicals.{canonical_tree};
+ghost use Rattle.vx_tree.specs.Canonicals.{canonical_tree};
 ghost use Rattle.vx_column.specs.Built.{appended, type_refusal, length_refusal, scalar_refusal, more_nulls_refusal, built};
 
 mod validity;
@@ -20,7 +19,7 @@ use std::alloc::Global;
 use std::marker::Model;
 use validity::ValidityBuilder;
 use values::Values;
-use vx_canonical::Canonical;
+use vx_tree::Canonical;
 use vx_value::{ArgKind, DType, Scalar, VortexError, VortexResult};
 
 /// Builds a column row by row. (own)

@@ -2,19 +2,18 @@
 
 ghost use Rattle.std.specs.Prelude.{◌≡◌, IfOk, IfErr};
 ghost use Rattle.vx_tree.specs.Tree.{datum, constant, constant_of};
-ghost use Rattle.vx_canonical.specs.Canonicals.{canonical_tree};
+ghost use Rattle.vx_tree.specs.Canonicals.{canonical_tree};
 ghost use Rattle.vx_tree.specs.Keeps.{KeepsExactly};
 ghost use Rattle.vx_column.specs.Expanded.{repeated_validity};
 
+use crate::rows::{bool_column, decimal_column, primitive_column, unscaled_of, varbinview_column};
 use std::alloc::Global;
-use vx_array::NullArray;
-use vx_canonical::Canonical;
 use vx_mask::BitBuffer;
-use vx_native::{DecimalValues, PrimitiveValues};
-use vx_rows::{bool_column, decimal_column, primitive_column, unscaled_of, varbinview_column};
-use vx_tree::{ArrayView, Constant, Validity};
+use vx_tree::{
+    ArrayView, BinaryViews, Canonical, Constant, DecimalValues, NullArray, PrimitiveValues,
+    Validity,
+};
 use vx_value::{ByteBuffer, DType, DecimalType, Scalar, Storage, VortexError, VortexResult};
-use vx_views::BinaryViews;
 
 /// Expands `array` to a canonical column. The rows take one allocation, which is made before any is written; the bytes of a text or
 /// a binary value stand once. The only error is `OutOfMemory`.

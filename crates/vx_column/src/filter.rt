@@ -7,17 +7,17 @@ ghost use Rattle.vx_mask.specs.Places.{true_count};
 ghost use Rattle.vx_tree.specs.Tree.{dtype, len, filter_of, slots_of};
 ghost use Rattle.vx_tree.specs.Well.{AreWell};
 ghost use Rattle.vx_tree.specs.Keeps.{KeepsExactly};
-ghost use Rattle.vx_canonical.specs.Canonicals.{canonical_tree};
+ghost use Rattle.vx_tree.specs.Canonicals.{canonical_tree};
 ghost use Rattle.vx_tree.specs.Validities.{nullability_by, child_of, HasRows};
 ghost use Rattle.vx_column.specs.Filtered.{IsChoice};
-ghost use Rattle.vx_rows.specs.ValidRows.{TellsRows};
+ghost use Rattle.vx_column.specs.ValidRows.{TellsRows};
 
+use crate::rows::{bool_column, decimal_column, primitive_column, varbinview_column};
 use std::alloc::Global;
-use vx_array::{FilterArray, IntoArray, NullArray};
-use vx_canonical::Canonical;
 use vx_mask::Mask;
-use vx_rows::{bool_column, decimal_column, primitive_column, varbinview_column};
-use vx_tree::{ArrayKind, ArrayRef, Validity, child_to_validity};
+use vx_tree::{
+    ArrayKind, ArrayRef, Canonical, FilterArray, IntoArray, NullArray, Validity, child_to_validity,
+};
 use vx_value::{DType, Nullability, VortexError, VortexResult};
 
 /// Returns the rows of `column` at the true bits of `mask`, which must have a bit for each row, as a column. The values share

@@ -8,20 +8,18 @@ ghost use Rattle.vx_fn.specs.declared.function.ScalarFnRef.TheVariants.{Binary};
 ghost use Rattle.vx_tree.specs.Tree.{dtype, len, datum, nulls_of, call_of, masked_of, is_canonical};
 ghost use Rattle.vx_tree.specs.Cells.{rows};
 ghost use Rattle.vx_tree.specs.Keeps.{KeepsExactly};
-ghost use Rattle.vx_canonical.specs.Canonicals.{canonical_tree};
+ghost use Rattle.vx_tree.specs.Canonicals.{canonical_tree};
 ghost use Rattle.vx_tree.specs.Validities.{nullability_by, child_of, HasRows};
 ghost use Rattle.vx_tree.specs.declared.validity.Validity.TheVariants.{Array};
-ghost use Rattle.vx_rows.specs.Arguments.{AreUnread};
+ghost use Rattle.vx_column.specs.Arguments.{AreUnread};
 ghost use Rattle.vx_column.specs.Masked.{TellsAll, IsBoth};
 
-use std::alloc::Global;
-use vx_array::{NullArray, and_lazily, validity_to_child};
-use vx_canonical::Canonical;
-use vx_mask::{BitAnd, BitBuffer, BitOperand};
-use vx_rows::{
+use crate::rows::{
     ValidRows, bool_column, decimal_column, primitive_column, truths_in, varbinview_column,
 };
-use vx_tree::{ArrayKind, ArrayRef, Validity};
+use std::alloc::Global;
+use vx_mask::{BitAnd, BitBuffer, BitOperand};
+use vx_tree::{ArrayKind, ArrayRef, Canonical, NullArray, Validity, and_lazily, validity_to_child};
 use vx_value::{DType, Nullability, VortexError, VortexResult};
 
 /// Returns the rows of `column`, null where `validity` says so, as a nullable column that shares its values. `validity` must be

@@ -4,15 +4,14 @@ ghost use Rattle.std.specs.Prelude.{◌≡◌, ◌<◌, ℕ, length, IfOk, IfErr
 ghost use Rattle.vx_mask.specs.Logic.{bit_row};
 ghost use Rattle.vx_tree.specs.Tree.{validity_in};
 ghost use Rattle.vx_tree.specs.Keeps.{KeepsExactly};
-ghost use Rattle.vx_canonical.specs.Canonicals.{canonical_tree, columnar_tree};
-ghost use Rattle.vx_rows.specs.Arguments.{IsUnread};
-ghost use Rattle.vx_rows.specs.ValidRows.{is_valid, HasValidity};
+ghost use Rattle.vx_tree.specs.Canonicals.{canonical_tree, columnar_tree};
+ghost use Rattle.vx_column.specs.Arguments.{IsUnread};
+ghost use Rattle.vx_column.specs.ValidRows.{is_valid, HasValidity};
 
+use crate::rows::{ValidRows, argument_of, bool_column};
 use std::alloc::{AllocError, Global};
-use vx_canonical::{Canonical, Columnar};
 use vx_mask::BitBuffer;
-use vx_rows::{ValidRows, argument_of, bool_column};
-use vx_tree::Validity;
+use vx_tree::{Canonical, Columnar, Validity};
 use vx_value::VortexResult;
 
 /// Returns whether each row of `column` isn't null, as a column of non-nullable booleans. (own)

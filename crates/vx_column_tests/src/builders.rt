@@ -1,6 +1,5 @@
 use std::alloc::Global;
 use std::test::Fail;
-use vx_array::ArrayRefExt;
 use vx_column::Builder;
 use vx_tree::{ArrayKind, Validity};
 use vx_value::{ArgKind, DType, Nullability, PType, Scalar, VortexError, VortexResult};

@@ -2,9 +2,8 @@
 
 use std::alloc::Global;
 use std::test::Fail;
-use vx_array::{ConstantArray, IntoArray, SliceArray};
 use vx_opt::{ArrayBuiltins, ArrayOptimizer, ArraySelect, RuleRegistry};
-use vx_tree::{ArrayKind, ArrayRef};
+use vx_tree::{ArrayKind, ArrayRef, ConstantArray, IntoArray, SliceArray};
 use vx_value::{DType, Nullability, PType, Scalar, VortexError, VortexResult};
 
 /// Returns a constant of `len` rows.

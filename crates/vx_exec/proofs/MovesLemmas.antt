@@ -7,7 +7,7 @@ use Rattle.vx_tree.specs.Slots.{put, IsHole, IsPresent, IsPresentAt}
 use Rattle.vx_tree.specs.Keeps.{KeepsExactly}
 use Rattle.vx_tree.specs.Cost.{cost}
 use Rattle.vx_tree.proofs.KeepsLemmas.{exactly_refl, exactly_trans}
-use Rattle.vx_canonical.proofs.ColumnsLemmas.{canonical_columnar}
+use Rattle.vx_tree.proofs.ColumnsLemmas.{canonical_columnar}
 use Rattle.vx_step.specs.Turns.{data_meets, meets, target_of, top}
 use Rattle.vx_exec.specs.Frames.{filled, IsFrame, AreFrames, frames_top}
 use Rattle.vx_step.specs.Steps.{HasNoShortcut, Awaits, AwaitsAt, IsDone}

@@ -2,7 +2,7 @@ pub use Rattle.vx_tree.specs.Tree
 pub use Rattle.vx_tree.specs.Cells
 pub use Rattle.vx_tree.specs.Keeps
 pub use Rattle.vx_tree.specs.Cost
-pub use Rattle.vx_canonical.specs.Canonicals
+pub use Rattle.vx_tree.specs.Canonicals
 pub use Rattle.vx_step.specs.Steps
 pub use Rattle.vx_step.specs.Turns
 pub mod Frames

@@ -4,7 +4,7 @@ ghost use Rattle.std.specs.Prelude.{◌≡◌, ◌⊎◌, ◌≤◌, ◌<◌, �
 ghost use Rattle.vx_tree.specs.Tree.{datum, is_canonical, is_columnar};
 ghost use Rattle.vx_tree.specs.Keeps.{KeepsExactly};
 ghost use Rattle.vx_tree.specs.Cost.{cost};
-ghost use Rattle.vx_canonical.specs.Canonicals.{columnar_tree};
+ghost use Rattle.vx_tree.specs.Canonicals.{columnar_tree};
 ghost use Rattle.vx_step.specs.Steps.{IsStopped};
 ghost use Rattle.vx_exec.specs.Moves.{IsExecuted, GoesOn};
 ghost use Rattle.vx_exec.specs.Limits.{default_turns};
@@ -12,8 +12,7 @@ ghost use Rattle.vx_exec.specs.Limits.{default_turns};
 use crate::turn::{Frame, Turn, take_turn};
 use std::alloc::Global;
 use std::marker::Model;
-use vx_canonical::Columnar;
-use vx_tree::{AnyColumnar, ArrayRef, Matcher};
+use vx_tree::{AnyColumnar, ArrayRef, Columnar, Matcher};
 use vx_value::{VortexError, VortexResult};
 
 /// The turns that an execution may take if no other limit is set.

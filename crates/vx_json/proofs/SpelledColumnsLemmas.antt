@@ -24,8 +24,8 @@ use Rattle.vx_value.specs.declared.error.VortexError.TheVariants.{OutOfMemory}
 use Rattle.vx_value.specs.declared.dtype.DType.{DType}
 use Rattle.vx_value.specs.declared.dtype.DType.TheVariants as dtype_of
 use Rattle.vx_value.specs.declared.dtype.Storage.TheVariants.{Text, Bytes}
-use Rattle.vx_native.specs.Natives.{values_of, ptype_of}
-use Rattle.vx_native.specs.DecimalNumbers.{numbers_of, decimal_type_of}
+use Rattle.vx_tree.specs.Natives.{values_of, ptype_of}
+use Rattle.vx_tree.specs.DecimalNumbers.{numbers_of, decimal_type_of}
 use Rattle.vx_mask.specs.Masks.{is_all_true, is_all_false}
 use Rattle.vx_tree.specs.Tree.{Tree, Data, dtype, len, column, nulls_of, bool, primitive, decimals, views, booleans}
 use Rattle.vx_tree.specs.Rows.{item_or}

@@ -10,8 +10,8 @@ use Rattle.vx_value.specs.declared.dtype.Nullability.TheVariants.{NonNullable}
 use Rattle.vx_value.specs.declared.dtype.Storage.{Storage}
 use Rattle.vx_value.specs.declared.dtype.Storage.TheVariants as storage
 use Rattle.vx_value.specs.declared.error.VortexError.{VortexError}
-use Rattle.vx_native.specs.Natives.{values_of, ptype_of}
-use Rattle.vx_native.specs.DecimalNumbers.{numbers_of, decimal_type_of}
+use Rattle.vx_tree.specs.Natives.{values_of, ptype_of}
+use Rattle.vx_tree.specs.DecimalNumbers.{numbers_of, decimal_type_of}
 use Rattle.vx_tree.specs.ColumnTypes.{are_bytes_of}
 use Rattle.vx_tree.specs.Tree as enc
 use Rattle.vx_tree.specs.Validities.{flat_refusal, decimal_refusal, bytes_refusal}

@@ -3,6 +3,10 @@ pub use Rattle.vx_tree.specs.Tree
 pub use Rattle.vx_tree.specs.Rows
 pub use Rattle.vx_tree.specs.Validities
 pub use Rattle.vx_tree.specs.Calls
+pub use Rattle.vx_value.specs.Cell
+pub use Rattle.vx_tree.specs.Cells
+pub use Rattle.vx_tree.specs.Columns
+pub use Rattle.vx_tree.specs.Canonicals
 pub mod Keys
 pub mod Fields
 pub mod Refused
@@ -15,3 +19,6 @@ pub mod SpelledNulls
 pub mod SpelledColumns
 pub mod SpelledNodes
 pub mod Spelled
+pub mod RowText
+pub mod Output
+pub mod Lines

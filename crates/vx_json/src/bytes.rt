@@ -14,8 +14,8 @@ use crate::BAD_VALUE;
 use crate::row_nulls::RowNulls;
 use serde_json::Value;
 use std::alloc::Global;
+use vx_tree::{BinaryBuilder, BinaryViews};
 use vx_value::{ByteBuffer, Storage, VortexResult};
-use vx_views::{BinaryBuilder, BinaryViews};
 
 /// Checks whether there is a capital letter among `digits`.
 fn has_capitals(digits: &str) -> bool

@@ -16,12 +16,12 @@ use crate::row_nulls::RowNulls;
 use crate::values::{booleans, integers};
 use serde_json::Value;
 use std::alloc::Global;
-use vx_array::{BoolArray, DecimalArray, IntoArray, PrimitiveArray, VarBinViewArray};
 use vx_mask::BitBuffer;
-use vx_native::{DecimalValues, PrimitiveValues};
-use vx_tree::{ArrayRef, Validity};
+use vx_tree::{
+    ArrayRef, BinaryViews, BoolArray, DecimalArray, DecimalValues, IntoArray, PrimitiveArray,
+    PrimitiveValues, Validity, VarBinViewArray,
+};
 use vx_value::{DType, Storage, VortexError, VortexResult};
-use vx_views::BinaryViews;
 
 /// The values of a column, in the buffers of its storage.
 #[derive(Drop)]

@@ -20,9 +20,8 @@ use crate::types::type_at;
 use crate::values::are_nulls;
 use serde_json::Value;
 use std::alloc::Global;
-use vx_array::{IntoArray, NullArray};
 use vx_mask::BitBuilder;
-use vx_tree::{ArrayRef, Validity};
+use vx_tree::{ArrayRef, IntoArray, NullArray, Validity};
 use vx_value::{DType, Nullability, VortexError, VortexResult};
 
 /// Reads a column by its rows.

@@ -4,7 +4,7 @@ ghost use Rattle.std.specs.Prelude.{◌≡◌, ◌≢◌, ℤ, pos, true, [], So
 ghost use Rattle.std.specs.Fmt.{signed_decimal};
 ghost use Rattle.serde_json.specs.View.{view, items_view};
 ghost use Rattle.vx_value.specs.Decimals.{has_digits, smallest_width};
-ghost use Rattle.vx_native.specs.DecimalNumbers.{numbers_of, decimal_type_of};
+ghost use Rattle.vx_tree.specs.DecimalNumbers.{numbers_of, decimal_type_of};
 ghost use Rattle.vx_json.specs.ReadRows.{RowsRead};
 ghost use Rattle.vx_json.specs.Refused.{IsRefused};
 ghost use Rattle.vx_json.specs.SpelledValues.{decimal_in, decimal_spelled};
@@ -15,7 +15,7 @@ use crate::row_nulls::RowNulls;
 use itoa::Buffer as TextBuffer;
 use serde_json::Value;
 use std::alloc::Global;
-use vx_native::{DecimalValues, NativeDecimalType, narrowed};
+use vx_tree::{DecimalValues, NativeDecimalType, narrowed};
 use vx_value::{DecimalDType, DecimalType, DecimalValue, Digits, VortexResult};
 
 /// Reads the number that `text` is the decimal form of: without `+`, without a leading zero and not `-0`. It must be one of

@@ -1,4 +1,4 @@
-//! Reads trees from JSON.
+//! Reads trees from JSON, and prints the text of rows and of columns.
 #![tactic(auto)]
 
 mod bytes;
@@ -12,10 +12,12 @@ mod nodes;
 mod nulls;
 mod numbers;
 mod row_nulls;
+mod text;
 mod tree;
 mod types;
 mod values;
 
+pub use text::{PrintedNumber, column_text, push_integer, push_row, row_text};
 pub use tree::{tree_of, tree_of_bytes};
 use vx_value::{ArgKind, VortexError};
 

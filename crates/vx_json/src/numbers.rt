@@ -10,7 +10,7 @@ use crate::row_nulls::RowNulls;
 use serde_json::Value;
 use std::alloc::Global;
 use vx_mask::Buffer;
-use vx_native::{NativeKind, NativeNumber, NativeValues};
+use vx_tree::{NativeKind, NativeNumber, NativeValues};
 use vx_value::VortexResult;
 
 /// How a number of the type `T` is read.

@@ -5,7 +5,7 @@ ghost use Rattle.std.specs.List.{list_all};
 ghost use Rattle.serde_json.specs.View.{view, items_view};
 ghost use Rattle.serde_json.specs.Find.{as_bool, as_number, as_integer};
 ghost use Rattle.vx_value.specs.View.{type_of};
-ghost use Rattle.vx_native.specs.Natives.{values_of, ptype_of};
+ghost use Rattle.vx_tree.specs.Natives.{values_of, ptype_of};
 ghost use Rattle.vx_json.specs.Refused.{IsRead};
 ghost use Rattle.vx_json.specs.ReadRows.{read_unless, RowsRead};
 ghost use Rattle.vx_json.specs.SpelledNodes.Constant.{scalar_of};
@@ -19,7 +19,7 @@ use crate::row_nulls::RowNulls;
 use serde_json::Value;
 use std::alloc::Global;
 use vx_mask::{BitBuffer, BitBuilder};
-use vx_native::{NativeInteger, PrimitiveValues};
+use vx_tree::{NativeInteger, PrimitiveValues};
 use vx_value::{DType, PType, Scalar, ScalarValue, VortexResult};
 
 /// Checks whether each item of `list` is null.

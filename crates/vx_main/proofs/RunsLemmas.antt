@@ -12,9 +12,9 @@ use Rattle.vx_tree.specs.Columns.{IsLawful}
 use Rattle.vx_exec.specs.Steps.{IsStopped}
 use Rattle.vx_exec.specs.Moves.{IsExecuted, GoesOn}
 use Rattle.vx_json.specs.Spelled.{Spells}
-use Rattle.vx_stream.specs.Streams.{TakesAll}
+use Rattle.vx_main.specs.Streams.{TakesAll}
 use Rattle.vx_main.specs.Commands.{limit_of, reads_tree}
-use Rattle.vx_text.specs.Output.{Shows}
+use Rattle.vx_json.specs.Output.{Shows}
 use Rattle.vx_main.specs.Runs.{Answers, IsSource, IsUnprepared, HasNoAnswer, Owes, is_column}
 use Rattle.vx_main.specs.Statuses.{status_of}
 use Rattle.vx_main.specs.declared.top.words.Command.{Command}

@@ -13,10 +13,10 @@ use Rattle.vx_value.specs.declared.error.VortexError.{VortexError}
 use Rattle.vx_value.specs.declared.error.VortexError.TheVariants as error
 use Rattle.vx_json.specs.Spelled.{Spells, SpellsNone}
 use Rattle.vx_exec.specs.Moves.{IsExecuted, GoesOn}
-use Rattle.vx_stream.specs.Limits.{input_limit}
+use Rattle.vx_main.specs.Limits.{input_limit}
 use Rattle.vx_tree.specs.Columns.{IsLawful}
-use Rattle.vx_text.specs.Output.{Shows}
-use Rattle.vx_stream.specs.Streams.{AppendsPrefix}
+use Rattle.vx_json.specs.Output.{Shows}
+use Rattle.vx_main.specs.Streams.{AppendsPrefix}
 use Rattle.vx_main.specs.declared.top.words.Command.{Command}
 use Rattle.vx_main.specs.declared.top.words.Command.TheVariants.{Run, Optimize, Help, Version}
 use Rattle.vx_main.specs.declared.top.words.TheConstants.{HELP, VERSION}

@@ -6,15 +6,16 @@ ghost use Rattle.std.specs.IoError.{error_kind};
 ghost use Rattle.vx_main.specs.Commands.{texts, command_of};
 ghost use Rattle.std.specs.declared.io.ErrorKind.TheVariants as failure;
 
+mod streams;
 mod top;
 
 use std::process::ExitCode;
 use std::{env, io};
-pub use top::{Command, HELP, Status, VERSION, VortexSession, run, status_text};
-pub use vx_stream::{
+pub use streams::{
     Failed, INPUT_LIMIT, MemSink, MemSource, PlainSink, PlainSource, Sink, Source, StdinSource,
     StdoutSink,
 };
+pub use top::{Command, HELP, Status, VERSION, VortexSession, run, status_text};
 
 /// Reads the arguments of the process, with the program's name first.
 fn read_arguments(rt: &HostRuntime) -> io::Result<Vec<String>> {

@@ -6,10 +6,10 @@ use Rattle.vx_tree.specs.Tree.{Tree, node, slice, filter, slot, no_slots, dtype,
 use Rattle.vx_tree.specs.Columns.{empty_of}
 use Rattle.vx_tree.specs.Keeps.{Keeps}
 use Rattle.vx_tree.specs.Well.{IsWell}
-use Rattle.vx_array.proofs.RefusalsLemmas.{slice_is_node}
+use Rattle.vx_tree.proofs.RefusalsLemmas.{slice_is_node}
 use Rattle.vx_tree.proofs.ChoicesLemmas.{slice_twice, filter_twice}
 use Rattle.vx_tree.proofs.KeepsLemmas.{keeps_trans, put_keeps}
-use Rattle.vx_array.proofs.ValiditiesLemmas.{part_clean}
+use Rattle.vx_tree.proofs.ValiditiesLemmas.{part_clean}
 use Rattle.vx_rule.proofs.FiltersLemmas.{filter_clean}
 use Rattle.vx_rule.proofs.PicksLemmas.{exactly_by}
 use Rattle.vx_rule.proofs.RangesLemmas.{S_whole_keeps, S_empty_keeps}

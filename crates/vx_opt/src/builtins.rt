@@ -9,9 +9,8 @@ ghost use Rattle.vx_opt.specs.Builtins.{Calls, Casts, MakesCall};
 
 use crate::optimizer::ArrayOptimizer;
 use std::alloc::Global;
-use vx_array::{ConstantArray, IntoArray, ScalarFnArray};
 use vx_fn::{BetweenOptions, Operator, ScalarFnRef};
-use vx_tree::ArrayRef;
+use vx_tree::{ArrayRef, ConstantArray, IntoArray, ScalarFnArray};
 use vx_value::{DType, Scalar, VortexResult};
 
 /// The functions as methods. Each makes the node of its function over the array, and optimizes it, but for `zip`.

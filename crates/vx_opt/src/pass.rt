@@ -7,8 +7,7 @@ ghost use Rattle.vx_opt.specs.Pass.{IsPass};
 
 use crate::slots::{child_in, number_of_slots};
 use std::alloc::Global;
-use vx_reduce::{reduce, reduce_parent};
-use vx_rule::RawNode;
+use vx_rule::{RawNode, reduce, reduce_parent};
 use vx_tree::ArrayRef;
 use vx_value::VortexResult;
 

@@ -10,10 +10,8 @@ ghost use Rattle.vx_opt.specs.Select.{IsRange, IsMaskOf, IsNoSlice, IsNoFilter};
 use crate::optimizer::ArrayOptimizer;
 use std::alloc::Global;
 use std::ops::Range;
-use vx_array::{FilterArray, IntoArray, SliceArray};
-use vx_canonical::Canonical;
 use vx_mask::Mask;
-use vx_tree::ArrayRef;
+use vx_tree::{ArrayRef, Canonical, FilterArray, IntoArray, SliceArray};
 use vx_value::VortexResult;
 
 /// Lazy choices of rows, optimized. (own)

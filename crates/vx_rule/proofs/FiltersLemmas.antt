@@ -25,9 +25,9 @@ use Rattle.vx_tree.proofs.CellsLemmas.{rows_counted}
 use Rattle.vx_tree.proofs.ChoicesLemmas.{filter_twice}
 use Rattle.vx_tree.proofs.KeepsLemmas.{exactly_refl}
 use Rattle.vx_tree.proofs.KindsLemmas.{type_in, len_in}
-use Rattle.vx_array.proofs.TellsLemmas.{chosen_clean}
+use Rattle.vx_tree.proofs.TellsLemmas.{chosen_clean}
 use Rattle.vx_tree.proofs.SlotsLemmas.{no_shapes}
-use Rattle.vx_array.proofs.ValiditiesLemmas.{whole}
+use Rattle.vx_tree.proofs.ValiditiesLemmas.{whole}
 use Rattle.vx_rule.proofs.PicksLemmas.{first_of, exactly_by, map_clean, function_picked, masked_picked}
 use Rattle.vx_rule.proofs.RangesLemmas.{empty_known, copies_clean}
 

@@ -8,3 +8,11 @@ pub mod MasksLemmas
 pub mod CastsLemmas
 pub mod KeepsLemmas
 pub mod PushLemmas
+mod SlotsLemmas
+mod CallsLemmas
+mod FitsLemmas
+mod QuietLemmas
+mod ChildrenLemmas
+mod ConstantsLemmas
+mod CombinedLemmas
+mod MaskedLemmas

@@ -19,9 +19,9 @@ use Rattle.vx_tree.specs.Well.{IsWell, AreWell}
 use Rattle.vx_tree.proofs.CellsLemmas.{rows_counted}
 use Rattle.vx_tree.proofs.KeepsLemmas.{exactly_of_rows}
 use Rattle.vx_tree.proofs.KindsLemmas.{type_in, len_in}
-use Rattle.vx_array.proofs.JoinedLemmas.{and_cell, and_rows, and_clean}
+use Rattle.vx_tree.proofs.JoinedLemmas.{and_cell, and_rows, and_clean}
 use Rattle.vx_tree.proofs.TypedLemmas.{CellFits, fit_at, rows_fit}
-use Rattle.vx_array.proofs.ValiditiesLemmas.{whole}
+use Rattle.vx_tree.proofs.ValiditiesLemmas.{whole}
 use Rattle.vx_rule.specs.Rules.{told}
 use Rattle.vx_rule.proofs.PicksLemmas.{rows_are, slots_long, IsSecond, masked_slots}
 use Rattle.vx_rule.proofs.RangesLemmas.{copies_clean}

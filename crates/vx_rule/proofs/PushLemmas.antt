@@ -20,7 +20,7 @@ use Rattle.vx_tree.specs.Validities.{HasRange}
 use Rattle.vx_tree.specs.Well.{shape, shape_of, shapes, IsValidity, IsNode, IsWell, AreWell}
 use Rattle.vx_tree.proofs.CostLemmas.{cost_positive, column_cost, masked_cost, masked_reach}
 use Rattle.vx_tree.proofs.KeepsLemmas.{exactly_refl, exactly_trans, exactly_of_rows, put_exactly}
-use Rattle.vx_canonical.proofs.PartsLemmas.{part_exact}
+use Rattle.vx_tree.proofs.PartsLemmas.{part_exact}
 use Rattle.vx_tree.proofs.KindsLemmas.{type_in, len_in}
 use Rattle.vx_tree.proofs.SlotsLemmas.{IsBelow, slot_below, one_shape}
 use Rattle.vx_rule.specs.Pushes.{IsPushed, IsConstantLike}

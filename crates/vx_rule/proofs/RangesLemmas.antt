@@ -1,6 +1,10 @@
 -- What the rows of slices keep: S1 to S5.
-use Rattle.std.proofs.Common.{◌≡◌, ℕ, zero, suc, ◌+◌, ◌-◌, ◌≤◌, List, [], ◌∷◌, length, map, take, drop, Option, Some}
-use Rattle.std.proofs.Common.{None, true, refl, sym, ap, subst, ◌∙◌, arith}
+use Rattle.std.proofs.Common.{◌≡◌, ℕ, zero, suc, ◌+◌, ◌-◌, ◌≤◌, List, [], ◌∷◌, length, map, take, drop, Option, Some, None, true, refl}
+use Rattle.std.proofs.Common.{sym}
+use Rattle.std.proofs.Common.{ap}
+use Rattle.std.proofs.Common.{subst}
+use Rattle.std.proofs.Common.{◌∙◌}
+use Rattle.std.proofs.Common.{arith}
 use Rattle.std.specs.Prelude.{option_map}
 use Rattle.std.specs.List.{range_with_len}
 use Rattle.std.proofs.lemmas.List.{take-map, drop-map, take_all, length-take-le, length-drop}
@@ -10,8 +14,10 @@ use Rattle.vx_value.specs.Typed.{Typed}
 use Rattle.vx_value.specs.Cell.{Cell}
 use Rattle.vx_fn.specs.declared.function.ScalarFnRef.{ScalarFnRef}
 use Rattle.vx_tree.specs.Tree as enc
-use Rattle.vx_tree.specs.Tree.{Tree, Data, Slots, node, no_slots, absent, slot, slots_of, dtype, len, datum}
-use Rattle.vx_tree.specs.Tree.{slots, column, constant_of, slice_of, is_canonical, is_flat}
+use Rattle.vx_tree.specs.Tree.{Tree, Data, Slots, node, no_slots, absent, slot, slots_of, dtype, len, datum, slots, column, constant_of}
+use Rattle.vx_tree.specs.Tree.{slice_of}
+use Rattle.vx_tree.specs.Tree.{is_canonical}
+use Rattle.vx_tree.specs.Tree.{is_flat}
 use Rattle.vx_tree.specs.Slots.{map_slots}
 use Rattle.vx_tree.specs.Parts.{part_of, column_range}
 use Rattle.vx_tree.specs.Columns.{empty_of}
@@ -20,12 +26,12 @@ use Rattle.vx_tree.specs.Keeps.{KeepsExactly}
 use Rattle.vx_tree.specs.Well.{Shape, shape, shape_of, shapes, IsNode, IsNodeOf, IsWell}
 use Rattle.vx_tree.proofs.CellsLemmas.{rows_counted}
 use Rattle.vx_tree.proofs.ChoicesLemmas.{slice_twice}
-use Rattle.vx_canonical.proofs.FlatLemmas.{flat_range_kept}
+use Rattle.vx_tree.proofs.FlatLemmas.{flat_range_kept}
 use Rattle.vx_tree.proofs.KindsLemmas.{type_in, len_in}
-use Rattle.vx_canonical.proofs.NullsLemmas.{nulls_part, nulls_range}
-use Rattle.vx_canonical.proofs.PartsLemmas.{part_exact, slot_part, flat_range_is}
+use Rattle.vx_tree.proofs.NullsLemmas.{nulls_part, nulls_range}
+use Rattle.vx_tree.proofs.PartsLemmas.{part_exact, slot_part, flat_range_is}
 use Rattle.vx_tree.proofs.SlotsLemmas.{no_shapes}
-use Rattle.vx_array.proofs.ValiditiesLemmas.{part_clean}
+use Rattle.vx_tree.proofs.ValiditiesLemmas.{part_clean}
 use Rattle.vx_rule.proofs.PicksLemmas.{first_of, exactly_by, map_clean, function_picked, masked_picked}
 
 -- ---- what every row needs

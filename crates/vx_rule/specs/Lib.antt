@@ -10,3 +10,6 @@ pub mod Rules
 pub mod Answers
 pub mod Tags
 pub mod Pushes
+pub mod Calls
+pub mod SliceLaws
+pub mod Constants

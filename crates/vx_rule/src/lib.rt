@@ -1,13 +1,25 @@
-//! Rewrite rules: the table of their rows with its laws, what a rule is, and the nodes that answers are made of.
+//! Rewrite rules: the table of their rows with its laws, what a rule is, and the rules of each encoding, for itself and for its
+//! parents.
 #![tactic(auto)]
 
+mod adaptors;
+mod encodings;
 mod laws;
 mod nodes;
 mod push;
 mod raw_node;
 mod rule;
+mod rule_set;
 pub mod scalar_fns;
+mod slots;
+mod table;
 
+pub use adaptors::{
+    BetweenReduce, BetweenReduceAdaptor, CastReduce, CastReduceAdaptor, FillNullReduce,
+    FillNullReduceAdaptor, FilterReduce, FilterReduceAdaptor, MaskReduce, MaskReduceAdaptor,
+    NotReduce, NotReduceAdaptor, SliceReduce, SliceReduceAdaptor,
+};
+pub use encodings::CanonicalEncoding;
 pub use laws::rule_laws;
 pub use nodes::{
     column_slice, constant_like, empty_column, function_node, function_parts, masked_node,
@@ -18,4 +30,6 @@ pub use raw_node::RawNode;
 pub use rule::{
     ArrayParentReduceRule, ArrayReduceRule, DynArrayParentReduceRule, ParentReduceRuleAdapter,
 };
+pub use rule_set::{ParentRuleSet, ReduceRuleSet, ReduceVTable};
 pub use scalar_fns::{ExactScalarFn, ScalarFnTag};
+pub use table::{reduce, reduce_parent};

@@ -3,19 +3,19 @@
 ghost use Rattle.std.specs.Prelude.{◌≡◌, ◌≤◌, [], ◌∷◌, Some, IfOk, IfErr, true};
 ghost use Rattle.vx_value.specs.declared.error.VortexError.TheVariants.{OutOfMemory};
 ghost use Rattle.vx_value.specs.View.{type_of};
-ghost use Rattle.vx_tree.specs.Tree.{dtype, len, datum, node, function, masked, slots_of, masked_of};
-ghost use Rattle.vx_tree.specs.Tree.{is_function, is_masked, is_constant, is_canonical};
+ghost use Rattle.vx_tree.specs.Tree.{dtype, len, datum, node, function, masked, slots_of, masked_of, is_function, is_masked, is_constant, is_canonical};
 ghost use Rattle.vx_tree.specs.Well.{IsNode, IsWell, shapes};
 ghost use Rattle.vx_tree.specs.Columns.{empty_of};
-ghost use Rattle.vx_canonical.specs.Canonicals.{canonical_tree};
+ghost use Rattle.vx_tree.specs.Canonicals.{canonical_tree};
 ghost use Rattle.vx_rule.specs.Pushes.{IsConstantLike, IsColumnSlice};
 
 use std::alloc::Global;
 use std::ops::Range;
-use vx_array::{Array, ArrayParts, ConstantArray, IntoArray};
-use vx_canonical::{Canonical, slice_canonical};
 use vx_fn::ScalarFnRef;
-use vx_tree::{ArrayKind, ArrayRef, Masked, MaskedData, ScalarFn, ScalarFnData};
+use vx_tree::{
+    Array, ArrayKind, ArrayParts, ArrayRef, Canonical, ConstantArray, IntoArray, Masked,
+    MaskedData, ScalarFn, ScalarFnData, slice_canonical,
+};
 use vx_value::{DType, VortexResult};
 
 /// Returns the function of `array`, which must apply one, and the slots of its arguments.

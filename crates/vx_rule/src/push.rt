@@ -12,8 +12,7 @@ use crate::nodes::{
 };
 use std::alloc::Global;
 use std::ops::Range;
-use vx_array::{IntoArray, SliceArray, slice_validity};
-use vx_tree::{AnyCanonical, ArrayKind, ArrayRef};
+use vx_tree::{AnyCanonical, ArrayKind, ArrayRef, IntoArray, SliceArray, slice_validity};
 use vx_value::VortexResult;
 
 /// Returns the rows of `array` in `range`, which must be in order and in bounds, with the slice pushed down as far as the rows S1 to S5

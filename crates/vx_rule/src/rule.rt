@@ -8,8 +8,7 @@ ghost use Rattle.vx_rule.specs.Answers.{HoldsWith, Answers};
 use crate::raw_node::RawNode;
 use std::alloc::Global;
 use std::marker::PhantomData;
-use vx_array::VTable;
-use vx_tree::{ArrayRef, ArrayView, Matcher};
+use vx_tree::{ArrayRef, ArrayView, Matcher, VTable};
 use vx_value::VortexResult;
 
 /// Rules of a node itself.

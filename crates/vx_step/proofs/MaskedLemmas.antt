@@ -8,8 +8,8 @@ use Rattle.vx_tree.specs.Tree.{Tree, dtype, datum, len, masked_of, is_canonical}
 use Rattle.vx_tree.specs.Cells.{rows, IsClean}
 use Rattle.vx_tree.proofs.CellsLemmas.{no_fault_at}
 use Rattle.vx_tree.proofs.KindsLemmas.{type_in, len_in}
-use Rattle.vx_array.proofs.ValiditiesLemmas.{whole}
-use Rattle.vx_rows.specs.Arguments.{AreUnread}
+use Rattle.vx_tree.proofs.ValiditiesLemmas.{whole}
+use Rattle.vx_column.specs.Arguments.{AreUnread}
 use Rattle.vx_tree.specs.Well.{shape, shape_of, IsWell, IsValidity}
 use Rattle.vx_tree.specs.Columns.{IsColumn}
 use Rattle.vx_tree.specs.Keeps.{KeepsExactly}

@@ -6,23 +6,24 @@ use Rattle.vx_fn.specs.ReturnTypes.{return_type}
 use Rattle.vx_fn.specs.declared.function.ScalarFnRef.{ScalarFnRef}
 use Rattle.vx_value.specs.Typed.{Typed}
 use Rattle.vx_tree.specs.Tree.{Tree, Slots, node, function, no_slots, absent, slot, filled_slots, dtype, len, datum, is_canonical, is_columnar, is_constant, is_filter, constant_of, slice_of, masked_of, validity_in, call_of}
-use Rattle.vx_tree.specs.Tree.{types_in, all_present}
+use Rattle.vx_tree.specs.Tree.{types_in}
+use Rattle.vx_tree.specs.Tree.{all_present}
 use Rattle.vx_tree.specs.Cost.{all, is_executed, cost, base_cost}
 use Rattle.vx_tree.specs.Columns.{IsColumn}
-use Rattle.vx_canonical.proofs.ColumnsLemmas.{column_known, canonical_columnar, canonical_open}
+use Rattle.vx_tree.proofs.ColumnsLemmas.{column_known, canonical_columnar, canonical_open}
 use Rattle.vx_step.proofs.TurnsLemmas.{top_paid, top_own}
 use Rattle.vx_tree.specs.Cells.{rows, HasNoFault, IsClean}
 use Rattle.vx_tree.specs.Well.{IsNode, IsWell, shapes}
 use Rattle.vx_tree.specs.Keeps.{KeepsExactly}
-use Rattle.vx_array.proofs.CallsLemmas.{filled_types}
-use Rattle.vx_array.proofs.RefusalsLemmas.{types_back, present_types}
+use Rattle.vx_tree.proofs.CallsLemmas.{filled_types}
+use Rattle.vx_tree.proofs.RefusalsLemmas.{types_back, present_types}
 use Rattle.vx_step.specs.Steps.{HasNoShortcut, IsStep, AwaitsAt, IsDone, IsReady, IsStopped, AreReady, are_constant, gives_constant}
 use Rattle.vx_step.specs.Waiting.{AreColumns}
 use Rattle.vx_step.specs.declared.steps.ExecutionStep.TheVariants.{ExecuteSlot}
 use Rattle.vx_step.specs.declared.steps.SlotTarget.TheVariants.{Canonical, Columnar}
 use Rattle.vx_tree.proofs.CellsLemmas.{no_fault_at}
-use Rattle.vx_rows.specs.Arguments.{IsUnread}
-use Rattle.vx_apply.specs.Applied.{IsCall, IsApplied, IsUnapplied, all_constant}
+use Rattle.vx_column.specs.Arguments.{IsUnread}
+use Rattle.vx_column.specs.Applied.{IsCall, IsApplied, IsUnapplied, all_constant}
 
 some_same : (s t : DataType) → Some s ≡ Some t → s ≡ t
 some_same s t h = cc

@@ -4,7 +4,7 @@ use Rattle.std.proofs.Math.Bool.{not}
 use Rattle.vx_tree.specs.Tree.{Tree, slots_of, filled_slots, datum, is_columnar, all_present}
 use Rattle.vx_tree.specs.Well.{shapes}
 use Rattle.vx_tree.specs.Refusals.{is_present}
-use Rattle.vx_array.proofs.CallsLemmas.{filled_more}
+use Rattle.vx_tree.proofs.CallsLemmas.{filled_more}
 use Rattle.vx_step.specs.Steps.{AwaitsAt}
 use Rattle.vx_step.specs.Waiting.{AreColumns, HoldsColumn, waits, trees_of}
 use Rattle.vx_step.specs.declared.steps.SlotTarget.TheVariants.{Columnar}

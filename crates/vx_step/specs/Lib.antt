@@ -3,7 +3,7 @@ pub use Rattle.vx_tree.specs.Cells
 pub use Rattle.vx_tree.specs.Keeps
 pub use Rattle.vx_tree.specs.Slots
 pub use Rattle.vx_tree.specs.Well
-pub use Rattle.vx_canonical.specs.Canonicals
+pub use Rattle.vx_tree.specs.Canonicals
 pub mod Turns
 pub mod Steps
 pub mod Waiting

@@ -4,17 +4,16 @@ ghost use Rattle.std.specs.Prelude.{◌≡◌, ◌<◌, IfOk, IfErr, length, fal
 ghost use Rattle.vx_mask.specs.Masks.{bits_in, is_all_true};
 ghost use Rattle.vx_mask.specs.Places.{true_count};
 ghost use Rattle.vx_tree.specs.Tree.{len, datum, is_canonical, filter_of};
-ghost use Rattle.vx_canonical.specs.Canonicals.{canonical_tree};
+ghost use Rattle.vx_tree.specs.Canonicals.{canonical_tree};
 ghost use Rattle.vx_tree.specs.Keeps.{KeepsExactly};
 ghost use Rattle.vx_step.specs.Steps.{IsStep, IsStopped};
 
 use crate::steps::{ExecutionStep, SlotTarget, done};
 use std::alloc::Global;
-use vx_canonical::{Canonical, slice_canonical};
 use vx_column::filter_canonical;
 use vx_mask::Mask;
 use vx_rule::push_slice;
-use vx_tree::ArrayRef;
+use vx_tree::{ArrayRef, Canonical, slice_canonical};
 use vx_value::{VortexError, VortexResult};
 
 /// Replaces the filter of `child` by `mask`: by the column without rows if the mask chooses none, by `child` if it chooses all,

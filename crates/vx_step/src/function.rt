@@ -3,18 +3,16 @@
 ghost use Rattle.std.specs.Prelude.{◌≡◌, ◌++◌, ◌∷◌, [], map, IfOk, IfErr, OnOk, MatchOption, true, Some};
 ghost use Rattle.vx_tree.specs.Tree.{Tree, dtype, len, datum, node, function, slots_of, filled_slots, is_columnar, all_present};
 ghost use Rattle.vx_tree.specs.Well.{IsNode, shapes};
-ghost use Rattle.vx_canonical.specs.Canonicals.{columnar_tree};
+ghost use Rattle.vx_tree.specs.Canonicals.{columnar_tree};
 ghost use Rattle.vx_step.specs.Waiting.{AreColumns, HoldsColumn, waits, trees_of};
 ghost use Rattle.vx_step.specs.Steps.{IsStep, IsStopped, AwaitsAt};
 ghost use Rattle.vx_step.specs.declared.steps.SlotTarget.TheVariants as target;
 
 use crate::steps::{ExecutionStep, SlotTarget};
 use std::alloc::{AllocError, Global};
-use vx_apply::apply_fn;
-use vx_array::IntoArray;
-use vx_canonical::Columnar;
+use vx_column::apply_fn;
 use vx_fn::ScalarFnRef;
-use vx_tree::{AnyColumnar, ArrayRef};
+use vx_tree::{AnyColumnar, ArrayRef, Columnar, IntoArray};
 use vx_value::VortexResult;
 
 /// Requests the first slot that isn't a column yet; applies `scalar_fn` once all are.

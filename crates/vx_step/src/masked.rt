@@ -7,9 +7,8 @@ ghost use Rattle.vx_step.specs.Told.{told_by};
 
 use crate::steps::{ExecutionStep, SlotTarget, done};
 use std::alloc::{AllocError, Global};
-use vx_canonical::Canonical;
 use vx_column::mask_validity_canonical;
-use vx_tree::{ArrayRef, Validity};
+use vx_tree::{ArrayRef, Canonical, Validity};
 use vx_value::VortexResult;
 
 /// Requests `child` as a canonical column; joins its validity with `validity` once it is one.

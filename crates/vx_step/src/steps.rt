@@ -3,7 +3,7 @@
 ghost use Rattle.std.specs.Prelude.{◌≡◌, IfOk, IfErr, true, false};
 ghost use Rattle.vx_tree.specs.Tree.{datum, is_canonical};
 ghost use Rattle.vx_tree.specs.Columns.{IsColumn};
-ghost use Rattle.vx_canonical.specs.Canonicals.{canonical_tree};
+ghost use Rattle.vx_tree.specs.Canonicals.{canonical_tree};
 ghost use Rattle.vx_step.specs.Turns.{meets};
 ghost use Rattle.vx_step.specs.Steps.{IsStep, IsStopped};
 
@@ -13,10 +13,8 @@ use crate::masked::mask_or_wait;
 use crate::slice::slice_or_wait;
 use crate::validity::validity_or_wait;
 use std::alloc::Global;
-use vx_array::IntoArray;
-use vx_canonical::Canonical;
 use vx_column::constant_canonicalize;
-use vx_tree::{AnyCanonical, AnyColumnar, ArrayKind, ArrayRef, Constant};
+use vx_tree::{AnyCanonical, AnyColumnar, ArrayKind, ArrayRef, Canonical, Constant, IntoArray};
 use vx_value::VortexResult;
 
 /// The form that a slot is executed to. (own)

@@ -6,9 +6,8 @@ ghost use Rattle.vx_step.specs.Steps.{IsStep, IsStopped};
 
 use crate::steps::{ExecutionStep, SlotTarget, done};
 use std::alloc::Global;
-use vx_canonical::Columnar;
 use vx_column::validity_canonical;
-use vx_tree::ArrayRef;
+use vx_tree::{ArrayRef, Columnar};
 use vx_value::VortexResult;
 
 /// Requests `child` as a column; tells which of its rows are valid once it is one.

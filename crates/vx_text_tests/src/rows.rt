@@ -1,5 +1,5 @@
 use std::test::Fail;
-use vx_text::row_text;
+use vx_json::row_text;
 use vx_value::{ByteBuffer, DType, Nullability, Scalar, ScalarValue};
 
 #[test]

@@ -1,11 +1,8 @@
-use std::alloc::Global;
 use std::io;
+use std::alloc::Global;
 use std::io::{Read, Write};
 use std::test::Fail;
-use vx_stream::{
-    Failed, MemSink, MemSource, PlainSink, PlainSource, ReadError, Sink, Source, StdinSource,
-    StdoutSink, read_all, write_all,
-};
+use vx_main::{Failed, MemSink, MemSource, PlainSink, PlainSource, ReadError, Sink, Source, StdinSource, StdoutSink, read_all, write_all};
 
 /// 141 bytes: nine pieces of 16, and a read that finds the end.
 const INPUT: &str =

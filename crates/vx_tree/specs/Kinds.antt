@@ -2,8 +2,8 @@
 use Rattle.std.specs.Prelude.{◌≡◌, ◌≤◌, length, true}
 use Rattle.vx_value.specs.IsOf.{is_of}
 use Rattle.vx_mask.specs.Masks.{bits_in}
-use Rattle.vx_native.specs.Natives.{values_of, ptype_of}
-use Rattle.vx_native.specs.DecimalNumbers.{numbers_of, decimal_type_of}
+use Rattle.vx_tree.specs.Natives.{values_of, ptype_of}
+use Rattle.vx_tree.specs.DecimalNumbers.{numbers_of, decimal_type_of}
 use Rattle.vx_tree.specs.Tree as enc
 use Rattle.vx_tree.specs.Tree.{Tree, node, slots_of, dtype, len, column}
 use Rattle.vx_tree.specs.Well.{IsNode, IsNodeOf, shapes}

@@ -5,7 +5,7 @@ pub use Rattle.vx_value.specs.View
 pub use Rattle.vx_value.specs.IsOf
 pub use Rattle.vx_value.specs.Typed
 pub use Rattle.vx_value.specs.Ids
-pub use Rattle.vx_native.specs.Natives
+pub use Rattle.vx_value.specs.Decimals
 pub mod ColumnTypes
 pub mod Conditions
 pub mod Shapes
@@ -32,3 +32,12 @@ pub mod Weight
 pub mod Validities
 pub mod Rows
 pub mod NodeValidities
+pub mod Widths
+pub mod Ranges
+pub mod Numbers
+pub mod Buffers
+pub mod Vecs
+pub mod Natives
+pub mod DecimalNumbers
+pub mod Views
+pub mod Canonicals

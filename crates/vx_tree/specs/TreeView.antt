@@ -1,8 +1,8 @@
 -- The tree that a node of the program stands for.
 use Rattle.vx_value.specs.View.{type_of}
 use Rattle.vx_mask.specs.Masks.{bits_in}
-use Rattle.vx_native.specs.Natives.{values_of, ptype_of}
-use Rattle.vx_native.specs.DecimalNumbers.{numbers_of, decimal_type_of}
+use Rattle.vx_tree.specs.Natives.{values_of, ptype_of}
+use Rattle.vx_tree.specs.DecimalNumbers.{numbers_of, decimal_type_of}
 use Rattle.vx_tree.specs.Tree as enc
 use Rattle.vx_tree.specs.Tree.{Tree, node, Data, slots_of}
 use Rattle.vx_tree.specs.declared.array.node.Node.{Node}

@@ -1,9 +1,9 @@
 //! Laws of trees. Each is a function with an empty body, whose contract is the law.
 
-ghost use Rattle.std.specs.Prelude.{◌≡◌, ◌+◌, ◌-◌, ◌*◌, ◌<◌, ◌≤◌, ℕ, Bool, List, true};
+ghost use Rattle.std.specs.Prelude.{◌≡◌, ◌+◌, ◌-◌, ◌*◌, ◌<◌, ◌≤◌, ℕ, Bool, List, true, ◌↔◌, Option, None};
 ghost use Rattle.vx_value.specs.Types.{DataType};
 ghost use Rattle.vx_value.specs.Typed.{Typed};
-ghost use Rattle.vx_tree.specs.Tree.{Tree, Slots, Data, len, slice_of, filter_of, node, constant, slice, filter, masked, is_valid, function, slot, no_slots, is_canonical};
+ghost use Rattle.vx_tree.specs.Tree.{Tree, Slots, Data, len, slice_of, filter_of, node, constant, slice, filter, masked, is_valid, function, slot, no_slots, is_canonical, id_of};
 ghost use Rattle.vx_tree.specs.Cells.{rows};
 ghost use Rattle.vx_mask.specs.Places.{combined};
 ghost use Rattle.vx_tree.specs.Slots.{put, HasSlot};
@@ -11,6 +11,11 @@ ghost use Rattle.vx_tree.specs.Keeps.{Keeps, KeepsExactly};
 ghost use Rattle.vx_tree.specs.Cost.{cost, reach, slots_sum};
 ghost use Rattle.vx_tree.specs.Weight.{weight};
 ghost use Rattle.vx_fn.specs.declared.function.ScalarFnRef.{ScalarFnRef as ScalarFnOf};
+ghost use Rattle.vx_tree.specs.Well.{Shape, IsNode, IsWell};
+ghost use Rattle.vx_tree.specs.Refusals.{refusal};
+ghost use Rattle.vx_tree.specs.Validities.{HasRows, nullability_by, child_of, validity_of, valid_rows};
+ghost use Rattle.vx_tree.specs.NodeValidities.{node_validity, IsValidityFor};
+ghost use Rattle.vx_tree.specs.declared.validity.Validity.{Validity};
 
 /// States that keeping a tree, and keeping it exactly, are preorders and hold in a slot too. (own)
 pub fn keeping_laws()
@@ -53,4 +58,19 @@ pub fn choice_laws()
     ensures slices { (t : Tree) (a b c d : ℕ) → a ≤ b → b ≤ len t → c ≤ d → d ≤ b - a
         → rows (slice_of c d (slice_of a b t)) ≡ rows (slice_of (a + c) (a + d) t) }
     ensures filters { (t : Tree) (outer inner : List Bool) → rows (filter_of inner (filter_of outer t)) ≡ rows (filter_of (combined outer inner) t) }
+{}
+
+/// States that a node's parts under its own tag are refused exactly if they break its conditions. (own)
+pub fn refused_exactly()
+    ensures { (ty : DataType) (n : ℕ) (d : Data) (ss : List (Option Shape)) → (refusal (id_of d) ty n d ss ≡ None) ↔ IsNode ty n d ss }
+{}
+
+/// States that the validity which a child tells is the one that it was made of. (own)
+pub fn validity_laws()
+    ensures { (v : Validity) (n : ℕ) → HasRows v n → valid_rows (validity_of (nullability_by v) (child_of v n)) n ≡ valid_rows v n }
+{}
+
+/// States that the validity of a tree tells which of its rows are null. (own)
+pub fn node_validity_laws()
+    ensures { (t : Tree) → IsWell t → IsValidityFor t (node_validity t) }
 {}

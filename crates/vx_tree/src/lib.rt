@@ -3,34 +3,49 @@
 
 pub mod array;
 pub mod arrays;
+mod canonical;
 mod conditions;
 mod laws;
 mod matcher;
+mod native;
+mod node_validity;
 mod replace;
 mod suspended;
 mod types;
 mod validity;
+mod views;
 
 pub use array::{
-    ArrayId, ArrayKind, ArrayRef, ArraySlots, ArrayView, Encoded, Encoding, EncodingKind,
-    EncodingVariant, Node,
+    Array, ArrayId, ArrayKind, ArrayParts, ArrayRef, ArraySlots, ArrayVTable, ArrayView, Encoded,
+    Encoding, EncodingKind, EncodingVariant, IntoArray, Node, VTable,
 };
-pub use arrays::boolean::{Bool, BoolData};
-pub use arrays::constant::{Constant, ConstantData};
-pub use arrays::decimal::{Decimal, DecimalData};
-pub use arrays::filter::{Filter, FilterData, FilterDataParts};
-pub use arrays::masked::{Masked, MaskedData};
-pub use arrays::null::Null;
-pub use arrays::primitive::{Primitive, PrimitiveData};
-pub use arrays::scalar_fn::{ScalarFn, ScalarFnData};
-pub use arrays::scalar_fn_validity::{EmptyArrayData, ScalarFnValidity};
-pub use arrays::slice::{Slice, SliceData, SliceDataParts};
-pub use arrays::varbinview::{VarBinView, VarBinViewData};
+pub use arrays::boolean::{Bool, BoolArray, BoolData};
+pub use arrays::constant::{Constant, ConstantArray, ConstantData};
+pub use arrays::decimal::{Decimal, DecimalArray, DecimalData, decimal_type};
+pub use arrays::filter::{Filter, FilterArray, FilterData, FilterDataParts};
+pub use arrays::masked::{Masked, MaskedArray, MaskedData};
+pub use arrays::null::{Null, NullArray};
+pub use arrays::primitive::{Primitive, PrimitiveArray, PrimitiveData};
+pub use arrays::scalar_fn::{ScalarFn, ScalarFnArray, ScalarFnData};
+pub use arrays::scalar_fn_validity::{EmptyArrayData, ScalarFnValidity, ScalarFnValidityArray};
+pub use arrays::slice::{Slice, SliceArray, SliceData, SliceDataParts};
+pub use arrays::varbinview::{VarBinView, VarBinViewArray, VarBinViewData, bytes_type};
+pub use canonical::{Canonical, Columnar, FlatEncoding, column_laws, slice_canonical};
 pub use conditions::check_that;
-pub use laws::{choice_laws, execution_bounds, keeping_laws, weight_laws};
+pub use laws::{
+    choice_laws, execution_bounds, keeping_laws, node_validity_laws, refused_exactly,
+    validity_laws, weight_laws,
+};
 pub use matcher::{AnyArray, AnyCanonical, AnyColumnar, AnyScalarFn, Matcher};
+pub use native::{
+    DecimalType, DecimalValues, NativeBuffer, NativeDecimalType, NativeInteger, NativeKind,
+    NativeNumber, NativeType, NativeValues, NativeVec, PType, PrimitiveValues, narrowed, native_of,
+};
+pub use node_validity::and_lazily;
 pub use suspended::Suspended;
 pub use types::{BOOLEANS, is_same_type};
-pub use validity::{Validity, child_to_validity, validity_nchildren};
-pub use vx_native::{DecimalValues, PrimitiveValues};
-pub use vx_views::BinaryViews;
+pub use validity::{
+    Validity, child_to_validity, choose_validity, slice_validity, validity_nchildren,
+    validity_to_child,
+};
+pub use views::{BinaryBuilder, BinaryViews, View};

@@ -4,7 +4,7 @@ use std::alloc::{AllocError, Global};
 use std::fmt::Debug;
 use std::test::Fail;
 use vx_mask::{BitBuffer, BitBuilder, Buffer};
-use vx_views::{BinaryBuilder, BinaryViews};
+use vx_tree::{BinaryBuilder, BinaryViews};
 
 fn is_printed_as<T: Debug>(alloc: Global, value: &T, text: &str) -> bool {
     match format!(in alloc; "{value:?}") {

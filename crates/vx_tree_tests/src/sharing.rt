@@ -1,7 +1,7 @@
 //! Nodes that are shared, and nodes that aren't.
 
 use std::test::Fail;
-use vx_array::NullArray;
+use vx_tree::NullArray;
 
 /// Checks that the parts come back, of a node that isn't shared.
 fn has_parts(nulls: NullArray) -> bool {

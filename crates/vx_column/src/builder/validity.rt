@@ -3,10 +3,10 @@
 ghost use Rattle.std.specs.Prelude.{◌≡◌, ◌+◌, ◌≤◌, ◌<◌, ◌^◌, ◌++◌, [], false, IfOk, OnOk, OnErr, length, replicate, take};
 ghost use Rattle.vx_column.specs.Growing.{padded, told_rows};
 
+use crate::rows::ValidRows;
 use std::alloc::{AllocError, Global};
 use std::marker::Model;
 use vx_mask::BitBuilder;
-use vx_rows::ValidRows;
 use vx_value::Nullability;
 
 /// Builds the validity of a column: a bit for each row up to the last null, false if the row is null. Rows past it take no memory.

@@ -3,22 +3,18 @@
 ghost use Rattle.std.specs.Prelude.{◌≡◌, ◌+◌, ◌<◌, ◌^◌, ◌∷◌, [], ◌++◌, true, IfOk, IfErr, OnOk, OnErr, length, replicate};
 ghost use Rattle.std.specs.List.{list_all};
 ghost use Rattle.vx_value.specs.IsOf.{is_of};
-ghost use Rattle.vx_canonical.specs.Canonicals.{canonical_tree};
+ghost use Rattle.vx_tree.specs.Canonicals.{canonical_tree};
 ghost use Rattle.vx_tree.specs.Validities.{HasRows};
 ghost use Rattle.vx_value.specs.View.{type_of, value_of};
 ghost use Rattle.vx_value.specs.Storage.{storage_of};
 ghost use Rattle.vx_value.specs.declared.dtype.Storage.{Storage as StorageOf};
 ghost use Rattle.vx_column.specs.Growing.{stored_values, zero_in, AreStored, Accepts, IsColumnOf};
 
+use crate::rows::{bool_column, decimal_column, primitive_column, varbinview_column};
 use std::alloc::{AllocError, Global};
-use vx_array::NullArray;
-use vx_canonical::Canonical;
 use vx_mask::BitBuilder;
-use vx_native::NativeVec;
-use vx_rows::{bool_column, decimal_column, primitive_column, varbinview_column};
-use vx_tree::Validity;
+use vx_tree::{BinaryBuilder, Canonical, NativeVec, NullArray, Validity};
 use vx_value::{DType, DecimalType, PType, ScalarValue, VortexError, VortexResult};
-use vx_views::BinaryBuilder;
 
 /// A value for each row, under a null too, by how the column's type stores them.
 #[derive(Debug, Drop)]

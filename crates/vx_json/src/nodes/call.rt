@@ -8,8 +8,7 @@ use crate::BAD_VALUE;
 use crate::functions::function_at;
 use serde_json::Value;
 use std::alloc::Global;
-use vx_array::{IntoArray, ScalarFnArray};
-use vx_tree::ArrayRef;
+use vx_tree::{ArrayRef, IntoArray, ScalarFnArray};
 use vx_value::{VortexError, VortexResult};
 
 /// Reads a lazy function of `children`, if it accepts them.

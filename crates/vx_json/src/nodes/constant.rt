@@ -10,8 +10,7 @@ use crate::types::type_at;
 use crate::values::scalar;
 use serde_json::Value;
 use std::alloc::Global;
-use vx_array::{ConstantArray, IntoArray};
-use vx_tree::ArrayRef;
+use vx_tree::{ArrayRef, ConstantArray, IntoArray};
 use vx_value::{Scalar, VortexResult};
 
 /// Reads the value of a constant, which is of its type.

@@ -13,9 +13,8 @@ use crate::row_nulls::NoNulls;
 use crate::values::booleans;
 use serde_json::Value;
 use std::alloc::Global;
-use vx_array::{FilterArray, IntoArray};
 use vx_mask::Mask;
-use vx_tree::ArrayRef;
+use vx_tree::{ArrayRef, FilterArray, IntoArray};
 use vx_value::VortexResult;
 
 /// Reads the mask of a lazy filter of `child`, a list of as many booleans as `child` has rows.

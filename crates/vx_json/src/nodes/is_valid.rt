@@ -7,8 +7,7 @@ ghost use Rattle.vx_json.specs.SpelledNodes.IsValid.{is_valid_spelled};
 use crate::fields::check_keys;
 use serde_json::Value;
 use std::alloc::Global;
-use vx_array::{IntoArray, ScalarFnValidityArray};
-use vx_tree::ArrayRef;
+use vx_tree::{ArrayRef, IntoArray, ScalarFnValidityArray};
 use vx_value::VortexResult;
 
 /// Reads the lazy test of which rows of `child` are valid.

@@ -11,8 +11,7 @@ use crate::fields::check_keys;
 use crate::nulls::Nulls;
 use serde_json::Value;
 use std::alloc::Global;
-use vx_array::{IntoArray, MaskedArray};
-use vx_tree::{ArrayRef, Validity};
+use vx_tree::{ArrayRef, IntoArray, MaskedArray, Validity};
 use vx_value::{Nullability, VortexResult};
 
 /// Reads which rows of a masked array of `child` are valid, as `nulls` says.

@@ -8,8 +8,7 @@ use crate::BAD_VALUE;
 use crate::fields::{check_keys, number};
 use serde_json::Value;
 use std::alloc::Global;
-use vx_array::{IntoArray, NullArray};
-use vx_tree::ArrayRef;
+use vx_tree::{ArrayRef, IntoArray, NullArray};
 use vx_value::VortexResult;
 
 /// Reads a column of type null: `len` rows.

@@ -11,8 +11,7 @@ use crate::fields::{check_keys, number};
 use serde_json::Value;
 use std::alloc::Global;
 use std::ops::Range;
-use vx_array::{IntoArray, SliceArray};
-use vx_tree::ArrayRef;
+use vx_tree::{ArrayRef, IntoArray, SliceArray};
 use vx_value::VortexResult;
 
 /// Reads the rows of a lazy slice of `child`, which must be in order and within it.

@@ -8,9 +8,8 @@ use crate::top::status::Status;
 use crate::top::words::Command;
 use std::alloc::Global;
 use vx_exec::{ExecutionCtx, execute};
-use vx_json::tree_of_bytes;
+use vx_json::{column_text, tree_of_bytes};
 use vx_opt::{ArrayOptimizer, RuleRegistry};
-use vx_text::column_text;
 use vx_tree::ArrayRef;
 use vx_value::VortexResult;
 

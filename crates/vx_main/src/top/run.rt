@@ -3,20 +3,20 @@
 ghost use Rattle.std.specs.Prelude.{◌≡◌, ◌≢◌, ◌≤◌, ◌<◌, ◌↔◌, ◌⊎◌, ℕ, Some, None, true, false, [], length, IfSome};
 ghost use Rattle.std.specs.Io.KnownBytes.{Appends};
 ghost use Rattle.vx_json.specs.Spelled.{SpellsNone};
-ghost use Rattle.vx_stream.specs.Limits.{input_limit};
-ghost use Rattle.vx_stream.specs.Causes.{Rose};
-ghost use Rattle.vx_stream.specs.Streams.{TakesSome, AppendsPrefix};
+ghost use Rattle.vx_main.specs.Limits.{input_limit};
+ghost use Rattle.vx_main.specs.Causes.{Rose};
+ghost use Rattle.vx_main.specs.Streams.{TakesSome, AppendsPrefix};
 ghost use Rattle.vx_main.specs.Commands.{texts, command_of, reads_tree, limit_of};
 ghost use Rattle.vx_main.specs.Statuses.{has_no_input, has_no_tree};
 ghost use Rattle.vx_main.specs.Runs.{Writes, WritesPrefix, IsFaulty, IsCostly, IsRestless, Suffices};
 ghost use Rattle.vx_main.specs.declared.top.words.Command.{Command as CommandOf};
 
+use crate::streams::{ReadError, Sink, Source, read_all, write_all};
 use crate::top::answer::answer;
 use crate::top::session::VortexSession;
 use crate::top::status::Status;
 use crate::top::words::{Command, HELP, VERSION, read_command};
 use std::alloc::Global;
-use vx_stream::{ReadError, Sink, Source, read_all, write_all};
 
 /// Runs the command in `words`: reads the tree in `source`, rewrites it if the command is `optimize`, executes it to a column and writes
 /// the column's text into `sink`.

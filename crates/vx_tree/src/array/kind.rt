@@ -8,11 +8,11 @@ ghost use Rattle.vx_tree.specs.Refusals.{is_present};
 
 use crate::array::{ArrayRef, EncodingKind, Node};
 use crate::by_encoding;
+use crate::native::{DecimalValues, PrimitiveValues};
+use crate::views::BinaryViews;
 use vx_fn::ScalarFnRef;
 use vx_mask::{BitBuffer, Mask};
-use vx_native::{DecimalValues, PrimitiveValues};
 use vx_value::Scalar;
-use vx_views::BinaryViews;
 
 /// The root of a tree, with its data and children by their roles. (own)
 #[derive(Clone, Copy)]

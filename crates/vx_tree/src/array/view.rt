@@ -1,10 +1,10 @@
 //! Borrowed nodes, with the data of their encoding.
 
-ghost use Rattle.std.specs.Prelude.{◌≡◌, ◌==◌};
+ghost use Rattle.std.specs.Prelude.{◌≡◌, ◌==◌, IfOk};
 ghost use Rattle.vx_value.specs.View.{type_of};
 ghost use Rattle.vx_tree.specs.Tree.{dtype, len, datum, slots, slots_of, id_of};
 
-use crate::array::{ArrayRef, Encoded};
+use crate::array::{Array, ArrayRef, Encoded, VTable};
 use std::alloc::AllocError;
 use std::ops::Deref;
 use vx_value::{DType, Id};
@@ -73,6 +73,19 @@ impl<'a, V: Encoded> ArrayView<'a, V> {
         ensures { result ≡ id_of (datum self.now.array.now) }
     {
         self.array.encoding_id()
+    }
+}
+
+impl<'a, V: VTable> ArrayView<'a, V> {
+    /// Returns an owned handle of the same node. `AllocError` if `Rc` refuses one more reference to it.
+    pub fn into_owned(self) -> Result<Array<V>, AllocError>
+        requires { V.stands_for self.payload.now ≡ datum self.array.now }
+        ensures { IfOk result (λ a. a ≡ self.array.now) }
+    {
+        match Array::<V>::try_from_array_ref(self.array.clone()?) {
+            Ok(owned) => Ok(owned),
+            Err(_) => unreachable!(),
+        }
     }
 }
 

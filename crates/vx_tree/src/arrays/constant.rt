@@ -1,11 +1,19 @@
-//! The data of arrays that repeat one value.
+//! Arrays that repeat one value.
 
-ghost use Rattle.std.specs.Prelude.{◌≡◌, refl};
-ghost use Rattle.vx_tree.specs.Tree.{constant, is_constant};
+ghost use Rattle.std.specs.Prelude.{◌≡◌, refl, IfOk, IfErr};
+ghost use Rattle.vx_tree.specs.Tree.{constant, is_constant, constant_of};
+ghost use Rattle.vx_value.specs.declared.id.Id.TheVariants as id;
 
-use crate::array::{ArrayKind, Encoded, Encoding, EncodingKind, EncodingVariant, Node};
+use crate::array::{
+    Array, ArrayId, ArrayKind, ArrayParts, Encoded, Encoding, EncodingKind, EncodingVariant, Node,
+    VTable,
+};
+use crate::arrays::child::no_child;
 use crate::arrays::{into_payload, payload};
-use vx_value::Scalar;
+use crate::conditions::check_that;
+use crate::types::is_same_type;
+use std::alloc::Global;
+use vx_value::{ArgKind, Id, Scalar, VortexError, VortexResult};
 
 /// The tag of the constant encoding.
 #[derive(Clone, Copy, Debug)]
@@ -62,4 +70,38 @@ impl EncodingVariant for Constant {
     }
 
     ghost kind_of = { λ d. refl };
+}
+
+/// One value, repeated for any number of rows.
+pub type ConstantArray = Array<Constant>;
+
+impl VTable for Constant {
+    ghost named = { λ _. id.Constant };
+
+    fn id(&self) -> ArrayId {
+        Id::Constant
+    }
+
+    fn tag(_payload: &ConstantData) -> Constant {
+        Constant
+    }
+
+    fn validate(_alloc: Global, parts: &ArrayParts<Constant>) -> VortexResult<()> {
+        no_child(&parts.slots)?;
+        check_that(
+            is_same_type(&parts.dtype, parts.payload.scalar.dtype()),
+            ArgKind::NodeType,
+        )
+    }
+}
+
+impl ConstantArray {
+    /// Makes the constant of `len` rows, each `scalar`. The only error is `OutOfMemory`.
+    pub fn new(alloc: Global, scalar: Scalar, len: usize) -> VortexResult<ConstantArray>
+        ensures ok { IfOk result (λ a. a ≡ constant_of scalar len) }
+        ensures err { IfErr result (λ e. e ≡ VortexError.OutOfMemory) }
+    {
+        let dtype = scalar.dtype().clone()?;
+        Ok(Array::of(alloc, dtype, len, ConstantData { scalar }, Vec::new(alloc))?)
+    }
 }

@@ -1,6 +1,8 @@
-//! The tags and the data of the encodings, one module each.
+//! The encodings, a module for each: its tag, the data of its nodes, how they are opened, its constructors and its checks.
 
 pub mod boolean;
+mod child;
+pub(crate) mod column;
 pub mod constant;
 pub mod decimal;
 pub mod filter;

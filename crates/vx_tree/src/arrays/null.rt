@@ -1,11 +1,20 @@
-//! The tag of columns of nulls.
+//! Columns of nulls.
 
-ghost use Rattle.std.specs.Prelude.{refl};
-ghost use Rattle.vx_tree.specs.Tree.{nulls, is_nulls};
+ghost use Rattle.std.specs.Prelude.{refl, ◌≡◌, IfOk, IfErr};
+ghost use Rattle.vx_tree.specs.Tree.{nulls, is_nulls, nulls_of};
+ghost use Rattle.vx_value.specs.declared.id.Id.TheVariants as id;
 
-use crate::array::{ArrayKind, Encoded, Encoding, EncodingKind, EncodingVariant, Node};
+use crate::array::{
+    Array, ArrayId, ArrayKind, ArrayParts, Encoded, Encoding, EncodingKind, EncodingVariant, Node,
+    VTable,
+};
+use crate::arrays::child::no_child;
 use crate::arrays::scalar_fn_validity::EmptyArrayData;
 use crate::arrays::{into_payload, payload};
+use crate::conditions::check_that;
+use crate::types::is_same_type;
+use std::alloc::Global;
+use vx_value::{ArgKind, DType, Id, VortexError, VortexResult};
 
 /// The tag of the null encoding.
 #[derive(Clone, Copy, Debug)]
@@ -40,4 +49,34 @@ impl EncodingVariant for Null {
     }
 
     ghost kind_of = { λ d. refl };
+}
+
+/// A column of type `Null`: each row is null.
+pub type NullArray = Array<Null>;
+
+impl VTable for Null {
+    ghost named = { λ _. id.Null };
+
+    fn id(&self) -> ArrayId {
+        Id::Null
+    }
+
+    fn tag(_payload: &EmptyArrayData) -> Null {
+        Null
+    }
+
+    fn validate(_alloc: Global, parts: &ArrayParts<Null>) -> VortexResult<()> {
+        no_child(&parts.slots)?;
+        check_that(is_same_type(&parts.dtype, &DType::Null), ArgKind::BadType)
+    }
+}
+
+impl NullArray {
+    /// Makes the column of `len` nulls. The only error is `OutOfMemory`.
+    pub fn new(alloc: Global, len: usize) -> VortexResult<NullArray>
+        ensures ok { IfOk result (λ a. a ≡ nulls_of len) }
+        ensures err { IfErr result (λ e. e ≡ VortexError.OutOfMemory) }
+    {
+        Ok(Array::of(alloc, DType::Null, len, EmptyArrayData, Vec::new(alloc))?)
+    }
 }

@@ -1,11 +1,20 @@
-//! The data of lazy tests for null.
+//! Lazy tests for null.
 
-ghost use Rattle.std.specs.Prelude.{refl};
-ghost use Rattle.vx_tree.specs.Tree.{is_valid, is_validity};
+ghost use Rattle.std.specs.Prelude.{refl, ◌≡◌, IfOk, IfErr};
+ghost use Rattle.vx_tree.specs.Tree.{is_valid, is_validity, validity_in};
+ghost use Rattle.vx_value.specs.declared.id.Id.TheVariants as id;
 
-use crate::array::{ArrayKind, Encoded, Encoding, EncodingKind, EncodingVariant, Node, present};
+use crate::array::{
+    Array, ArrayId, ArrayKind, ArrayParts, ArrayRef, Encoded, Encoding, EncodingKind,
+    EncodingVariant, Node, VTable, present,
+};
+use crate::arrays::child::only_child;
 use crate::arrays::{into_payload, payload};
+use crate::conditions::check_that;
+use crate::types::{BOOLEANS, is_same_type};
+use std::alloc::Global;
 use std::fmt;
+use vx_value::{ArgKind, DType, Id, Nullability, VortexError, VortexResult};
 
 /// The tag of the encoding that tells the validity of its child.
 #[derive(Clone, Copy, Debug)]
@@ -50,4 +59,38 @@ impl EncodingVariant for ScalarFnValidity {
     }
 
     ghost kind_of = { λ d. refl };
+}
+
+/// Whether each row of its child is valid, that is, not null.
+pub type ScalarFnValidityArray = Array<ScalarFnValidity>;
+
+impl VTable for ScalarFnValidity {
+    ghost named = { λ _. id.ScalarFnValidity };
+
+    fn id(&self) -> ArrayId {
+        Id::ScalarFnValidity
+    }
+
+    fn tag(_payload: &EmptyArrayData) -> ScalarFnValidity {
+        ScalarFnValidity
+    }
+
+    #[tactic(auto, using(crate::proofs::RefusalsLemmas::by_child, crate::proofs::ConditionsLemmas::in_turn))]
+    fn validate(_alloc: Global, parts: &ArrayParts<ScalarFnValidity>) -> VortexResult<()> {
+        let child = only_child(&parts.slots)?;
+        check_that(is_same_type(&parts.dtype, &BOOLEANS), ArgKind::NodeType)?;
+        check_that(parts.len == child.len(), ArgKind::NodeLen)
+    }
+}
+
+impl ScalarFnValidityArray {
+    /// Makes the node that tells which rows of `child` are valid. The only error is `OutOfMemory`. (own)
+    pub fn new(alloc: Global, child: ArrayRef) -> VortexResult<ScalarFnValidityArray>
+        ensures ok { IfOk result (λ a. a ≡ validity_in child) }
+        ensures err { IfErr result (λ e. e ≡ VortexError.OutOfMemory) }
+    {
+        let len = child.len();
+        let dtype = DType::Bool(Nullability::NonNullable);
+        Array::over(alloc, dtype, len, EmptyArrayData, Some(child))
+    }
 }

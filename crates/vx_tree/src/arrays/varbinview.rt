@@ -1,11 +1,23 @@
-//! The data of columns of text and of bytes.
+//! Columns of text and of bytes.
 
-ghost use Rattle.std.specs.Prelude.{refl};
-ghost use Rattle.vx_tree.specs.Tree.{views, is_views};
+ghost use Rattle.std.specs.Prelude.{refl, ◌≡◌, ◌⊎◌, IfOk, IfErr, OnOk, Some, None, length};
+ghost use Rattle.vx_tree.specs.Tree.{views, is_views, column};
+ghost use Rattle.vx_value.specs.View.{type_of};
+ghost use Rattle.vx_value.specs.declared.id.Id.TheVariants as id;
+ghost use Rattle.vx_tree.specs.ColumnTypes.{bytes_type, are_bytes_of};
+ghost use Rattle.vx_tree.specs.Validities.{child_of, bytes_refusal};
 
-use crate::array::{ArrayKind, Encoded, Encoding, EncodingKind, EncodingVariant, Node};
+use crate::array::{
+    Array, ArrayId, ArrayKind, ArrayParts, Encoded, Encoding, EncodingKind, EncodingVariant, Node,
+    VTable,
+};
+use crate::arrays::column::{check_column, check_flat_column, flat_column};
 use crate::arrays::{into_payload, payload};
-use vx_views::BinaryViews;
+use crate::conditions::check_that;
+use crate::validity::Validity;
+use crate::views::BinaryViews;
+use std::alloc::Global;
+use vx_value::{ArgKind, DType, Id, Nullability, Storage, VortexError, VortexResult};
 
 /// The tag of the encoding of text and bytes.
 #[derive(Clone, Copy, Debug)]
@@ -46,4 +58,96 @@ impl EncodingVariant for VarBinView {
     }
 
     ghost kind_of = { λ d. refl };
+}
+
+/// A column of text or of bytes.
+pub type VarBinViewArray = Array<VarBinView>;
+
+impl VTable for VarBinView {
+    ghost named = { λ _. id.VarBinView };
+
+    fn id(&self) -> ArrayId {
+        Id::VarBinView
+    }
+
+    fn tag(_payload: &VarBinViewData) -> VarBinView {
+        VarBinView
+    }
+
+    #[tactic(auto, using(crate::proofs::ConditionsLemmas::in_turn))]
+    fn validate(_alloc: Global, parts: &ArrayParts<VarBinView>) -> VortexResult<()> {
+        let storage = parts.dtype.storage();
+        let rows = &parts.payload.rows;
+        check_column(parts, &bytes_type(storage), rows.len())?;
+        check_that(are_bytes_of(storage, rows), ArgKind::BadValue)
+    }
+}
+
+/// Returns the non-nullable type of rows of bytes that are stored so: text if they are stored as text, else bytes. (own)
+pub fn bytes_type(storage: Storage) -> DType
+    ensures { type_of result ≡ bytes_type storage }
+{
+    match storage {
+        Storage::Text => DType::Utf8(Nullability::NonNullable),
+        _ => DType::Binary(Nullability::NonNullable),
+    }
+}
+
+/// Returns whether `rows` are values that are stored so: whether each is UTF-8 if they are text.
+fn are_bytes_of(storage: Storage, rows: &BinaryViews) -> bool
+    ensures { result ≡ are_bytes_of storage rows.now }
+{
+    match storage {
+        Storage::Text => rows.is_utf8(),
+        _ => true,
+    }
+}
+
+impl VarBinViewArray {
+    /// Makes the column of `rows`, whose null rows `validity` tells. What a null row's bytes are doesn't count, but that those of
+    /// text are UTF-8.
+    ///
+    /// The first condition that fails gives the error: `InvalidArgument` with `BadType` exactly if `dtype` isn't one of text or
+    /// bytes with the nullability of `validity`, with `SlotType` exactly if the validity's array isn't one of non-nullable
+    /// booleans, with `SlotLen` exactly if it hasn't as many rows as there are rows of bytes, and with `BadValue` exactly if
+    /// `dtype` is one of text and a row isn't UTF-8.
+    #[tactic(auto, using(crate::proofs::ConditionsLemmas::in_turn))]
+    pub fn try_new(
+        alloc: Global,
+        dtype: DType,
+        rows: BinaryViews,
+        validity: &Validity,
+    ) -> VortexResult<VarBinViewArray>
+        ensures ok { IfOk result (λ a. a ≡ column (type_of dtype) (length rows) (views rows) (child_of validity.now (length rows))) }
+        ensures valid { OnOk result (bytes_refusal (type_of dtype) rows validity.now ≡ None) }
+        ensures refused { IfErr result (λ e. (e ≡ VortexError.OutOfMemory) ⊎ (bytes_refusal (type_of dtype) rows validity.now ≡ Some e)) }
+    {
+        let storage = dtype.storage();
+        check_flat_column(&dtype, &bytes_type(storage), rows.len(), validity)?;
+        check_that(are_bytes_of(storage, &rows), ArgKind::BadValue)?;
+        VarBinViewArray::new_unchecked(alloc, dtype, rows, validity)
+    }
+
+    /// Makes the column of `rows`, which `try_new` must not refuse. Doesn't read the rows. The only error is `OutOfMemory`.
+    pub fn new_unchecked(
+        alloc: Global,
+        dtype: DType,
+        rows: BinaryViews,
+        validity: &Validity,
+    ) -> VortexResult<VarBinViewArray>
+        requires { bytes_refusal (type_of dtype) rows validity.now ≡ None }
+        ensures ok { IfOk result (λ a. a ≡ column (type_of dtype) (length rows) (views rows) (child_of validity.now (length rows))) }
+        ensures err { IfErr result (λ e. e ≡ VortexError.OutOfMemory) }
+    {
+        let of_type = bytes_type(dtype.storage());
+        let len = rows.len();
+        flat_column(
+            alloc,
+            dtype,
+            &of_type,
+            len,
+            VarBinViewData { rows },
+            validity,
+        )
+    }
 }

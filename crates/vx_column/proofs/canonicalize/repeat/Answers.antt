@@ -8,14 +8,14 @@ use Rattle.vx_value.specs.Types.{nullability_of}
 use Rattle.vx_value.specs.IsOf.{is_stored, in_range}
 use Rattle.vx_value.specs.Parts.{bytes_in}
 use Rattle.vx_tree.specs.ColumnTypes.{are_bytes_of}
-use Rattle.vx_rows.proofs.StoredLemmas.{stored_integer, bytes_kept, decimal_kept}
-use Rattle.vx_native.specs.Natives.{values_of, ptype_of}
+use Rattle.vx_column.proofs.StoredLemmas.{stored_integer, bytes_kept, decimal_kept}
+use Rattle.vx_tree.specs.Natives.{values_of, ptype_of}
 use Rattle.vx_column.proofs.RepeatedLemmas.{repeated_has, bools_repeated, integers_repeated, bytes_repeated, bytes_copies, decimals_repeated, all_copies}
 use Rattle.vx_column.proofs.NullsLemmas.{nulls_repeated}
 use Rattle.vx_column.proofs.canonicalize.repeat.Goals as goal
 use Rattle.vx_value.specs.View.{type_of}
 use Rattle.vx_value.specs.Decimals.{has_digits, same_width_Decides}
-use Rattle.vx_native.specs.DecimalNumbers.{numbers_of, decimal_type_of}
+use Rattle.vx_tree.specs.DecimalNumbers.{numbers_of, decimal_type_of}
 use Rattle.std.specs.List.{list_all}
 use Rattle.std.proofs.lemmas.Bool.{and_from}
 

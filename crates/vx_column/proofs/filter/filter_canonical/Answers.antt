@@ -4,22 +4,22 @@ use Rattle.vx_value.specs.Types.{bool, primitive, nullability_of}
 use Rattle.vx_value.specs.Values.{boolean, integer, bytes, decimal}
 use Rattle.vx_value.specs.Storage.{storage_of}
 use Rattle.vx_tree.specs.ColumnTypes.{bytes_type, are_bytes_of, decimal_type, are_decimals_of}
-use Rattle.vx_rows.specs.Stored.{bytes_column}
+use Rattle.vx_column.specs.Stored.{bytes_column}
 use Rattle.vx_value.specs.declared.dtype.Nullability.TheVariants.{NonNullable}
 use Rattle.vx_mask.specs.Masks.{bits_in}
-use Rattle.vx_native.specs.Natives.{values_of, ptype_of}
+use Rattle.vx_tree.specs.Natives.{values_of, ptype_of}
 use Rattle.vx_tree.specs.Tree as enc
 use Rattle.vx_tree.specs.Tree.{dtype, len, nulls_of, filter_of, slots_of}
 use Rattle.vx_tree.specs.Well.{IsNodeOf, IsFlat, shapes}
 use Rattle.vx_tree.specs.Keeps.{KeepsExactly}
-use Rattle.vx_canonical.specs.Canonicals.{canonical_tree}
+use Rattle.vx_tree.specs.Canonicals.{canonical_tree}
 use Rattle.vx_column.proofs.FilteredLemmas.{rows_chosen, bytes_chosen, column_filtered, decimals_chosen}
 use Rattle.vx_column.proofs.NullsLemmas.{nulls_filtered}
 use Rattle.vx_column.proofs.filter.filter_canonical.Goals as goal
 use Rattle.vx_value.specs.Types as type
 use Rattle.vx_value.specs.View.{type_of}
-use Rattle.vx_native.specs.DecimalNumbers.{numbers_of, decimal_type_of}
-use Rattle.vx_rows.proofs.StoredLemmas.{decimal_typed}
+use Rattle.vx_tree.specs.DecimalNumbers.{numbers_of, decimal_type_of}
+use Rattle.vx_column.proofs.StoredLemmas.{decimal_typed}
 
 pub bool_column-requires : goal.bool_column-requires
 bool_column-requires c =

@@ -4,7 +4,7 @@ use Rattle.vx_tree.specs.Tree.{slots_of}
 use Rattle.vx_tree.specs.Well.{AreWell}
 use Rattle.vx_tree.specs.Validities.{validity_of}
 use Rattle.vx_column.specs.Filtered.{IsChoice}
-use Rattle.vx_rows.specs.ValidRows.{TellsRows}
+use Rattle.vx_column.specs.ValidRows.{TellsRows}
 use Rattle.vx_column.proofs.FilteredLemmas.{array_read, choice_kept, same_choice}
 use Rattle.vx_column.proofs.filter.filter_validity.Goals as goal
 

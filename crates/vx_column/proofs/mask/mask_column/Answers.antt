@@ -4,18 +4,18 @@ use Rattle.vx_value.specs.Values.{boolean, integer, bytes, decimal}
 use Rattle.vx_value.specs.Storage.{storage_of}
 use Rattle.vx_tree.specs.ColumnTypes.{bytes_type, are_bytes_of, decimal_type, are_decimals_of}
 use Rattle.vx_value.specs.declared.dtype.Nullability.TheVariants.{NonNullable}
-use Rattle.vx_native.specs.Natives.{values_of, ptype_of}
+use Rattle.vx_tree.specs.Natives.{values_of, ptype_of}
 use Rattle.vx_tree.specs.Tree as enc
 use Rattle.vx_tree.specs.Tree.{dtype, len, slots_of}
 use Rattle.vx_tree.specs.Well.{IsNodeOf, IsFlat, shapes}
-use Rattle.vx_canonical.specs.Canonicals.{canonical_tree}
-use Rattle.vx_rows.specs.Stored.{boolean_column, integer_column, bytes_column, decimal_column}
+use Rattle.vx_tree.specs.Canonicals.{canonical_tree}
+use Rattle.vx_column.specs.Stored.{boolean_column, integer_column, bytes_column, decimal_column}
 use Rattle.vx_column.proofs.MaskedLemmas.{bytes_set, canonical_masked}
 use Rattle.vx_value.specs.Types as type
 use Rattle.vx_value.specs.View.{type_of}
-use Rattle.vx_native.specs.DecimalNumbers.{numbers_of, decimal_type_of}
-use Rattle.vx_rows.proofs.StoredLemmas.{decimal_typed}
-use Rattle.vx_rows.specs.Arguments.{stored_decimals}
+use Rattle.vx_tree.specs.DecimalNumbers.{numbers_of, decimal_type_of}
+use Rattle.vx_column.proofs.StoredLemmas.{decimal_typed}
+use Rattle.vx_column.specs.Arguments.{stored_decimals}
 use Rattle.vx_tree.specs.Keeps.{KeepsExactly}
 use Rattle.vx_tree.specs.Validities.{HasRows}
 use Rattle.vx_column.proofs.mask.mask_column.Goals as goal

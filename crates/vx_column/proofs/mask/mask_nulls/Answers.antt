@@ -1,8 +1,8 @@
 use Rattle.std.proofs.Common.{IfOk, sym, subst, ◌∙◌}
 use Rattle.vx_tree.specs.Tree.{nulls_of, masked_of}
 use Rattle.vx_tree.specs.Keeps.{KeepsExactly}
-use Rattle.vx_canonical.specs.Canonicals.{canonical_tree}
-use Rattle.vx_canonical.specs.declared.canonical.Canonical.{Canonical}
+use Rattle.vx_tree.specs.Canonicals.{canonical_tree}
+use Rattle.vx_tree.specs.declared.canonical.canonical.Canonical.{Canonical}
 use Rattle.vx_column.specs.Masked.{TellsAll}
 use Rattle.vx_column.proofs.NullsLemmas.{unmasked_nulls, masked_nulls}
 use Rattle.vx_column.proofs.mask.mask_nulls.Goals as goal

@@ -2,10 +2,10 @@ use Rattle.std.proofs.Common.{IfOk, IfErr, Option, ◌≡◌, ◌⊎◌, ap, sub
 use Rattle.vx_value.specs.Types.{null}
 use Rattle.vx_value.specs.declared.error.VortexError.TheVariants.{OutOfMemory}
 use Rattle.vx_tree.specs.Tree.{Tree, dtype, len, masked_of}
-use Rattle.vx_canonical.specs.Canonicals.{canonical_tree}
+use Rattle.vx_tree.specs.Canonicals.{canonical_tree}
 use Rattle.vx_tree.specs.Keeps.{KeepsExactly}
 use Rattle.vx_tree.specs.Validities.{child_of}
-use Rattle.vx_rows.specs.Arguments.{AreUnread}
+use Rattle.vx_column.specs.Arguments.{AreUnread}
 use Rattle.vx_column.proofs.MaskedLemmas.{tells_child}
 use Rattle.vx_column.proofs.mask.mask_validity_canonical.Goals as goal
 

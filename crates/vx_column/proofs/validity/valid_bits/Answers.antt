@@ -2,7 +2,7 @@ use Rattle.std.proofs.Common.{true, false, length, sym, ap, subst, ◌∙◌}
 use Rattle.std.proofs.lemmas.List.{length-replicate, get_or-replicate}
 use Rattle.std.proofs.lemmas.Result.{IfOk-weaker}
 use Rattle.vx_mask.specs.Logic.{bit_row}
-use Rattle.vx_rows.specs.ValidRows.{is_valid, HasValidity}
+use Rattle.vx_column.specs.ValidRows.{is_valid, HasValidity}
 use Rattle.vx_column.proofs.validity.valid_bits.Goals as goal
 
 pub returns-in-All-clause-sized : goal.returns-in-All-clause-sized

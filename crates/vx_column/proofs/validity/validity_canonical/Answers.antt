@@ -3,7 +3,7 @@ use Rattle.std.proofs.lemmas.Result.{IfOk-weaker}
 use Rattle.vx_tree.specs.Tree.{len, validity_in}
 use Rattle.vx_tree.specs.Cells.{rows}
 use Rattle.vx_tree.specs.Keeps.{KeepsExactly}
-use Rattle.vx_canonical.specs.Canonicals.{columnar_tree}
+use Rattle.vx_tree.specs.Canonicals.{columnar_tree}
 use Rattle.vx_column.proofs.ShownLemmas.{shown_exactly}
 use Rattle.vx_column.proofs.validity.validity_canonical.Goals as goal
 

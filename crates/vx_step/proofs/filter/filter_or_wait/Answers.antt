@@ -3,7 +3,7 @@ use Rattle.std.proofs.lemmas.Grind.{common_steps}
 use Rattle.vx_mask.specs.Masks.{bits_in, is_all_true}
 use Rattle.vx_mask.specs.Places.{true_count}
 use Rattle.vx_tree.specs.Columns.{empty_of}
-use Rattle.vx_canonical.specs.Canonicals.{canonical_tree}
+use Rattle.vx_tree.specs.Canonicals.{canonical_tree}
 use Rattle.vx_tree.specs.Tree.{filter_of}
 use Rattle.vx_step.specs.Steps.{IsStep, IsDone}
 use Rattle.vx_step.proofs.FilterLemmas.{nothing_done, whole_done}

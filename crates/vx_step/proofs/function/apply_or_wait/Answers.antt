@@ -1,11 +1,11 @@
 use Rattle.std.proofs.Common.{List, map, sym, subst, rules}
 use Rattle.vx_value.specs.declared.error.VortexError.{VortexError}
 use Rattle.vx_tree.specs.Tree.{slots_of}
-use Rattle.vx_canonical.specs.Canonicals.{columnar_tree}
+use Rattle.vx_tree.specs.Canonicals.{columnar_tree}
 use Rattle.vx_tree.specs.Well.{IsWell}
-use Rattle.vx_canonical.specs.declared.columnar.Columnar.{Columnar}
+use Rattle.vx_tree.specs.declared.canonical.columnar.Columnar.{Columnar}
 use Rattle.vx_step.specs.Steps.{IsDone, IsStopped}
-use Rattle.vx_apply.specs.Applied.{IsCall, IsApplied, IsUnapplied}
+use Rattle.vx_column.specs.Applied.{IsCall, IsApplied, IsUnapplied}
 use Rattle.vx_step.proofs.StepsLemmas.{function_waits, may_call, applied_done, unapplied_stopped}
 use Rattle.vx_step.proofs.function.apply_or_wait.Goals as goal
 

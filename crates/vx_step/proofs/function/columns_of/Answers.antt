@@ -1,6 +1,6 @@
 use Rattle.std.proofs.Common.{take, sym, subst, map}
 use Rattle.std.proofs.lemmas.List.{take_more}
-use Rattle.vx_canonical.specs.Canonicals.{columnar_tree}
+use Rattle.vx_tree.specs.Canonicals.{columnar_tree}
 use Rattle.vx_step.specs.Waiting.{HoldsColumn}
 use Rattle.vx_step.proofs.WaitingLemmas.{holds_at, columns_more}
 use Rattle.vx_step.proofs.function.columns_of.Goals as goal

@@ -1,8 +1,8 @@
 use Rattle.std.proofs.Common.{subst}
 use Rattle.vx_tree.specs.Tree.{datum}
 use Rattle.vx_tree.specs.Well.{IsWell}
-use Rattle.vx_canonical.specs.Canonicals.{canonical_tree}
-use Rattle.vx_canonical.proofs.ColumnsLemmas.{column_known, canonical_columnar}
+use Rattle.vx_tree.specs.Canonicals.{canonical_tree}
+use Rattle.vx_tree.proofs.ColumnsLemmas.{column_known, canonical_columnar}
 use Rattle.vx_step.proofs.steps.done.Goals as goal
 
 pub returns-clause-known : goal.returns-clause-known

@@ -1,6 +1,6 @@
 use Rattle.std.proofs.Common.{◌≡◌, ◌∙◌, subst}
-use Rattle.vx_canonical.specs.Canonicals.{columnar_tree}
-use Rattle.vx_rows.specs.Arguments.{IsUnread}
+use Rattle.vx_tree.specs.Canonicals.{columnar_tree}
+use Rattle.vx_column.specs.Arguments.{IsUnread}
 use Rattle.vx_step.proofs.StepsLemmas.{unread_stopped}
 use Rattle.vx_step.proofs.validity.validity_or_wait.Goals as goal
 

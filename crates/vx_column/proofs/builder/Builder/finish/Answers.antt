@@ -6,7 +6,7 @@ use Rattle.vx_value.specs.Types.{nullability_of}
 use Rattle.vx_value.specs.IsOf.{is_of}
 use Rattle.vx_tree.specs.Cells.{rows}
 use Rattle.vx_tree.specs.Validities.{HasRows}
-use Rattle.vx_rows.specs.ValidRows.{child_in, nullability_in}
+use Rattle.vx_column.specs.ValidRows.{child_in, nullability_in}
 use Rattle.vx_column.specs.Built.{built}
 use Rattle.vx_column.specs.Growing.{told_rows}
 use Rattle.vx_column.proofs.GrowingLemmas.{rows_typed}

@@ -1,5 +1,5 @@
 use Rattle.std.proofs.Common.{rules}
-use Rattle.vx_native.proofs.DecimalNumbersLemmas.{digits_fit}
+use Rattle.vx_tree.proofs.DecimalNumbersLemmas.{digits_fit}
 use Rattle.vx_json.proofs.decimals.DigitsNumberReader.number.Goals as goal
 
 pub narrowed-requires : goal.narrowed-requires

@@ -1,5 +1,5 @@
 use Rattle.std.proofs.Common.{◌≤◌, ap, subst, string_bytes, ◌∙◌}
-use Rattle.vx_canonical.specs.Canonicals.{columnar_tree}
+use Rattle.vx_tree.specs.Canonicals.{columnar_tree}
 use Rattle.vx_main.proofs.RunsLemmas.{answers_of}
 use Rattle.vx_main.proofs.top.answer.answer.Goals as goal
 

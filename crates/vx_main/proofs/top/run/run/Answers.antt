@@ -1,5 +1,5 @@
 use Rattle.std.proofs.Common.{rules, ◌≡◌, ◌∙◌, Some, true, sym}
-use Rattle.vx_stream.proofs.StreamsLemmas.{taken_to_the_end}
+use Rattle.vx_main.proofs.StreamsLemmas.{taken_to_the_end}
 use Rattle.vx_main.specs.Commands.{reads_tree}
 use Rattle.vx_main.proofs.RunsLemmas.{owed}
 use Rattle.vx_main.proofs.top.run.run.Goals as goal

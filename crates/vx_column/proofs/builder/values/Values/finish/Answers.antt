@@ -7,8 +7,8 @@ use Rattle.vx_value.specs.IsOf.{is_of}
 use Rattle.vx_value.specs.Storage.{storage_of}
 use Rattle.vx_value.specs.View.{type_of}
 use Rattle.vx_tree.specs.ColumnTypes.{are_bytes_of}
-use Rattle.vx_canonical.specs.Canonicals.{canonical_tree}
-use Rattle.vx_rows.specs.Stored.{decimal_column}
+use Rattle.vx_tree.specs.Canonicals.{canonical_tree}
+use Rattle.vx_column.specs.Stored.{decimal_column}
 use Rattle.vx_column.specs.Growing.{stored_values, AreStored, IsColumnOf}
 use Rattle.vx_column.proofs.BuiltLemmas.{width_known, digits_known, bytes_known}
 use Rattle.vx_column.proofs.builder.values.Values.finish.Goals as goal

@@ -1,2 +1,0 @@
-pub mod AppliedLemmas
-pub mod CallsLemmas

@@ -1,7 +1,0 @@
-use Rattle.std.proofs.Common.{take}
-use Rattle.std.specs.List.{AllZip}
-use Rattle.vx_apply.specs.Applied.{Repeats}
-use Rattle.vx_apply.proofs.constant.constants.Given as goal
-
-abbrev pub invariant-loop-column : goal.invariant-loop-column
-invariant-loop-column l = AllZip Repeats (take l.column-index l.columns) l.scalars.items

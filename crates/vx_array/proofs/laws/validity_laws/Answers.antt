@@ -1,5 +1,0 @@
-use Rattle.vx_array.proofs.ValiditiesLemmas.{told_back}
-use Rattle.vx_array.proofs.laws.validity_laws.Goals as goal
-
-pub returns : goal.returns
-returns c = told_back

@@ -1,4 +1,0 @@
-pub mod ColumnsLemmas
-pub mod FlatLemmas
-pub mod PartsLemmas
-pub mod NullsLemmas

@@ -1,6 +1,0 @@
-use Rattle.std.proofs.Common.{ap}
-use Rattle.vx_tree.specs.Tree as enc
-use Rattle.vx_canonical.proofs.values.BoolFlatEncoding.slice_values.Goals as goal
-
-pub returns : goal.returns
-returns c = ap enc.bool c.in_ok-slice.ensures

@@ -1,2 +1,0 @@
-pub mod CastsLemmas
-pub mod TextLemmas

@@ -1,8 +1,0 @@
-//! Casts whole columns.
-#![tactic(auto)]
-
-mod casts;
-mod rescale;
-mod text;
-
-pub use casts::cast;

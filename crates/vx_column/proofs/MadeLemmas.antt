@@ -1,0 +1,149 @@
+-- A column by what it stores and by its valid rows.
+use Rattle.std.proofs.Common.{◌≡◌, ◌<◌, ℕ, ℤ, Bool, true, false, if◌then◌else◌, List, [], ◌∷◌, length, map, get_or, Some, refl, sym, ap, ◌∙◌, subst, arith}
+use Rattle.std.specs.List.{range_with_len}
+use Rattle.std.proofs.lemmas.List.FromFn.{get_or-map-range_with_len, length-map-range_with_len}
+use Rattle.std.proofs.lemmas.Result.{IfOk-weaker}
+use Rattle.std.proofs.lemmas.Simd.{map-map}
+use Rattle.std.specs.Prelude.{Result, IfOk}
+use Rattle.vx_value.specs.Types.{DataType, bool, primitive, decimal}
+use Rattle.vx_value.specs.Nullabilities.{with_nullability}
+use Rattle.vx_value.specs.Values as of
+use Rattle.vx_value.specs.Values.{Value, null, boolean, integer, bytes}
+use Rattle.vx_value.specs.Cell.{Cell, value}
+use Rattle.vx_value.specs.declared.decimal.DecimalDType.{DecimalDType}
+use Rattle.vx_value.specs.declared.decimal.DecimalType.{DecimalType}
+use Rattle.vx_value.specs.declared.dtype.PType.{PType}
+use Rattle.vx_value.specs.declared.dtype.Nullability.{Nullability}
+use Rattle.vx_value.specs.declared.dtype.Storage.{Storage}
+use Rattle.vx_value.specs.declared.error.VortexError.{VortexError}
+use Rattle.vx_mask.proofs.Lists.{same_below, all_below}
+use Rattle.vx_fn.specs.Apply.{apply}
+use Rattle.vx_fn.specs.ReturnTypes.{return_type}
+use Rattle.vx_fn.specs.declared.function.ScalarFnRef.{ScalarFnRef}
+use Rattle.vx_tree.specs.ColumnTypes.{bytes_type}
+use Rattle.vx_tree.specs.Tree as enc
+use Rattle.vx_tree.specs.Tree.{Tree, Data, dtype, slots_of, column, nulls_of, is_canonical}
+use Rattle.vx_tree.specs.Canonicals.{canonical_tree}
+use Rattle.vx_tree.specs.declared.canonical.canonical.Canonical.{Canonical}
+use Rattle.vx_tree.specs.Cells.{slots_rows, node_cells, cells_at, valid_cells}
+use Rattle.vx_tree.specs.Validities.{nullability_by, child_of}
+use Rattle.vx_tree.specs.declared.validity.Validity.{Validity}
+use Rattle.vx_column.specs.Arguments.{types_of, row_of, plain_type, value_at}
+use Rattle.vx_column.specs.Computed.{IsMade, IsComputed}
+use Rattle.vx_column.specs.Stored.{boolean_column, integer_column, decimal_column, bytes_column}
+use Rattle.vx_column.specs.Nulls.{validity_cells}
+use Rattle.vx_column.specs.ValidRows.{is_valid, HasValidity, nullability_in, child_in, IsValidityOf, null_unless}
+use Rattle.vx_column.specs.declared.rows.argument.Argument.{Argument}
+use Rattle.vx_column.specs.declared.rows.argument.ArgumentRows.{ArgumentRows}
+use Rattle.vx_column.specs.declared.rows.valid.ValidRows.{ValidRows}
+use Rattle.vx_column.proofs.ValidRowsLemmas.{filled_rows, filled_clean, one_slot}
+
+-- what stands under a null tells nothing
+same_unless_null : (b : Bool) (c d : Cell) → (b ≡ true → c ≡ d) → null_unless b c ≡ null_unless b d
+same_unless_null true c d h = h refl
+same_unless_null false c d h = refl
+
+-- the value of a cell that may be null
+pub stored_cell : (v : Bool) (x : Value) → null_unless v (value x) ≡ value (if v then x else null)
+stored_cell true x = refl
+stored_cell false x = refl
+
+pub made_by : (valid : ValidRows) (stored other : ℕ → Cell) (n : ℕ) (u : Tree) → ((i : ℕ) → i < n → is_valid valid i ≡ true → stored i ≡ other i)
+    → IsMade valid stored n u → IsMade valid other n u
+made_by valid stored other n u same h = record {
+  counted = h.counted;
+  shown = h.shown ∙ same_below n _ _ (λ i lt. same_unless_null (is_valid valid i) (stored i) (other i) (same i lt));
+  clean = h.clean;
+  canonical = h.canonical;
+}
+
+-- items that stand for the values of `f`
+pub made_stored : {X : Type 0} (read : X → Value) (d : X) (g : ℕ → X) (f : ℕ → Value) (valid : ValidRows) (n : ℕ) (xs : List X) (u : Tree)
+    → xs ≡ map g (range_with_len 0 n) → ((i : ℕ) → read (g i) ≡ f i) → IsMade valid (λ i. value (read (get_or xs i d))) n u
+    → IsMade valid (λ i. value (f i)) n u
+made_stored read d g f valid n xs u are same h =
+    made_by valid (λ i. value (read (get_or xs i d))) (λ i. value (f i)) n u
+    (λ i lt here. ap (λ zs. value (read (get_or zs i d))) are
+    ∙ ap (λ z. value (read z)) (get_or-map-range_with_len g 0 n i i d lt (omega arith))
+    ∙ ap value (same i)) h
+
+-- the rows of an argument, by items that stand for them
+pub rows_made : {X : Type 0} (read : X → Value) (d : X) (g : ℕ → X) (rows stored : ArgumentRows) (valid : ValidRows) (n : ℕ) (xs : List X) (ty : DataType)
+    (r : Result Canonical VortexError) → rows ≡ stored → xs ≡ map g (range_with_len 0 n) → ((i : ℕ) → read (g i) ≡ value_at stored i)
+    → ty ≡ with_nullability (nullability_in valid) (plain_type stored)
+    → IfOk r (λ c. (dtype (canonical_tree c) ≡ ty) × IsMade valid (λ i. value (read (get_or xs i d))) n (canonical_tree c))
+    → IfOk r (λ c. (dtype (canonical_tree c) ≡ with_nullability (nullability_in valid) (plain_type rows))
+    × IsMade valid (λ i. value (value_at rows i)) n (canonical_tree c))
+rows_made read d g rows stored valid n xs ty r is are same typed =
+    IfOk-weaker r _ _
+    (λ c h. (
+      h.0 ∙ typed ∙ ap (λ q. with_nullability (nullability_in valid) (plain_type q)) (sym is),
+      made_stored read d g (value_at rows) valid n xs (canonical_tree c) are (λ i. same i ∙ ap (λ q. value_at q i) (sym is)) h.1,
+    ))
+
+null_always : (b : Bool) → null_unless b (value null) ≡ value null
+null_always true = refl
+null_always false = refl
+
+-- a column of nulls
+pub nulls_made : (f : ℕ → Value) (valid : ValidRows) (n : ℕ) → ((i : ℕ) → f i ≡ null) → IsMade valid (λ i. value (f i)) n (nulls_of n)
+nulls_made f valid n none = record {
+  counted = refl;
+  shown = sym (all_below n (λ i. null_unless (is_valid valid i) (value (f i))) (value null)
+      (λ i lt. ap (λ v. null_unless (is_valid valid i) (value v)) (none i) ∙ null_always (is_valid valid i)));
+  clean = tt;
+  canonical = refl;
+}
+
+-- the column of a function, by what it stores
+pub computed_by : (f : ScalarFnRef) (args : List Argument) (valid : ValidRows) (stored : ℕ → Cell) (n : ℕ) (u : Tree)
+    → return_type f (types_of args) ≡ Some (dtype u) → IsMade valid stored n u
+    → ((i : ℕ) → i < n → null_unless (is_valid valid i) (stored i) ≡ apply f (dtype u) (row_of args i)) → IsComputed f args n u
+computed_by f args valid stored n u typed h same = record {
+  result = record { typed = typed; counted = h.counted; shown = h.shown ∙ same_below n _ _ same; clean = h.clean };
+  canonical = h.canonical;
+}
+
+module _ (valid : ValidRows) (n : ℕ) (sized : HasValidity valid n) (v : Validity) (told : IsValidityOf valid n v) where
+  -- items that are stored in a column
+  made : {X : Type 0} (read : X → Value) (of_items : List X → Data)
+      (ty : Nullability → DataType)
+      → ((m : Nullability) (k : ℕ) (xs : List X) (css : List (List Cell))
+      → node_cells (ty m) k (of_items xs) css ≡ valid_cells (cells_at css 0) (map (λ x. value (read x)) xs))
+      → ((xs : List X) → is_canonical (of_items xs) ≡ true) → (xs : List X) (g : ℕ → X) (u : Tree) → xs ≡ map g (range_with_len 0 n)
+      → u ≡ column (ty (nullability_by v)) (length xs) (of_items xs) (child_of v (length xs))
+      → (dtype u ≡ ty (nullability_in valid)) × IsMade valid (λ i. value (read (g i))) n u
+  made read of_items ty cells canonical xs g u are new =
+      let long : length xs ≡ n = ap length are ∙ length-map-range_with_len g 0 n in
+      let child : child_of v (length xs) ≡ child_in valid = ap (child_of v) long ∙ told.1 in
+      let stored : map (λ x. value (read x)) xs ≡ map (λ i. value (read (g i))) (range_with_len 0 n) =
+      ap (map (λ x. value (read x))) are ∙ map-map (λ x. value (read x)) g (range_with_len 0 n) in
+      let whole : IsMade valid (λ i. value (read (g i))) n (column (ty (nullability_by v)) (length xs) (of_items xs) (child_in valid)) =
+      record {
+        counted = long;
+        shown = cells (nullability_by v) (length xs) xs (slots_rows (slots_of (child_in valid ∷ [])))
+            ∙ ap (λ css. valid_cells (cells_at css 0) (map (λ x. value (read x)) xs)) (one_slot (child_in valid))
+            ∙ ap (valid_cells (validity_cells (child_in valid))) stored
+            ∙ filled_rows valid n (λ i. read (g i)) sized;
+        clean = filled_clean valid;
+        canonical = canonical xs;
+      } in (
+        ap dtype new ∙ ap ty told.0,
+        subst (IsMade valid (λ i. value (read (g i))) n) (sym (new ∙ ap (column (ty (nullability_by v)) (length xs) (of_items xs)) child)) whole,
+      )
+
+  pub bools_made : (bits : List Bool) (test : ℕ → Bool) (u : Tree) → bits ≡ map test (range_with_len 0 n) → u ≡ boolean_column bits v
+      → (dtype u ≡ bool (nullability_in valid)) × IsMade valid (λ i. value (boolean (test i))) n u
+  bools_made = made boolean enc.bool bool (λ m k xs css. refl) (λ xs. refl)
+
+  pub integers_made : (p : PType) (zs : List ℤ) (g : ℕ → ℤ) (u : Tree) → zs ≡ map g (range_with_len 0 n) → u ≡ integer_column p zs v
+      → (dtype u ≡ primitive p (nullability_in valid)) × IsMade valid (λ i. value (integer (g i))) n u
+  integers_made p = made integer (enc.primitive p) (primitive p) (λ m k xs css. refl) (λ xs. refl)
+
+  pub decimals_made : (d : DecimalDType) (w : DecimalType) (zs : List ℤ) (g : ℕ → ℤ) (u : Tree) → zs ≡ map g (range_with_len 0 n) → u ≡ decimal_column d w zs v
+      → (dtype u ≡ decimal d.precision d.scale (nullability_in valid)) × IsMade valid (λ i. value (of.decimal (g i) d.scale)) n u
+  decimals_made d w = made (λ z. of.decimal z d.scale) (enc.decimals w) (decimal d.precision d.scale) (λ m k xs css. refl) (λ xs. refl)
+
+  pub bytes_made : (st : Storage) (rs : List (List ℕ)) (g : ℕ → List ℕ) (u : Tree) → rs ≡ map g (range_with_len 0 n) → u ≡ bytes_column st rs v
+      → (dtype u ≡ with_nullability (nullability_in valid) (bytes_type st)) × IsMade valid (λ i. value (bytes (g i))) n u
+  bytes_made st = made bytes enc.views (λ m. with_nullability m (bytes_type st)) (λ m k xs css. refl) (λ xs. refl)

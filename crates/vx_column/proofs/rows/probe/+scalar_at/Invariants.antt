@@ -1,0 +1,17 @@
+use Rattle.std.proofs.Common.{◌+◌, ◌*◌, ◌∷◌, [], take}
+use Rattle.std.specs.List.{AllZip}
+use Rattle.vx_tree.specs.Tree.{slots_of, height, slots_height}
+use Rattle.vx_column.proofs.CellsLemmas.{IsRead}
+use Rattle.vx_column.proofs.rows.probe.+scalar_at.Given as goal
+
+abbrev pub decreases-scalar_at : goal.decreases-scalar_at
+decreases-scalar_at l = 2 * height l.array.now
+
+abbrev pub decreases-function_at : goal.decreases-function_at
+decreases-function_at l = 2 * slots_height (slots_of l.slots.now) + 1
+
+abbrev pub decreases-unless_null : goal.decreases-unless_null
+decreases-unless_null l = 2 * slots_height (slots_of (l.validity.now ∷ [])) + 1
+
+abbrev pub invariant-function_at-loop-slot : goal.invariant-function_at-loop-slot
+invariant-function_at-loop-slot l = AllZip (IsRead l.index) (take l.slot-index l.slots) l.scalars.items

@@ -1,0 +1,70 @@
+//! Functions applied to whole columns.
+
+ghost use Rattle.std.specs.Prelude.{map, IfOk, IfErr};
+ghost use Rattle.vx_tree.specs.Canonicals.{columnar_tree, canonical_tree};
+ghost use Rattle.vx_column.specs.Applied.{IsCall, IsApplied, IsUnapplied};
+ghost use Rattle.vx_column.specs.Computed.{Takes, IsComputed, IsNotComputed};
+
+use crate::functions::apply::constant::{apply_constants, constants};
+use crate::functions::cast::cast;
+use crate::functions::operator::{between, negate, operate};
+use crate::functions::select::{fill_null, is_not_null, is_null, mask, zip};
+use crate::rows::{Argument, arguments_of};
+use std::alloc::Global;
+use vx_fn::ScalarFnRef;
+use vx_tree::{Canonical, Columnar};
+use vx_value::VortexResult;
+
+/// Applies `function` to `arguments`, each `len` rows long, in one pass and one allocation for the rows; constants
+/// aren't expanded, and values under nulls aren't computed. The result is a constant if `len > 0` and every argument is
+/// one, else canonical. (own)
+///
+/// # Errors
+///
+/// `Fault` if a row has no value; `OutOfMemory`.
+pub fn apply_fn(
+    alloc: Global,
+    function: &ScalarFnRef,
+    arguments: &[Columnar],
+    len: usize,
+) -> VortexResult<Columnar>
+    requires { IsCall function.now (map columnar_tree arguments.now) len }
+    ensures ok { IfOk result (λ c. IsApplied function.now (map columnar_tree arguments.now) len (columnar_tree c)) }
+    ensures err { IfErr result (IsUnapplied function.now (map columnar_tree arguments.now) len) }
+{
+    match constants(alloc, arguments, len)? {
+        Some(scalars) => apply_constants(alloc, function, scalars.as_slice(), len),
+        None => {
+            let rows = arguments_of(alloc, arguments)?;
+            let column = apply_to_columns(alloc, function, rows.as_slice(), len)?;
+            Ok(Columnar::Canonical(column))
+        }
+    }
+}
+
+/// Applies `function` to `arguments`, `len` rows each, whose types it must accept. `Fault` if a row has no value.
+fn apply_to_columns(
+    alloc: Global,
+    function: &ScalarFnRef,
+    arguments: &[Argument<'_>],
+    len: usize,
+) -> VortexResult<Canonical>
+    requires { Takes function.now arguments.now len }
+    ensures ok { IfOk result (λ c. IsComputed function.now arguments.now len (canonical_tree c)) }
+    ensures err { IfErr result (IsNotComputed function.now arguments.now len) }
+{
+    match (function, arguments) {
+        (ScalarFnRef::Binary(operator), [lhs, rhs]) => operate(alloc, *operator, lhs, rhs, len),
+        (ScalarFnRef::Between(options), [array, lower, upper]) => {
+            between(alloc, *options, array, lower, upper, len)
+        }
+        (ScalarFnRef::Not, [input]) => negate(alloc, input, len),
+        (ScalarFnRef::Mask, [input, keep]) => mask(alloc, input, keep, len),
+        (ScalarFnRef::Zip, [if_true, if_false, mask]) => zip(alloc, if_true, if_false, mask, len),
+        (ScalarFnRef::FillNull, [input, fill_value]) => fill_null(alloc, input, fill_value, len),
+        (ScalarFnRef::IsNull, [input]) => is_null(alloc, input, len),
+        (ScalarFnRef::IsNotNull, [input]) => is_not_null(alloc, input, len),
+        (ScalarFnRef::Cast(target), [input]) => cast(alloc, target, input, len),
+        _ => unreachable!(),
+    }
+}

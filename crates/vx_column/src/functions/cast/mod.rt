@@ -1,0 +1,7 @@
+//! Casts whole columns.
+
+mod casts;
+mod rescale;
+mod text;
+
+pub use casts::cast;

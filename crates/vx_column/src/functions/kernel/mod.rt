@@ -1,0 +1,14 @@
+//! What the functions of columns share: the operands of a kernel, the columns that are calculated row by row, and those of stored
+//! and of valid rows.
+
+mod calculation;
+mod operand;
+mod stored;
+mod valid;
+
+pub use calculation::{
+    Calculation, DecimalCalculation, IntegerCalculation, calculated_column, calculated_decimals,
+};
+pub use operand::{Operand, decimal_operand_of, operand_of};
+pub use stored::{bit_rows, byte_rows, decimal_rows, integer_rows, stored_column};
+pub use valid::{keep_valid, valid_bools, valid_bytes, valid_decimals, valid_integers};

@@ -1,0 +1,124 @@
+//! Columns that store the rows of an argument.
+
+ghost use Rattle.std.specs.Prelude.{◌≡◌, true, map, IfOk, IfErr};
+ghost use Rattle.std.specs.List.{range_with_len};
+ghost use Rattle.vx_value.specs.Nullabilities.{with_nullability};
+ghost use Rattle.vx_value.specs.Cell.{value};
+ghost use Rattle.vx_tree.specs.DecimalNumbers.{numbers_of, decimal_type_of};
+ghost use Rattle.vx_mask.specs.Operands.{bit_in, HasBits};
+ghost use Rattle.vx_tree.specs.Natives.{values_of, ptype_of};
+ghost use Rattle.vx_tree.specs.ColumnTypes.{are_decimals_of};
+ghost use Rattle.vx_tree.specs.Canonicals.{canonical_tree};
+ghost use Rattle.vx_tree.specs.Tree.{dtype};
+ghost use Rattle.vx_column.specs.Arguments.{integer_in, ptype_in, unscaled_in, bytes_in, plain_type, value_at, stored_decimals, HasStored, AreIntegers, AreDecimals, AreBytes};
+ghost use Rattle.vx_column.specs.Computed.{IsMade};
+ghost use Rattle.vx_column.specs.ValidRows.{HasValidity, nullability_in};
+
+use crate::functions::kernel::valid::{valid_bools, valid_bytes, valid_decimals, valid_integers};
+use crate::rows::{
+    ArgumentRows, BytesOperand, BytesRows, DecimalOperand, DecimalRows, IntegerOperand,
+    IntegerRows, ValidRows,
+};
+use std::alloc::{AllocError, Global};
+use vx_mask::{BitBuffer, BitOperand};
+use vx_tree::{BinaryViews, Canonical, DecimalValues, NullArray, PrimitiveValues};
+use vx_value::{ByteBuffer, DecimalType, VortexError, VortexResult};
+
+/// Returns `bits` as `len` rows: shares a buffer, and writes out one bit. (own)
+pub fn bit_rows(alloc: Global, bits: BitOperand<'_>, len: usize) -> Result<BitBuffer, AllocError>
+    requires { HasBits bits len }
+    ensures { IfOk result (λ b. b ≡ map (λ i. bit_in bits.entry i) (range_with_len 0 len)) }
+{
+    match bits {
+        BitOperand::Bits(rows) => Ok(rows.clone()?),
+        BitOperand::Bit(bit) => BitBuffer::repeat(alloc, bit, len),
+    }
+}
+
+/// Returns `integers` as `len` rows: shares a buffer, and writes out one integer. (own)
+pub fn integer_rows(
+    alloc: Global,
+    integers: IntegerOperand<'_>,
+    len: usize,
+) -> Result<PrimitiveValues, AllocError>
+    requires { AreIntegers (ptype_in integers) integers len }
+    ensures kind { IfOk result (λ v. ptype_of v ≡ ptype_in integers.entry) }
+    ensures values { IfOk result (λ v. values_of v ≡ map (λ i. integer_in integers.entry i) (range_with_len 0 len)) }
+{
+    match integers.rows {
+        IntegerRows::Rows(values) => Ok(values.clone()?),
+        IntegerRows::Value(ptype, wide) => PrimitiveValues::repeat(alloc, ptype, wide, len),
+    }
+}
+
+/// Returns `decimals` as `len` rows: shares a buffer, and writes out one number. (own)
+pub fn decimal_rows(
+    alloc: Global,
+    decimals: DecimalOperand<'_>,
+    len: usize,
+) -> Result<DecimalValues, AllocError>
+    requires { AreDecimals decimals len }
+    ensures stored { IfOk result (λ v. are_decimals_of (stored_decimals decimals.entry.decimal) (decimal_type_of v) (numbers_of v) ≡ true) }
+    ensures values { IfOk result (λ v. numbers_of v ≡ map (λ i. unscaled_in decimals.entry i) (range_with_len 0 len)) }
+{
+    match decimals.rows {
+        DecimalRows::Rows(values) => Ok(values.clone()?),
+        DecimalRows::Value(unscaled) => {
+            let width = DecimalType::smallest_decimal_value_type(&decimals.decimal);
+            DecimalValues::repeat(alloc, width, unscaled, len)
+        }
+    }
+}
+
+/// Returns `bytes` as `len` rows: shares a column, and copies the bytes of one value once. (own)
+pub fn byte_rows(
+    alloc: Global,
+    bytes: BytesOperand<'_>,
+    len: usize,
+) -> Result<BinaryViews, AllocError>
+    requires { AreBytes bytes len }
+    ensures { IfOk result (λ r. r ≡ map (λ i. bytes_in bytes.entry i) (range_with_len 0 len)) }
+{
+    match bytes.rows {
+        BytesRows::Rows(rows) => Ok(rows.clone()?),
+        BytesRows::Value(value) => {
+            let value = ByteBuffer::copy_from(alloc, value)?;
+            BinaryViews::repeat(alloc, value, len)
+        }
+    }
+}
+
+/// Makes the column of `rows`, `len` rows, that are null unless they are `valid`. Shares the buffer of `rows`, and writes out one
+/// value. The only error is `OutOfMemory`. (own)
+pub fn stored_column(
+    alloc: Global,
+    rows: ArgumentRows<'_>,
+    valid: &ValidRows,
+    len: usize,
+) -> VortexResult<Canonical>
+    requires rows { HasStored rows len }
+    requires valid { HasValidity valid.now len }
+    ensures ok { IfOk result (λ c. (dtype (canonical_tree c) ≡ with_nullability (nullability_in valid.now) (plain_type rows.entry))
+        × IsMade valid.now (λ i. value (value_at rows.entry i)) len (canonical_tree c)) }
+    ensures err { IfErr result (λ e. e ≡ VortexError.OutOfMemory) }
+{
+    match rows {
+        ArgumentRows::Nulls => Ok(Canonical::Null(NullArray::new(alloc, len)?)),
+        ArgumentRows::Bits(bits) => {
+            let bits = bit_rows(alloc, bits, len)?;
+            valid_bools(alloc, bits, valid, len)
+        }
+        ArgumentRows::Integers(integers) => {
+            let values = integer_rows(alloc, integers, len)?;
+            valid_integers(alloc, values, valid, len)
+        }
+        ArgumentRows::Decimals(decimals) => {
+            let values = decimal_rows(alloc, decimals, len)?;
+            valid_decimals(alloc, decimals.decimal, values, valid, len)
+        }
+        ArgumentRows::Bytes(bytes) => {
+            let rows = byte_rows(alloc, bytes, len)?;
+            valid_bytes(alloc, bytes.storage, rows, valid, len)
+        }
+    }
+}

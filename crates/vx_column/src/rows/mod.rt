@@ -1,0 +1,16 @@
+//! Reads the rows of trees: single rows, those that aren't null, and whole columns as the arguments of a function. Makes
+//! columns of stored values.
+
+mod argument;
+mod column;
+mod probe;
+mod reader;
+mod valid;
+
+pub use argument::{
+    Argument, ArgumentRows, BytesOperand, BytesRows, DecimalOperand, DecimalRows, IntegerOperand,
+    IntegerRows, argument_of, arguments_of, repeated_rows, unscaled_of,
+};
+pub use column::{bool_column, decimal_column, primitive_column, varbinview_column};
+pub use probe::{execute_scalar, truths_in};
+pub use valid::ValidRows;

@@ -1,0 +1,103 @@
+-- The text of the rows so far.
+use Rattle.std.proofs.Common.{◌≡◌, ℕ, ◌<◌, ◌≤◌, List, [], ◌∷◌, ◌++◌, length, zero, suc, subst, take, map, slice_get, Some, refl, sym, ◌∙◌, ap, append_assoc, arith, flat_map, inl, inr}
+use Rattle.std.specs.Prelude.{codes, Bool, true, false}
+use Rattle.std.proofs.lemmas.Grind.{common_steps, flat_map-append}
+use Rattle.vx_value.specs.Types.{DataType}
+use Rattle.vx_value.specs.Values.{Value, null}
+use Rattle.vx_value.specs.declared.error.VortexError.{VortexError}
+use Rattle.vx_value.specs.declared.id.Id.{Id}
+use Rattle.vx_value.specs.Cell.{Cell, value, fault}
+use Rattle.vx_tree.specs.Cells.{rows}
+use Rattle.vx_json.specs.RowText.{row_text}
+use Rattle.vx_tree.specs.Tree.{Tree, dtype, datum, id_of, len}
+use Rattle.vx_tree.specs.Canonicals.{columnar_tree}
+use Rattle.vx_tree.specs.declared.canonical.columnar.Columnar.{Columnar}
+use Rattle.vx_tree.proofs.CellsLemmas.{no_fault_at}
+use Rattle.vx_column.specs.Arguments.{IsArgument, cell_at, value_at, type_of_argument, IsUnread as IsNotRead}
+use Rattle.vx_column.specs.ValidRows.{is_valid, null_unless}
+use Rattle.vx_column.specs.declared.rows.argument.Argument.{Argument}
+use Rattle.std.proofs.lemmas.Option.{slice_get-get_or}
+use Rattle.vx_json.specs.Output.{Shows, IsUnread, head_lines, line}
+use Rattle.vx_json.specs.Lines.{unless_null, row_text_at, row_lines}
+
+-- the lines of the type and of the encoding, as they are appended
+head_of : (h ty e id n : List ℕ) → (((h ++ ty) ++ 10 ∷ e) ++ id) ++ n ≡ ((h ++ ty) ++ 10 ∷ []) ++ ((e ++ id) ++ n)
+head_of h ty e id n =
+    append_assoc ((h ++ ty) ++ 10 ∷ e) id n ∙ append_assoc (h ++ ty) (10 ∷ e) (id ++ n)
+    ∙ ap (λ l. (h ++ ty) ++ 10 ∷ l) (sym (append_assoc e id n)) ∙ sym (append_assoc (h ++ ty) (10 ∷ []) ((e ++ id) ++ n))
+
+pub head_pushed : (ty id t i s₀ s₁ s₂ s₃ s₄ : List ℕ) → s₀ ≡ codes "type " → t ≡ ty → s₁ ≡ s₀ ++ t → s₂ ≡ s₁ ++ 10 ∷ codes "encoding "
+    → i ≡ id → s₃ ≡ s₂ ++ i → s₄ ≡ s₃ ++ 10 ∷ [] → s₄ ≡ line (codes "type " ++ ty) ++ line (codes "encoding " ++ id)
+head_pushed ty id t i s₀ s₁ s₂ s₃ s₄ h₀ h h₁ h₂ k h₃ h₄ =
+    h₄ ∙ ap (λ l. l ++ 10 ∷ []) (h₃ ∙ (λ j. (h₂ ∙ ap (λ l. l ++ 10 ∷ codes "encoding ") (h₁ ∙ (λ j. h₀ j ++ h j))) j ++ k j))
+    ∙ head_of (codes "type ") ty (codes "encoding ") id (10 ∷ [])
+
+-- before the first row stand the lines of the type and of the encoding
+pub shows_none : (ty : DataType) (id : Id) (text : List ℕ) → text ≡ head_lines ty id → Shows ty id [] text
+shows_none ty id text e = record { values = []; own = refl; printed = grind (arith, common_steps) }
+
+take_suc : (cs : List Cell) (i : ℕ) (c : Cell) → slice_get cs i ≡ Some c → take (suc i) cs ≡ take i cs ++ c ∷ []
+take_suc [] i c e = absurd (cc)
+take_suc (d ∷ cs) zero c e = ap (λ z. z ∷ []) (cc)
+take_suc (d ∷ cs) (suc i) c e = ap (λ l. d ∷ l) (take_suc cs i c e)
+
+map_more : (vs : List Value) (v : Value) → map value (vs ++ v ∷ []) ≡ map value vs ++ value v ∷ []
+map_more [] v = refl
+map_more (w ∷ vs) v = ap (λ cs. value w ∷ cs) (map_more vs v)
+
+append_none : (xs : List ℕ) → xs ++ [] ≡ xs
+append_none [] = refl
+append_none (x ∷ xs) = ap (λ l. x ∷ l) (append_none xs)
+
+lines_more : (f : Value → List ℕ) (h : List ℕ) (vs : List Value) (v : Value) → (h ++ flat_map f vs) ++ f v ≡ h ++ flat_map f (vs ++ v ∷ [])
+lines_more f h vs v = append_assoc h (flat_map f vs) (f v) ∙ ap (λ l. h ++ l)
+    (ap (λ l. flat_map f vs ++ l) (sym (append_none (f v))) ∙ sym (flat_map-append f vs (v ∷ [])))
+
+-- a further row has its line
+shows_more : (ty : DataType) (id : Id) (cs : List Cell) (i : ℕ) (v : Value) (text longer : List ℕ) → Shows ty id (take i cs) text
+    → slice_get cs i ≡ Some (value v) → longer ≡ text ++ line (row_text ty v) → Shows ty id (take (suc i) cs) longer
+shows_more ty id cs i v text longer s e j = record {
+  values = s.values ++ v ∷ [];
+  own = take_suc cs i (value v) e ∙ ap (λ l. l ++ value v ∷ []) s.own ∙ sym (map_more s.values v);
+  printed = j ∙ ap (λ l. l ++ line (row_text ty v)) s.printed ∙ lines_more (λ w. line (row_text ty w)) (head_lines ty id) s.values v;
+}
+
+-- all rows are shown
+shows_all : (ty : DataType) (id : Id) (cs : List Cell) (i : ℕ) (text : List ℕ) → Shows ty id (take i cs) text → length cs ≤ i → Shows ty id cs text
+shows_all ty id cs i text s h = let e : take i cs ≡ cs = grind (arith, common_steps) in subst (λ l. Shows ty id l text) e s
+
+-- rows that aren't read
+pub column_unread : (t : Tree) (e : VortexError) → IsNotRead t e → IsUnread t e
+column_unread t e (inl m) = inl m
+column_unread t e (inr f) = inr (f.0, λ whole. no_fault_at (rows t) f.1 whole f.3)
+
+-- each of its cells is a value, with its text
+value_opened : (a : Argument) (i : ℕ)
+    → (v : Value) × (value v ≡ cell_at a i) × (row_text (type_of_argument a) v ≡ unless_null (is_valid a.valid i) (row_text_at a i))
+value_opened a i = by_validity (is_valid a.valid i)
+  where
+    by_validity : (b : Bool)
+        → (v : Value) × (value v ≡ null_unless b (value (value_at a.rows i))) × (row_text (type_of_argument a) v ≡ unless_null b (row_text_at a i))
+    by_validity true = (value_at a.rows i, refl, refl)
+    by_validity false = (null, refl, refl)
+
+-- the lines of the first n rows of an argument show them
+shows_rows : (ty : DataType) (id : Id) (cs : List Cell) (a : Argument) (n : ℕ) → ty ≡ type_of_argument a
+    → ((i : ℕ) → i < n → slice_get cs i ≡ Some (cell_at a i)) → Shows ty id (take n cs) (head_lines ty id ++ row_lines a n)
+shows_rows ty id cs a zero e h = shows_none ty id _ (append_none (head_lines ty id))
+shows_rows ty id cs a (suc n) e h =
+    let found = value_opened a n in
+    let head = head_lines ty id in
+    let shown = sym (ap (λ y. row_text y found.0) e ∙ found.2) in
+    let longer = sym (append_assoc head (row_lines a n) _) ∙ ap (λ t. (head ++ row_lines a n) ++ line t) shown in
+    shows_more ty id cs n found.0 _ _ (shows_rows ty id cs a n e (λ i lt. h i (omega (arith, lt)))) (h n (omega arith) ∙ ap Some (sym found.1)) longer
+
+-- those of all rows show the column
+pub shows_column : (c : Columnar) (a : Argument) (n : ℕ) (text : List ℕ) → IsArgument c a → length (rows (columnar_tree c)) ≡ len (columnar_tree c)
+    → n ≡ len (columnar_tree c) → text ≡ head_lines (dtype (columnar_tree c)) (id_of (datum (columnar_tree c))) ++ row_lines a n
+    → Shows (dtype (columnar_tree c)) (id_of (datum (columnar_tree c))) (rows (columnar_tree c)) text
+shows_column c a n text is counted end e =
+    let t = columnar_tree c in
+    let shown = shows_rows (dtype t) (id_of (datum t)) (rows t) a n is.typed
+    (λ i lt. slice_get-get_or (rows t) i fault (omega (arith, counted, end, lt)) ∙ ap Some (is.shown i (omega (arith, end, lt)))) in
+    subst (Shows (dtype t) (id_of (datum t)) (rows t)) (sym e) (shows_all (dtype t) (id_of (datum t)) (rows t) n _ shown (omega (arith, counted, end)))

@@ -1,0 +1,31 @@
+-- The lines of a column's rows.
+use Rattle.std.specs.Prelude.{ℕ, zero, suc, ℤ, pos, List, [], ◌++◌, length, Bool, true, false, codes, slice_index_or}
+use Rattle.std.specs.Fmt.{signed_decimal}
+use Rattle.vx_column.specs.Arguments.{type_of_argument, value_at}
+use Rattle.vx_column.specs.ValidRows.{is_valid}
+use Rattle.vx_column.specs.declared.rows.argument.Argument.{Argument}
+use Rattle.vx_column.specs.declared.rows.valid.ValidRows.{ValidRows}
+use Rattle.vx_json.specs.RowText.{row_text}
+use Rattle.vx_json.specs.Output.{line}
+
+-- the text of a row that is null unless it is valid
+abbrev pub unless_null : Bool → List ℕ → List ℕ
+unless_null true text = text
+unless_null false text = codes "null"
+
+-- a line for each of n rows
+abbrev pub lines : (ℕ → Bool) → (ℕ → List ℕ) → ℕ → List ℕ
+lines valid text zero = []
+lines valid text (suc n) = lines valid text n ++ line (unless_null (valid n) (text n))
+
+-- for each of these integers
+abbrev pub integer_lines : ValidRows → List ℤ → List ℕ
+integer_lines valid zs = lines (is_valid valid) (λ i. signed_decimal (slice_index_or zs i (pos 0))) (length zs)
+
+-- the text of row i, as if it weren't null
+abbrev pub row_text_at : Argument → ℕ → List ℕ
+row_text_at a i = row_text (type_of_argument a) (value_at a.rows i)
+
+-- for each of n rows of the argument
+abbrev pub row_lines : Argument → ℕ → List ℕ
+row_lines a n = lines (is_valid a.valid) (row_text_at a) n

@@ -1,0 +1,44 @@
+//! The text of a column.
+
+ghost use Rattle.std.specs.Prelude.{◌≡◌, IfOk, IfErr, OnOk, string_bytes};
+ghost use Rattle.vx_tree.specs.Tree.{dtype, datum, id_of};
+ghost use Rattle.vx_tree.specs.Cells.{rows};
+ghost use Rattle.vx_tree.specs.Columns.{IsLawful};
+ghost use Rattle.vx_tree.specs.Canonicals.{columnar_tree};
+ghost use Rattle.vx_json.specs.Output.{Shows, IsUnread, head_lines};
+
+use crate::text::lines::push_rows;
+use std::alloc::{AllocError, Global};
+use vx_column::argument_of;
+use vx_tree::{ArrayRef, Columnar};
+use vx_value::{VortexResult, type_text};
+
+/// Returns the lines of the type and the encoding.
+fn head_text(alloc: Global, array: &ArrayRef) -> Result<String, AllocError>
+    ensures { IfOk result (λ s. string_bytes s ≡ head_lines (dtype array.now) (id_of (datum array.now))) }
+{
+    let mut text = String::from_str(alloc, "type ")?;
+    text.push_str(type_text(alloc, array.dtype())?.as_str())?;
+    text.push_str("\nencoding ")?;
+    text.push_str(array.encoding_id().as_str())?;
+    text.push_str("\n")?;
+    Ok(text)
+}
+
+/// Returns the lines of the type and the encoding, and a line for each row. `Fault` only if a row has no value, as its validity
+/// may have none; `OutOfMemory`.
+pub fn column_text(alloc: Global, column: &Columnar) -> VortexResult<String>
+    ensures ok { IfOk result (λ s. Shows (dtype (columnar_tree column.now)) (id_of (datum (columnar_tree column.now))) (rows (columnar_tree column.now))
+        (string_bytes s)) }
+    ensures lawful { OnOk result (IsLawful (id_of (datum (columnar_tree column.now))) (dtype (columnar_tree column.now)) (rows (columnar_tree column.now))) }
+    ensures err { IfErr result (IsUnread (columnar_tree column.now)) }
+{
+    let array = column.as_array();
+    array.well();
+    let mut text = head_text(alloc, array)?;
+    // A row takes at least two bytes, so a column too long for memory is refused at once.
+    text.reserve(array.len().saturating_mul(2))?;
+    let argument = argument_of(alloc, column)?;
+    push_rows(&mut text, &argument, array.len())?;
+    Ok(text)
+}

@@ -1,0 +1,114 @@
+//! The text of a row.
+
+ghost use Rattle.std.specs.Prelude.{◌≡◌, ◌++◌, OnOk, IfOk, true, string_bytes};
+ghost use Rattle.std.specs.Fmt.{signed_decimal};
+ghost use Rattle.hex.specs.Hex.{encode_lower};
+ghost use Rattle.serde_json.specs.Data.{string};
+ghost use Rattle.serde_json.specs.Written.{compact_text};
+ghost use Rattle.std.specs.Str.{is_utf8};
+ghost use Rattle.std.specs.List.{list_any};
+ghost use Rattle.vx_json.specs.RowText.{has_escape, in_quotes, row_text};
+
+use crate::text::printed::PrintedNumber;
+use itoa::Buffer;
+use serde_json::Value;
+use std::alloc::{AllocError, Global};
+use vx_value::{DType, Scalar, ScalarValue, VortexResult};
+
+/// Appends the text of a row: `null`, `true`, `false`, an integer in decimal, or a string. The string of a decimal is its unscaled
+/// integer, as `"4200"` for 42.00; that of a binary value has two lower-case hexadecimal digits for each byte. If memory runs out,
+/// part of it may have been appended. (own)
+pub fn push_row(text: &mut String, scalar: &Scalar) -> Result<(), AllocError>
+    ensures { OnOk result (string_bytes text.new ≡ string_bytes text.old ++ row_text scalar.now.of_type scalar.now.value) }
+{
+    match scalar.value() {
+        None => text.push_str("null"),
+        Some(ScalarValue::Bool(true)) => text.push_str("true"),
+        Some(ScalarValue::Bool(false)) => text.push_str("false"),
+        Some(ScalarValue::Integer(number)) => push_integer(text, *number),
+        Some(ScalarValue::Decimal(decimal)) => push_decimal(text, decimal.unscaled),
+        Some(ScalarValue::Bytes(bytes)) => match scalar.dtype() {
+            DType::Utf8(_) => push_utf8(text, bytes.as_slice()),
+            _ => push_hex(text, bytes.as_slice()),
+        },
+    }
+}
+
+/// Appends `number` in decimal. If memory runs out, part of it may have been appended. (own)
+#[inline]
+pub fn push_integer<T: PrintedNumber>(text: &mut String, number: T) -> Result<(), AllocError>
+    ensures { OnOk result (string_bytes text.new ≡ string_bytes text.old ++ signed_decimal (T.value number)) }
+{
+    number.is_printed();
+    text.push_str(Buffer::new().format(number))
+}
+
+// These three aren't inlined and don't see the scalar: the rows of booleans and integers then take fewer instructions.
+
+/// Appends `unscaled` in decimal, between quotation marks.
+#[inline(never)]
+fn push_decimal(text: &mut String, unscaled: i128) -> Result<(), AllocError>
+    ensures { OnOk result (string_bytes text.new ≡ string_bytes text.old ++ in_quotes (signed_decimal unscaled)) }
+{
+    push_quoted(text, Buffer::new().format(unscaled))
+}
+
+/// Appends `inner` between quotation marks.
+fn push_quoted(text: &mut String, inner: &str) -> Result<(), AllocError>
+    ensures { OnOk result (string_bytes text.new ≡ string_bytes text.old ++ in_quotes inner.now) }
+{
+    text.push_str("\"")?;
+    text.push_str(inner)?;
+    text.push_str("\"")
+}
+
+/// Appends `bytes`, which must be UTF-8, as a JSON string. One without an escape is written as it is.
+#[inline(never)]
+fn push_utf8(text: &mut String, bytes: &[u8]) -> Result<(), AllocError>
+    requires { is_utf8 bytes.now ≡ true }
+    ensures { OnOk result (string_bytes text.new ≡ string_bytes text.old ++ compact_text (string bytes.now)) }
+{
+    let Ok(utf8) = str::from_utf8(bytes) else {
+        unreachable!();
+    };
+    if !has_escapes(bytes) {
+        return push_quoted(text, utf8);
+    }
+    push_escaped(text, utf8)
+}
+
+/// Appends `utf8` as a JSON string, with its escapes.
+fn push_escaped(text: &mut String, utf8: &str) -> Result<(), AllocError>
+    ensures { OnOk result (string_bytes text.new ≡ string_bytes text.old ++ compact_text (string utf8.now)) }
+{
+    let alloc = *text.allocator();
+    let value = Value::String(String::from_str(alloc, utf8)?);
+    text.push_str(value.to_string(alloc)?.as_str())
+}
+
+/// Checks whether a JSON string of `bytes` has an escape: for a quotation mark, a backslash or a control character.
+fn has_escapes(bytes: &[u8]) -> bool
+    ensures { result ≡ list_any has_escape bytes.now }
+{
+    bytes
+        .iter()
+        .any(|byte| *byte < 32 || *byte == b'"' || *byte == b'\\')
+}
+
+/// Appends two hexadecimal digits for each of `bytes`, between quotation marks.
+#[inline(never)]
+fn push_hex(text: &mut String, bytes: &[u8]) -> Result<(), AllocError>
+    ensures { OnOk result (string_bytes text.new ≡ string_bytes text.old ++ in_quotes (encode_lower bytes.now)) }
+{
+    let digits = hex::encode(*text.allocator(), bytes)?;
+    push_quoted(text, digits.as_str())
+}
+
+/// Returns the text of a row, as `push_row` appends it. The only error is `OutOfMemory`. (own)
+pub fn row_text(alloc: Global, scalar: &Scalar) -> VortexResult<String>
+    ensures { IfOk result (λ s. string_bytes s ≡ row_text scalar.now.of_type scalar.now.value) }
+{
+    let mut text = String::new(alloc);
+    push_row(&mut text, scalar)?;
+    Ok(text)
+}

@@ -1,9 +1,0 @@
-pub use Rattle.vx_value.specs.Cell
-pub use Rattle.vx_fn.specs.Apply
-pub use Rattle.vx_tree.specs.Tree
-pub use Rattle.vx_tree.specs.Cells
-pub use Rattle.vx_canonical.specs.Canonicals
-pub use Rattle.vx_rows.specs.Arguments
-pub use Rattle.vx_rows.specs.ValidRows
-pub mod Computed
-pub mod Operands

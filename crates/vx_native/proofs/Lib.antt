@@ -1,2 +1,0 @@
-pub mod NativesLemmas
-pub mod DecimalNumbersLemmas

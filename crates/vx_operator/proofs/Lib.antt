@@ -1,9 +1,0 @@
-pub mod ArithmeticLemmas
-pub mod BetweenLemmas
-pub mod ComparisonLemmas
-pub mod DigitsLemmas
-pub mod FilledLemmas
-pub mod LogicLemmas
-pub mod OperandsLemmas
-pub mod OperatorLemmas
-pub mod PassingLemmas

@@ -1,7 +1,0 @@
-use Rattle.vx_operator.proofs.ArithmeticLemmas.{fitted, own_fits}
-use Rattle.vx_operator.proofs.arithmetic.ProductArithmetic.calculate_row.Goals as goal
-
-pub returns : goal.returns
-returns g c =
-    let found = g.met.T.CheckedMul.checked_mul_law c.args.lhs c.args.rhs c.checked_mul.result c.checked_mul.ensures in
-    record { calculated = fitted g.T.Number.value g.T.Number.fits _ c.checked_mul.result found; fits = own_fits g.T.Number.value g.T.Number.fits _ _ found }

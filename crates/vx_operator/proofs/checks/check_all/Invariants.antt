@@ -1,6 +1,0 @@
-use Rattle.std.proofs.Common.{◌≡◌, true}
-use Rattle.vx_operator.specs.Checks.{checked_rows}
-use Rattle.vx_operator.proofs.checks.check_all.Given as goal
-
-abbrev pub invariant-loop-index : goal.invariant-loop-index
-invariant-loop-index g l = l.bits ≡ checked_rows (λ i. true) (g.C.RowCheck.answer l.check) l.index

@@ -1,5 +1,0 @@
-use Rattle.std.proofs.Common.{rules}
-use Rattle.vx_operator.proofs.comparison.BelowComparison.compare_bytes.Goals as goal
-
-pub returns : goal.returns
-returns c = search rules

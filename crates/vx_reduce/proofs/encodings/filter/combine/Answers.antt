@@ -1,7 +1,0 @@
-use Rattle.vx_mask.specs.Masks.{bits_in}
-use Rattle.vx_reduce.proofs.CombinedLemmas.{both_is}
-use Rattle.vx_reduce.proofs.encodings.filter.combine.Goals as goal
-
-pub returns-clause-ok : goal.returns-clause-ok
-returns-clause-ok c = both_is (bits_in c.args.outer.now) (bits_in c.args.inner.now) c.requires c.in_ok-both.field-0 c.in-Some.both c.in_ok-both.ensures
-    c.in-Some.is

@@ -1,0 +1,169 @@
+-- Each row of the table, up to equations.
+use Rattle.std.proofs.Common.{◌≡◌, ℕ, ◌+◌, ◌-◌, ◌<◌, List, [], ◌∷◌, Option, Some, None, Result, Ok, Err, Bool, true, false, refl, sym, subst, ap, ◌∙◌}
+use Rattle.std.specs.Prelude.{option_map}
+use Rattle.vx_value.specs.Types.{DataType, nullability_of}
+use Rattle.vx_value.specs.View.{type_of}
+use Rattle.vx_value.specs.declared.dtype.DType.{DType}
+use Rattle.vx_value.specs.declared.dtype.Nullability.TheVariants.{NonNullable}
+use Rattle.vx_value.specs.declared.error.VortexError.{VortexError}
+use Rattle.vx_mask.specs.Masks.{is_all_true}
+use Rattle.vx_mask.specs.Places.{true_count, combined, IsRun}
+use Rattle.vx_fn.specs.declared.function.ScalarFnRef.{ScalarFnRef}
+use Rattle.vx_fn.specs.declared.function.ScalarFnRef.TheVariants as fn_of
+use Rattle.vx_tree.specs.Tree as enc
+use Rattle.vx_tree.specs.Tree.{Tree, Slots, node, no_slots, slot, slots, slots_of, dtype, len, datum, constant_of, slice_of, filter_of, masked_of, is_canonical}
+use Rattle.vx_tree.specs.Slots.{map_slots, present_from, present_in}
+use Rattle.vx_tree.specs.Parts.{part_of, choice_of, column_range}
+use Rattle.vx_tree.specs.Columns.{empty_of}
+use Rattle.vx_tree.specs.Validities.{truths}
+use Rattle.vx_tree.specs.NodeValidities.{both_of}
+use Rattle.vx_rule.specs.declared.raw_node.RawNode.{RawNode}
+use Rattle.vx_rule.specs.Answers.{Answers, IsRaw}
+use Rattle.vx_rule.specs.Pushes.{IsConstantLike}
+use Rattle.vx_rule.specs.Rules.{Row, IsPart, lets_slice, told, F1, F2, F3, C1, N1_null, N1_valid, S_whole, S_empty, S1, S2, S3, S4, S5, F5, F6, F7, F8, M1}
+use Rattle.vx_rule.proofs.PushLemmas.{masked_mapped}
+use Rattle.vx_rule.specs.Calls.{null_test}
+
+-- a row, up to equations
+pub row_by : (w : Option ℕ) (t s u v : Tree) (os ps : List ℕ) → Row w t u os → t ≡ s → u ≡ v → os ≡ ps → Row w s v ps
+row_by w t s u v os ps h e f g = subst (λ x. Row w x v ps) e (subst (λ x. Row w t x ps) f (subst (λ x. Row w t u x) g h))
+
+-- the same for the same tree
+row_for : (w : Option ℕ) (t u v : Tree) (os ps : List ℕ) → Row w t u os → v ≡ u → ps ≡ os → Row w t v ps
+row_for w t u v os ps h f g = row_by w t t u v os ps h refl (sym f) (sym g)
+
+-- an answer all of whose slots are to be optimized
+pub raw_row : (w : Option ℕ) (t u : Tree) (r : Result (Option RawNode) VortexError) → IsRaw u r
+    → ((x : Tree) (os : List ℕ) → x ≡ u → os ≡ present_from 0 (slots x) → Row w t x os) → Answers w t r
+raw_row w t u (Ok None) h k = absurd h
+raw_row w t u (Ok (Some x)) h k = k x.tree x.optimize.items h.0 (h.1 ∙ ap (λ y. present_from 0 (slots y)) (sym h.0))
+raw_row w t u (Err e) h k = h
+
+-- ---- of a filter by its mask alone
+
+pub fit_F1 : (bits : List Bool) (c u : Tree) (os : List ℕ) → is_all_true bits ≡ true → u ≡ c → os ≡ [] → Row None (filter_of bits c) u os
+fit_F1 bits c u os e f g = row_for None (filter_of bits c) c u [] os (F1 (dtype c) (true_count bits) bits c e) f g
+
+pub fit_F2 : (bits : List Bool) (c u : Tree) (os : List ℕ) → is_all_true bits ≡ false → true_count bits ≡ 0 → u ≡ empty_of (dtype c) → os ≡ []
+    → Row None (filter_of bits c) u os
+fit_F2 bits c u os e z f g = row_for None (filter_of bits c) (empty_of (dtype c)) u [] os (F2 (dtype c) (true_count bits) bits c e z) f g
+
+pub fit_F3 : (bits : List Bool) (a b : ℕ) (c u : Tree) (os : List ℕ) → is_all_true bits ≡ false → IsRun bits a b → u ≡ slice_of a b c → os ≡ []
+    → Row None (filter_of bits c) u os
+fit_F3 bits a b c u os e r f g = row_for None (filter_of bits c) (slice_of a b c) u [] os (F3 (dtype c) (true_count bits) bits c a b e r) f g
+
+-- ---- of a function by itself
+
+pub fit_C1 : (ty : DataType) (n : ℕ) (target : DType) (t c u : Tree) (os : List ℕ) → t ≡ node ty n (enc.function (fn_of.Cast target)) (slot c no_slots)
+    → dtype c ≡ type_of target → u ≡ c → os ≡ [] → Row None t u os
+fit_C1 ty n target t c u os e d f g =
+    row_by None (node ty n (enc.function (fn_of.Cast target)) (slot c no_slots)) t c u [] os (C1 ty n target c d) (sym e) (sym f) (sym g)
+
+pub fit_N1 : (value : Bool) (ty : DataType) (n : ℕ) (t c u : Tree) (os : List ℕ) → t ≡ node ty n (enc.function (null_test value)) (slot c no_slots)
+    → nullability_of (dtype c) ≡ NonNullable → u ≡ truths value n → os ≡ [] → Row None t u os
+fit_N1 false ty n t c u os e d f g =
+    row_by None (node ty n (enc.function fn_of.IsNull) (slot c no_slots)) t (truths false n) u [] os (N1_null ty n c d) (sym e) (sym f) (sym g)
+fit_N1 true ty n t c u os e d f g =
+    row_by None (node ty n (enc.function fn_of.IsNotNull) (slot c no_slots)) t (truths true n) u [] os (N1_valid ty n c d) (sym e) (sym f) (sym g)
+
+-- ---- of a child for a slice
+
+pub fit_S_whole : (a b : ℕ) (x u : Tree) (os : List ℕ) → lets_slice (datum x) ≡ true → a ≡ 0 → b ≡ len x → u ≡ x → os ≡ [] → Row (Some 0) (slice_of a b x) u os
+fit_S_whole a b x u os l z y f g = row_for (Some 0) (slice_of a b x) x u [] os (S_whole (dtype x) (b - a) a b x l z y) f g
+
+pub fit_S_empty : (a b : ℕ) (x u : Tree) (os : List ℕ) → lets_slice (datum x) ≡ true → a ≡ b → 0 < len x → u ≡ empty_of (dtype x) → os ≡ []
+    → Row (Some 0) (slice_of a b x) u os
+fit_S_empty a b x u os l z y f g = row_for (Some 0) (slice_of a b x) (empty_of (dtype x)) u [] os (S_empty (dtype x) (b - a) a b x l z y) f g
+
+pub fit_S1 : (a b s t : ℕ) (x c u : Tree) (os : List ℕ) → x ≡ slice_of s t c → IsPart a b (len x) → u ≡ slice_of (s + a) (s + b) c → os ≡ []
+    → Row (Some 0) (slice_of a b x) u os
+fit_S1 a b s t x c u os e p f g =
+    row_by (Some 0) (slice_of a b (slice_of s t c)) (slice_of a b x) (slice_of (s + a) (s + b) c) u [] os
+    (S1 (dtype c) (dtype c) (b - a) a b (t - s) s t c (subst (λ y. IsPart a b (len y)) e p)) (ap (slice_of a b) (sym e)) (sym f) (sym g)
+
+pub fit_S2 : (a b : ℕ) (x c u : Tree) (os : List ℕ) → IsConstantLike x (b - a) c → IsPart a b (len x) → u ≡ c → os ≡ [] → Row (Some 0) (slice_of a b x) u os
+fit_S2 a b x c u os like p f g =
+    let v = like.0 in
+    row_by (Some 0) (slice_of a b (constant_of v (len x))) (slice_of a b x) (constant_of v (b - a)) u [] os
+    (S2 v.of_type v.of_type (b - a) a b (len x) v p) (ap (slice_of a b) (sym like.1)) (sym (f ∙ like.2)) (sym g)
+
+in_root : (t : Tree) → present_in t ≡ present_from 0 (slots t)
+in_root (node ty n d ss) = refl
+
+pub fit_S3 : (a b : ℕ) (x u : Tree) (os : List ℕ) → is_canonical (datum x) ≡ true → IsPart a b (len x) → u ≡ column_range a b x → os ≡ present_from 0 (slots u)
+    → Row (Some 0) (slice_of a b x) u os
+fit_S3 a b (node ty k d ss) u os h p f g =
+    let x = node ty k d ss in
+    row_for (Some 0) (slice_of a b x) (column_range a b x) u (present_in (column_range a b x)) os (S3 ty ty (b - a) a b k d ss h p) f
+    (g ∙ ap (λ y. present_from 0 (slots y)) f)
+
+pub fit_S4 : (a b k : ℕ) (ty : DataType) (f : ScalarFnRef) (ss us : Slots) (x u : Tree) (os : List ℕ) → x ≡ node ty k (enc.function f) ss → IsPart a b (len x)
+    → us ≡ map_slots (slice_of a b) ss → u ≡ node ty (b - a) (enc.function f) us → os ≡ present_from 0 (slots u) → Row (Some 0) (slice_of a b x) u os
+fit_S4 a b k ty f ss us x u os e p m made g =
+    let made = made ∙ ap (node ty (b - a) (enc.function f)) m in
+    row_by (Some 0) (slice_of a b (node ty k (enc.function f) ss)) (slice_of a b x) (node ty (b - a) (enc.function f) (map_slots (slice_of a b) ss)) u
+    (present_from 0 (map_slots (slice_of a b) ss)) os (S4 ty ty (b - a) a b k f ss (subst (λ y. IsPart a b (len y)) e p))
+    (ap (slice_of a b) (sym e)) (sym made) (sym (g ∙ ap (λ y. present_from 0 (slots y)) made))
+
+pub fit_S5 : (a b : ℕ) (x c s u : Tree) (v w : Option Tree) (os : List ℕ) → x ≡ masked_of c v → IsPart a b (len x) → s ≡ slice_of a b c
+    → w ≡ option_map (part_of a b) v → u ≡ node (dtype x) (len s) enc.masked (slots_of (Some s ∷ w ∷ [])) → os ≡ present_from 0 (slots u)
+    → Row (Some 0) (slice_of a b x) u os
+fit_S5 a b x c s u v w os e p slices parts made g =
+    let ty = dtype (masked_of c v) in
+    let vs = slots_of (v ∷ []) in
+    let told = slot (slice_of a b c) (map_slots (part_of a b) vs) in
+    let made : u ≡ node ty (b - a) enc.masked told =
+    made ∙ (λ i. node (dtype (e i)) (len (slices i)) enc.masked (slots_of (Some (slices i) ∷ parts i ∷ [])))
+    ∙ ap (node ty (b - a) enc.masked) (masked_mapped (part_of a b) (slice_of a b c) v) in
+    row_by (Some 0) (slice_of a b (masked_of c v)) (slice_of a b x) (node ty (b - a) enc.masked told) u (present_from 0 told) os
+    (S5 ty ty (b - a) a b (len c) c vs (subst (λ y. IsPart a b (len y)) e p)) (ap (slice_of a b) (sym e)) (sym made)
+    (sym (g ∙ ap (λ y. present_from 0 (slots y)) made))
+
+-- ---- of a child for a filter
+
+pub fit_F5 : (outer inner : List Bool) (x c u : Tree) (os : List ℕ) → x ≡ filter_of outer c → u ≡ filter_of (combined outer inner) c → os ≡ []
+    → Row (Some 0) (filter_of inner x) u os
+fit_F5 outer inner x c u os e f g =
+    row_by (Some 0) (filter_of inner (filter_of outer c)) (filter_of inner x) (filter_of (combined outer inner) c) u [] os
+    (F5 (dtype c) (dtype c) (true_count inner) (true_count outer) outer inner c) (ap (filter_of inner) (sym e)) (sym f) (sym g)
+
+pub fit_F6 : (bits : List Bool) (x c u : Tree) (os : List ℕ) → IsConstantLike x (true_count bits) c → u ≡ c → os ≡ [] → Row (Some 0) (filter_of bits x) u os
+fit_F6 bits x c u os like f g =
+    let v = like.0 in
+    row_by (Some 0) (filter_of bits (constant_of v (len x))) (filter_of bits x) (constant_of v (true_count bits)) u [] os
+    (F6 v.of_type v.of_type (true_count bits) (len x) bits v) (ap (filter_of bits) (sym like.1)) (sym (f ∙ like.2)) (sym g)
+
+pub fit_F7 : (k : ℕ) (bits : List Bool) (ty : DataType) (f : ScalarFnRef) (ss us : Slots) (x u : Tree) (os : List ℕ) → x ≡ node ty k (enc.function f) ss
+    → us ≡ map_slots (choice_of bits) ss → u ≡ node ty (true_count bits) (enc.function f) us → os ≡ present_from 0 (slots u)
+    → Row (Some 0) (filter_of bits x) u os
+fit_F7 k bits ty f ss us x u os e m made g =
+    let made = made ∙ ap (node ty (true_count bits) (enc.function f)) m in
+    row_by (Some 0) (filter_of bits (node ty k (enc.function f) ss)) (filter_of bits x)
+    (node ty (true_count bits) (enc.function f) (map_slots (choice_of bits) ss)) u
+    (present_from 0 (map_slots (choice_of bits) ss)) os (F7 ty ty (true_count bits) k bits f ss)
+    (ap (filter_of bits) (sym e)) (sym made) (sym (g ∙ ap (λ y. present_from 0 (slots y)) made))
+
+pub fit_F8 : (bits : List Bool) (x c s u : Tree) (v w : Option Tree) (os : List ℕ) → x ≡ masked_of c v → s ≡ filter_of bits c
+    → w ≡ option_map (choice_of bits) v → u ≡ node (dtype x) (len s) enc.masked (slots_of (Some s ∷ w ∷ [])) → os ≡ present_from 0 (slots u)
+    → Row (Some 0) (filter_of bits x) u os
+fit_F8 bits x c s u v w os e filters parts made g =
+    let ty = dtype (masked_of c v) in
+    let vs = slots_of (v ∷ []) in
+    let told = slot (filter_of bits c) (map_slots (choice_of bits) vs) in
+    let made : u ≡ node ty (true_count bits) enc.masked told =
+    made ∙ (λ i. node (dtype (e i)) (len (filters i)) enc.masked (slots_of (Some (filters i) ∷ parts i ∷ [])))
+    ∙ ap (node ty (true_count bits) enc.masked) (masked_mapped (choice_of bits) (filter_of bits c) v) in
+    row_by (Some 0) (filter_of bits (masked_of c v)) (filter_of bits x) (node ty (true_count bits) enc.masked told) u (present_from 0 told) os
+    (F8 ty ty (true_count bits) (len c) bits c vs) (ap (filter_of bits) (sym e)) (sym made) (sym (g ∙ ap (λ y. present_from 0 (slots y)) made))
+
+-- ---- of a masked array for a mask
+
+pub fit_M1 : (ty : DataType) (n : ℕ) (t x c m y both u : Tree) (v : Option Tree) (os : List ℕ)
+    → t ≡ node ty n (enc.function fn_of.Mask) (slots_of (Some x ∷ Some m ∷ [])) → x ≡ masked_of c v → y ≡ told n (slots_of (v ∷ [])) → both ≡ both_of n m y
+    → u ≡ node ty n (enc.function fn_of.Mask) (slots_of (Some c ∷ Some both ∷ [])) → os ≡ [] → Row (Some 0) t u os
+fit_M1 ty n t x c m y both u v os shape e tells joins made g =
+    let vs = slots_of (v ∷ []) in
+    row_by (Some 0) (node ty n (enc.function fn_of.Mask) (slot (masked_of c v) (slot m no_slots))) t
+    (node ty n (enc.function fn_of.Mask) (slot c (slot (both_of n m (told n vs)) no_slots))) u [] os
+    (M1 ty (dtype (masked_of c v)) n (len c) c m vs) (sym (shape ∙ ap (λ z. node ty n (enc.function fn_of.Mask) (slot z (slot m no_slots))) e))
+    (sym (made ∙ ap (λ z. node ty n (enc.function fn_of.Mask) (slot c (slot z no_slots))) (joins ∙ ap (both_of n m) tells))) (sym g)

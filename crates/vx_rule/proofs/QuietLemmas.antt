@@ -1,0 +1,86 @@
+-- Where no row fits.
+use Rattle.std.proofs.Common.{◌≡◌, ℕ, List, Some, None, Bool, true, false, refl, sym, subst}
+use Rattle.std.specs.Prelude.{◌||◌}
+use Rattle.vx_value.specs.Types.{DataType, nullability_of}
+use Rattle.vx_value.specs.View.{type_of}
+use Rattle.vx_value.specs.declared.dtype.DType.{DType}
+use Rattle.vx_value.specs.declared.dtype.Nullability.TheVariants.{NonNullable}
+use Rattle.vx_mask.specs.Masks.{is_all_true}
+use Rattle.vx_mask.specs.Places.{true_count, IsRun}
+use Rattle.vx_fn.specs.declared.function.ScalarFnRef.{ScalarFnRef}
+use Rattle.vx_fn.specs.declared.function.ScalarFnRef.TheVariants as fn_of
+use Rattle.vx_tree.specs.Tree as enc
+use Rattle.vx_tree.specs.Tree.{Tree, Data, Slots, node, no_slots, slot, dtype, datum, slice_of, filter_of, is_filter, is_constant, is_function, is_masked, is_slice}
+use Rattle.vx_rule.specs.Calls.{null_test}
+use Rattle.vx_rule.specs.Rules.{IsQuiet, F1, F2, F3, C1, N1_null, N1_valid, S_whole, S_empty, S1, S2, S3, S4, S5, F5, F6, F7, F8, M1, K1, K2, K3, K4}
+
+-- ---- the node itself
+
+pub filter_quiet : (bits : List Bool) (c : Tree) → is_all_true bits ≡ false → (true_count bits ≡ 0 → ⊥) → ((a b : ℕ) → IsRun bits a b → ⊥)
+    → IsQuiet None (filter_of bits c)
+filter_quiet bits c some more apart u os (F1 ty n m x e) = absurd (cc (some, e))
+filter_quiet bits c some more apart u os (F2 ty n m x e z) = more z
+filter_quiet bits c some more apart u os (F3 ty n m x a b e r) = apart a b r
+
+-- the functions that have a row of their own
+abbrev pub has_own : ScalarFnRef → Bool
+has_own (fn_of.Cast target) = true
+has_own fn_of.IsNull = true
+has_own fn_of.IsNotNull = true
+has_own _ = false
+
+pub function_own_quiet : (ty : DataType) (n : ℕ) (f : ScalarFnRef) (ss : Slots) → has_own f ≡ false → IsQuiet None (node ty n (enc.function f) ss)
+function_own_quiet ty n f ss h u os (C1 ty' n' target c e) = absurd (cc (h))
+function_own_quiet ty n f ss h u os (N1_null ty' n' c e) = absurd (cc (h))
+function_own_quiet ty n f ss h u os (N1_valid ty' n' c e) = absurd (cc (h))
+
+cast_by : (ty : DataType) (n : ℕ) (target : DType) (c : Tree) → (dtype c ≡ type_of target → ⊥)
+    → IsQuiet None (node ty n (enc.function (fn_of.Cast target)) (slot c no_slots))
+cast_by ty n target c other u os (C1 ty' n' target' c' e) = other e
+
+pub cast_quiet : (ty : DataType) (n : ℕ) (target : DType) (t c : Tree) → t ≡ node ty n (enc.function (fn_of.Cast target)) (slot c no_slots)
+    → (dtype c ≡ type_of target → ⊥) → IsQuiet None t
+cast_quiet ty n target t c is other = subst (IsQuiet None) (sym is) (cast_by ty n target c other)
+
+null_test_by : (value : Bool) (ty : DataType) (n : ℕ) (c : Tree) → (nullability_of (dtype c) ≡ NonNullable → ⊥)
+    → IsQuiet None (node ty n (enc.function (null_test value)) (slot c no_slots))
+null_test_by false ty n c other u os (N1_null ty' n' c' e) = other e
+null_test_by true ty n c other u os (N1_valid ty' n' c' e) = other e
+
+pub null_test_quiet : (value : Bool) (ty : DataType) (n : ℕ) (t c : Tree) → t ≡ node ty n (enc.function (null_test value)) (slot c no_slots)
+    → (nullability_of (dtype c) ≡ NonNullable → ⊥) → IsQuiet None t
+null_test_quiet value ty n t c is other = subst (IsQuiet None) (sym is) (null_test_by value ty n c other)
+
+-- the encodings that have a row of their own
+pub own_quiet : (t : Tree) → is_filter (datum t) ≡ false → is_function (datum t) ≡ false → IsQuiet None t
+own_quiet t f g u os (F1 ty n m x e) = absurd (cc (f))
+own_quiet t f g u os (F2 ty n m x e z) = absurd (cc (f))
+own_quiet t f g u os (F3 ty n m x a b e r) = absurd (cc (f))
+own_quiet t f g u os (C1 ty n target c e) = absurd (cc (g))
+own_quiet t f g u os (N1_null ty n c e) = absurd (cc (g))
+own_quiet t f g u os (N1_valid ty n c e) = absurd (cc (g))
+
+-- ---- the child in a slot
+
+-- the encodings that a filter passes through
+abbrev pub lets_filter : Data → Bool
+lets_filter d = is_filter d || is_constant d || is_function d || is_masked d
+
+-- no row is one of a later slot
+pub later_quiet : (i : ℕ) (t : Tree) → (i ≡ 0 → ⊥) → IsQuiet (Some i) t
+later_quiet i t h u os (S_whole ty n a b c l z y) = h refl
+later_quiet i t h u os (S_empty ty n a b c l z y) = h refl
+later_quiet i t h u os (S1 ty sty n a b k s' r c p) = h refl
+later_quiet i t h u os (S2 ty cty n a b k v p) = h refl
+later_quiet i t h u os (S3 ty cty n a b k d ss e p) = h refl
+later_quiet i t h u os (S4 ty fty n a b k f' ss p) = h refl
+later_quiet i t h u os (S5 ty mty n a b k c vs p) = h refl
+later_quiet i t h u os (F5 ty fty n k outer inner c) = h refl
+later_quiet i t h u os (F6 ty cty n k bits v) = h refl
+later_quiet i t h u os (F7 ty fty n k bits f' ss) = h refl
+later_quiet i t h u os (F8 ty mty n k bits c vs) = h refl
+later_quiet i t h u os (M1 ty mty n k c m vs) = h refl
+later_quiet i t h u os (K1 ty s' n k target v x e) = h refl
+later_quiet i t h u os (K2 ty s' n k v x e) = h refl
+later_quiet i t h u os (K3 ty s' r q n i' j k options x y z v e) = h refl
+later_quiet i t h u os (K4 ty s' r n j k x y v e) = h refl

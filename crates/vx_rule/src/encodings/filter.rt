@@ -1,0 +1,140 @@
+//! The rules of filters.
+
+ghost use Rattle.std.specs.Prelude.{◌≡◌, Some, None, IfOk, IfErr, length, true, false};
+ghost use Rattle.vx_value.specs.declared.error.VortexError.TheVariants.{OutOfMemory};
+ghost use Rattle.vx_mask.specs.Masks.{bits_in, is_all_true};
+ghost use Rattle.vx_mask.specs.Places.{true_count, combined, IsRun};
+ghost use Rattle.vx_tree.specs.Tree.{len, datum, filter_of, is_filter};
+ghost use Rattle.vx_rule.specs.Answers.{Answers};
+
+use crate::adaptors::{FilterReduce, FilterReduceAdaptor};
+use crate::encodings::{own_rules, parent_rules};
+use crate::nodes::empty_column;
+use crate::raw_node::RawNode;
+use crate::rule::{ArrayReduceRule, DynArrayParentReduceRule};
+use crate::rule_set::ReduceVTable;
+use std::alloc::Global;
+use std::ops::Range;
+use vx_mask::Mask;
+use vx_tree::{ArrayKind, ArrayRef, ArrayView, Filter, FilterArray, IntoArray, SliceArray, VTable};
+use vx_value::VortexResult;
+
+impl ReduceVTable for Filter {
+    fn reduce(alloc: Global, array: &ArrayView<'_, Filter>) -> VortexResult<Option<RawNode>> {
+        own_rules!(alloc, array; TrivialFilterRule)
+    }
+
+    #[tactic(auto, using(crate::proofs::ChildrenLemmas::filter_quiet))]
+    fn reduce_parent(
+        alloc: Global,
+        child: &ArrayView<'_, Filter>,
+        parent: &ArrayRef,
+        slot: usize,
+    ) -> VortexResult<Option<RawNode>> {
+        parent_rules!(Filter, alloc, child, parent, slot; FilterReduceAdaptor)
+    }
+}
+
+impl FilterReduce for Filter {
+    fn filter(
+        alloc: Global,
+        array: &ArrayView<'_, Filter>,
+        mask: &Mask,
+    ) -> VortexResult<Option<RawNode>> {
+        f5(alloc, array.array(), mask)
+    }
+}
+
+/// The rule of a filter whose mask chooses all rows, none, or consecutive ones.
+#[derive(Clone, Copy, Debug)]
+struct TrivialFilterRule;
+
+impl ArrayReduceRule<Filter> for TrivialFilterRule {
+    ghost covers = { λ t. is_filter (datum t) };
+
+    #[tactic(auto, using(crate::proofs::QuietLemmas::filter_quiet))]
+    fn reduce(
+        &self,
+        alloc: Global,
+        array: &ArrayView<'_, Filter>,
+    ) -> VortexResult<Option<RawNode>> {
+        let ArrayKind::Filter(child, mask) = array.array().kind() else {
+            unreachable!()
+        };
+        if mask.all_true() {
+            return f1(alloc, child, mask);
+        }
+        if mask.true_count() == 0 {
+            return f2(alloc, child, mask);
+        }
+        match mask.contiguous_range() {
+            Some(range) => f3(alloc, child, mask, range),
+            None => Ok(None),
+        }
+    }
+}
+
+/// Row F5: a filter of a filter is the filter by the combined mask.
+#[tactic(auto, using(crate::proofs::FitsLemmas::fit_F5))]
+fn f5(alloc: Global, child: &ArrayRef, mask: &Mask) -> VortexResult<Option<RawNode>>
+    requires filter { is_filter (datum child.now) ≡ true }
+    requires long { length (bits_in mask.now) ≡ len child.now }
+    ensures { Answers (Some 0) (filter_of (bits_in mask.now) child.now) result }
+{
+    let ArrayKind::Filter(inner, outer) = child.kind() else {
+        unreachable!()
+    };
+    let both = combine(alloc, outer, mask)?;
+    let filter = FilterArray::new(alloc, inner.clone()?, both)?;
+    Ok(Some(RawNode::done(alloc, filter.into_array())))
+}
+
+/// Returns the mask of the rows that `inner`, which must have as many rows as `outer` chooses, chooses among those. The only error is
+/// `OutOfMemory`.
+fn combine(alloc: Global, outer: &Mask, inner: &Mask) -> VortexResult<Mask>
+    requires { length (bits_in inner.now) ≡ true_count (bits_in outer.now) }
+    ensures ok { IfOk result (λ m. bits_in m ≡ combined (bits_in outer.now) (bits_in inner.now)) }
+    ensures err { IfErr result (λ e. e ≡ OutOfMemory) }
+{
+    match outer.intersect_by_rank(alloc, inner)? {
+        Some(both) => Ok(both),
+        None => unreachable!(),
+    }
+}
+
+/// Row F1: a filter that chooses all rows is its child.
+#[tactic(auto, using(crate::proofs::FitsLemmas::fit_F1))]
+fn f1(alloc: Global, child: &ArrayRef, mask: &Mask) -> VortexResult<Option<RawNode>>
+    requires { is_all_true (bits_in mask.now) ≡ true }
+    ensures { Answers None (filter_of (bits_in mask.now) child.now) result }
+{
+    Ok(Some(RawNode::done(alloc, child.clone()?)))
+}
+
+/// Row F2: a filter that chooses no row is the empty column.
+#[tactic(auto, using(crate::proofs::FitsLemmas::fit_F2))]
+fn f2(alloc: Global, child: &ArrayRef, mask: &Mask) -> VortexResult<Option<RawNode>>
+    requires some { is_all_true (bits_in mask.now) ≡ false }
+    requires none { true_count (bits_in mask.now) ≡ 0 }
+    ensures { Answers None (filter_of (bits_in mask.now) child.now) result }
+{
+    let empty = empty_column(alloc, child.dtype())?;
+    Ok(Some(RawNode::done(alloc, empty)))
+}
+
+/// Row F3: a filter of consecutive rows is a slice.
+#[tactic(auto, using(crate::proofs::FitsLemmas::fit_F3, crate::proofs::FiltersLemmas::run_range))]
+fn f3(
+    alloc: Global,
+    child: &ArrayRef,
+    mask: &Mask,
+    range: Range<usize>,
+) -> VortexResult<Option<RawNode>>
+    requires long { length (bits_in mask.now) ≡ len child.now }
+    requires some { is_all_true (bits_in mask.now) ≡ false }
+    requires run { IsRun (bits_in mask.now) range.start range.end }
+    ensures { Answers None (filter_of (bits_in mask.now) child.now) result }
+{
+    let slice = SliceArray::new(alloc, child.clone()?, range)?;
+    Ok(Some(RawNode::done(alloc, slice.into_array())))
+}

@@ -1,0 +1,177 @@
+//! The rules of functions.
+
+ghost use Rattle.std.specs.Prelude.{◌≡◌, Some, None, length, true, false};
+ghost use Rattle.vx_value.specs.Types.{same_type};
+ghost use Rattle.vx_value.specs.View.{type_of};
+ghost use Rattle.vx_mask.specs.Masks.{bits_in};
+ghost use Rattle.vx_fn.specs.declared.function.ScalarFnRef.TheVariants as fn_of;
+ghost use Rattle.vx_tree.specs.Tree.{dtype, len, datum, node, function, slot, no_slots, slice_of, filter_of, is_function};
+ghost use Rattle.vx_rule.specs.Rules.{IsPartOf};
+ghost use Rattle.vx_rule.specs.Tags.{applies, is_cast};
+ghost use Rattle.vx_rule.specs.Calls.{is_null_test, null_test};
+ghost use Rattle.vx_rule.specs.Answers.{Answers};
+ghost use Rattle.vx_rule.specs.SliceLaws.{function_lets};
+
+use crate::adaptors::{FilterReduce, FilterReduceAdaptor, SliceReduce, SliceReduceAdaptor};
+use crate::encodings::{own_rules, parent_rules};
+use crate::nodes::{function_node, function_parts};
+use crate::raw_node::RawNode;
+use crate::rule::{ArrayReduceRule, DynArrayParentReduceRule};
+use crate::rule_set::ReduceVTable;
+use crate::slots::{choose_slots, only_argument, slice_slots, truths};
+use std::alloc::Global;
+use std::ops::Range;
+use vx_fn::ScalarFnRef;
+use vx_mask::Mask;
+use vx_tree::{ArrayKind, ArrayRef, ArrayView, ScalarFn, VTable};
+use vx_value::{DType, VortexResult};
+
+impl ReduceVTable for ScalarFn {
+    #[tactic(auto, using(crate::proofs::ChildrenLemmas::function_rules))]
+    fn reduce(alloc: Global, array: &ArrayView<'_, ScalarFn>) -> VortexResult<Option<RawNode>> {
+        own_rules!(alloc, array; TrivialCastRule, TrivialNullTestRule)
+    }
+
+    #[tactic(auto, using(crate::proofs::ChildrenLemmas::function_quiet))]
+    fn reduce_parent(
+        alloc: Global,
+        child: &ArrayView<'_, ScalarFn>,
+        parent: &ArrayRef,
+        slot: usize,
+    ) -> VortexResult<Option<RawNode>> {
+        parent_rules!(ScalarFn, alloc, child, parent, slot; FilterReduceAdaptor, SliceReduceAdaptor)
+    }
+}
+
+impl SliceReduce for ScalarFn {
+    fn slice(
+        alloc: Global,
+        array: &ArrayView<'_, ScalarFn>,
+        range: Range<usize>,
+    ) -> VortexResult<Option<RawNode>> {
+        s4(alloc, array.array(), range)
+    }
+
+    ghost lets = { function_lets };
+}
+
+impl FilterReduce for ScalarFn {
+    fn filter(
+        alloc: Global,
+        array: &ArrayView<'_, ScalarFn>,
+        mask: &Mask,
+    ) -> VortexResult<Option<RawNode>> {
+        f7(alloc, array.array(), mask)
+    }
+}
+
+/// The rule of a cast to its argument's own type.
+#[derive(Clone, Copy, Debug)]
+struct TrivialCastRule;
+
+impl ArrayReduceRule<ScalarFn> for TrivialCastRule {
+    ghost covers = { λ t. applies is_cast (datum t) };
+
+    fn reduce(
+        &self,
+        alloc: Global,
+        array: &ArrayView<'_, ScalarFn>,
+    ) -> VortexResult<Option<RawNode>> {
+        match array.array().kind() {
+            ArrayKind::ScalarFn(ScalarFnRef::Cast(target), slots) => {
+                c1(alloc, array.array(), target, only_argument(slots))
+            }
+            _ => Ok(None),
+        }
+    }
+}
+
+/// The rule of a test for null of an argument that has no nulls.
+#[derive(Clone, Copy, Debug)]
+struct TrivialNullTestRule;
+
+impl ArrayReduceRule<ScalarFn> for TrivialNullTestRule {
+    ghost covers = { λ t. applies is_null_test (datum t) };
+
+    fn reduce(
+        &self,
+        alloc: Global,
+        array: &ArrayView<'_, ScalarFn>,
+    ) -> VortexResult<Option<RawNode>> {
+        match array.array().kind() {
+            ArrayKind::ScalarFn(ScalarFnRef::IsNull, slots) => {
+                n1(alloc, array.array(), only_argument(slots), false)
+            }
+            ArrayKind::ScalarFn(ScalarFnRef::IsNotNull, slots) => {
+                n1(alloc, array.array(), only_argument(slots), true)
+            }
+            _ => Ok(None),
+        }
+    }
+}
+
+/// Row S4: a slice of a function is the function of slices.
+fn s4(alloc: Global, child: &ArrayRef, range: Range<usize>) -> VortexResult<Option<RawNode>>
+    requires function { is_function (datum child.now) ≡ true }
+    requires part { IsPartOf range.start range.end child.now }
+    ensures { Answers (Some 0) (slice_of range.start range.end child.now) result }
+{
+    let (scalar_fn, slots) = function_parts(child);
+    let len = range.end - range.start;
+    let slices = slice_slots(alloc, slots, child.len(), range)?;
+    let call = function_node(alloc, child, scalar_fn, len, slices)?;
+    RawNode::raw(alloc, call)
+}
+
+/// Row F7: a filter of a function is the function of filters.
+fn f7(alloc: Global, child: &ArrayRef, mask: &Mask) -> VortexResult<Option<RawNode>>
+    requires function { is_function (datum child.now) ≡ true }
+    requires long { length (bits_in mask.now) ≡ len child.now }
+    ensures { Answers (Some 0) (filter_of (bits_in mask.now) child.now) result }
+{
+    let (scalar_fn, slots) = function_parts(child);
+    let choices = choose_slots(alloc, slots, mask)?;
+    let call = function_node(alloc, child, scalar_fn, mask.true_count(), choices)?;
+    RawNode::raw(alloc, call)
+}
+
+/// Row C1: a cast to its argument's own type is the argument.
+#[tactic(auto, using(crate::proofs::FitsLemmas::fit_C1, crate::proofs::QuietLemmas::cast_quiet))]
+fn c1(
+    alloc: Global,
+    array: &ArrayRef,
+    target: &DType,
+    child: &ArrayRef,
+) -> VortexResult<Option<RawNode>>
+    requires { array.now ≡ node (dtype array.now) (len array.now) (function (fn_of.Cast target.now)) (slot child.now no_slots) }
+    ensures { Answers None array.now result }
+{
+    if !is_same_type(child.dtype(), target) {
+        return Ok(None);
+    }
+    Ok(Some(RawNode::done(alloc, child.clone()?)))
+}
+
+/// Returns whether two types are the same.
+fn is_same_type(dtype: &DType, other: &DType) -> bool
+    ensures { result ≡ same_type (type_of dtype.now) (type_of other.now) }
+{
+    *dtype == *other
+}
+
+/// Row N1: a test for null of a non-nullable argument is the constant `value`, which is false for `IsNull` and true for `IsNotNull`.
+#[tactic(auto, using(crate::proofs::FitsLemmas::fit_N1, crate::proofs::QuietLemmas::null_test_quiet))]
+fn n1(
+    alloc: Global,
+    array: &ArrayRef,
+    child: &ArrayRef,
+    value: bool,
+) -> VortexResult<Option<RawNode>>
+    requires { array.now ≡ node (dtype array.now) (len array.now) (function (null_test value)) (slot child.now no_slots) }
+    ensures { Answers None array.now result }
+{
+    if child.dtype().is_nullable() {
+        return Ok(None);
+    }
+    Ok(Some(RawNode::done(alloc, truths(alloc, value, array.len())?)))
+}

@@ -1,0 +1,62 @@
+//! The rules of slices.
+
+ghost use Rattle.std.specs.Prelude.{◌≡◌, Some, None, true};
+ghost use Rattle.vx_tree.specs.Tree.{datum, slice_of, is_slice};
+ghost use Rattle.vx_rule.specs.Rules.{IsPartOf};
+ghost use Rattle.vx_rule.specs.Answers.{Answers};
+ghost use Rattle.vx_rule.specs.SliceLaws.{slice_lets};
+
+use crate::adaptors::{SliceReduce, SliceReduceAdaptor};
+use crate::encodings::parent_rules;
+use crate::raw_node::RawNode;
+use crate::rule::DynArrayParentReduceRule;
+use crate::rule_set::ReduceVTable;
+use std::alloc::Global;
+use std::ops::Range;
+use vx_tree::{ArrayKind, ArrayRef, ArrayView, IntoArray, Slice, SliceArray, VTable};
+use vx_value::VortexResult;
+
+impl ReduceVTable for Slice {
+    #[tactic(auto, using(crate::proofs::QuietLemmas::own_quiet))]
+    fn reduce(_alloc: Global, _array: &ArrayView<'_, Slice>) -> VortexResult<Option<RawNode>> {
+        Ok(None)
+    }
+
+    #[tactic(auto, using(crate::proofs::ChildrenLemmas::slice_quiet))]
+    fn reduce_parent(
+        alloc: Global,
+        child: &ArrayView<'_, Slice>,
+        parent: &ArrayRef,
+        slot: usize,
+    ) -> VortexResult<Option<RawNode>> {
+        parent_rules!(Slice, alloc, child, parent, slot; SliceReduceAdaptor)
+    }
+}
+
+impl SliceReduce for Slice {
+    fn slice(
+        alloc: Global,
+        array: &ArrayView<'_, Slice>,
+        range: Range<usize>,
+    ) -> VortexResult<Option<RawNode>> {
+        s1(alloc, array.array(), range)
+    }
+
+    ghost lets = { slice_lets };
+}
+
+/// Row S1: a slice of a slice is one slice.
+#[tactic(auto, using(crate::proofs::FitsLemmas::fit_S1))]
+fn s1(alloc: Global, child: &ArrayRef, range: Range<usize>) -> VortexResult<Option<RawNode>>
+    requires slice { is_slice (datum child.now) ≡ true }
+    requires part { IsPartOf range.start range.end child.now }
+    ensures { Answers (Some 0) (slice_of range.start range.end child.now) result }
+{
+    let ArrayKind::Slice(inner, start, _) = child.kind() else {
+        unreachable!()
+    };
+    let _bound = inner.len();
+    let range = start + range.start..start + range.end;
+    let slice = SliceArray::new(alloc, inner.clone()?, range)?;
+    Ok(Some(RawNode::done(alloc, slice.into_array())))
+}

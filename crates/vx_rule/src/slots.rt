@@ -1,0 +1,114 @@
+//! The slots of answers, and the arguments in those of calls.
+
+ghost use Rattle.std.specs.Prelude.{◌≡◌, ◌≤◌, ◌-◌, [], ◌∷◌, length, Some, None, option_map, IfOk, IfErr, IfSome, true};
+ghost use Rattle.vx_value.specs.declared.error.VortexError.TheVariants.{OutOfMemory};
+ghost use Rattle.vx_mask.specs.Masks.{bits_in};
+ghost use Rattle.vx_tree.specs.Tree.{Tree, len, slots_of, slice_of, all_long};
+ghost use Rattle.vx_tree.specs.Well.{shapes};
+ghost use Rattle.vx_tree.specs.Slots.{map_slots};
+ghost use Rattle.vx_tree.specs.Parts.{choice_of};
+ghost use Rattle.vx_tree.specs.Validities.{truths};
+
+use std::alloc::Global;
+use std::ops::Range;
+use vx_mask::Mask;
+use vx_tree::{ArrayRef, ConstantArray, IntoArray, SliceArray, choose_validity};
+use vx_value::{Nullability, Scalar, VortexResult};
+
+/// Returns a lazy slice of the tree in `slot`, if it has one, which must have the rows in `range`. The only error is `OutOfMemory`.
+fn slice_slot(
+    alloc: Global,
+    slot: &Option<ArrayRef>,
+    range: Range<usize>,
+) -> VortexResult<Option<ArrayRef>>
+    requires order { range.start ≤ range.end }
+    requires bounds { IfSome slot.now (λ c. range.end ≤ len c) }
+    ensures ok { IfOk result (λ s. s ≡ option_map (slice_of range.start range.end) slot.now) }
+    ensures err { IfErr result (λ e. e ≡ OutOfMemory) }
+{
+    match slot {
+        Some(child) => Ok(Some(SliceArray::new(alloc, child.clone()?, range)?.into_array())),
+        None => Ok(None),
+    }
+}
+
+/// Returns lazy slices of the trees in `slots`, which must have `len` rows each, those in `range` among them. The only error is
+/// `OutOfMemory`.
+pub(crate) fn slice_slots(
+    alloc: Global,
+    slots: &[Option<ArrayRef>],
+    len: usize,
+    range: Range<usize>,
+) -> VortexResult<Vec<Option<ArrayRef>>>
+    requires long { all_long len (shapes (slots_of slots.now)) ≡ true }
+    requires order { range.start ≤ range.end }
+    requires bounds { range.end ≤ len }
+    ensures ok { IfOk result (λ v. slots_of v.items ≡ map_slots (slice_of range.start range.end) (slots_of slots.now)) }
+    ensures err { IfErr result (λ e. e ≡ OutOfMemory) }
+{
+    let (start, end) = (range.start, range.end);
+    let mut slices = Vec::with_capacity(alloc, slots.len())?;
+    for index in 0..slots.len() {
+        slices.push(slice_slot(alloc, &slots[index], start..end)?)?;
+    }
+    Ok(slices)
+}
+
+/// Returns lazy filters of the trees in `slots`, which must have as many rows as `mask` each; of constants, shorter ones. The only
+/// error is `OutOfMemory`.
+pub(crate) fn choose_slots(
+    alloc: Global,
+    slots: &[Option<ArrayRef>],
+    mask: &Mask,
+) -> VortexResult<Vec<Option<ArrayRef>>>
+    requires { all_long (length (bits_in mask.now)) (shapes (slots_of slots.now)) ≡ true }
+    ensures ok { IfOk result (λ v. slots_of v.items ≡ map_slots (choice_of (bits_in mask.now)) (slots_of slots.now)) }
+    ensures err { IfErr result (λ e. e ≡ OutOfMemory) }
+{
+    let mut choices = Vec::with_capacity(alloc, slots.len())?;
+    for index in 0..slots.len() {
+        let choice = choose_validity(alloc, &slots[index], mask)?;
+        choices.push(choice)?;
+    }
+    Ok(choices)
+}
+
+/// Returns the tree in the only slot.
+pub(crate) fn only_argument(slots: &[Option<ArrayRef>]) -> &ArrayRef
+    requires { (c : Tree) × (slots.now ≡ Some c ∷ []) }
+    ensures { slots.now ≡ Some result.now ∷ [] }
+{
+    let [Some(child)] = slots else { unreachable!() };
+    child
+}
+
+/// Returns the trees in the only two slots.
+pub(crate) fn two_arguments(slots: &[Option<ArrayRef>]) -> (&ArrayRef, &ArrayRef)
+    requires { (c : Tree) × (d : Tree) × (slots.now ≡ Some c ∷ Some d ∷ []) }
+    ensures { slots.now ≡ Some result.0.now ∷ Some result.1.now ∷ [] }
+{
+    let [Some(first), Some(second)] = slots else {
+        unreachable!()
+    };
+    (first, second)
+}
+
+/// Returns the trees in the only three slots.
+pub(crate) fn three_arguments(slots: &[Option<ArrayRef>]) -> (&ArrayRef, &ArrayRef, &ArrayRef)
+    requires { (c : Tree) × (d : Tree) × (e : Tree) × (slots.now ≡ Some c ∷ Some d ∷ Some e ∷ []) }
+    ensures { slots.now ≡ Some result.0.now ∷ Some result.1.now ∷ Some result.2.now ∷ [] }
+{
+    let [Some(first), Some(second), Some(third)] = slots else {
+        unreachable!()
+    };
+    (first, second, third)
+}
+
+/// Makes the constant of `len` rows, each `value`. The only error is `OutOfMemory`.
+pub(crate) fn truths(alloc: Global, value: bool, len: usize) -> VortexResult<ArrayRef>
+    ensures ok { IfOk result (λ t. t ≡ truths value len) }
+    ensures err { IfErr result (λ e. e ≡ OutOfMemory) }
+{
+    let scalar = Scalar::bool(value, Nullability::NonNullable);
+    Ok(ConstantArray::new(alloc, scalar, len)?.into_array())
+}

@@ -1,3 +1,0 @@
-pub mod NullFunctionsLemmas
-pub mod SelectLemmas
-pub mod SelectedLemmas

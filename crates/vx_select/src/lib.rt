@@ -1,8 +1,0 @@
-//! Applies to whole columns the functions that choose rows, and those of which values are null.
-#![tactic(auto)]
-
-mod nulls;
-mod select;
-
-pub use nulls::{is_not_null, is_null, mask};
-pub use select::{fill_null, zip};

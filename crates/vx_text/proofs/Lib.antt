@@ -1,2 +1,0 @@
-mod OutputLemmas
-pub mod RowTextLemmas

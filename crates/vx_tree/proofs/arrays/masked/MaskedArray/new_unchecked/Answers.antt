@@ -1,0 +1,17 @@
+use Rattle.std.proofs.Common.{◌≡◌, ◌∷◌, [], Some, ap, ◌∙◌, rules}
+use Rattle.vx_value.specs.View.{type_of}
+use Rattle.vx_value.specs.Nullabilities.{with_nullability}
+use Rattle.vx_value.specs.declared.dtype.Nullability.TheVariants.{Nullable}
+use Rattle.vx_tree.specs.Tree.{dtype, len}
+use Rattle.vx_tree.specs.Validities.{child_of}
+use Rattle.vx_tree.proofs.ValiditiesLemmas.{masked_is_node}
+use Rattle.vx_tree.proofs.arrays.masked.MaskedArray.new_unchecked.Goals as goal
+
+pub of-requires : goal.of-requires
+of-requires c =
+    let t = c.args.child in
+    let v = c.args.validity.now in
+    let slots_are : c.in_ok-slots.slots.items ≡ Some t ∷ child_of v (len t) ∷ [] =
+    c.in_ok-slots.ensures.items ∙ ap (λ w. Some t ∷ w ∷ []) (c.in_ok-validity.ensures.ok ∙ ap (child_of v) c.len-len.ensures) in
+    let typed : type_of c.in_ok-dtype.dtype ≡ with_nullability Nullable (dtype t) = search rules in
+    rw (slots_are, typed, c.len-len.ensures) (masked_is_node t v c.requires.rows)

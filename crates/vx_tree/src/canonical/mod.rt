@@ -1,0 +1,14 @@
+//! Columns in the canonical encoding of their type, and ranges of them that share their storage.
+
+mod canonical;
+mod columnar;
+mod flat;
+mod laws;
+mod slicing;
+mod values;
+
+pub use canonical::Canonical;
+pub use columnar::Columnar;
+pub use flat::FlatEncoding;
+pub use laws::column_laws;
+pub use slicing::slice_canonical;

@@ -1,0 +1,47 @@
+//! Ranges of canonical columns.
+
+ghost use Rattle.std.specs.Prelude.{◌≡◌, ◌≤◌, IfOk, IfErr};
+ghost use Rattle.vx_tree.specs.Tree.{len, slice_of};
+ghost use Rattle.vx_tree.specs.Parts.{column_range};
+ghost use Rattle.vx_tree.specs.Keeps.{KeepsExactly};
+ghost use Rattle.vx_tree.specs.Canonicals.{canonical_tree};
+
+use crate::arrays::null::NullArray;
+use crate::canonical::canonical::Canonical;
+use crate::canonical::flat::flat_slice;
+use std::alloc::Global;
+use std::ops::Range;
+use vx_value::{VortexError, VortexResult};
+
+/// Returns the rows of `column` in `range`, which must be in order and in bounds, as a column that shares its storage. The
+/// only error is `OutOfMemory`. (own)
+pub fn slice_canonical(
+    alloc: Global,
+    column: &Canonical,
+    range: Range<usize>,
+) -> VortexResult<Canonical>
+    requires { (range.start ≤ range.end) × (range.end ≤ len (canonical_tree column.now)) }
+    ensures ok { IfOk result (λ c. KeepsExactly (slice_of range.start range.end (canonical_tree column.now)) (canonical_tree c)) }
+    ensures range { IfOk result (λ c. canonical_tree c ≡ column_range range.start range.end (canonical_tree column.now)) }
+    ensures err { IfErr result (λ e. e ≡ VortexError.OutOfMemory) }
+{
+    Ok(match column {
+        Canonical::Null(column) => Canonical::Null(slice_nulls(alloc, column, range)?),
+        Canonical::Bool(column) => Canonical::Bool(flat_slice(alloc, column, range)?),
+        Canonical::Primitive(column) => Canonical::Primitive(flat_slice(alloc, column, range)?),
+        Canonical::Decimal(column) => Canonical::Decimal(flat_slice(alloc, column, range)?),
+        Canonical::VarBinView(column) => Canonical::VarBinView(flat_slice(alloc, column, range)?),
+    })
+}
+
+/// Returns the rows of `column` in `range`, which must be in order and in bounds. The only error is `OutOfMemory`.
+fn slice_nulls(alloc: Global, column: &NullArray, range: Range<usize>) -> VortexResult<NullArray>
+    requires { (range.start ≤ range.end) × (range.end ≤ len column.now) }
+    ensures ok { IfOk result (λ a. KeepsExactly (slice_of range.start range.end column.now) a) }
+    ensures range { IfOk result (λ a. a ≡ column_range range.start range.end column.now) }
+    ensures err { IfErr result (λ e. e ≡ VortexError.OutOfMemory) }
+{
+    let _nulls = column.data();
+    column.as_array().well();
+    NullArray::new(alloc, range.end - range.start)
+}

@@ -1,0 +1,123 @@
+//! Vectors of any of the nine types.
+
+ghost use Rattle.std.specs.Prelude.{◌≡◌, ◌∷◌, [], ◌++◌, pos, map, replicate, true, IfOk, OnOk, OnErr};
+ghost use Rattle.vx_tree.specs.Ranges.{in_native};
+ghost use Rattle.vx_tree.specs.Vecs.{native_of_vec, numbers_of_vec};
+
+use crate::native::buffers::shared_of;
+use crate::native::macros::{for_natives, made, over};
+use crate::native::number::fitted;
+use crate::native::{NativeKind, NativeNumber, NativeType, NativeValues};
+use std::alloc::{AllocError, Global};
+use std::marker::Model;
+
+/// A vector of numbers of one of the nine native types.
+#[derive(Debug, Drop)]
+enum AnyVec {
+    U8(Vec<u8>),
+    U16(Vec<u16>),
+    U32(Vec<u32>),
+    U64(Vec<u64>),
+    I8(Vec<i8>),
+    I16(Vec<i16>),
+    I32(Vec<i32>),
+    I64(Vec<i64>),
+    I128(Vec<i128>),
+}
+
+/// A vector of numbers of the native type that a kind names. (own)
+#[derive(Debug)]
+pub struct NativeVec<K: NativeKind> {
+    kind: K,
+    values: AnyVec,
+}
+
+// by hand: see `NativeValues`
+impl<K: NativeKind> Drop for NativeVec<K> {
+    fn drop(self) {
+        let NativeVec { kind: _, values } = self;
+        drop(values);
+    }
+}
+
+impl<K: NativeKind> Model for NativeVec<K> {
+    ghost use Rattle.std.specs.Prelude.{◌≡◌};
+    ghost use Rattle.vx_tree.specs.Numbers.{Numbers};
+    ghost use Rattle.vx_tree.specs.Vecs.{native_of_vec, numbers_of_vec};
+
+    ghost Value = { Numbers K };
+
+    ghost view = { λ v. record { kind = v.kind; numbers = numbers_of_vec v.values } };
+
+    ghost invariant = { λ v. native_of_vec v.values ≡ K.native v.kind };
+}
+
+fn push_wide<T: NativeNumber>(values: &mut Vec<T>, wide: i128) -> Result<(), AllocError>
+    requires { in_native T.native wide ≡ true }
+    ensures ok { OnOk result (map T.value values.new.items ≡ map T.value values.old.items ++ wide ∷ []) }
+    ensures err { OnErr result (values.new.items ≡ values.old.items) }
+{
+    values.push(fitted(wide))?;
+    Ok(())
+}
+
+fn push_zeros<T: NativeNumber>(values: &mut Vec<T>, count: usize) -> Result<(), AllocError>
+    ensures ok { OnOk result (map T.value values.new.items ≡ map T.value values.old.items ++ replicate count (pos 0)) }
+    ensures err { OnErr result (values.new.items ≡ values.old.items) }
+{
+    values.reserve(count)?;
+    values.resize(values.len() + count, T::zero())?;
+    Ok(())
+}
+
+fn any_with_capacity(
+    alloc: Global,
+    native: NativeType,
+    capacity: usize,
+) -> Result<AnyVec, AllocError>
+    ensures native { IfOk result (λ v. native_of_vec v ≡ native) }
+    ensures empty { IfOk result (λ v. numbers_of_vec v ≡ []) }
+{
+    for_natives!(made!(native, NativeType => AnyVec, Vec::with_capacity(alloc, capacity)))
+}
+
+impl<K: NativeKind> NativeVec<K> {
+    /// Makes an empty vector of numbers of the type that `kind` names, with room for `capacity` of them. Fails only if there is no
+    /// memory for them.
+    pub fn with_capacity(
+        alloc: Global,
+        kind: K,
+        capacity: usize,
+    ) -> Result<NativeVec<K>, AllocError>
+        ensures { IfOk result (λ v. v ≡ record { kind = kind; numbers = [] }) }
+    {
+        let values = any_with_capacity(alloc, kind.native_type(), capacity)?;
+        Ok(NativeVec { kind, values })
+    }
+
+    /// Appends `wide`, which must be one of the type's numbers. Fails only if there is no memory for it; the numbers are then
+    /// unchanged.
+    pub fn push(&mut self, wide: i128) -> Result<(), AllocError>
+        requires { K.has self.old.kind wide ≡ true }
+        ensures ok { OnOk result (self.new ≡ record { kind = self.old.kind; numbers = self.old.numbers ++ wide ∷ [] }) }
+        ensures err { OnErr result (self.new ≡ self.old) }
+    {
+        for_natives!(over!(&mut self.values, AnyVec(values) => push_wide(values, wide)))
+    }
+
+    /// Appends 0 `count` times, in one allocation. Fails only if there is no memory for them; the numbers are then unchanged.
+    pub fn push_zeros(&mut self, count: usize) -> Result<(), AllocError>
+        ensures ok { OnOk result (self.new ≡ record { kind = self.old.kind; numbers = self.old.numbers ++ replicate count (pos 0) }) }
+        ensures err { OnErr result (self.new ≡ self.old) }
+    {
+        for_natives!(over!(&mut self.values, AnyVec(values) => push_zeros(values, count)))
+    }
+
+    /// Returns the numbers in shared storage, without copying them. Fails only if there is no memory for the reference count.
+    pub fn into_values(self, alloc: Global) -> Result<NativeValues<K>, AllocError>
+        ensures { IfOk result (λ v. v ≡ self) }
+    {
+        let NativeVec { kind, values } = self;
+        for_natives!(over!(values, AnyVec(values) => shared_of(alloc, kind, values)))
+    }
+}

@@ -1,0 +1,197 @@
+//! Columns of bytes in shared storage.
+
+ghost use Rattle.std.specs.Prelude.{◌≡◌, ◌<◌, ◌≤◌, ◌↔◌, ◌∷◌, [], IsTrue, IfOk, SomeIff, Some, length, slice_get, slice_range, replicate};
+ghost use Rattle.std.specs.Option.{option_copied};
+ghost use Rattle.vx_mask.specs.Masks.{bits_in};
+ghost use Rattle.vx_mask.specs.Places.{chosen};
+ghost use Rattle.std.specs.List.{AllPass};
+ghost use Rattle.std.specs.Str.{is_utf8};
+ghost use Rattle.vx_tree.specs.Views.{AllLieIn, rows_of};
+
+use crate::views::view::{View, all_lie_in};
+use std::alloc::{AllocError, Global};
+use std::fmt;
+use std::marker::Model;
+use std::ops::Range;
+use vx_mask::{Buffer, Mask};
+use vx_value::ByteBuffer;
+
+/// Rows of bytes, as in the original's `VarBinViewArray`. Each row is a view into one of the data buffers, which clones,
+/// slices and filtered columns share.
+#[derive(Drop)]
+pub struct BinaryViews {
+    views: Buffer<View>,
+    buffers: Buffer<ByteBuffer>,
+}
+
+impl Model for BinaryViews {
+    ghost use Rattle.std.specs.Prelude.{List, ℕ};
+    ghost use Rattle.vx_tree.specs.Views.{AllLieIn, rows_of};
+
+    ghost Value = { List (List ℕ) };
+
+    ghost view = { λ b. rows_of b.buffers b.views };
+
+    ghost invariant = { λ b. AllLieIn b.buffers b.views };
+}
+
+impl BinaryViews {
+    /// Makes a column of `views` into `buffers`, or returns `None` if a view doesn't lie in its buffer. Fails only if there
+    /// is no memory for the reference count.
+    pub fn try_new(
+        alloc: Global,
+        views: Buffer<View>,
+        buffers: Vec<ByteBuffer>,
+    ) -> Result<Option<BinaryViews>, AllocError>
+        ensures { IfOk result (λ made. SomeIff made (AllLieIn buffers.items views) (rows_of buffers.items views)) }
+    {
+        if !all_lie_in(views.as_slice(), buffers.as_slice()) {
+            return Ok(None);
+        }
+        let buffers = Buffer::from_vec(alloc, buffers)?;
+        Ok(Some(BinaryViews { views, buffers }))
+    }
+
+    /// Makes a column of `len` rows, each `bytes`, which aren't copied. Fails only if there is no memory for the views, the
+    /// list of one buffer or the reference counts. (own)
+    #[tactic(auto, using(crate::proofs::ViewsLemmas::rows_equal, crate::proofs::ViewsLemmas::lie_in_equal))]
+    pub fn repeat(alloc: Global, bytes: ByteBuffer, len: usize) -> Result<BinaryViews, AllocError>
+        ensures { IfOk result (λ column. column ≡ replicate len bytes) }
+    {
+        let view = View {
+            buffer: 0,
+            start: 0,
+            size: bytes.len(),
+        };
+        let views = vec![in alloc; view; len]?;
+        BinaryViews::of_one_buffer(alloc, views, bytes)
+    }
+
+    /// Makes a column of `views` into the one data buffer `bytes`. Fails only if there is no memory for the list of one
+    /// buffer or the reference counts.
+    pub(crate) fn of_one_buffer(
+        alloc: Global,
+        views: Vec<View>,
+        bytes: ByteBuffer,
+    ) -> Result<BinaryViews, AllocError>
+        requires { AllLieIn (bytes ∷ []) views.items }
+        ensures { IfOk result (λ column. column ≡ rows_of (bytes ∷ []) views.items) }
+    {
+        let buffers = vec![in alloc; bytes]?;
+        Ok(BinaryViews {
+            views: Buffer::from_vec(alloc, views)?,
+            buffers: Buffer::from_vec(alloc, buffers)?,
+        })
+    }
+
+    /// Returns the number of rows.
+    pub fn len(&self) -> usize
+        ensures { result ≡ length self.now }
+    {
+        self.views.len()
+    }
+
+    /// Checks whether there are no rows.
+    pub fn is_empty(&self) -> bool
+        ensures { IsTrue result ↔ (length self.now ≡ 0) }
+    {
+        self.views.is_empty()
+    }
+
+    /// Returns the bytes of row `index`.
+    pub fn value(&self, index: usize) -> &[u8]
+        requires { index < length self.now }
+        ensures { slice_get self.now index ≡ Some result.now }
+    {
+        let view = self.views.as_slice()[index];
+        let bytes = self.buffers.as_slice()[view.buffer].as_slice();
+        &bytes[view.start..][..view.size]
+    }
+
+    /// Returns the bytes of row `index`, or `None` past the last row. (own)
+    pub fn get(&self, index: usize) -> Option<&[u8]>
+        ensures { option_copied result ≡ slice_get self.now index }
+    {
+        if index < self.len() {
+            Some(self.value(index))
+        } else {
+            None
+        }
+    }
+
+    /// Returns the views of the rows, and the data buffers that they are views into. (own)
+    pub fn parts(&self) -> (&[View], &[ByteBuffer])
+        ensures rows { self.now ≡ rows_of result.1.now result.0.now }
+        ensures within { AllLieIn result.1.now result.0.now }
+    {
+        (self.views.as_slice(), self.buffers.as_slice())
+    }
+
+    /// Checks whether the bytes of each row are UTF-8. (own)
+    pub fn is_utf8(&self) -> bool
+        ensures { IsTrue result ↔ AllPass is_utf8 self.now }
+    {
+        for index in 0..self.len() {
+            if !is_text(self.value(index)) {
+                return false;
+            }
+        }
+        true
+    }
+
+    /// Returns the rows at `range`, which share the views and the data. Fails only if they can't be shared once more.
+    #[tactic(auto, using(crate::proofs::ViewsLemmas::rows_part, crate::proofs::ViewsLemmas::lie_in_part))]
+    pub fn slice(&self, range: Range<usize>) -> Result<BinaryViews, AllocError>
+        requires order { range.start ≤ range.end }
+        requires bounds { range.end ≤ length self.now }
+        ensures { IfOk result (λ column. column ≡ slice_range self.now range.start range.end) }
+    {
+        Ok(BinaryViews {
+            views: self.views.slice(range)?,
+            buffers: self.buffers.clone()?,
+        })
+    }
+
+    /// Returns the rows at the true bits of `mask`, in order. They share the data. Fails only if there is no memory for
+    /// the views, or if the data can't be shared once more.
+    #[tactic(auto, using(crate::proofs::ViewsLemmas::rows_chosen, crate::proofs::ViewsLemmas::lie_in_chosen))]
+    pub fn filter(&self, alloc: Global, mask: &Mask) -> Result<BinaryViews, AllocError>
+        requires { length (bits_in mask.now) ≡ length self.now }
+        ensures { IfOk result (λ column. column ≡ chosen (bits_in mask.now) self.now) }
+    {
+        let views = self.views.filter(alloc, mask)?;
+        let buffers = self.buffers.clone()?;
+        Ok(BinaryViews { views, buffers })
+    }
+}
+
+/// Checks whether `bytes` are UTF-8.
+#[tactic(auto, using(vx_value::proofs::BytesLemmas::is_text, vx_value::proofs::BytesLemmas::is_no_text))]
+fn is_text(bytes: &[u8]) -> bool
+    ensures { result ≡ is_utf8 bytes.now }
+{
+    str::from_utf8(bytes).is_ok()
+}
+
+/// Shares the views and the data. Fails only if they can't be shared once more.
+impl Clone for BinaryViews {
+    ghost is_clone = { λ a b. b ≡ a };
+
+    fn clone(&self) -> Result<BinaryViews, AllocError> {
+        Ok(BinaryViews {
+            views: self.views.clone()?,
+            buffers: self.buffers.clone()?,
+        })
+    }
+}
+
+/// Prints the rows as a list of byte slices.
+impl fmt::Debug for BinaryViews {
+    fn fmt<W: fmt::Write>(&self, f: &mut fmt::Formatter<W>) -> fmt::Result {
+        let mut list = f.debug_list();
+        for index in 0..self.len() {
+            list.entry(&self.value(index));
+        }
+        list.finish()
+    }
+}
