@@ -2,6 +2,7 @@
 
 ghost use Rattle.std.specs.Prelude.{◌≡◌, ◌⊎◌, ◌↔◌, ◌+◌, ◌<◌, ◌^◌, ◌∷◌, [], true, length, map, replicate, Some, None, IsTrue, IfOk, IfErr, OnOk, OnErr, MatchResult};
 ghost use Rattle.std.specs.List.{list_all};
+ghost use Rattle.vx_value.specs.Errors.{OnlyOutOfMemory};
 ghost use Rattle.vx_value.specs.Types.{nullability_of};
 ghost use Rattle.vx_value.specs.declared.dtype.Nullability.TheVariants.{Nullable};
 ghost use Rattle.vx_value.specs.Values.{null};
@@ -50,10 +51,11 @@ impl Model for Builder {
 }
 
 impl Builder {
-    /// Makes a builder of a column of type `dtype` without rows, with room for `capacity` of them. The only error is `OutOfMemory`.
+    /// Makes a builder of a column of type `dtype` without rows, with room for `capacity` of them. Fails only with
+    /// `OutOfMemory`.
     pub fn with_capacity(alloc: Global, dtype: DType, capacity: usize) -> VortexResult<Builder>
         ensures ok { IfOk result (λ b. b ≡ record { of_type = type_of dtype; values = [] }) }
-        ensures err { IfErr result (λ e. e ≡ VortexError.OutOfMemory) }
+        ensures err { OnlyOutOfMemory result }
     {
         let values = Values::with_capacity(alloc, &dtype, capacity)?;
         Ok(Builder {
@@ -154,13 +156,13 @@ impl Builder {
         Ok(())
     }
 
-    /// Appends `count` nulls to the rows of a nullable type. The only error is `OutOfMemory`; the builder is then unchanged.
+    /// Appends `count` nulls to the rows of a nullable type. Fails only with `OutOfMemory`; the builder is then unchanged.
     fn push_nulls(&mut self, count: usize) -> VortexResult<()>
         requires nullable { nullability_of self.old.of_type ≡ Nullable }
         requires fits { length self.old.values + count < 2 ^ 64 }
         ensures ok { OnOk result (self.new ≡ appended self.old (replicate count null)) }
         ensures err { OnErr result (self.new ≡ self.old) }
-        ensures refused { IfErr result (λ e. e ≡ VortexError.OutOfMemory) }
+        ensures refused { OnlyOutOfMemory result }
     {
         if let Values::Nulls(rows) = &mut self.values {
             *rows += count;
@@ -177,12 +179,12 @@ impl Builder {
         Ok(())
     }
 
-    /// Returns the rows as a column, without copying them. Its validity has the one form that the rows determine: `NonNullable` or
-    /// `AllValid` if no row is null, `AllInvalid` if there is a row and all are. The only error is `OutOfMemory`.
+    /// Returns the rows as a column, without copying them. Its validity has the one form that the rows determine: `NonNullable`
+    /// or `AllValid` if no row is null, `AllInvalid` if there is a row and all are. Fails only with `OutOfMemory`.
     pub fn finish(self, alloc: Global) -> VortexResult<Canonical>
         ensures ok { IfOk result (λ c. canonical_tree c ≡ built self) }
         ensures rows { IfOk result (λ c. rows (canonical_tree c) ≡ map (λ v. value v) self.values) }
-        ensures err { IfErr result (λ e. e ≡ VortexError.OutOfMemory) }
+        ensures err { OnlyOutOfMemory result }
     {
         let Builder {
             dtype,

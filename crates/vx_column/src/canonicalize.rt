@@ -1,6 +1,7 @@
 //! Constants expanded to canonical columns.
 
-ghost use Rattle.std.specs.Prelude.{◌≡◌, IfOk, IfErr};
+ghost use Rattle.std.specs.Prelude.{◌≡◌, IfOk};
+ghost use Rattle.vx_value.specs.Errors.{OnlyOutOfMemory};
 ghost use Rattle.vx_tree.specs.Tree.{datum, constant, constant_of};
 ghost use Rattle.vx_tree.specs.Canonicals.{canonical_tree};
 ghost use Rattle.vx_tree.specs.Keeps.{KeepsExactly};
@@ -13,17 +14,17 @@ use vx_tree::{
     ArrayView, BinaryViews, Canonical, Constant, DecimalValues, NullArray, PrimitiveValues,
     Validity,
 };
-use vx_value::{ByteBuffer, DType, DecimalType, Scalar, Storage, VortexError, VortexResult};
+use vx_value::{ByteBuffer, DType, DecimalType, Scalar, Storage, VortexResult};
 
-/// Expands `array` to a canonical column. The rows take one allocation, which is made before any is written; the bytes of a text or
-/// a binary value stand once. The only error is `OutOfMemory`.
+/// Expands `array` to a canonical column. The rows take one allocation, which is made before any is written; the bytes of a
+/// text or a binary value stand once. Fails only with `OutOfMemory`.
 pub fn constant_canonicalize(
     alloc: Global,
     array: ArrayView<'_, Constant>,
 ) -> VortexResult<Canonical>
     requires payload { constant array.payload.now.scalar ≡ datum array.array.now }
     ensures ok { IfOk result (λ c. KeepsExactly array.entry.array.now (canonical_tree c)) }
-    ensures err { IfErr result (λ e. e ≡ VortexError.OutOfMemory) }
+    ensures err { OnlyOutOfMemory result }
 {
     array.array.well();
     if array.is_empty() {
@@ -33,10 +34,10 @@ pub fn constant_canonicalize(
     }
 }
 
-/// Makes the column of `len` rows, each `scalar`; `false`, 0 or no bytes stand under a null. The only error is `OutOfMemory`.
+/// Makes the column of `len` rows, each `scalar`; `false`, 0 or no bytes stand under a null. Fails only with `OutOfMemory`.
 fn repeat(alloc: Global, scalar: &Scalar, len: usize) -> VortexResult<Canonical>
     ensures ok { IfOk result (λ c. KeepsExactly (constant_of scalar.now len) (canonical_tree c)) }
-    ensures err { IfErr result (λ e. e ≡ VortexError.OutOfMemory) }
+    ensures err { OnlyOutOfMemory result }
 {
     let validity = repeated_validity(scalar);
     let storage = scalar.dtype().storage();

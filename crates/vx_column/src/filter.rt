@@ -1,6 +1,7 @@
 //! Columns filtered by a mask.
 
-ghost use Rattle.std.specs.Prelude.{◌≡◌, ◌∷◌, [], IfOk, IfErr, length};
+ghost use Rattle.std.specs.Prelude.{◌≡◌, ◌∷◌, [], IfOk, length};
+ghost use Rattle.vx_value.specs.Errors.{OnlyOutOfMemory};
 ghost use Rattle.vx_value.specs.Types.{bool};
 ghost use Rattle.vx_mask.specs.Masks.{bits_in};
 ghost use Rattle.vx_mask.specs.Places.{true_count};
@@ -18,15 +19,15 @@ use vx_mask::Mask;
 use vx_tree::{
     ArrayKind, ArrayRef, Canonical, FilterArray, IntoArray, NullArray, Validity, child_to_validity,
 };
-use vx_value::{DType, Nullability, VortexError, VortexResult};
+use vx_value::{DType, Nullability, VortexResult};
 
 /// Returns the rows of `column` at the true bits of `mask`, which must have a bit for each row, as a column. The values share
-/// their storage with those of `column` if the true bits are consecutive, and the bytes of texts always do. The only error is
+/// their storage with those of `column` if the true bits are consecutive, and the bytes of texts always do. Fails only with
 /// `OutOfMemory`. (own)
 pub fn filter_canonical(alloc: Global, column: &Canonical, mask: &Mask) -> VortexResult<Canonical>
     requires { length (bits_in mask.now) ≡ len (canonical_tree column.now) }
     ensures ok { IfOk result (λ c. KeepsExactly (filter_of (bits_in mask.now) (canonical_tree column.now)) (canonical_tree c)) }
-    ensures err { IfErr result (λ e. e ≡ VortexError.OutOfMemory) }
+    ensures err { OnlyOutOfMemory result }
 {
     let array = column.as_array();
     array.well();
@@ -58,7 +59,7 @@ pub fn filter_canonical(alloc: Global, column: &Canonical, mask: &Mask) -> Vorte
 }
 
 /// Returns the validity of the rows at the true bits of `mask`, from the slot of the validity of a column of this nullability.
-/// The only error is `OutOfMemory`.
+/// Fails only with `OutOfMemory`.
 fn filter_validity(
     alloc: Global,
     validity: &Option<ArrayRef>,
@@ -70,7 +71,7 @@ fn filter_validity(
     ensures nullability { IfOk result (λ v. nullability_by v ≡ nullability) }
     ensures sized { IfOk result (λ v. HasRows v (true_count (bits_in mask.now))) }
     ensures chosen { IfOk result (λ v. IsChoice (bits_in mask.now) validity.now (child_of v (true_count (bits_in mask.now)))) }
-    ensures err { IfErr result (λ e. e ≡ VortexError.OutOfMemory) }
+    ensures err { OnlyOutOfMemory result }
 {
     match child_to_validity(validity.as_ref(), nullability)? {
         Validity::Array(child) => {
@@ -83,12 +84,12 @@ fn filter_validity(
 }
 
 /// Filters `array`, which must be non-nullable booleans, by `mask`: at once if it is a column without a validity, else lazily.
-/// The only error is `OutOfMemory`.
+/// Fails only with `OutOfMemory`.
 fn filter_truths(alloc: Global, array: ArrayRef, mask: &Mask) -> VortexResult<ArrayRef>
     requires typed { dtype array ≡ bool Nullability.NonNullable }
     requires sized { length (bits_in mask.now) ≡ len array }
     ensures ok { IfOk result (λ t. KeepsExactly (filter_of (bits_in mask.now) array) t) }
-    ensures err { IfErr result (λ e. e ≡ VortexError.OutOfMemory) }
+    ensures err { OnlyOutOfMemory result }
 {
     if let ArrayKind::Bool(bits, None) = array.kind() {
         let kept = bits.filter(alloc, mask)?;

@@ -1,6 +1,7 @@
 //! Columns with some of their rows made null.
 
 ghost use Rattle.std.specs.Prelude.{◌≡◌, ◌⊎◌, ◌∷◌, [], Some, true, map, IfOk, IfErr, IfSome};
+ghost use Rattle.vx_value.specs.Errors.{OnlyOutOfMemory};
 ghost use Rattle.vx_value.specs.Types.{bool, null};
 ghost use Rattle.vx_value.specs.Values.{boolean};
 ghost use Rattle.vx_value.specs.Cell.{value};
@@ -95,7 +96,7 @@ fn mask_nulls(alloc: Global, validity: &Option<ArrayRef>, len: usize) -> VortexR
     }
 }
 
-/// Returns the validity of a nullable column of `len` rows whose valid rows two slots of validities both tell. The only error is
+/// Returns the validity of a nullable column of `len` rows whose valid rows two slots of validities both tell. Fails only with
 /// `OutOfMemory`.
 fn both_valid(
     alloc: Global,
@@ -108,7 +109,7 @@ fn both_valid(
     ensures nullable { IfOk result (λ v. nullability_by v ≡ Nullability.Nullable) }
     ensures sized { IfOk result (λ v. HasRows v len) }
     ensures both { IfOk result (λ v. IsBoth len first.now second (child_of v len)) }
-    ensures err { IfErr result (λ e. e ≡ VortexError.OutOfMemory) }
+    ensures err { OnlyOutOfMemory result }
 {
     match (first, second) {
         (None, None) => Ok(Validity::AllValid),
@@ -119,7 +120,7 @@ fn both_valid(
 }
 
 /// Returns the validity of a nullable column of `len` rows that are valid where two arrays are both true: by words if both are
-/// columns without nulls, else by a lazy conjunction. The only error is `OutOfMemory`.
+/// columns without nulls, else by a lazy conjunction. Fails only with `OutOfMemory`.
 fn both_true(
     alloc: Global,
     first: &ArrayRef,
@@ -131,7 +132,7 @@ fn both_true(
     ensures nullable { IfOk result (λ v. nullability_by v ≡ Nullability.Nullable) }
     ensures sized { IfOk result (λ v. HasRows v len) }
     ensures both { IfOk result (λ v. IsBoth len (Some first.now) (Some second) (child_of v len)) }
-    ensures err { IfErr result (λ e. e ≡ VortexError.OutOfMemory) }
+    ensures err { OnlyOutOfMemory result }
 {
     first.well();
     second.well();

@@ -1,16 +1,17 @@
 //! Scalars with another nullability.
 
-ghost use Rattle.std.specs.Prelude.{◌≡◌, IfOk, IfErr, true};
+ghost use Rattle.std.specs.Prelude.{◌≡◌, IfOk, true};
+ghost use Rattle.vx_value.specs.Errors.{OnlyOutOfMemory};
 ghost use Rattle.vx_value.specs.View.{type_of};
 ghost use Rattle.vx_value.specs.IsOf.{is_of};
 
-use vx_value::{DType, Scalar, VortexError, VortexResult};
+use vx_value::{DType, Scalar, VortexResult};
 
-/// Returns the value of `scalar` as one of type `dtype`, which must have it. The only error is `OutOfMemory`.
+/// Returns the value of `scalar` as one of type `dtype`, which must have it. Fails only with `OutOfMemory`.
 pub(crate) fn retyped(scalar: &Scalar, dtype: DType) -> VortexResult<Scalar>
     requires { is_of (type_of dtype) scalar.now.value ≡ true }
     ensures ok { IfOk result (λ s. s ≡ record { of_type = type_of dtype; value = scalar.now.value }) }
-    ensures err { IfErr result (λ e. e ≡ VortexError.OutOfMemory) }
+    ensures err { OnlyOutOfMemory result }
 {
     let value = match scalar.value() {
         Some(value) => Some(value.clone()?),

@@ -1,3 +1,4 @@
+pub use Rattle.vx_value.specs.Errors
 pub use Rattle.vx_value.specs.Values
 pub use Rattle.vx_tree.specs.Tree
 pub use Rattle.vx_tree.specs.Rows

@@ -1,6 +1,7 @@
 //! The values of a column, by their storage.
 
-ghost use Rattle.std.specs.Prelude.{◌≡◌, [], None, IfOk, IfErr, MatchResult};
+ghost use Rattle.std.specs.Prelude.{◌≡◌, [], None, IfOk, MatchResult};
+ghost use Rattle.vx_value.specs.Errors.{OnlyOutOfMemory};
 ghost use Rattle.serde_json.specs.View.{items_view};
 ghost use Rattle.vx_value.specs.View.{type_of};
 ghost use Rattle.vx_value.specs.Storage.{storage_of};
@@ -21,7 +22,7 @@ use vx_tree::{
     ArrayRef, BinaryViews, BoolArray, DecimalArray, DecimalValues, IntoArray, PrimitiveArray,
     PrimitiveValues, Validity, VarBinViewArray,
 };
-use vx_value::{DType, Storage, VortexError, VortexResult};
+use vx_value::{DType, Storage, VortexResult};
 
 /// The values of a column, in the buffers of its storage.
 #[derive(Drop)]
@@ -71,7 +72,7 @@ pub(crate) fn column_values<N: RowNulls>(
     })
 }
 
-/// Makes the column of `values`, which its constructor must not refuse. The only error is `OutOfMemory`.
+/// Makes the column of `values`, which its constructor must not refuse. Fails only with `OutOfMemory`.
 pub(crate) fn column(
     alloc: Global,
     dtype: DType,
@@ -80,7 +81,7 @@ pub(crate) fn column(
 ) -> VortexResult<ArrayRef>
     requires { values_refusal (type_of dtype) values validity.now ≡ None }
     ensures ok { IfOk result (λ t. t ≡ column (type_of dtype) (count_of values) (data_of values) (child_of validity.now (count_of values))) }
-    ensures err { IfErr result (λ e. e ≡ VortexError.OutOfMemory) }
+    ensures err { OnlyOutOfMemory result }
 {
     Ok(match values {
         ColumnValues::Bits(bits) => BoolArray::try_new(alloc, dtype, bits, validity)?.into_array(),

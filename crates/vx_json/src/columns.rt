@@ -1,6 +1,7 @@
 //! Columns: by their rows, or by their values and their validity.
 
-ghost use Rattle.std.specs.Prelude.{◌≡◌, length, option_map, IfOk, IfErr};
+ghost use Rattle.std.specs.Prelude.{◌≡◌, length, option_map, IfOk};
+ghost use Rattle.vx_value.specs.Errors.{OnlyOutOfMemory};
 ghost use Rattle.serde_json.specs.View.{view, items_view};
 ghost use Rattle.serde_json.specs.Find.{as_null};
 ghost use Rattle.vx_value.specs.Types.{nullability_of};
@@ -22,7 +23,7 @@ use serde_json::Value;
 use std::alloc::Global;
 use vx_mask::BitBuilder;
 use vx_tree::{ArrayRef, IntoArray, NullArray, Validity};
-use vx_value::{DType, Nullability, VortexError, VortexResult};
+use vx_value::{DType, Nullability, VortexResult};
 
 /// Reads a column by its rows.
 pub(crate) fn col(alloc: Global, value: &Value) -> VortexResult<ArrayRef>
@@ -67,11 +68,11 @@ fn nullable_column(alloc: Global, dtype: DType, list: &Vec<Value>) -> VortexResu
     }
 }
 
-/// Makes the validity of rows that aren't null where `bits` is true. The only error is `OutOfMemory`.
+/// Makes the validity of rows that aren't null where `bits` is true. Fails only with `OutOfMemory`.
 fn bits_validity(alloc: Global, bits: BitBuilder) -> VortexResult<Validity>
     ensures ok { IfOk result (λ v. child_of v (length bits) ≡ child_by bits) }
     ensures nullable { IfOk result (λ v. nullability_by v ≡ Nullability.Nullable) }
-    ensures err { IfErr result (λ e. e ≡ VortexError.OutOfMemory) }
+    ensures err { OnlyOutOfMemory result }
 {
     Validity::from_bits(alloc, bits.finish(alloc)?)
 }

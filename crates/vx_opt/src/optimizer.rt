@@ -1,7 +1,7 @@
 //! The public calls.
 
 ghost use Rattle.std.specs.Prelude.{◌≡◌, ◌<◌, ◌≤◌, IfOk, IfErr};
-ghost use Rattle.vx_value.specs.declared.error.VortexError.TheVariants.{OutOfMemory};
+ghost use Rattle.vx_value.specs.Errors.{OnlyOutOfMemory};
 ghost use Rattle.vx_tree.specs.Tree.{Tree};
 ghost use Rattle.vx_tree.specs.Keeps.{Keeps};
 ghost use Rattle.vx_tree.specs.Weight.{weight};
@@ -29,13 +29,13 @@ pub trait ArrayOptimizer: Sized {
     fn optimize(self, alloc: Global) -> VortexResult<ArrayRef>
         ensures settled { IfOk result (IsSettledFrom (tree self)) }
         ensures limited { IfErr result (IsLimited (tree self) 0) }
-        ensures never_if_light { weight (tree self) ≤ 100 → IfErr result (λ e. e ≡ OutOfMemory) };
+        ensures never_if_light { weight (tree self) ≤ 100 → OnlyOutOfMemory result };
 
     /// Rewrites the root likewise, also by the entries of `rules`.
     fn optimize_ctx(self, alloc: Global, rules: &mut RuleRegistry) -> VortexResult<ArrayRef>
         ensures settled { IfOk result (IsSettledFrom (tree self)) }
         ensures limited { IfErr result (IsLimited (tree self) 0) }
-        ensures never_if_light { weight (tree self) ≤ 100 → IfErr result (λ e. e ≡ OutOfMemory) };
+        ensures never_if_light { weight (tree self) ≤ 100 → OnlyOutOfMemory result };
 
     /// Rewrites the root likewise, and then each slot so, in order. The root isn't visited again.
     fn optimize_recursive(self, alloc: Global, rules: &mut RuleRegistry) -> VortexResult<ArrayRef>
@@ -43,7 +43,7 @@ pub trait ArrayOptimizer: Sized {
         ensures descends { IfOk result (Descends (tree self)) }
         ensures derives { IfOk result (IsOptimized (tree self)) }
         ensures limited { IfErr result (IsLimited (tree self) 0) }
-        ensures never_if_light { weight (tree self) ≤ 100 → IfErr result (λ e. e ≡ OutOfMemory) };
+        ensures never_if_light { weight (tree self) ≤ 100 → OnlyOutOfMemory result };
 }
 
 impl ArrayOptimizer for ArrayRef {
@@ -71,7 +71,7 @@ impl ArrayOptimizer for ArrayRef {
 fn optimize_settled(alloc: Global, array: ArrayRef) -> VortexResult<ArrayRef>
     ensures settled { IfOk result (IsSettledFrom array) }
     ensures limited { IfErr result (IsLimited array 0) }
-    ensures never_if_light { weight array ≤ 100 → IfErr result (λ e. e ≡ OutOfMemory) }
+    ensures never_if_light { weight array ≤ 100 → OnlyOutOfMemory result }
 {
     let mut total = 0;
     optimize_root(alloc, array, &mut total)
@@ -84,7 +84,7 @@ fn optimize_places(alloc: Global, array: ArrayRef) -> VortexResult<ArrayRef>
     ensures descends { IfOk result (Descends array) }
     ensures derives { IfOk result (IsOptimized array) }
     ensures limited { IfErr result (IsLimited array 0) }
-    ensures never_if_light { weight array ≤ 100 → IfErr result (λ e. e ≡ OutOfMemory) }
+    ensures never_if_light { weight array ≤ 100 → OnlyOutOfMemory result }
 {
     let mut total = 0;
     descend(alloc, array, 0, &mut total)

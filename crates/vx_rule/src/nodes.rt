@@ -1,7 +1,7 @@
 //! Nodes taken apart, and the nodes that answers are made of.
 
-ghost use Rattle.std.specs.Prelude.{◌≡◌, ◌≤◌, [], ◌∷◌, Some, IfOk, IfErr, true};
-ghost use Rattle.vx_value.specs.declared.error.VortexError.TheVariants.{OutOfMemory};
+ghost use Rattle.std.specs.Prelude.{◌≡◌, ◌≤◌, [], ◌∷◌, Some, IfOk, true};
+ghost use Rattle.vx_value.specs.Errors.{OnlyOutOfMemory};
 ghost use Rattle.vx_value.specs.View.{type_of};
 ghost use Rattle.vx_tree.specs.Tree.{dtype, len, datum, node, function, masked, slots_of, masked_of, is_function, is_masked, is_constant, is_canonical};
 ghost use Rattle.vx_tree.specs.Well.{IsNode, IsWell, shapes};
@@ -32,7 +32,8 @@ pub fn function_parts(array: &ArrayRef) -> (&ScalarFnRef, &[Option<ArrayRef>])
     (scalar_fn, slots)
 }
 
-/// Makes the node of `scalar_fn` over `slots`, `len` rows of `like`'s type, which must be well formed. The only error is `OutOfMemory`.
+/// Makes the node of `scalar_fn` over `slots`, `len` rows of `like`'s type, which must be well formed. Fails only with
+/// `OutOfMemory`.
 pub fn function_node(
     alloc: Global,
     like: &ArrayRef,
@@ -42,7 +43,7 @@ pub fn function_node(
 ) -> VortexResult<ArrayRef>
     requires { IsNode (dtype like.now) len (function scalar_fn.now) (shapes (slots_of slots.items)) }
     ensures ok { IfOk result (λ t. t ≡ node (dtype like.now) len (function scalar_fn.now) (slots_of slots.items)) }
-    ensures err { IfErr result (λ e. e ≡ OutOfMemory) }
+    ensures err { OnlyOutOfMemory result }
 {
     let vtable = ScalarFn { id: scalar_fn.id() };
     let payload = ScalarFnData::new(scalar_fn.clone()?);
@@ -63,8 +64,8 @@ pub fn masked_parts(array: &ArrayRef) -> (&ArrayRef, &Option<ArrayRef>)
     (child, validity)
 }
 
-/// Makes the masked array of `child`, of `like`'s type, with this tree in the slot of its validity; it must be well formed. The only error
-/// is `OutOfMemory`.
+/// Makes the masked array of `child`, of `like`'s type, with this tree in the slot of its validity; it must be well formed.
+/// Fails only with `OutOfMemory`.
 pub fn masked_node(
     alloc: Global,
     like: &ArrayRef,
@@ -73,7 +74,7 @@ pub fn masked_node(
 ) -> VortexResult<ArrayRef>
     requires { IsNode (dtype like.now) (len child) masked (shapes (slots_of (Some child ∷ validity ∷ []))) }
     ensures ok { IfOk result (λ t. t ≡ node (dtype like.now) (len child) masked (slots_of (Some child ∷ validity ∷ []))) }
-    ensures err { IfErr result (λ e. e ≡ OutOfMemory) }
+    ensures err { OnlyOutOfMemory result }
 {
     let len = child.len();
     let slots = vec![in alloc; Some(child), validity]?;
@@ -81,11 +82,11 @@ pub fn masked_node(
     Ok(Array::from_parts_unchecked(alloc, parts)?.into_array())
 }
 
-/// Returns the constant of `len` rows that has the value of `array`, which must be one. The only error is `OutOfMemory`.
+/// Returns the constant of `len` rows that has the value of `array`, which must be one. Fails only with `OutOfMemory`.
 pub fn constant_like(alloc: Global, array: &ArrayRef, len: usize) -> VortexResult<ArrayRef>
     requires { is_constant (datum array.now) ≡ true }
     ensures ok { IfOk result (λ t. IsConstantLike array.now len t) }
-    ensures err { IfErr result (λ e. e ≡ OutOfMemory) }
+    ensures err { OnlyOutOfMemory result }
 {
     let ArrayKind::Constant(scalar) = array.kind() else {
         unreachable!()
@@ -93,10 +94,10 @@ pub fn constant_like(alloc: Global, array: &ArrayRef, len: usize) -> VortexResul
     Ok(ConstantArray::new(alloc, scalar.clone()?, len)?.into_array())
 }
 
-/// Returns the column of type `dtype` without rows. The only error is `OutOfMemory`.
+/// Returns the column of type `dtype` without rows. Fails only with `OutOfMemory`.
 pub fn empty_column(alloc: Global, dtype: &DType) -> VortexResult<ArrayRef>
     ensures ok { IfOk result (λ t. t ≡ empty_of (type_of dtype.now)) }
-    ensures err { IfErr result (λ e. e ≡ OutOfMemory) }
+    ensures err { OnlyOutOfMemory result }
 {
     Ok(Canonical::empty(alloc, dtype)?.into_array())
 }
@@ -112,12 +113,13 @@ fn as_column(array: ArrayRef) -> Canonical
     column
 }
 
-/// Returns the rows of `array`, which must be canonical, in `range`, as a column that shares its buffers. The only error is `OutOfMemory`.
+/// Returns the rows of `array`, which must be canonical, in `range`, as a column that shares its buffers. Fails only with
+/// `OutOfMemory`.
 pub fn column_slice(alloc: Global, array: &ArrayRef, range: Range<usize>) -> VortexResult<ArrayRef>
     requires canonical { is_canonical (datum array.now) ≡ true }
     requires within { (range.start ≤ range.end) × (range.end ≤ len array.now) }
     ensures ok { IfOk result (λ t. IsColumnSlice range.start range.end array.now t) }
-    ensures err { IfErr result (λ e. e ≡ OutOfMemory) }
+    ensures err { OnlyOutOfMemory result }
 {
     let column = as_column(array.clone()?);
     let part = slice_canonical(alloc, &column, range)?;

@@ -1,7 +1,7 @@
 //! Slices that are pushed down.
 
-ghost use Rattle.std.specs.Prelude.{◌≡◌, ◌≤◌, ◌*◌, ◌+◌, IfOk, IfErr, true, false};
-ghost use Rattle.vx_value.specs.declared.error.VortexError.TheVariants.{OutOfMemory};
+ghost use Rattle.std.specs.Prelude.{◌≡◌, ◌≤◌, ◌*◌, ◌+◌, IfOk, true, false};
+ghost use Rattle.vx_value.specs.Errors.{OnlyOutOfMemory};
 ghost use Rattle.vx_tree.specs.Tree.{len, datum, masked_of, slice_of, is_canonical, is_function};
 ghost use Rattle.vx_tree.specs.Keeps.{KeepsExactly};
 ghost use Rattle.vx_tree.specs.Cost.{cost, reach};
@@ -15,26 +15,26 @@ use std::ops::Range;
 use vx_tree::{AnyCanonical, ArrayKind, ArrayRef, IntoArray, SliceArray, slice_validity};
 use vx_value::VortexResult;
 
-/// Returns the rows of `array` in `range`, which must be in order and in bounds, with the slice pushed down as far as the rows S1 to S5
-/// reach: all rows are the tree itself, none is the empty column, and a node that no row reaches, such as a filter, is sliced lazily. No
-/// buffer of values is copied. The only lazy slices that it adds stand above such nodes, and in the slots of validities, whose rows are
-/// sliced lazily unless they are constant. The only error is `OutOfMemory`. (own)
+/// Returns the rows of `array` in `range`, which must be in order and in bounds, with the slice pushed down as far as the rows
+/// S1 to S5 reach: all rows are the tree itself, none is the empty column, and a node that no row reaches, such as a filter, is
+/// sliced lazily. No buffer of values is copied. The only lazy slices that it adds stand above such nodes, and in the slots of
+/// validities, whose rows are sliced lazily unless they are constant. Fails only with `OutOfMemory`. (own)
 pub fn push_slice(alloc: Global, array: &ArrayRef, range: Range<usize>) -> VortexResult<ArrayRef>
     requires { (range.start ≤ range.end) × (range.end ≤ len array.now) }
     ensures ok { IfOk result (λ t. KeepsExactly (slice_of range.start range.end array.now) t) }
     ensures cost { IfOk result (λ t. cost t ≤ cost array.now + 3 * reach array.now) }
     ensures canonical { IfOk result (λ t. is_canonical (datum array.now) ≡ true → is_canonical (datum t) ≡ true) }
-    ensures err { IfErr result (λ e. e ≡ OutOfMemory) }
+    ensures err { OnlyOutOfMemory result }
 {
     push(alloc, array, range)
 }
 
-/// Returns the rows of `array` in `range`, by its encoding. The only error is `OutOfMemory`.
+/// Returns the rows of `array` in `range`, by its encoding. Fails only with `OutOfMemory`.
 #[cycle(push)]
 fn push(alloc: Global, array: &ArrayRef, range: Range<usize>) -> VortexResult<ArrayRef>
     requires { (range.start ≤ range.end) × (range.end ≤ len array.now) }
     ensures ok { IfOk result (λ t. IsPushed range.start range.end array.now t) }
-    ensures err { IfErr result (λ e. e ≡ OutOfMemory) }
+    ensures err { OnlyOutOfMemory result }
 {
     array.well();
     if range.start == 0 && range.end == array.len() {
@@ -57,13 +57,14 @@ fn push(alloc: Global, array: &ArrayRef, range: Range<usize>) -> VortexResult<Ar
     }
 }
 
-/// Returns the rows of `array`, which must apply a function, in `range`: the function of each slot's rows. The only error is `OutOfMemory`.
+/// Returns the rows of `array`, which must apply a function, in `range`: the function of each slot's rows. Fails only with
+/// `OutOfMemory`.
 #[cycle(push)]
 fn push_function(alloc: Global, array: &ArrayRef, range: Range<usize>) -> VortexResult<ArrayRef>
     requires function { is_function (datum array.now) ≡ true }
     requires within { (range.start ≤ range.end) × (range.end ≤ len array.now) }
     ensures ok { IfOk result (λ t. IsPushed range.start range.end array.now t) }
-    ensures err { IfErr result (λ e. e ≡ OutOfMemory) }
+    ensures err { OnlyOutOfMemory result }
 {
     let (scalar_fn, slots) = function_parts(array);
     let (start, end) = (range.start, range.end);
@@ -78,18 +79,18 @@ fn push_function(alloc: Global, array: &ArrayRef, range: Range<usize>) -> Vortex
     function_node(alloc, array, scalar_fn, end - start, parts)
 }
 
-/// Returns a lazy slice of `array`, which isn't canonical. The only error is `OutOfMemory`.
+/// Returns a lazy slice of `array`, which isn't canonical. Fails only with `OutOfMemory`.
 #[tactic(auto, using(crate::proofs::PushLemmas::slice_pushed))]
 fn lazily(alloc: Global, array: &ArrayRef, range: Range<usize>) -> VortexResult<ArrayRef>
     requires unready { is_canonical (datum array.now) ≡ false }
     requires within { (range.start ≤ range.end) × (range.end ≤ len array.now) }
     ensures ok { IfOk result (λ t. IsPushed range.start range.end array.now t) }
-    ensures err { IfErr result (λ e. e ≡ OutOfMemory) }
+    ensures err { OnlyOutOfMemory result }
 {
     Ok(SliceArray::new(alloc, array.clone()?, range)?.into_array())
 }
 
-/// Returns the rows of `array`, which masks `child` by `validity`, in `range`; `part` has those of `child`. The only error is
+/// Returns the rows of `array`, which masks `child` by `validity`, in `range`; `part` has those of `child`. Fails only with
 /// `OutOfMemory`.
 #[tactic(auto, using(crate::proofs::PushLemmas::masked_pushed, crate::proofs::PushLemmas::masked_range, crate::proofs::PushLemmas::masked_well))]
 fn masked_part(
@@ -104,7 +105,7 @@ fn masked_part(
     requires within { (range.start ≤ range.end) × (range.end ≤ len array.now) }
     requires part { IsPushed range.start range.end child.now part }
     ensures ok { IfOk result (λ t. IsPushed range.start range.end array.now t) }
-    ensures err { IfErr result (λ e. e ≡ OutOfMemory) }
+    ensures err { OnlyOutOfMemory result }
 {
     array.well();
     let validity = slice_validity(alloc, validity, range)?;

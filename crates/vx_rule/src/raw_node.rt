@@ -1,7 +1,7 @@
 //! Answers of rules.
 
-ghost use Rattle.std.specs.Prelude.{◌≡◌, [], IfOk, IfErr};
-ghost use Rattle.vx_value.specs.declared.error.VortexError.TheVariants.{OutOfMemory};
+ghost use Rattle.std.specs.Prelude.{◌≡◌, [], IfOk};
+ghost use Rattle.vx_value.specs.Errors.{OnlyOutOfMemory};
 ghost use Rattle.vx_tree.specs.Tree.{slots_of};
 ghost use Rattle.vx_tree.specs.Slots.{present_from};
 ghost use Rattle.vx_rule.specs.Answers.{IsRaw};
@@ -30,7 +30,7 @@ impl RawNode {
         }
     }
 
-    /// Returns `tree` as an answer all of whose slots are to be optimized. The only error is `OutOfMemory`.
+    /// Returns `tree` as an answer all of whose slots are to be optimized. Fails only with `OutOfMemory`.
     pub fn raw(alloc: Global, tree: ArrayRef) -> VortexResult<Option<RawNode>>
         ensures { IsRaw tree result }
     {
@@ -39,10 +39,10 @@ impl RawNode {
     }
 }
 
-/// Returns the indices of the slots that hold trees. The only error is `OutOfMemory`.
+/// Returns the indices of the slots that hold trees. Fails only with `OutOfMemory`.
 fn present_slots(alloc: Global, slots: &[Option<ArrayRef>]) -> VortexResult<Vec<usize>>
     ensures ok { IfOk result (λ v. v.items ≡ present_from 0 (slots_of slots.now)) }
-    ensures err { IfErr result (λ e. e ≡ OutOfMemory) }
+    ensures err { OnlyOutOfMemory result }
 {
     let mut present = Vec::new(alloc);
     for index in 0..slots.len() {

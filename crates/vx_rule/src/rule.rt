@@ -1,7 +1,7 @@
 //! Rewrite rules, as traits: of a node itself, and of a child for its parent.
 
-ghost use Rattle.std.specs.Prelude.{◌≡◌, Bool, IfOk, IfErr, Some, None, true, false};
-ghost use Rattle.vx_value.specs.declared.error.VortexError.TheVariants.{OutOfMemory};
+ghost use Rattle.std.specs.Prelude.{◌≡◌, Bool, IfOk, Some, None, true, false};
+ghost use Rattle.vx_value.specs.Errors.{OnlyOutOfMemory};
 ghost use Rattle.vx_tree.specs.Tree.{Tree, datum};
 ghost use Rattle.vx_rule.specs.Answers.{HoldsWith, Answers};
 
@@ -16,21 +16,21 @@ pub trait ArrayReduceRule<V: VTable> {
     // which nodes the rule's rows are about
     ghost covers: { Tree → Bool };
 
-    /// Returns the answer of `array`, if the rule covers it: `None` exactly if no row fits. `None` if the rule doesn't cover it. The only
-    /// error is `OutOfMemory`.
+    /// Returns the answer of `array`, if the rule covers it: `None` exactly if no row fits. `None` if the rule doesn't cover
+    /// it. Fails only with `OutOfMemory`.
     fn reduce(&self, alloc: Global, array: &ArrayView<'_, V>) -> VortexResult<Option<RawNode>>
         requires payload { V.stands_for array.now.payload.now ≡ datum array.now.array.now }
         ensures answer { covers array.now.array.now ≡ true → Answers None array.now.array.now result }
         ensures other { covers array.now.array.now ≡ false → IfOk result (λ o. o ≡ None) }
-        ensures err { IfErr result (λ e. e ≡ OutOfMemory) };
+        ensures err { OnlyOutOfMemory result };
 }
 
 /// Rules of a child for the parents that `Parent` matches.
 pub trait ArrayParentReduceRule<V: VTable> {
     type Parent: Matcher;
 
-    /// Returns the answer of `child`, which stands in `slot` of `parent`: `None` exactly if no row fits there. `Parent` must match
-    /// `parent`. The only error is `OutOfMemory`.
+    /// Returns the answer of `child`, which stands in `slot` of `parent`: `None` exactly if no row fits there. `Parent` must
+    /// match `parent`. Fails only with `OutOfMemory`.
     fn reduce_parent(
         &self,
         alloc: Global,
@@ -51,8 +51,8 @@ pub trait DynArrayParentReduceRule<V: VTable> {
     fn matches(&self, parent: &ArrayRef) -> bool
         ensures { result ≡ covers parent.now };
 
-    /// Returns the answer of `child`, which stands in `slot` of `parent`, if the rule covers `parent`: `None` exactly if no row fits there.
-    /// `None` if the rule doesn't cover `parent`. The only error is `OutOfMemory`.
+    /// Returns the answer of `child`, which stands in `slot` of `parent`, if the rule covers `parent`: `None` exactly if no row
+    /// fits there. `None` if the rule doesn't cover `parent`. Fails only with `OutOfMemory`.
     fn reduce_parent(
         &self,
         alloc: Global,
@@ -63,7 +63,7 @@ pub trait DynArrayParentReduceRule<V: VTable> {
         requires { HoldsWith (V.stands_for child.now.payload.now) child.now.array.now slot parent.now }
         ensures answer { covers parent.now ≡ true → Answers (Some slot) parent.now result }
         ensures other { covers parent.now ≡ false → IfOk result (λ o. o ≡ None) }
-        ensures err { IfErr result (λ e. e ≡ OutOfMemory) };
+        ensures err { OnlyOutOfMemory result };
 }
 
 /// A rule of `V` as one for any parent: it covers those that the rule's `Parent` matches.

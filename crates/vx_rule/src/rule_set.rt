@@ -12,12 +12,12 @@ use vx_value::VortexResult;
 
 /// Encodings with their rules. (own)
 pub trait ReduceVTable: VTable {
-    /// Returns the answer of `array` itself: `None` exactly if no row fits. The only error is `OutOfMemory`. (own)
+    /// Returns the answer of `array` itself: `None` exactly if no row fits. Fails only with `OutOfMemory`. (own)
     fn reduce(alloc: Global, array: &ArrayView<'_, Self>) -> VortexResult<Option<RawNode>>
         requires payload { Self.stands_for array.now.payload.now ≡ datum array.now.array.now }
         ensures { Answers None array.now.array.now result };
 
-    /// Returns the answer of `child`, which stands in `slot` of `parent`: `None` exactly if no row fits there. The only error is
+    /// Returns the answer of `child`, which stands in `slot` of `parent`: `None` exactly if no row fits there. Fails only with
     /// `OutOfMemory`. (own)
     fn reduce_parent(
         alloc: Global,
@@ -43,7 +43,7 @@ impl<V: ReduceVTable> ReduceRuleSet<V> {
         }
     }
 
-    /// Returns the answer of `array` itself: `None` exactly if no row fits. The only error is `OutOfMemory`.
+    /// Returns the answer of `array` itself: `None` exactly if no row fits. Fails only with `OutOfMemory`.
     pub fn evaluate(&self, alloc: Global, array: &ArrayView<'_, V>) -> VortexResult<Option<RawNode>>
         requires payload { V.stands_for array.now.payload.now ≡ datum array.now.array.now }
         ensures { Answers None array.now.array.now result }
@@ -66,7 +66,7 @@ impl<V: ReduceVTable> ParentRuleSet<V> {
         }
     }
 
-    /// Returns the answer of `child`, which stands in `slot` of `parent`: `None` exactly if no row fits there. The only error is
+    /// Returns the answer of `child`, which stands in `slot` of `parent`: `None` exactly if no row fits there. Fails only with
     /// `OutOfMemory`.
     pub fn evaluate(
         &self,

@@ -1,7 +1,7 @@
 //! The slots of answers, and the arguments in those of calls.
 
-ghost use Rattle.std.specs.Prelude.{◌≡◌, ◌≤◌, ◌-◌, [], ◌∷◌, length, Some, None, option_map, IfOk, IfErr, IfSome, true};
-ghost use Rattle.vx_value.specs.declared.error.VortexError.TheVariants.{OutOfMemory};
+ghost use Rattle.std.specs.Prelude.{◌≡◌, ◌≤◌, ◌-◌, [], ◌∷◌, length, Some, None, option_map, IfOk, IfSome, true};
+ghost use Rattle.vx_value.specs.Errors.{OnlyOutOfMemory};
 ghost use Rattle.vx_mask.specs.Masks.{bits_in};
 ghost use Rattle.vx_tree.specs.Tree.{Tree, len, slots_of, slice_of, all_long};
 ghost use Rattle.vx_tree.specs.Well.{shapes};
@@ -15,7 +15,8 @@ use vx_mask::Mask;
 use vx_tree::{ArrayRef, ConstantArray, IntoArray, SliceArray, choose_validity};
 use vx_value::{Nullability, Scalar, VortexResult};
 
-/// Returns a lazy slice of the tree in `slot`, if it has one, which must have the rows in `range`. The only error is `OutOfMemory`.
+/// Returns a lazy slice of the tree in `slot`, if it has one, which must have the rows in `range`. Fails only with
+/// `OutOfMemory`.
 fn slice_slot(
     alloc: Global,
     slot: &Option<ArrayRef>,
@@ -24,7 +25,7 @@ fn slice_slot(
     requires order { range.start ≤ range.end }
     requires bounds { IfSome slot.now (λ c. range.end ≤ len c) }
     ensures ok { IfOk result (λ s. s ≡ option_map (slice_of range.start range.end) slot.now) }
-    ensures err { IfErr result (λ e. e ≡ OutOfMemory) }
+    ensures err { OnlyOutOfMemory result }
 {
     match slot {
         Some(child) => Ok(Some(SliceArray::new(alloc, child.clone()?, range)?.into_array())),
@@ -32,7 +33,7 @@ fn slice_slot(
     }
 }
 
-/// Returns lazy slices of the trees in `slots`, which must have `len` rows each, those in `range` among them. The only error is
+/// Returns lazy slices of the trees in `slots`, which must have `len` rows each, those in `range` among them. Fails only with
 /// `OutOfMemory`.
 pub(crate) fn slice_slots(
     alloc: Global,
@@ -44,7 +45,7 @@ pub(crate) fn slice_slots(
     requires order { range.start ≤ range.end }
     requires bounds { range.end ≤ len }
     ensures ok { IfOk result (λ v. slots_of v.items ≡ map_slots (slice_of range.start range.end) (slots_of slots.now)) }
-    ensures err { IfErr result (λ e. e ≡ OutOfMemory) }
+    ensures err { OnlyOutOfMemory result }
 {
     let (start, end) = (range.start, range.end);
     let mut slices = Vec::with_capacity(alloc, slots.len())?;
@@ -54,8 +55,8 @@ pub(crate) fn slice_slots(
     Ok(slices)
 }
 
-/// Returns lazy filters of the trees in `slots`, which must have as many rows as `mask` each; of constants, shorter ones. The only
-/// error is `OutOfMemory`.
+/// Returns lazy filters of the trees in `slots`, which must have as many rows as `mask` each; of constants, shorter ones. Fails
+/// only with `OutOfMemory`.
 pub(crate) fn choose_slots(
     alloc: Global,
     slots: &[Option<ArrayRef>],
@@ -63,7 +64,7 @@ pub(crate) fn choose_slots(
 ) -> VortexResult<Vec<Option<ArrayRef>>>
     requires { all_long (length (bits_in mask.now)) (shapes (slots_of slots.now)) ≡ true }
     ensures ok { IfOk result (λ v. slots_of v.items ≡ map_slots (choice_of (bits_in mask.now)) (slots_of slots.now)) }
-    ensures err { IfErr result (λ e. e ≡ OutOfMemory) }
+    ensures err { OnlyOutOfMemory result }
 {
     let mut choices = Vec::with_capacity(alloc, slots.len())?;
     for index in 0..slots.len() {
@@ -104,10 +105,10 @@ pub(crate) fn three_arguments(slots: &[Option<ArrayRef>]) -> (&ArrayRef, &ArrayR
     (first, second, third)
 }
 
-/// Makes the constant of `len` rows, each `value`. The only error is `OutOfMemory`.
+/// Makes the constant of `len` rows, each `value`. Fails only with `OutOfMemory`.
 pub(crate) fn truths(alloc: Global, value: bool, len: usize) -> VortexResult<ArrayRef>
     ensures ok { IfOk result (λ t. t ≡ truths value len) }
-    ensures err { IfErr result (λ e. e ≡ OutOfMemory) }
+    ensures err { OnlyOutOfMemory result }
 {
     let scalar = Scalar::bool(value, Nullability::NonNullable);
     Ok(ConstantArray::new(alloc, scalar, len)?.into_array())

@@ -1,7 +1,7 @@
 //! Asking the table.
 
-ghost use Rattle.std.specs.Prelude.{◌≡◌, IfOk, IfErr, None, Some};
-ghost use Rattle.vx_value.specs.declared.error.VortexError.TheVariants.{OutOfMemory};
+ghost use Rattle.std.specs.Prelude.{◌≡◌, IfOk, None, Some};
+ghost use Rattle.vx_value.specs.Errors.{OnlyOutOfMemory};
 ghost use Rattle.vx_tree.specs.Tree.{datum};
 ghost use Rattle.vx_tree.specs.Slots.{HasSlot};
 ghost use Rattle.vx_rule.specs.Answers.{HoldsWith, IsAnswer};
@@ -21,7 +21,7 @@ fn evaluate<V: ReduceVTable>(
 ) -> VortexResult<Option<RawNode>>
     requires { V.stands_for payload.now ≡ datum array.now }
     ensures answer { IfOk result (λ o. IsAnswer None array.now o) }
-    ensures err { IfErr result (λ e. e ≡ OutOfMemory) }
+    ensures err { OnlyOutOfMemory result }
 {
     let view: ArrayView<'_, V> = ArrayView { array, payload };
     ReduceRuleSet::new().evaluate(alloc, &view)
@@ -38,7 +38,7 @@ fn evaluate_child<V: ReduceVTable>(
 ) -> VortexResult<Option<RawNode>>
     requires { HoldsWith (V.stands_for payload.now) child.now slot parent.now }
     ensures answer { IfOk result (λ o. IsAnswer (Some slot) parent.now o) }
-    ensures err { IfErr result (λ e. e ≡ OutOfMemory) }
+    ensures err { OnlyOutOfMemory result }
 {
     let view: ArrayView<'_, V> = ArrayView {
         array: child,
@@ -47,17 +47,17 @@ fn evaluate_child<V: ReduceVTable>(
     ParentRuleSet::new().evaluate(alloc, &view, parent, slot)
 }
 
-/// Returns the answer of `array` itself, by the rows F1 to F3, C1 and N1: `None` exactly if none of them fits. The only error is
+/// Returns the answer of `array` itself, by the rows F1 to F3, C1 and N1: `None` exactly if none of them fits. Fails only with
 /// `OutOfMemory`.
 pub fn reduce(alloc: Global, array: &ArrayRef) -> VortexResult<Option<RawNode>>
     ensures answer { IfOk result (λ o. IsAnswer None array.now o) }
-    ensures err { IfErr result (λ e. e ≡ OutOfMemory) }
+    ensures err { OnlyOutOfMemory result }
 {
     by_encoding!(array.encoding(), evaluate(alloc, array))
 }
 
-/// Returns the answer of `child`, which stands in `slot` of `parent`, by the rows S1 to S5, F5 to F8, M1 and K1 to K4: `None` exactly if
-/// none of them fits there. The only error is `OutOfMemory`.
+/// Returns the answer of `child`, which stands in `slot` of `parent`, by the rows S1 to S5, F5 to F8, M1 and K1 to K4: `None`
+/// exactly if none of them fits there. Fails only with `OutOfMemory`.
 pub fn reduce_parent(
     alloc: Global,
     child: &ArrayRef,
@@ -66,7 +66,7 @@ pub fn reduce_parent(
 ) -> VortexResult<Option<RawNode>>
     requires { HasSlot slot child.now parent.now }
     ensures answer { IfOk result (λ o. IsAnswer (Some slot) parent.now o) }
-    ensures err { IfErr result (λ e. e ≡ OutOfMemory) }
+    ensures err { OnlyOutOfMemory result }
 {
     by_encoding!(child.encoding(), evaluate_child(alloc, child, parent, slot))
 }

@@ -1,6 +1,7 @@
 //! One step of a lazy filter.
 
 ghost use Rattle.std.specs.Prelude.{◌≡◌, ◌<◌, IfOk, IfErr, length, false};
+ghost use Rattle.vx_value.specs.Errors.{OnlyOutOfMemory};
 ghost use Rattle.vx_mask.specs.Masks.{bits_in, is_all_true};
 ghost use Rattle.vx_mask.specs.Places.{true_count};
 ghost use Rattle.vx_tree.specs.Tree.{len, datum, is_canonical, filter_of};
@@ -14,7 +15,7 @@ use vx_column::filter_canonical;
 use vx_mask::Mask;
 use vx_rule::push_slice;
 use vx_tree::{ArrayRef, Canonical, slice_canonical};
-use vx_value::{VortexError, VortexResult};
+use vx_value::VortexResult;
 
 /// Replaces the filter of `child` by `mask`: by the column without rows if the mask chooses none, by `child` if it chooses all,
 /// and by its slice, pushed down, if the chosen rows are consecutive. Otherwise requests `child` as a canonical column, and filters it once it
@@ -55,12 +56,12 @@ fn choose_or_wait(alloc: Global, child: &ArrayRef, mask: &Mask) -> VortexResult<
     }
 }
 
-/// Chooses rows of `column`, as a range of it if they are consecutive. The only error is `OutOfMemory`.
+/// Chooses rows of `column`, as a range of it if they are consecutive. Fails only with `OutOfMemory`.
 #[tactic(auto, using(vx_rule::proofs::FiltersLemmas::run_range, crate::proofs::FilterLemmas::run_kept))]
 fn filter_column(alloc: Global, column: &Canonical, mask: &Mask) -> VortexResult<Canonical>
     requires { length (bits_in mask.now) ≡ len (canonical_tree column.now) }
     ensures ok { IfOk result (λ c. KeepsExactly (filter_of (bits_in mask.now) (canonical_tree column.now)) (canonical_tree c)) }
-    ensures err { IfErr result (λ e. e ≡ VortexError.OutOfMemory) }
+    ensures err { OnlyOutOfMemory result }
 {
     column.as_array().well();
     match mask.contiguous_range() {

@@ -1,6 +1,7 @@
 //! The validity of every node.
 
-ghost use Rattle.std.specs.Prelude.{◌≡◌, ◌≤◌, IfOk, IfErr, length};
+ghost use Rattle.std.specs.Prelude.{◌≡◌, ◌≤◌, IfOk, length};
+ghost use Rattle.vx_value.specs.Errors.{OnlyOutOfMemory};
 ghost use Rattle.vx_mask.specs.Masks.{bits_in};
 ghost use Rattle.vx_tree.specs.Tree.{Tree, len, slice_of, filter_of, validity_in};
 ghost use Rattle.vx_tree.specs.Validities.{HasRows, validity_of};
@@ -17,24 +18,24 @@ use std::alloc::Global;
 use std::ops::Range;
 use vx_fn::{Operator, ScalarFnRef};
 use vx_mask::Mask;
-use vx_value::{Nullability, Scalar, VortexError, VortexResult};
+use vx_value::{Nullability, Scalar, VortexResult};
 
 impl ArrayRef {
-    /// Returns which rows are null. Reads no rows: arrays of validities are sliced, filtered and joined lazily. The only error
-    /// is `OutOfMemory`.
+    /// Returns which rows are null. Reads no rows: arrays of validities are sliced, filtered and joined lazily. Fails only with
+    /// `OutOfMemory`.
     pub fn validity(&self, alloc: Global) -> VortexResult<Validity>
         ensures ok { IfOk result (λ v. v ≡ node_validity self.now) }
-        ensures err { IfErr result (λ e. e ≡ VortexError.OutOfMemory) }
+        ensures err { OnlyOutOfMemory result }
     {
         node_validity(alloc, self)
     }
 }
 
-/// Returns which rows of `array` are null: a line for each encoding. The only error is `OutOfMemory`.
+/// Returns which rows of `array` are null: a line for each encoding. Fails only with `OutOfMemory`.
 #[tactic(auto, using(crate::proofs::ScalarFnLemmas::function_told))]
 fn node_validity(alloc: Global, array: &ArrayRef) -> VortexResult<Validity>
     ensures ok { IfOk result (λ v. v ≡ node_validity array.now) }
-    ensures err { IfErr result (λ e. e ≡ VortexError.OutOfMemory) }
+    ensures err { OnlyOutOfMemory result }
 {
     if !array.dtype().is_nullable() {
         return Ok(Validity::NonNullable);
@@ -77,21 +78,21 @@ fn constant_validity(scalar: &Scalar) -> Validity
     }
 }
 
-/// Returns the validity that `slot` tells in a nullable column. The only error is `OutOfMemory`.
+/// Returns the validity that `slot` tells in a nullable column. Fails only with `OutOfMemory`.
 fn slot_validity(slot: &Option<ArrayRef>) -> VortexResult<Validity>
     ensures ok { IfOk result (λ v. v ≡ validity_of Nullability.Nullable slot.now) }
-    ensures err { IfErr result (λ e. e ≡ VortexError.OutOfMemory) }
+    ensures err { OnlyOutOfMemory result }
 {
     Ok(child_to_validity(slot.as_ref(), Nullability::Nullable)?)
 }
 
-/// Returns the validity of the rows in `range`, which must be in order and in bounds, from that of all rows. The only error is
+/// Returns the validity of the rows in `range`, which must be in order and in bounds, from that of all rows. Fails only with
 /// `OutOfMemory`.
 fn slice_rows(alloc: Global, validity: Validity, range: Range<usize>) -> VortexResult<Validity>
     requires order { range.start ≤ range.end }
     requires bounds { (t : Tree) → validity ≡ ValidityArray t → range.end ≤ len t }
     ensures ok { IfOk result (λ v. v ≡ on_array (slice_of range.start range.end) validity) }
-    ensures err { IfErr result (λ e. e ≡ VortexError.OutOfMemory) }
+    ensures err { OnlyOutOfMemory result }
 {
     match validity {
         Validity::Array(array) => {
@@ -102,12 +103,12 @@ fn slice_rows(alloc: Global, validity: Validity, range: Range<usize>) -> VortexR
     }
 }
 
-/// Returns the validity of the rows that `mask`, which must have as many rows, chooses, from that of all rows. The only error is
+/// Returns the validity of the rows that `mask`, which must have as many rows, chooses, from that of all rows. Fails only with
 /// `OutOfMemory`.
 fn filter_rows(alloc: Global, validity: Validity, mask: &Mask) -> VortexResult<Validity>
     requires { (t : Tree) → validity ≡ ValidityArray t → length (bits_in mask.now) ≡ len t }
     ensures ok { IfOk result (λ v. v ≡ on_array (filter_of (bits_in mask.now)) validity) }
-    ensures err { IfErr result (λ e. e ≡ VortexError.OutOfMemory) }
+    ensures err { OnlyOutOfMemory result }
 {
     match validity {
         Validity::Array(array) => {
@@ -118,12 +119,12 @@ fn filter_rows(alloc: Global, validity: Validity, mask: &Mask) -> VortexResult<V
     }
 }
 
-/// Returns the validity of `len` rows that are null where `first` or `second` says so. The only error is `OutOfMemory`.
+/// Returns the validity of `len` rows that are null where `first` or `second` says so. Fails only with `OutOfMemory`.
 fn join(alloc: Global, first: Validity, second: Validity, len: usize) -> VortexResult<Validity>
     requires first { HasRows first len }
     requires second { HasRows second len }
     ensures ok { IfOk result (λ v. v ≡ joined len first second) }
-    ensures err { IfErr result (λ e. e ≡ VortexError.OutOfMemory) }
+    ensures err { OnlyOutOfMemory result }
 {
     match (first, second) {
         (Validity::AllInvalid, _) => Ok(Validity::AllInvalid),
@@ -137,7 +138,7 @@ fn join(alloc: Global, first: Validity, second: Validity, len: usize) -> VortexR
     }
 }
 
-/// Makes the lazy conjunction of two arrays, which must be non-nullable booleans, `len` rows each. The only error is
+/// Makes the lazy conjunction of two arrays, which must be non-nullable booleans, `len` rows each. Fails only with
 /// `OutOfMemory`. (own)
 #[tactic(auto, using(crate::proofs::JoinedLemmas::and_taken, crate::proofs::JoinedLemmas::and_made))]
 pub fn and_lazily(
@@ -149,7 +150,7 @@ pub fn and_lazily(
     requires first { HasRows (ValidityArray first) len }
     requires second { HasRows (ValidityArray second) len }
     ensures ok { IfOk result (λ a. a ≡ both_of len first second) }
-    ensures err { IfErr result (λ e. e ≡ VortexError.OutOfMemory) }
+    ensures err { OnlyOutOfMemory result }
 {
     let children = vec![in alloc; first, second]?;
     let function = ScalarFnRef::Binary(Operator::And);
@@ -157,10 +158,10 @@ pub fn and_lazily(
     Ok(both.into_array())
 }
 
-/// Returns the lazy test of `array`'s rows for null. The only error is `OutOfMemory`.
+/// Returns the lazy test of `array`'s rows for null. Fails only with `OutOfMemory`.
 fn test_lazily(alloc: Global, array: &ArrayRef) -> VortexResult<Validity>
     ensures ok { IfOk result (λ v. v ≡ ValidityArray (validity_in array.now)) }
-    ensures err { IfErr result (λ e. e ≡ VortexError.OutOfMemory) }
+    ensures err { OnlyOutOfMemory result }
 {
     let test = ScalarFnValidityArray::new(alloc, array.clone()?)?;
     Ok(Validity::Array(test.into_array()))

@@ -1,6 +1,7 @@
 //! Which rows of a column are null, and the slots that tell it.
 
-ghost use Rattle.std.specs.Prelude.{◌≡◌, ℕ, IfOk, IfErr, length, option_map, Some};
+ghost use Rattle.std.specs.Prelude.{◌≡◌, ℕ, IfOk, length, option_map, Some};
+ghost use Rattle.vx_value.specs.Errors.{OnlyOutOfMemory};
 ghost use Rattle.vx_tree.specs.Validities.{nullability_by, without_nulls, child_of, child_by, count_children, validity_of, array_refusal, HasRange};
 ghost use Rattle.vx_mask.specs.Masks.{bits_in};
 ghost use Rattle.vx_tree.specs.Tree.{constant_of};
@@ -17,7 +18,7 @@ use crate::types::{BOOLEANS, is_same_type};
 use std::alloc::{AllocError, Global};
 use std::ops::Range;
 use vx_mask::{BitBuffer, Mask};
-use vx_value::{ArgKind, Nullability, Scalar, VortexError, VortexResult};
+use vx_value::{ArgKind, Nullability, Scalar, VortexResult};
 
 /// Which rows of a column are null.
 #[derive(Clone, Debug, Drop)]
@@ -43,12 +44,12 @@ impl Validity {
         }
     }
 
-    /// Returns the validity of a nullable column whose rows are null where `bits` is false, in its one form: `AllValid` if no row
-    /// is, `AllInvalid` if there is a row and all are. The only error is `OutOfMemory`. (own)
+    /// Returns the validity of a nullable column whose rows are null where `bits` is false, in its one form: `AllValid` if no
+    /// row is, `AllInvalid` if there is a row and all are. Fails only with `OutOfMemory`. (own)
     pub fn from_bits(alloc: Global, bits: BitBuffer) -> VortexResult<Validity>
         ensures ok { IfOk result (λ v. child_of v (length bits) ≡ child_by bits) }
         ensures nullable { IfOk result (λ v. nullability_by v ≡ Nullability.Nullable) }
-        ensures err { IfErr result (λ e. e ≡ VortexError.OutOfMemory) }
+        ensures err { OnlyOutOfMemory result }
     {
         match Mask::from_bits(bits) {
             Mask::AllTrue(_) => Ok(Validity::AllValid),
@@ -110,7 +111,7 @@ pub fn validity_nchildren(validity: &Validity) -> usize
     }
 }
 
-/// Returns the child that tells `validity` in a column of `len` rows, or `None` if no row is null. The only error is
+/// Returns the child that tells `validity` in a column of `len` rows, or `None` if no row is null. Fails only with
 /// `OutOfMemory`.
 pub fn validity_to_child(
     alloc: Global,
@@ -118,7 +119,7 @@ pub fn validity_to_child(
     len: usize,
 ) -> VortexResult<Option<ArrayRef>>
     ensures ok { IfOk result (λ child. child ≡ child_of validity.now len) }
-    ensures err { IfErr result (λ e. e ≡ VortexError.OutOfMemory) }
+    ensures err { OnlyOutOfMemory result }
 {
     match validity {
         Validity::NonNullable | Validity::AllValid => Ok(None),
@@ -145,16 +146,16 @@ pub(crate) fn check_validity(validity: &Validity, len: usize) -> VortexResult<()
     check_that(array.len() == len, ArgKind::SlotLen { slot: 0 })
 }
 
-/// Returns the slot of a validity that tells the same of each of `len` rows, as `scalar` says. The only error is `OutOfMemory`.
+/// Returns the slot of a validity that tells the same of each of `len` rows, as `scalar` says. Fails only with `OutOfMemory`.
 fn repeated(alloc: Global, scalar: &Scalar, len: usize) -> VortexResult<Option<ArrayRef>>
     ensures ok { IfOk result (λ w. w ≡ Some (constant_of scalar.now len)) }
-    ensures err { IfErr result (λ e. e ≡ VortexError.OutOfMemory) }
+    ensures err { OnlyOutOfMemory result }
 {
     Ok(Some(ConstantArray::new(alloc, scalar.clone()?, len)?.into_array()))
 }
 
 /// Returns the validity of the rows in `range`, which must be in order and in bounds, from the slot of their column's. A
-/// constant stays one. The only error is `OutOfMemory`. (own)
+/// constant stays one. Fails only with `OutOfMemory`. (own)
 pub fn slice_validity(
     alloc: Global,
     validity: &Option<ArrayRef>,
@@ -162,7 +163,7 @@ pub fn slice_validity(
 ) -> VortexResult<Option<ArrayRef>>
     requires { HasRange range.start range.end validity.now }
     ensures ok { IfOk result (λ w. w ≡ option_map (part_of range.start range.end) validity.now) }
-    ensures err { IfErr result (λ e. e ≡ VortexError.OutOfMemory) }
+    ensures err { OnlyOutOfMemory result }
 {
     let Some(child) = validity else {
         return Ok(None);
@@ -173,8 +174,8 @@ pub fn slice_validity(
     Ok(Some(SliceArray::new(alloc, child.clone()?, range)?.into_array()))
 }
 
-/// Returns the validity of the rows that `mask` chooses, from the slot of their column's, which must have as many rows as `mask`.
-/// A constant stays one. The only error is `OutOfMemory`. (own)
+/// Returns the validity of the rows that `mask` chooses, from the slot of their column's, which must have as many rows as
+/// `mask`. A constant stays one. Fails only with `OutOfMemory`. (own)
 pub fn choose_validity(
     alloc: Global,
     validity: &Option<ArrayRef>,
@@ -182,7 +183,7 @@ pub fn choose_validity(
 ) -> VortexResult<Option<ArrayRef>>
     requires { HasLen (length (bits_in mask.now)) validity.now }
     ensures ok { IfOk result (λ w. w ≡ option_map (choice_of (bits_in mask.now)) validity.now) }
-    ensures err { IfErr result (λ e. e ≡ VortexError.OutOfMemory) }
+    ensures err { OnlyOutOfMemory result }
 {
     let Some(child) = validity else {
         return Ok(None);

@@ -1,4 +1,5 @@
 pub mod Codes
+pub mod Errors
 pub mod Bytes
 pub mod Types
 pub mod Nullabilities

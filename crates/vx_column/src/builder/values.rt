@@ -1,7 +1,8 @@
 //! The values of a column that grows.
 
-ghost use Rattle.std.specs.Prelude.{◌≡◌, ◌+◌, ◌<◌, ◌^◌, ◌∷◌, [], ◌++◌, true, IfOk, IfErr, OnOk, OnErr, length, replicate};
+ghost use Rattle.std.specs.Prelude.{◌≡◌, ◌+◌, ◌<◌, ◌^◌, ◌∷◌, [], ◌++◌, true, IfOk, OnOk, OnErr, length, replicate};
 ghost use Rattle.std.specs.List.{list_all};
+ghost use Rattle.vx_value.specs.Errors.{OnlyOutOfMemory};
 ghost use Rattle.vx_value.specs.IsOf.{is_of};
 ghost use Rattle.vx_tree.specs.Canonicals.{canonical_tree};
 ghost use Rattle.vx_tree.specs.Validities.{HasRows};
@@ -14,7 +15,7 @@ use crate::rows::{bool_column, decimal_column, primitive_column, varbinview_colu
 use std::alloc::{AllocError, Global};
 use vx_mask::BitBuilder;
 use vx_tree::{BinaryBuilder, Canonical, NativeVec, NullArray, Validity};
-use vx_value::{DType, DecimalType, PType, ScalarValue, VortexError, VortexResult};
+use vx_value::{DType, DecimalType, PType, ScalarValue, VortexResult};
 
 /// A value for each row, under a null too, by how the column's type stores them.
 #[derive(Debug, Drop)]
@@ -95,8 +96,8 @@ impl Values {
             Values::Bytes(rows) => rows.push_empty(count),
         }
     }
-    /// Returns the column of the values, which are of type `dtype`, whose null rows `validity` tells, without copying them. The only
-    /// error is `OutOfMemory`.
+    /// Returns the column of the values, which are of type `dtype`, whose null rows `validity` tells, without copying them.
+    /// Fails only with `OutOfMemory`.
     pub(super) fn finish(
         self,
         alloc: Global,
@@ -107,7 +108,7 @@ impl Values {
         requires typed { list_all (is_of (type_of dtype.now)) (stored_values self) ≡ true }
         requires sized { HasRows validity.now (length (stored_values self)) }
         ensures ok { IfOk result (λ c. IsColumnOf (storage_of (type_of dtype.now)) self validity.now (canonical_tree c)) }
-        ensures err { IfErr result (λ e. e ≡ VortexError.OutOfMemory) }
+        ensures err { OnlyOutOfMemory result }
     {
         match self {
             Values::Nulls(rows) => Ok(Canonical::Null(NullArray::new(alloc, rows)?)),

@@ -2,6 +2,7 @@
 
 ghost use Rattle.std.specs.Prelude.{◌≡◌, ◌<◌, ℕ, IfOk, IfErr, false, replicate};
 ghost use Rattle.std.specs.List.{AllZip};
+ghost use Rattle.vx_value.specs.Errors.{OnlyOutOfMemory};
 ghost use Rattle.vx_value.specs.Types.{nullability_of};
 ghost use Rattle.vx_tree.specs.Canonicals.{columnar_tree};
 ghost use Rattle.vx_tree.specs.Tree.{dtype, len};
@@ -15,7 +16,7 @@ use crate::rows::valid::ValidRows;
 use std::alloc::Global;
 use vx_mask::{BitBuffer, BitOperand};
 use vx_tree::{ArrayKind, ArrayRef, BinaryViews, Columnar, DecimalValues, PrimitiveValues};
-use vx_value::{DType, DecimalDType, PType, Scalar, Storage, VortexError, VortexResult};
+use vx_value::{DType, DecimalDType, PType, Scalar, Storage, VortexResult};
 
 /// An argument: its rows, and which of them aren't null.
 #[derive(Drop)]
@@ -231,11 +232,11 @@ pub fn unscaled_of(scalar: &Scalar) -> i128
     }
 }
 
-/// Returns the rows of a constant of `len` rows, each `scalar`. The only error is `OutOfMemory`.
+/// Returns the rows of a constant of `len` rows, each `scalar`. Fails only with `OutOfMemory`.
 fn constant_argument(alloc: Global, scalar: &Scalar, len: usize) -> VortexResult<Argument<'_>>
     ensures rows { IfOk result (λ a. IsRepeated scalar.now a.rows) }
     ensures valid { IfOk result (λ a. IsRepeatedValidity scalar.now len a.valid) }
-    ensures err { IfErr result (λ e. e ≡ VortexError.OutOfMemory) }
+    ensures err { OnlyOutOfMemory result }
 {
     let dtype = scalar.dtype();
     let rows = repeated_rows(scalar);
@@ -247,10 +248,10 @@ fn constant_argument(alloc: Global, scalar: &Scalar, len: usize) -> VortexResult
     }
 }
 
-/// Returns `rows`, none of which is valid, as an argument of `len` rows. The only error is `OutOfMemory`.
+/// Returns `rows`, none of which is valid, as an argument of `len` rows. Fails only with `OutOfMemory`.
 fn null_argument(alloc: Global, rows: ArgumentRows<'_>, len: usize) -> VortexResult<Argument<'_>>
     ensures ok { IfOk result (λ a. a ≡ record { rows = rows.entry; valid = Bits (replicate len false) }) }
-    ensures err { IfErr result (λ e. e ≡ VortexError.OutOfMemory) }
+    ensures err { OnlyOutOfMemory result }
 {
     let bits = BitBuffer::repeat(alloc, false, len)?;
     let valid = ValidRows::Bits(bits);

@@ -1,6 +1,7 @@
 //! Columns of stored values.
 
-ghost use Rattle.std.specs.Prelude.{◌≡◌, length, true, IfOk, IfErr};
+ghost use Rattle.std.specs.Prelude.{◌≡◌, length, true, IfOk};
+ghost use Rattle.vx_value.specs.Errors.{OnlyOutOfMemory};
 ghost use Rattle.vx_tree.specs.Natives.{values_of, ptype_of};
 ghost use Rattle.vx_tree.specs.DecimalNumbers.{numbers_of, decimal_type_of};
 ghost use Rattle.vx_tree.specs.ColumnTypes.{are_decimals_of, are_bytes_of};
@@ -16,21 +17,21 @@ use vx_tree::{
     BinaryViews, BoolArray, Canonical, DecimalArray, DecimalValues, PrimitiveArray,
     PrimitiveValues, Validity, VarBinViewArray,
 };
-use vx_value::{DType, DecimalDType, Storage, VortexError, VortexResult};
+use vx_value::{DType, DecimalDType, Storage, VortexResult};
 
-/// Makes the column of `bits`, whose null rows `validity` tells. The only error is `OutOfMemory`.
+/// Makes the column of `bits`, whose null rows `validity` tells. Fails only with `OutOfMemory`.
 #[tactic(auto, using(crate::proofs::NullRowsLemmas::flat_taken))]
 pub fn bool_column(alloc: Global, bits: BitBuffer, validity: &Validity) -> VortexResult<Canonical>
     requires { HasRows validity.now (length bits) }
     ensures ok { IfOk result (λ c. canonical_tree c ≡ boolean_column bits validity.now) }
-    ensures err { IfErr result (λ e. e ≡ VortexError.OutOfMemory) }
+    ensures err { OnlyOutOfMemory result }
 {
     let dtype = DType::Bool(validity.nullability());
     let column = BoolArray::try_new(alloc, dtype, bits, validity)?;
     Ok(Canonical::Bool(column))
 }
 
-/// Makes the column of `values`, whose null rows `validity` tells. The only error is `OutOfMemory`.
+/// Makes the column of `values`, whose null rows `validity` tells. Fails only with `OutOfMemory`.
 pub fn primitive_column(
     alloc: Global,
     values: PrimitiveValues,
@@ -38,15 +39,15 @@ pub fn primitive_column(
 ) -> VortexResult<Canonical>
     requires { HasRows validity.now (length (values_of values)) }
     ensures ok { IfOk result (λ c. canonical_tree c ≡ integer_column (ptype_of values) (values_of values) validity.now) }
-    ensures err { IfErr result (λ e. e ≡ VortexError.OutOfMemory) }
+    ensures err { OnlyOutOfMemory result }
 {
     let dtype = DType::Primitive(values.ptype(), validity.nullability());
     let column = PrimitiveArray::try_new(alloc, dtype, values, validity)?;
     Ok(Canonical::Primitive(column))
 }
 
-/// Makes the column of `values`, decimals of type `decimal` without their points, whose null rows `validity` tells. The only error is
-/// `OutOfMemory`.
+/// Makes the column of `values`, decimals of type `decimal` without their points, whose null rows `validity` tells. Fails only
+/// with `OutOfMemory`.
 #[tactic(auto, using(crate::proofs::NullRowsLemmas::decimals_taken))]
 pub fn decimal_column(
     alloc: Global,
@@ -57,14 +58,14 @@ pub fn decimal_column(
     requires sized { HasRows validity.now (length (numbers_of values)) }
     requires stored { are_decimals_of (stored_decimals decimal) (decimal_type_of values) (numbers_of values) ≡ true }
     ensures ok { IfOk result (λ c. canonical_tree c ≡ decimal_column decimal (decimal_type_of values) (numbers_of values) validity.now) }
-    ensures err { IfErr result (λ e. e ≡ VortexError.OutOfMemory) }
+    ensures err { OnlyOutOfMemory result }
 {
     let dtype = DType::Decimal(decimal, validity.nullability());
     let column = DecimalArray::new_unchecked(alloc, dtype, values, validity)?;
     Ok(Canonical::Decimal(column))
 }
 
-/// Makes the column of `rows`, of values that are stored so, whose null rows `validity` tells. The only error is `OutOfMemory`.
+/// Makes the column of `rows`, of values that are stored so, whose null rows `validity` tells. Fails only with `OutOfMemory`.
 #[tactic(auto, using(crate::proofs::NullRowsLemmas::bytes_taken))]
 pub fn varbinview_column(
     alloc: Global,
@@ -75,7 +76,7 @@ pub fn varbinview_column(
     requires sized { HasRows validity.now (length rows) }
     requires stored { are_bytes_of storage rows ≡ true }
     ensures ok { IfOk result (λ c. canonical_tree c ≡ bytes_column storage rows validity.now) }
-    ensures err { IfErr result (λ e. e ≡ VortexError.OutOfMemory) }
+    ensures err { OnlyOutOfMemory result }
 {
     let dtype = bytes_type(storage, validity.nullability());
     let column = VarBinViewArray::new_unchecked(alloc, dtype, rows, validity)?;

@@ -1,6 +1,7 @@
 //! Single rows of a tree.
 
 ghost use Rattle.std.specs.Prelude.{◌≡◌, ◌⊎◌, ◌≤◌, ◌<◌, IfOk, IfErr, IfSome, OnOk, [], length, map, slice_get, slice_index_or, Some, true, false};
+ghost use Rattle.vx_value.specs.Errors.{OnlyOutOfMemory};
 ghost use Rattle.vx_value.specs.Types as type;
 ghost use Rattle.vx_value.specs.Types.{nullability_of};
 ghost use Rattle.vx_value.specs.View.{type_of};
@@ -185,13 +186,13 @@ fn unless_null(
     }
 }
 
-/// Returns `stored` if its row is `valid`, else null of its type, which must be nullable. The only error is `OutOfMemory`.
+/// Returns `stored` if its row is `valid`, else null of its type, which must be nullable. Fails only with `OutOfMemory`.
 #[inline]
 fn kept_or_null(stored: Scalar, valid: bool) -> VortexResult<Scalar>
     requires { nullability_of stored.of_type ≡ Nullability.Nullable }
     ensures ok { IfOk result (λ s. value s.value ≡ null_unless valid (value stored.value)) }
     ensures typed { IfOk result (λ s. s.of_type ≡ stored.of_type) }
-    ensures err { IfErr result (λ e. e ≡ VortexError.OutOfMemory) }
+    ensures err { OnlyOutOfMemory result }
 {
     if valid {
         Ok(stored)
@@ -200,12 +201,12 @@ fn kept_or_null(stored: Scalar, valid: bool) -> VortexResult<Scalar>
     }
 }
 
-/// Returns null of type `dtype`, which must be nullable. The only error is `OutOfMemory`.
+/// Returns null of type `dtype`, which must be nullable. Fails only with `OutOfMemory`.
 #[inline]
 fn null_of(dtype: &DType) -> VortexResult<Scalar>
     requires { nullability_of (type_of dtype.now) ≡ Nullability.Nullable }
     ensures ok { IfOk result (λ s. s ≡ record { of_type = type_of dtype.now; value = null }) }
-    ensures err { IfErr result (λ e. e ≡ VortexError.OutOfMemory) }
+    ensures err { OnlyOutOfMemory result }
 {
     Ok(Scalar::null(dtype.clone()?))
 }
@@ -289,13 +290,13 @@ fn decimal_at(values: &DecimalValues, index: usize, array: &ArrayRef) -> Scalar
     Scalar::decimal(values.wide_at(index), *decimal, *nullability)
 }
 
-/// Returns the bytes that a column of type `dtype`, one of text or bytes, stores in row `index`. The only error is `OutOfMemory`.
+/// Returns the bytes that a column of type `dtype`, one of text or bytes, stores in row `index`. Fails only with `OutOfMemory`.
 fn bytes_at(alloc: Global, rows: &BinaryViews, index: usize, dtype: &DType) -> VortexResult<Scalar>
     requires index { index < length rows.now }
     requires typed { is_of (type_of dtype.now) (bytes (slice_index_or rows.now index [])) ≡ true }
     ensures row { IfOk result (λ s. slice_get (map (λ r. value (bytes r)) rows.now) index ≡ Some (value s.value)) }
     ensures typed { IfOk result (λ s. s.of_type ≡ type_of dtype.now) }
-    ensures err { IfErr result (λ e. e ≡ VortexError.OutOfMemory) }
+    ensures err { OnlyOutOfMemory result }
 {
     let bytes = ByteBuffer::copy_from(alloc, rows.value(index))?;
     let dtype = dtype.clone()?;

@@ -1,6 +1,7 @@
 //! Columns that were opened once, read row by row.
 
-ghost use Rattle.std.specs.Prelude.{◌≡◌, ◌<◌, ℕ, true, IfOk, IfErr};
+ghost use Rattle.std.specs.Prelude.{◌≡◌, ◌<◌, ℕ, true, IfOk};
+ghost use Rattle.vx_value.specs.Errors.{OnlyOutOfMemory};
 ghost use Rattle.vx_value.specs.Cell.{value};
 ghost use Rattle.vx_value.specs.Values.{bytes as bytes_value};
 ghost use Rattle.vx_value.specs.IsOf.{in_range};
@@ -16,18 +17,16 @@ use crate::rows::argument::{
 use crate::rows::valid::ValidRows;
 use std::alloc::Global;
 use vx_mask::BitOperand;
-use vx_value::{
-    ByteBuffer, DType, Nullability, Scalar, ScalarValue, Storage, VortexError, VortexResult,
-};
+use vx_value::{ByteBuffer, DType, Nullability, Scalar, ScalarValue, Storage, VortexResult};
 
 impl Argument<'_> {
-    /// Returns the value of row `index`, which must exist. The only error is `OutOfMemory`. (own)
+    /// Returns the value of row `index`, which must exist. Fails only with `OutOfMemory`. (own)
     #[inline]
     pub fn scalar(&self, alloc: Global, index: usize) -> VortexResult<Scalar>
         requires { (n : ℕ) × (index < n) × IsSized n self.now }
         ensures row { IfOk result (λ s. value s.value ≡ cell_at self.now index) }
         ensures typed { IfOk result (λ s. s.of_type ≡ type_of_argument self.now) }
-        ensures err { IfErr result (λ e. e ≡ VortexError.OutOfMemory) }
+        ensures err { OnlyOutOfMemory result }
     {
         match &self.valid {
             ValidRows::All(nullability) => self.rows.scalar(alloc, *nullability, index),
@@ -55,14 +54,14 @@ impl ArgumentRows<'_> {
         }
     }
 
-    /// Returns the value that is stored in row `index`, which must exist, of a column of this nullability. The only error is
+    /// Returns the value that is stored in row `index`, which must exist, of a column of this nullability. Fails only with
     /// `OutOfMemory`.
     #[inline]
     fn scalar(self, alloc: Global, nullability: Nullability, index: usize) -> VortexResult<Scalar>
         requires { (n : ℕ) × (index < n) × AreStored nullability self n }
         ensures row { IfOk result (λ s. s.value ≡ value_at self.entry index) }
         ensures typed { IfOk result (λ s. s.of_type ≡ type_of_rows nullability self.entry) }
-        ensures err { IfErr result (λ e. e ≡ VortexError.OutOfMemory) }
+        ensures err { OnlyOutOfMemory result }
     {
         match self {
             ArgumentRows::Nulls => Ok(Scalar::null(DType::Null)),
@@ -111,7 +110,7 @@ impl DecimalOperand<'_> {
     }
 }
 
-/// Returns row `index` of `bytes`, which must exist, as a value of this nullability. The only error is `OutOfMemory`.
+/// Returns row `index` of `bytes`, which must exist, as a value of this nullability. Fails only with `OutOfMemory`.
 fn bytes_scalar(
     alloc: Global,
     bytes: &BytesOperand<'_>,
@@ -121,7 +120,7 @@ fn bytes_scalar(
     requires { (n : ℕ) × (index < n) × AreBytes bytes.now n }
     ensures row { IfOk result (λ s. s.value ≡ bytes_value (bytes_in bytes.now index)) }
     ensures typed { IfOk result (λ s. s.of_type ≡ with_nullability nullability (bytes_type bytes.now.storage)) }
-    ensures err { IfErr result (λ e. e ≡ VortexError.OutOfMemory) }
+    ensures err { OnlyOutOfMemory result }
 {
     let value = ByteBuffer::copy_from(alloc, bytes.value(index))?;
     let dtype = bytes_type(bytes.storage, nullability);

@@ -1,6 +1,7 @@
 //! The rows of columns that aren't null.
 
-ghost use Rattle.std.specs.Prelude.{◌≡◌, ◌&&◌, ◌<◌, ℕ, length, IfOk, IfErr};
+ghost use Rattle.std.specs.Prelude.{◌≡◌, ◌&&◌, ◌<◌, ℕ, length, IfOk};
+ghost use Rattle.vx_value.specs.Errors.{OnlyOutOfMemory};
 ghost use Rattle.vx_value.specs.Nullabilities.{union};
 ghost use Rattle.vx_mask.specs.Logic.{bit_row};
 ghost use Rattle.vx_mask.specs.Operands.{bit_in, HasBits};
@@ -9,7 +10,7 @@ ghost use Rattle.vx_column.specs.ValidRows.{is_valid, HasValidity, nullability_i
 use std::alloc::{AllocError, Global};
 use vx_mask::{BitAnd, BitBuffer, BitOperand};
 use vx_tree::Validity;
-use vx_value::{Nullability, VortexError, VortexResult};
+use vx_value::{Nullability, VortexResult};
 
 /// The rows that aren't null.
 #[derive(Debug, Drop)]
@@ -81,12 +82,12 @@ impl ValidRows {
         }
     }
 
-    /// Returns the validity of a column of `len` rows of which these are valid. The only error is `OutOfMemory`.
+    /// Returns the validity of a column of `len` rows of which these are valid. Fails only with `OutOfMemory`.
     #[tactic(auto, using(crate::proofs::KeepsLemmas::any_rows, crate::proofs::ValidRowsLemmas::bits_rows))]
     pub fn validity(&self, alloc: Global, len: usize) -> VortexResult<Validity>
         requires { HasValidity self.now len }
         ensures ok { IfOk result (IsValidityOf self.now len) }
-        ensures err { IfErr result (λ e. e ≡ VortexError.OutOfMemory) }
+        ensures err { OnlyOutOfMemory result }
     {
         match self {
             ValidRows::All(nullability) => Ok(Validity::from(*nullability)),

@@ -1,6 +1,7 @@
 //! Values in place of nulls.
 
-ghost use Rattle.std.specs.Prelude.{◌≡◌, IfOk, IfErr, IsSome, Some, ◌∷◌, [], option_map};
+ghost use Rattle.std.specs.Prelude.{◌≡◌, IfOk, IsSome, Some, ◌∷◌, [], option_map};
+ghost use Rattle.vx_value.specs.Errors.{OnlyOutOfMemory};
 ghost use Rattle.vx_value.specs.View.{type_of};
 ghost use Rattle.vx_value.specs.Cell.{value};
 ghost use Rattle.vx_fn.specs.FillNull.{fill_null};
@@ -8,7 +9,7 @@ ghost use Rattle.vx_fn.specs.FillNull.{fill_null};
 use crate::retyped::retyped;
 use crate::row_function::RowFunction;
 use std::alloc::AllocError;
-use vx_value::{DType, Id, Scalar, VortexError, VortexResult};
+use vx_value::{DType, Id, Scalar, VortexResult};
 
 /// `input`, or the argument `fill_value` if it is null. (own)
 pub(crate) struct FillNull;
@@ -37,12 +38,12 @@ impl RowFunction for FillNull {
     }
 }
 
-/// Returns `input`, or `fill_value` if it is null. The only error is `OutOfMemory`.
+/// Returns `input`, or `fill_value` if it is null. Fails only with `OutOfMemory`.
 fn filled(input: &Scalar, fill_value: &Scalar) -> VortexResult<Scalar>
     requires { IsSome (fill_null.types (input.now.of_type ∷ fill_value.now.of_type ∷ [])) }
     ensures typed { IfOk result (λ s. fill_null.types (input.now.of_type ∷ fill_value.now.of_type ∷ []) ≡ Some s.of_type) }
     ensures value { IfOk result (λ s. fill_null.value s.of_type (input.now.value ∷ fill_value.now.value ∷ []) ≡ value s.value) }
-    ensures err { IfErr result (λ e. e ≡ VortexError.OutOfMemory) }
+    ensures err { OnlyOutOfMemory result }
 {
     match input.value() {
         Some(_) => retyped(input, fill_value.dtype().clone()?),

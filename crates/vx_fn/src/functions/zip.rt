@@ -1,6 +1,7 @@
 //! One value where a mask is true, another where it is false.
 
-ghost use Rattle.std.specs.Prelude.{◌≡◌, ◌⊎◌, IfOk, IfErr, IsSome, Some, ◌∷◌, [], option_map};
+ghost use Rattle.std.specs.Prelude.{◌≡◌, ◌⊎◌, IfOk, IsSome, Some, ◌∷◌, [], option_map};
+ghost use Rattle.vx_value.specs.Errors.{OnlyOutOfMemory};
 ghost use Rattle.vx_value.specs.View.{type_of};
 ghost use Rattle.vx_value.specs.Cell.{value};
 ghost use Rattle.vx_fn.specs.Zip.{zip};
@@ -8,7 +9,7 @@ ghost use Rattle.vx_fn.specs.Zip.{zip};
 use crate::retyped::retyped;
 use crate::row_function::RowFunction;
 use std::alloc::AllocError;
-use vx_value::{DType, Id, Scalar, VortexError, VortexResult};
+use vx_value::{DType, Id, Scalar, VortexResult};
 
 /// `if_true` if the argument `mask` is true, else `if_false`. (own)
 pub(crate) struct Zip;
@@ -37,12 +38,12 @@ impl RowFunction for Zip {
     }
 }
 
-/// Returns `if_true` if `choice` is true, else `if_false`. The only error is `OutOfMemory`.
+/// Returns `if_true` if `choice` is true, else `if_false`. Fails only with `OutOfMemory`.
 fn zipped(if_true: &Scalar, if_false: &Scalar, choice: &Scalar) -> VortexResult<Scalar>
     requires { IsSome (zip.types (if_true.now.of_type ∷ if_false.now.of_type ∷ choice.now.of_type ∷ [])) }
     ensures typed { IfOk result (λ s. zip.types (if_true.now.of_type ∷ if_false.now.of_type ∷ choice.now.of_type ∷ []) ≡ Some s.of_type) }
     ensures value { IfOk result (λ s. zip.value s.of_type (if_true.now.value ∷ if_false.now.value ∷ choice.now.value ∷ []) ≡ value s.value) }
-    ensures err { IfErr result (λ e. e ≡ VortexError.OutOfMemory) }
+    ensures err { OnlyOutOfMemory result }
 {
     let dtype = if_true
         .dtype()

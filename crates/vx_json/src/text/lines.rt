@@ -1,7 +1,8 @@
 //! The lines of a column's rows.
 
-ghost use Rattle.std.specs.Prelude.{◌≡◌, ◌<◌, ◌++◌, ℕ, pos, List, length, map, slice_index_or, IfErr, OnOk, string_bytes};
+ghost use Rattle.std.specs.Prelude.{◌≡◌, ◌<◌, ◌++◌, ℕ, pos, List, length, map, slice_index_or, OnOk, string_bytes};
 ghost use Rattle.std.specs.Fmt.{signed_decimal};
+ghost use Rattle.vx_value.specs.Errors.{OnlyOutOfMemory};
 ghost use Rattle.vx_mask.specs.Logic.{bit_row};
 ghost use Rattle.vx_tree.specs.Natives.{values_of, ptype_of};
 ghost use Rattle.vx_column.specs.Arguments.{IsSized};
@@ -14,7 +15,7 @@ use crate::text::rows::{push_integer, push_row};
 use vx_column::{Argument, ArgumentRows, IntegerOperand, IntegerRows, ValidRows};
 use vx_mask::{BitBuffer, BitOperand};
 use vx_tree::{NativeInteger, PrimitiveValues, by_type};
-use vx_value::{VortexError, VortexResult};
+use vx_value::VortexResult;
 
 /// Rows that each have a text. (own)
 trait TextRows {
@@ -24,11 +25,12 @@ trait TextRows {
     // the text of row i
     ghost text_at: { Self → ℕ → List ℕ };
 
-    /// Appends the text of row `index`, which must exist. The only error is `OutOfMemory`; part of the text may have been appended.
+    /// Appends the text of row `index`, which must exist. Fails only with `OutOfMemory`; part of the text may have been
+    /// appended.
     fn push_text(&self, text: &mut String, index: usize) -> VortexResult<()>
         requires { has_row self.now index }
         ensures ok { OnOk result (string_bytes text.new ≡ string_bytes text.old ++ text_at self.now index) }
-        ensures err { IfErr result (λ e. e ≡ VortexError.OutOfMemory) };
+        ensures err { OnlyOutOfMemory result };
 }
 
 /// The texts of a column of booleans, without a look at which rows are null.
@@ -75,8 +77,8 @@ impl TextRows for Argument<'_> {
     }
 }
 
-/// Appends a line for each of `len` rows: its text, or `null` unless it is `valid`. The only error is `OutOfMemory`; some of the lines
-/// may have been appended.
+/// Appends a line for each of `len` rows: its text, or `null` unless it is `valid`. Fails only with `OutOfMemory`; some of the
+/// lines may have been appended.
 fn push_lines<R: TextRows>(
     text: &mut String,
     rows: &R,
@@ -86,7 +88,7 @@ fn push_lines<R: TextRows>(
     requires rows { (i : ℕ) → i < len → R.has_row rows.now i }
     requires valid { HasValidity valid.now len }
     ensures ok { OnOk result (string_bytes text.new ≡ string_bytes text.old ++ lines (is_valid valid.now) (R.text_at rows.now) len) }
-    ensures err { IfErr result (λ e. e ≡ VortexError.OutOfMemory) }
+    ensures err { OnlyOutOfMemory result }
 {
     for index in 0..len {
         if valid.is_valid(index) {
@@ -108,7 +110,7 @@ fn push_natives<T: NativeInteger + PrintedNumber>(
     requires kind { ptype_of values.now ≡ T.kind }
     requires valid { HasValidity valid.now (length (values_of values.now)) }
     ensures ok { OnOk result (string_bytes text.new ≡ string_bytes text.old ++ integer_lines valid.now (values_of values.now)) }
-    ensures err { IfErr result (λ e. e ≡ VortexError.OutOfMemory) }
+    ensures err { OnlyOutOfMemory result }
 {
     let integers = Integers {
         values: T::numbers(values).as_slice(),
@@ -121,17 +123,17 @@ fn push_natives<T: NativeInteger + PrintedNumber>(
 fn push_integers(text: &mut String, values: &PrimitiveValues, valid: &ValidRows) -> VortexResult<()>
     requires { HasValidity valid.now (length (values_of values.now)) }
     ensures ok { OnOk result (string_bytes text.new ≡ string_bytes text.old ++ integer_lines valid.now (values_of values.now)) }
-    ensures err { IfErr result (λ e. e ≡ VortexError.OutOfMemory) }
+    ensures err { OnlyOutOfMemory result }
 {
     by_type!(values.ptype(), push_natives(text, values, valid))
 }
 
-/// Appends a line for each of the `len` rows of `argument`. Booleans and integers are written without a scalar. The only error is
+/// Appends a line for each of the `len` rows of `argument`. Booleans and integers are written without a scalar. Fails only with
 /// `OutOfMemory`; some of the lines may have been appended.
 pub(crate) fn push_rows(text: &mut String, argument: &Argument<'_>, len: usize) -> VortexResult<()>
     requires { IsSized len argument.now }
     ensures ok { OnOk result (string_bytes text.new ≡ string_bytes text.old ++ row_lines argument.now len) }
-    ensures err { IfErr result (λ e. e ≡ VortexError.OutOfMemory) }
+    ensures err { OnlyOutOfMemory result }
 {
     let valid = &argument.valid;
     match argument.rows {

@@ -104,7 +104,7 @@ fn push_hex(text: &mut String, bytes: &[u8]) -> Result<(), AllocError>
     push_quoted(text, digits.as_str())
 }
 
-/// Returns the text of a row, as `push_row` appends it. The only error is `OutOfMemory`. (own)
+/// Returns the text of a row, as `push_row` appends it. Fails only with `OutOfMemory`. (own)
 pub fn row_text(alloc: Global, scalar: &Scalar) -> VortexResult<String>
     ensures { IfOk result (λ s. string_bytes s ≡ row_text scalar.now.of_type scalar.now.value) }
 {

@@ -17,7 +17,8 @@ use vx_value::{DType, VortexResult};
 
 /// Encodings that have a row for a mask of them.
 pub trait MaskReduce: VTable {
-    /// Returns what stands for `parent`, the mask of `array` by `mask`: `None` exactly if no row fits. The only error is `OutOfMemory`.
+    /// Returns what stands for `parent`, the mask of `array` by `mask`: `None` exactly if no row fits. Fails only with
+    /// `OutOfMemory`.
     fn mask(
         alloc: Global,
         array: &ArrayView<'_, Self>,
@@ -31,7 +32,8 @@ pub trait MaskReduce: VTable {
 
 /// Encodings that have a row for a cast of them.
 pub trait CastReduce: VTable {
-    /// Returns what stands for `parent`, the cast of `array` to `dtype`: `None` exactly if no row fits. The only error is `OutOfMemory`.
+    /// Returns what stands for `parent`, the cast of `array` to `dtype`: `None` exactly if no row fits. Fails only with
+    /// `OutOfMemory`.
     fn cast(
         alloc: Global,
         array: &ArrayView<'_, Self>,
@@ -45,7 +47,7 @@ pub trait CastReduce: VTable {
 
 /// Encodings that have a row for a negation of them.
 pub trait NotReduce: VTable {
-    /// Returns what stands for `parent`, the negation of `array`: `None` exactly if no row fits. The only error is `OutOfMemory`.
+    /// Returns what stands for `parent`, the negation of `array`: `None` exactly if no row fits. Fails only with `OutOfMemory`.
     fn invert(
         alloc: Global,
         array: &ArrayView<'_, Self>,
@@ -58,8 +60,8 @@ pub trait NotReduce: VTable {
 
 /// Encodings that have a row for bounds of them.
 pub trait BetweenReduce: VTable {
-    /// Returns what stands for `parent`, whether `array` lies between `lower` and `upper`: `None` exactly if no row fits. The only error
-    /// is `OutOfMemory`.
+    /// Returns what stands for `parent`, whether `array` lies between `lower` and `upper`: `None` exactly if no row fits. Fails
+    /// only with `OutOfMemory`.
     fn between(
         alloc: Global,
         array: &ArrayView<'_, Self>,
@@ -75,7 +77,8 @@ pub trait BetweenReduce: VTable {
 
 /// Encodings that have a row for a filling of their nulls.
 pub trait FillNullReduce: VTable {
-    /// Returns what stands for `parent`, the filling of nulls of `array` by `fill_value`: `None` exactly if no row fits. The only error is `OutOfMemory`.
+    /// Returns what stands for `parent`, the filling of nulls of `array` by `fill_value`: `None` exactly if no row fits. Fails
+    /// only with `OutOfMemory`.
     fn fill_null(
         alloc: Global,
         array: &ArrayView<'_, Self>,

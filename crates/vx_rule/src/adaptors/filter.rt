@@ -14,8 +14,8 @@ use vx_value::VortexResult;
 
 /// Encodings that have a row for a filter.
 pub trait FilterReduce: VTable {
-    /// Returns what stands for the filter of `array` by `mask`, which must have as many rows: `None` exactly if no row fits. The only
-    /// error is `OutOfMemory`.
+    /// Returns what stands for the filter of `array` by `mask`, which must have as many rows: `None` exactly if no row fits.
+    /// Fails only with `OutOfMemory`.
     fn filter(
         alloc: Global,
         array: &ArrayView<'_, Self>,

@@ -15,8 +15,8 @@ use vx_value::VortexResult;
 
 /// Encodings through which a slice passes.
 pub trait SliceReduce: VTable {
-    /// Returns what stands for the slice of `array` at `range`, which must be in bounds and have rows, but not all: `None` exactly if no
-    /// row fits. The only error is `OutOfMemory`.
+    /// Returns what stands for the slice of `array` at `range`, which must be in bounds and have rows, but not all: `None`
+    /// exactly if no row fits. Fails only with `OutOfMemory`.
     fn slice(
         alloc: Global,
         array: &ArrayView<'_, Self>,
@@ -51,8 +51,8 @@ impl<V: SliceReduce> ArrayParentReduceRule<V> for SliceReduceAdaptor<V> {
     }
 }
 
-/// Returns what stands for the slice of `child` at `range`, which must be in order and in bounds: `None` exactly if no row fits. The only
-/// error is `OutOfMemory`.
+/// Returns what stands for the slice of `child` at `range`, which must be in order and in bounds: `None` exactly if no row
+/// fits. Fails only with `OutOfMemory`.
 fn slice_of_child<V: SliceReduce>(
     alloc: Global,
     child: &ArrayView<'_, V>,

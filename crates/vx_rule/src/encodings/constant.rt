@@ -1,7 +1,7 @@
 //! The rules of constants.
 
-ghost use Rattle.std.specs.Prelude.{◌≡◌, Some, None, IfOk, IfErr, IfSome, IfNone, true};
-ghost use Rattle.vx_value.specs.declared.error.VortexError.TheVariants.{OutOfMemory};
+ghost use Rattle.std.specs.Prelude.{◌≡◌, Some, None, IfOk, IfSome, IfNone, true};
+ghost use Rattle.vx_value.specs.Errors.{OnlyOutOfMemory};
 ghost use Rattle.vx_mask.specs.Masks.{bits_in};
 ghost use Rattle.vx_tree.specs.Tree.{datum, slots_of, slice_of, filter_of, is_constant};
 ghost use Rattle.vx_rule.specs.Rules.{IsPartOf};
@@ -137,8 +137,8 @@ fn f6(alloc: Global, child: &ArrayRef, mask: &Mask) -> VortexResult<Option<RawNo
     Ok(Some(RawNode::done(alloc, constant)))
 }
 
-/// Rows K1 to K4: a function of constants is a constant, if it has a value. `parent` must apply one of the functions that are folded; the
-/// answer is `None` exactly if a slot holds no constant, or if the row has no value. The only error is `OutOfMemory`.
+/// Rows K1 to K4: a function of constants is a constant, if it has a value. `parent` must apply one of the functions that are
+/// folded; the answer is `None` exactly if a slot holds no constant, or if the row has no value. Fails only with `OutOfMemory`.
 fn fold_row(alloc: Global, parent: &ArrayRef) -> VortexResult<Option<RawNode>>
     requires { applies folds (datum parent.now) ≡ true }
     ensures { Answers (Some 0) parent.now result }
@@ -161,7 +161,7 @@ fn fold_row(alloc: Global, parent: &ArrayRef) -> VortexResult<Option<RawNode>>
 fn constants(alloc: Global, slots: &[Option<ArrayRef>]) -> VortexResult<Option<Vec<Scalar>>>
     ensures none { IfOk result (λ o. IfNone o (constant_values (slots_of slots.now) ≡ None)) }
     ensures values { IfOk result (λ o. IfSome o (λ v. constant_values (slots_of slots.now) ≡ Some v.items)) }
-    ensures err { IfErr result (λ e. e ≡ OutOfMemory) }
+    ensures err { OnlyOutOfMemory result }
 {
     let mut scalars = Vec::with_capacity(alloc, slots.len())?;
     for index in 0..slots.len() {
@@ -176,7 +176,7 @@ fn constants(alloc: Global, slots: &[Option<ArrayRef>]) -> VortexResult<Option<V
 /// Returns the scalar of the constant in `slot`: `None` exactly if it holds none.
 fn constant_in(slot: &Option<ArrayRef>) -> VortexResult<Option<Scalar>>
     ensures ok { IfOk result (λ o. o ≡ slot_value slot.now) }
-    ensures err { IfErr result (λ e. e ≡ OutOfMemory) }
+    ensures err { OnlyOutOfMemory result }
 {
     let Some(child) = slot else {
         return Ok(None);

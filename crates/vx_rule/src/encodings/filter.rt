@@ -1,7 +1,7 @@
 //! The rules of filters.
 
-ghost use Rattle.std.specs.Prelude.{◌≡◌, Some, None, IfOk, IfErr, length, true, false};
-ghost use Rattle.vx_value.specs.declared.error.VortexError.TheVariants.{OutOfMemory};
+ghost use Rattle.std.specs.Prelude.{◌≡◌, Some, None, IfOk, length, true, false};
+ghost use Rattle.vx_value.specs.Errors.{OnlyOutOfMemory};
 ghost use Rattle.vx_mask.specs.Masks.{bits_in, is_all_true};
 ghost use Rattle.vx_mask.specs.Places.{true_count, combined, IsRun};
 ghost use Rattle.vx_tree.specs.Tree.{len, datum, filter_of, is_filter};
@@ -89,12 +89,12 @@ fn f5(alloc: Global, child: &ArrayRef, mask: &Mask) -> VortexResult<Option<RawNo
     Ok(Some(RawNode::done(alloc, filter.into_array())))
 }
 
-/// Returns the mask of the rows that `inner`, which must have as many rows as `outer` chooses, chooses among those. The only error is
-/// `OutOfMemory`.
+/// Returns the mask of the rows that `inner`, which must have as many rows as `outer` chooses, chooses among those. Fails only
+/// with `OutOfMemory`.
 fn combine(alloc: Global, outer: &Mask, inner: &Mask) -> VortexResult<Mask>
     requires { length (bits_in inner.now) ≡ true_count (bits_in outer.now) }
     ensures ok { IfOk result (λ m. bits_in m ≡ combined (bits_in outer.now) (bits_in inner.now)) }
-    ensures err { IfErr result (λ e. e ≡ OutOfMemory) }
+    ensures err { OnlyOutOfMemory result }
 {
     match outer.intersect_by_rank(alloc, inner)? {
         Some(both) => Ok(both),

@@ -1,7 +1,7 @@
 //! The rules of masked arrays.
 
-ghost use Rattle.std.specs.Prelude.{◌≡◌, Some, None, IfOk, IfErr, ◌∷◌, [], length, true};
-ghost use Rattle.vx_value.specs.declared.error.VortexError.TheVariants.{OutOfMemory};
+ghost use Rattle.std.specs.Prelude.{◌≡◌, Some, None, IfOk, ◌∷◌, [], length, true};
+ghost use Rattle.vx_value.specs.Errors.{OnlyOutOfMemory};
 ghost use Rattle.vx_mask.specs.Masks.{bits_in};
 ghost use Rattle.vx_fn.specs.declared.function.ScalarFnRef.TheVariants as fn_of;
 ghost use Rattle.vx_tree.specs.Tree.{len, datum, slots_of, slice_of, filter_of, is_masked};
@@ -128,10 +128,10 @@ fn m1(
     Ok(Some(RawNode::done(alloc, call)))
 }
 
-/// Returns the validity in a masked array's slot as an array of `len` booleans. The only error is `OutOfMemory`.
+/// Returns the validity in a masked array's slot as an array of `len` booleans. Fails only with `OutOfMemory`.
 fn told(alloc: Global, validity: &Option<ArrayRef>, len: usize) -> VortexResult<ArrayRef>
     ensures ok { IfOk result (λ t. t ≡ told len (slots_of (validity.now ∷ []))) }
-    ensures err { IfErr result (λ e. e ≡ OutOfMemory) }
+    ensures err { OnlyOutOfMemory result }
 {
     match validity {
         Some(tree) => Ok(tree.clone()?),

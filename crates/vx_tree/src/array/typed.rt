@@ -1,6 +1,7 @@
 //! Handles that know their encoding.
 
 ghost use Rattle.std.specs.Prelude.{◌≡◌, ◌⊎◌, ◌==◌, [], ◌∷◌, is_ok, IfOk, IfErr, OnOk, Some, None, true};
+ghost use Rattle.vx_value.specs.Errors.{OnlyOutOfMemory};
 ghost use Rattle.vx_value.specs.View.{type_of};
 ghost use Rattle.vx_tree.specs.Tree.{Tree, dtype, len, datum, slots, slots_of, node, id_of};
 ghost use Rattle.vx_tree.specs.Well.{shapes, IsNode};
@@ -124,7 +125,8 @@ impl<V: VTable> Array<V> {
         })
     }
 
-    /// Makes the node of these parts, which must meet the conditions of the encoding, and one slot. The only error is `OutOfMemory`. (own)
+    /// Makes the node of these parts, which must meet the conditions of the encoding, and one slot. Fails only with
+    /// `OutOfMemory`. (own)
     pub fn over(
         alloc: Global,
         dtype: DType,
@@ -134,7 +136,7 @@ impl<V: VTable> Array<V> {
     ) -> VortexResult<Array<V>>
         requires { IsNode (type_of dtype) len (V.stands_for payload) (shapes (slots_of (slot ∷ []))) }
         ensures ok { IfOk result (λ a. a ≡ node (type_of dtype) len (V.stands_for payload) (slots_of (slot ∷ []))) }
-        ensures err { IfErr result (λ e. e ≡ VortexError.OutOfMemory) }
+        ensures err { OnlyOutOfMemory result }
     {
         let slots = vec![in alloc; slot]?;
         Ok(Array::of(alloc, dtype, len, payload, slots)?)

@@ -80,7 +80,7 @@ impl<'a, V: VTable> ArrayView<'a, V> {
     /// Returns an owned handle of the same node. `AllocError` if `Rc` refuses one more reference to it.
     pub fn into_owned(self) -> Result<Array<V>, AllocError>
         requires { V.stands_for self.payload.now ≡ datum self.array.now }
-        ensures { IfOk result (λ a. a ≡ self.array.now) }
+        ensures { IfOk result (λ a. a ≡ self.entry.array.now) }
     {
         match Array::<V>::try_from_array_ref(self.array.clone()?) {
             Ok(owned) => Ok(owned),

@@ -1,6 +1,7 @@
 //! Arrays that repeat one value.
 
-ghost use Rattle.std.specs.Prelude.{◌≡◌, refl, IfOk, IfErr};
+ghost use Rattle.std.specs.Prelude.{◌≡◌, refl, IfOk};
+ghost use Rattle.vx_value.specs.Errors.{OnlyOutOfMemory};
 ghost use Rattle.vx_tree.specs.Tree.{constant, is_constant, constant_of};
 ghost use Rattle.vx_value.specs.declared.id.Id.TheVariants as id;
 
@@ -13,7 +14,7 @@ use crate::arrays::{into_payload, payload};
 use crate::conditions::check_that;
 use crate::types::is_same_type;
 use std::alloc::Global;
-use vx_value::{ArgKind, Id, Scalar, VortexError, VortexResult};
+use vx_value::{ArgKind, Id, Scalar, VortexResult};
 
 /// The tag of the constant encoding.
 #[derive(Clone, Copy, Debug)]
@@ -96,10 +97,10 @@ impl VTable for Constant {
 }
 
 impl ConstantArray {
-    /// Makes the constant of `len` rows, each `scalar`. The only error is `OutOfMemory`.
+    /// Makes the constant of `len` rows, each `scalar`. Fails only with `OutOfMemory`.
     pub fn new(alloc: Global, scalar: Scalar, len: usize) -> VortexResult<ConstantArray>
         ensures ok { IfOk result (λ a. a ≡ constant_of scalar len) }
-        ensures err { IfErr result (λ e. e ≡ VortexError.OutOfMemory) }
+        ensures err { OnlyOutOfMemory result }
     {
         let dtype = scalar.dtype().clone()?;
         Ok(Array::of(alloc, dtype, len, ConstantData { scalar }, Vec::new(alloc))?)

@@ -1,6 +1,7 @@
 //! Columns of decimals.
 
 ghost use Rattle.std.specs.Prelude.{refl, ◌≡◌, ◌⊎◌, IfOk, IfErr, OnOk, Some, None, length};
+ghost use Rattle.vx_value.specs.Errors.{OnlyOutOfMemory};
 ghost use Rattle.vx_tree.specs.DecimalNumbers.{numbers_of, decimal_type_of};
 ghost use Rattle.vx_tree.specs.Tree.{decimals, is_decimals, column};
 ghost use Rattle.vx_value.specs.View.{type_of};
@@ -140,7 +141,7 @@ impl DecimalArray {
         DecimalArray::new_unchecked(alloc, dtype, values, validity)
     }
 
-    /// Makes the column of `values`, which `try_new` must not refuse. Doesn't read the values. The only error is `OutOfMemory`.
+    /// Makes the column of `values`, which `try_new` must not refuse. Doesn't read the values. Fails only with `OutOfMemory`.
     pub fn new_unchecked(
         alloc: Global,
         dtype: DType,
@@ -150,7 +151,7 @@ impl DecimalArray {
         requires { decimal_refusal (type_of dtype) (decimal_type_of values) (numbers_of values) validity.now ≡ None }
         ensures ok { IfOk result (λ a. a ≡ column (type_of dtype) (length (numbers_of values)) (decimals (decimal_type_of values) (numbers_of values))
             (child_of validity.now (length (numbers_of values)))) }
-        ensures err { IfErr result (λ e. e ≡ VortexError.OutOfMemory) }
+        ensures err { OnlyOutOfMemory result }
     {
         let of_type = decimal_type(&dtype);
         let len = values.len();

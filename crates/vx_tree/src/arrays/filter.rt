@@ -1,6 +1,7 @@
 //! Lazy filters of other arrays.
 
 ghost use Rattle.std.specs.Prelude.{◌≡◌, ◌==◌, refl, ◌⊎◌, ◌≢◌, IfOk, IfErr, OnOk, length};
+ghost use Rattle.vx_value.specs.Errors.{OnlyOutOfMemory};
 ghost use Rattle.vx_mask.specs.Masks.{bits_in};
 ghost use Rattle.vx_mask.specs.Places.{true_count};
 ghost use Rattle.vx_tree.specs.Tree.{filter, is_filter, len, filter_of};
@@ -146,7 +147,7 @@ impl FilterArray {
     pub fn new(alloc: Global, child: ArrayRef, mask: Mask) -> VortexResult<FilterArray>
         requires { length (bits_in mask) ≡ len child }
         ensures ok { IfOk result (λ a. a ≡ filter_of (bits_in mask) child) }
-        ensures err { IfErr result (λ e. e ≡ VortexError.OutOfMemory) }
+        ensures err { OnlyOutOfMemory result }
     {
         let dtype = child.dtype().clone()?;
         let len = mask.true_count();

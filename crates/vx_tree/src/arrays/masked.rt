@@ -1,6 +1,7 @@
 //! Arrays some of whose rows are made null.
 
-ghost use Rattle.std.specs.Prelude.{refl, ◌≡◌, ℕ, ◌∷◌, [], MatchResult, IfOk, IfErr, Some, option_map};
+ghost use Rattle.std.specs.Prelude.{refl, ◌≡◌, ℕ, ◌∷◌, [], MatchResult, IfOk, Some, option_map};
+ghost use Rattle.vx_value.specs.Errors.{OnlyOutOfMemory};
 ghost use Rattle.vx_tree.specs.Tree.{masked, is_masked, len, masked_of, slots_of, masked_refusal};
 ghost use Rattle.vx_value.specs.Types.{DataType};
 ghost use Rattle.vx_value.specs.declared.id.Id.TheVariants as id;
@@ -104,7 +105,7 @@ fn child_and_validity(slots: &[Option<ArrayRef>]) -> VortexResult<(&ArrayRef, &O
 
 impl MaskedArray {
     /// Makes the array of `child`'s rows that is null where `validity`, which must be a nullable one of as many rows, says so.
-    /// Its child may have nulls too; a row that is null in either is null. The only error is `OutOfMemory`.
+    /// Its child may have nulls too; a row that is null in either is null. Fails only with `OutOfMemory`.
     pub fn new_unchecked(
         alloc: Global,
         child: ArrayRef,
@@ -113,7 +114,7 @@ impl MaskedArray {
         requires nullable { nullability_by validity.now ≡ Nullable }
         requires rows { HasRows validity.now (len child) }
         ensures ok { IfOk result (λ a. a ≡ masked_of child (child_of validity.now (len child))) }
-        ensures err { IfErr result (λ e. e ≡ VortexError.OutOfMemory) }
+        ensures err { OnlyOutOfMemory result }
     {
         let dtype = child.dtype().as_nullable()?;
         let len = child.len();

@@ -1,6 +1,7 @@
 //! Columns of nulls.
 
-ghost use Rattle.std.specs.Prelude.{refl, ◌≡◌, IfOk, IfErr};
+ghost use Rattle.std.specs.Prelude.{refl, ◌≡◌, IfOk};
+ghost use Rattle.vx_value.specs.Errors.{OnlyOutOfMemory};
 ghost use Rattle.vx_tree.specs.Tree.{nulls, is_nulls, nulls_of};
 ghost use Rattle.vx_value.specs.declared.id.Id.TheVariants as id;
 
@@ -14,7 +15,7 @@ use crate::arrays::{into_payload, payload};
 use crate::conditions::check_that;
 use crate::types::is_same_type;
 use std::alloc::Global;
-use vx_value::{ArgKind, DType, Id, VortexError, VortexResult};
+use vx_value::{ArgKind, DType, Id, VortexResult};
 
 /// The tag of the null encoding.
 #[derive(Clone, Copy, Debug)]
@@ -72,10 +73,10 @@ impl VTable for Null {
 }
 
 impl NullArray {
-    /// Makes the column of `len` nulls. The only error is `OutOfMemory`.
+    /// Makes the column of `len` nulls. Fails only with `OutOfMemory`.
     pub fn new(alloc: Global, len: usize) -> VortexResult<NullArray>
         ensures ok { IfOk result (λ a. a ≡ nulls_of len) }
-        ensures err { IfErr result (λ e. e ≡ VortexError.OutOfMemory) }
+        ensures err { OnlyOutOfMemory result }
     {
         Ok(Array::of(alloc, DType::Null, len, EmptyArrayData, Vec::new(alloc))?)
     }

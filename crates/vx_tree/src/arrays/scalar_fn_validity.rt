@@ -1,6 +1,7 @@
 //! Lazy tests for null.
 
-ghost use Rattle.std.specs.Prelude.{refl, ◌≡◌, IfOk, IfErr};
+ghost use Rattle.std.specs.Prelude.{refl, ◌≡◌, IfOk};
+ghost use Rattle.vx_value.specs.Errors.{OnlyOutOfMemory};
 ghost use Rattle.vx_tree.specs.Tree.{is_valid, is_validity, validity_in};
 ghost use Rattle.vx_value.specs.declared.id.Id.TheVariants as id;
 
@@ -14,7 +15,7 @@ use crate::conditions::check_that;
 use crate::types::{BOOLEANS, is_same_type};
 use std::alloc::Global;
 use std::fmt;
-use vx_value::{ArgKind, DType, Id, Nullability, VortexError, VortexResult};
+use vx_value::{ArgKind, DType, Id, Nullability, VortexResult};
 
 /// The tag of the encoding that tells the validity of its child.
 #[derive(Clone, Copy, Debug)]
@@ -84,10 +85,10 @@ impl VTable for ScalarFnValidity {
 }
 
 impl ScalarFnValidityArray {
-    /// Makes the node that tells which rows of `child` are valid. The only error is `OutOfMemory`. (own)
+    /// Makes the node that tells which rows of `child` are valid. Fails only with `OutOfMemory`. (own)
     pub fn new(alloc: Global, child: ArrayRef) -> VortexResult<ScalarFnValidityArray>
         ensures ok { IfOk result (λ a. a ≡ validity_in child) }
-        ensures err { IfErr result (λ e. e ≡ VortexError.OutOfMemory) }
+        ensures err { OnlyOutOfMemory result }
     {
         let len = child.len();
         let dtype = DType::Bool(Nullability::NonNullable);

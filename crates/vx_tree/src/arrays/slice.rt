@@ -1,6 +1,7 @@
 //! Lazy slices of other arrays.
 
 ghost use Rattle.std.specs.Prelude.{◌≡◌, ◌-◌, ◌==◌, refl, ◌⊎◌, ◌≤◌, IfOk, IfErr, OnOk};
+ghost use Rattle.vx_value.specs.Errors.{OnlyOutOfMemory};
 ghost use Rattle.vx_tree.specs.Tree.{slice, is_slice, len, slice_of};
 ghost use Rattle.vx_value.specs.declared.id.Id.TheVariants as id;
 
@@ -147,7 +148,7 @@ impl SliceArray {
     pub fn new(alloc: Global, child: ArrayRef, range: Range<usize>) -> VortexResult<SliceArray>
         requires { (range.start ≤ range.end) × (range.end ≤ len child) }
         ensures ok { IfOk result (λ a. a ≡ slice_of range.start range.end child) }
-        ensures err { IfErr result (λ e. e ≡ VortexError.OutOfMemory) }
+        ensures err { OnlyOutOfMemory result }
     {
         let dtype = child.dtype().clone()?;
         let len = range.end - range.start;

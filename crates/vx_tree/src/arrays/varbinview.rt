@@ -1,6 +1,7 @@
 //! Columns of text and of bytes.
 
 ghost use Rattle.std.specs.Prelude.{refl, ◌≡◌, ◌⊎◌, IfOk, IfErr, OnOk, Some, None, length};
+ghost use Rattle.vx_value.specs.Errors.{OnlyOutOfMemory};
 ghost use Rattle.vx_tree.specs.Tree.{views, is_views, column};
 ghost use Rattle.vx_value.specs.View.{type_of};
 ghost use Rattle.vx_value.specs.declared.id.Id.TheVariants as id;
@@ -128,7 +129,7 @@ impl VarBinViewArray {
         VarBinViewArray::new_unchecked(alloc, dtype, rows, validity)
     }
 
-    /// Makes the column of `rows`, which `try_new` must not refuse. Doesn't read the rows. The only error is `OutOfMemory`.
+    /// Makes the column of `rows`, which `try_new` must not refuse. Doesn't read the rows. Fails only with `OutOfMemory`.
     pub fn new_unchecked(
         alloc: Global,
         dtype: DType,
@@ -137,7 +138,7 @@ impl VarBinViewArray {
     ) -> VortexResult<VarBinViewArray>
         requires { bytes_refusal (type_of dtype) rows validity.now ≡ None }
         ensures ok { IfOk result (λ a. a ≡ column (type_of dtype) (length rows) (views rows) (child_of validity.now (length rows))) }
-        ensures err { IfErr result (λ e. e ≡ VortexError.OutOfMemory) }
+        ensures err { OnlyOutOfMemory result }
     {
         let of_type = bytes_type(dtype.storage());
         let len = rows.len();

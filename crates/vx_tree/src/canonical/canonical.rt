@@ -1,6 +1,7 @@
 //! Columns in the canonical encoding of their type.
 
 ghost use Rattle.std.specs.Prelude.{◌≡◌, ◌==◌, true, is_ok, IfOk, IfErr, option_map};
+ghost use Rattle.vx_value.specs.Errors.{OnlyOutOfMemory};
 ghost use Rattle.vx_value.specs.View.{type_of};
 ghost use Rattle.vx_tree.specs.Tree.{dtype, len, datum, is_canonical};
 ghost use Rattle.vx_tree.specs.Columns.{empty_of};
@@ -14,7 +15,7 @@ use crate::arrays::primitive::PrimitiveArray;
 use crate::arrays::varbinview::VarBinViewArray;
 use crate::canonical::flat::flat_empty;
 use std::alloc::Global;
-use vx_value::{DType, VortexError, VortexResult};
+use vx_value::{DType, VortexResult};
 
 /// Evaluates to the column of a borrowed `Canonical` of this variant, `Some(column)`; to `None` if it is of another.
 macro_rules! variant {
@@ -51,10 +52,10 @@ pub enum Canonical {
 }
 
 impl Canonical {
-    /// Makes the column of type `dtype` without rows. The only error is `OutOfMemory`.
+    /// Makes the column of type `dtype` without rows. Fails only with `OutOfMemory`.
     pub fn empty(alloc: Global, dtype: &DType) -> VortexResult<Canonical>
         ensures ok { IfOk result (λ c. canonical_tree c ≡ empty_of (type_of dtype.now)) }
-        ensures err { IfErr result (λ e. e ≡ VortexError.OutOfMemory) }
+        ensures err { OnlyOutOfMemory result }
     {
         match dtype {
             DType::Null => Ok(Canonical::Null(NullArray::new(alloc, 0)?)),

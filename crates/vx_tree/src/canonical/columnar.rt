@@ -1,6 +1,7 @@
 //! Columns whose rows can be read without executing anything.
 
 ghost use Rattle.std.specs.Prelude.{◌≡◌, ◌==◌, true, is_ok, IfOk, IfErr};
+ghost use Rattle.vx_value.specs.Errors.{OnlyOutOfMemory};
 ghost use Rattle.vx_value.specs.View.{type_of};
 ghost use Rattle.vx_tree.specs.Tree.{dtype, len, datum, is_columnar, constant_of};
 ghost use Rattle.vx_tree.specs.Canonicals.{columnar_tree};
@@ -9,7 +10,7 @@ use crate::array::{ArrayRef, IntoArray};
 use crate::arrays::constant::ConstantArray;
 use crate::canonical::canonical::Canonical;
 use std::alloc::Global;
-use vx_value::{DType, Scalar, VortexError, VortexResult};
+use vx_value::{DType, Scalar, VortexResult};
 
 /// A canonical column, or a constant.
 #[derive(Clone, Debug, Drop)]
@@ -19,10 +20,10 @@ pub enum Columnar {
 }
 
 impl Columnar {
-    /// Makes the constant of `len` rows, each `scalar`. The only error is `OutOfMemory`.
+    /// Makes the constant of `len` rows, each `scalar`. Fails only with `OutOfMemory`.
     pub fn constant(alloc: Global, scalar: Scalar, len: usize) -> VortexResult<Columnar>
         ensures ok { IfOk result (λ c. columnar_tree c ≡ constant_of scalar len) }
-        ensures err { IfErr result (λ e. e ≡ VortexError.OutOfMemory) }
+        ensures err { OnlyOutOfMemory result }
     {
         Ok(Columnar::Constant(ConstantArray::new(alloc, scalar, len)?))
     }

@@ -1,6 +1,7 @@
 //! Columns that hold the values of their rows themselves: ranges of their rows, and those without rows.
 
-ghost use Rattle.std.specs.Prelude.{◌≡◌, ◌≢◌, ◌≤◌, true, [], ◌∷◌, IfOk, IfErr};
+ghost use Rattle.std.specs.Prelude.{◌≡◌, ◌≢◌, ◌≤◌, true, [], ◌∷◌, IfOk};
+ghost use Rattle.vx_value.specs.Errors.{OnlyOutOfMemory};
 ghost use Rattle.vx_value.specs.View.{type_of};
 ghost use Rattle.vx_value.specs.Storage.{storage_of};
 ghost use Rattle.vx_value.specs.declared.dtype.Storage.TheVariants.{Nulls};
@@ -14,7 +15,7 @@ use crate::array::{Array, ArrayRef, VTable};
 use crate::validity::slice_validity;
 use std::alloc::{AllocError, Global};
 use std::ops::Range;
-use vx_value::{DType, VortexError, VortexResult};
+use vx_value::{DType, VortexResult};
 
 /// Encodings of columns that hold the values of their rows themselves, and have one slot, for their validity. (own)
 pub trait FlatEncoding: VTable {
@@ -36,19 +37,19 @@ pub trait FlatEncoding: VTable {
     ghost flat: { (d : Self.TypedArrayData) → is_flat (Self.stands_for d) ≡ true };
 }
 
-/// Makes the column of type `dtype`, whose canonical encoding must be `V`'s, without rows. The only error is `OutOfMemory`.
+/// Makes the column of type `dtype`, whose canonical encoding must be `V`'s, without rows. Fails only with `OutOfMemory`.
 pub(crate) fn flat_empty<V: FlatEncoding>(alloc: Global, dtype: &DType) -> VortexResult<Array<V>>
     requires stored { storage_of (type_of dtype.now) ≢ Nulls }
     requires kind { V.is_kind (no_rows (storage_of (type_of dtype.now))) ≡ true }
     ensures ok { IfOk result (λ a. a ≡ empty_of (type_of dtype.now)) }
-    ensures err { IfErr result (λ e. e ≡ VortexError.OutOfMemory) }
+    ensures err { OnlyOutOfMemory result }
 {
     let payload = V::no_values(alloc, dtype)?;
     Array::over(alloc, dtype.clone()?, 0, payload, None)
 }
 
-/// Returns the rows of `column` in `range`, which must be in order and in bounds, as a column that shares its storage. The only
-/// error is `OutOfMemory`.
+/// Returns the rows of `column` in `range`, which must be in order and in bounds, as a column that shares its storage. Fails
+/// only with `OutOfMemory`.
 pub(crate) fn flat_slice<V: FlatEncoding>(
     alloc: Global,
     column: &Array<V>,
@@ -57,7 +58,7 @@ pub(crate) fn flat_slice<V: FlatEncoding>(
     requires { (range.start ≤ range.end) × (range.end ≤ len column.now) }
     ensures ok { IfOk result (λ a. KeepsExactly (slice_of range.start range.end column.now) a) }
     ensures range { IfOk result (λ a. a ≡ column_range range.start range.end column.now) }
-    ensures err { IfErr result (λ e. e ≡ VortexError.OutOfMemory) }
+    ensures err { OnlyOutOfMemory result }
 {
     let validity = flat_validity(column);
     let (start, end) = (range.start, range.end);

@@ -1,6 +1,7 @@
 //! Ranges of canonical columns.
 
-ghost use Rattle.std.specs.Prelude.{◌≡◌, ◌≤◌, IfOk, IfErr};
+ghost use Rattle.std.specs.Prelude.{◌≡◌, ◌≤◌, IfOk};
+ghost use Rattle.vx_value.specs.Errors.{OnlyOutOfMemory};
 ghost use Rattle.vx_tree.specs.Tree.{len, slice_of};
 ghost use Rattle.vx_tree.specs.Parts.{column_range};
 ghost use Rattle.vx_tree.specs.Keeps.{KeepsExactly};
@@ -11,10 +12,10 @@ use crate::canonical::canonical::Canonical;
 use crate::canonical::flat::flat_slice;
 use std::alloc::Global;
 use std::ops::Range;
-use vx_value::{VortexError, VortexResult};
+use vx_value::VortexResult;
 
-/// Returns the rows of `column` in `range`, which must be in order and in bounds, as a column that shares its storage. The
-/// only error is `OutOfMemory`. (own)
+/// Returns the rows of `column` in `range`, which must be in order and in bounds, as a column that shares its storage. Fails
+/// only with `OutOfMemory`. (own)
 pub fn slice_canonical(
     alloc: Global,
     column: &Canonical,
@@ -23,7 +24,7 @@ pub fn slice_canonical(
     requires { (range.start ≤ range.end) × (range.end ≤ len (canonical_tree column.now)) }
     ensures ok { IfOk result (λ c. KeepsExactly (slice_of range.start range.end (canonical_tree column.now)) (canonical_tree c)) }
     ensures range { IfOk result (λ c. canonical_tree c ≡ column_range range.start range.end (canonical_tree column.now)) }
-    ensures err { IfErr result (λ e. e ≡ VortexError.OutOfMemory) }
+    ensures err { OnlyOutOfMemory result }
 {
     Ok(match column {
         Canonical::Null(column) => Canonical::Null(slice_nulls(alloc, column, range)?),
@@ -34,12 +35,12 @@ pub fn slice_canonical(
     })
 }
 
-/// Returns the rows of `column` in `range`, which must be in order and in bounds. The only error is `OutOfMemory`.
+/// Returns the rows of `column` in `range`, which must be in order and in bounds. Fails only with `OutOfMemory`.
 fn slice_nulls(alloc: Global, column: &NullArray, range: Range<usize>) -> VortexResult<NullArray>
     requires { (range.start ≤ range.end) × (range.end ≤ len column.now) }
     ensures ok { IfOk result (λ a. KeepsExactly (slice_of range.start range.end column.now) a) }
     ensures range { IfOk result (λ a. a ≡ column_range range.start range.end column.now) }
-    ensures err { IfErr result (λ e. e ≡ VortexError.OutOfMemory) }
+    ensures err { OnlyOutOfMemory result }
 {
     let _nulls = column.data();
     column.as_array().well();

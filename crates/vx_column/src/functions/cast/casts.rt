@@ -1,6 +1,7 @@
 //! Casts of columns.
 
 ghost use Rattle.std.specs.Prelude.{◌≡◌, ◌⊎◌, ◌<◌, ◌∷◌, [], ℕ, true, false, map, IfOk, IfErr};
+ghost use Rattle.vx_value.specs.Errors.{OnlyOutOfMemory};
 ghost use Rattle.vx_value.specs.Types.{nullability_of};
 ghost use Rattle.vx_value.specs.View.{type_of};
 ghost use Rattle.vx_value.specs.Values.{null, integer};
@@ -113,7 +114,7 @@ fn cast_rows(
     }
 }
 
-/// Makes the column of `len` nulls of type `target`, which must be nullable. No row may be `valid`. The only error is
+/// Makes the column of `len` nulls of type `target`, which must be nullable. No row may be `valid`. Fails only with
 /// `OutOfMemory`.
 fn cast_nulls(
     alloc: Global,
@@ -127,7 +128,7 @@ fn cast_nulls(
     requires target { IsCastTarget Nulls (type_of target.now) }
     ensures ok { IfOk result (λ c. (dtype (canonical_tree c) ≡ type_of target.now)
         × IsMade valid.now (λ i. cast_to (type_of target.now) null) len (canonical_tree c)) }
-    ensures err { IfErr result (λ e. e ≡ VortexError.OutOfMemory) }
+    ensures err { OnlyOutOfMemory result }
 {
     let null = Scalar::null(target.clone()?);
     stored_column(alloc, repeated_rows(&null), valid, len)
@@ -161,7 +162,7 @@ fn cast_integers(
     convert(alloc, &conversion)
 }
 
-/// Makes the column of `integers`, `len` rows, that are null unless they are `valid`: shares their buffer. The only error is
+/// Makes the column of `integers`, `len` rows, that are null unless they are `valid`: shares their buffer. Fails only with
 /// `OutOfMemory`.
 fn keep_integers(
     alloc: Global,
@@ -173,7 +174,7 @@ fn keep_integers(
     requires valid { HasValidity valid.now len }
     ensures ok { IfOk result (λ c. IsCalculated (ptype_in integers.entry) valid.now (converted (ptype_in integers.entry) (integer_in integers.entry)) len
         (canonical_tree c)) }
-    ensures err { IfErr result (λ e. e ≡ VortexError.OutOfMemory) }
+    ensures err { OnlyOutOfMemory result }
 {
     know_integers(integers, len);
     stored_column(alloc, ArgumentRows::Integers(integers), valid, len)

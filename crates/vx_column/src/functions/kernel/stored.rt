@@ -1,7 +1,8 @@
 //! Columns that store the rows of an argument.
 
-ghost use Rattle.std.specs.Prelude.{◌≡◌, true, map, IfOk, IfErr};
+ghost use Rattle.std.specs.Prelude.{◌≡◌, true, map, IfOk};
 ghost use Rattle.std.specs.List.{range_with_len};
+ghost use Rattle.vx_value.specs.Errors.{OnlyOutOfMemory};
 ghost use Rattle.vx_value.specs.Nullabilities.{with_nullability};
 ghost use Rattle.vx_value.specs.Cell.{value};
 ghost use Rattle.vx_tree.specs.DecimalNumbers.{numbers_of, decimal_type_of};
@@ -22,7 +23,7 @@ use crate::rows::{
 use std::alloc::{AllocError, Global};
 use vx_mask::{BitBuffer, BitOperand};
 use vx_tree::{BinaryViews, Canonical, DecimalValues, NullArray, PrimitiveValues};
-use vx_value::{ByteBuffer, DecimalType, VortexError, VortexResult};
+use vx_value::{ByteBuffer, DecimalType, VortexResult};
 
 /// Returns `bits` as `len` rows: shares a buffer, and writes out one bit. (own)
 pub fn bit_rows(alloc: Global, bits: BitOperand<'_>, len: usize) -> Result<BitBuffer, AllocError>
@@ -88,8 +89,8 @@ pub fn byte_rows(
     }
 }
 
-/// Makes the column of `rows`, `len` rows, that are null unless they are `valid`. Shares the buffer of `rows`, and writes out one
-/// value. The only error is `OutOfMemory`. (own)
+/// Makes the column of `rows`, `len` rows, that are null unless they are `valid`. Shares the buffer of `rows`, and writes out
+/// one value. Fails only with `OutOfMemory`. (own)
 pub fn stored_column(
     alloc: Global,
     rows: ArgumentRows<'_>,
@@ -100,7 +101,7 @@ pub fn stored_column(
     requires valid { HasValidity valid.now len }
     ensures ok { IfOk result (λ c. (dtype (canonical_tree c) ≡ with_nullability (nullability_in valid.now) (plain_type rows.entry))
         × IsMade valid.now (λ i. value (value_at rows.entry i)) len (canonical_tree c)) }
-    ensures err { IfErr result (λ e. e ≡ VortexError.OutOfMemory) }
+    ensures err { OnlyOutOfMemory result }
 {
     match rows {
         ArgumentRows::Nulls => Ok(Canonical::Null(NullArray::new(alloc, len)?)),

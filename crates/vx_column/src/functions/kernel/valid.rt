@@ -1,7 +1,8 @@
 //! Columns of stored values that are null unless their rows are valid.
 
-ghost use Rattle.std.specs.Prelude.{◌≡◌, [], ◌&&◌, true, pos, map, length, slice_index_or, IfOk, IfErr};
+ghost use Rattle.std.specs.Prelude.{◌≡◌, [], ◌&&◌, true, pos, map, length, slice_index_or, IfOk};
 ghost use Rattle.std.specs.List.{range_with_len};
+ghost use Rattle.vx_value.specs.Errors.{OnlyOutOfMemory};
 ghost use Rattle.vx_value.specs.Nullabilities.{with_nullability};
 ghost use Rattle.vx_value.specs.Cell.{value};
 ghost use Rattle.vx_value.specs.Types as type;
@@ -21,9 +22,9 @@ use crate::rows::{ValidRows, bool_column, decimal_column, primitive_column, varb
 use std::alloc::{AllocError, Global};
 use vx_mask::{BitAnd, BitBuffer, BitOperand};
 use vx_tree::{BinaryViews, Canonical, DecimalValues, PrimitiveValues};
-use vx_value::{DecimalDType, Storage, VortexError, VortexResult};
+use vx_value::{DecimalDType, Storage, VortexResult};
 
-/// Makes the column of `bits`, `len` rows, that are null unless they are `valid`. The only error is `OutOfMemory`. (own)
+/// Makes the column of `bits`, `len` rows, that are null unless they are `valid`. Fails only with `OutOfMemory`. (own)
 pub fn valid_bools(
     alloc: Global,
     bits: BitBuffer,
@@ -34,13 +35,13 @@ pub fn valid_bools(
     requires valid { HasValidity valid.now len }
     ensures ok { IfOk result (λ c. (dtype (canonical_tree c) ≡ bool (nullability_in valid.now))
         × IsMade valid.now (λ i. value (boolean (bit_row bits i))) len (canonical_tree c)) }
-    ensures err { IfErr result (λ e. e ≡ VortexError.OutOfMemory) }
+    ensures err { OnlyOutOfMemory result }
 {
     let validity = valid.validity(alloc, len)?;
     bool_column(alloc, bits, &validity)
 }
 
-/// Makes the column of `values`, `len` rows, that are null unless they are `valid`. The only error is `OutOfMemory`. (own)
+/// Makes the column of `values`, `len` rows, that are null unless they are `valid`. Fails only with `OutOfMemory`. (own)
 pub fn valid_integers(
     alloc: Global,
     values: PrimitiveValues,
@@ -51,14 +52,14 @@ pub fn valid_integers(
     requires valid { HasValidity valid.now len }
     ensures ok { IfOk result (λ c. (dtype (canonical_tree c) ≡ primitive (ptype_of values) (nullability_in valid.now))
         × IsMade valid.now (λ i. value (integer (slice_index_or (values_of values) i (pos 0)))) len (canonical_tree c)) }
-    ensures err { IfErr result (λ e. e ≡ VortexError.OutOfMemory) }
+    ensures err { OnlyOutOfMemory result }
 {
     let validity = valid.validity(alloc, len)?;
     primitive_column(alloc, values, &validity)
 }
 
-/// Makes the column of `values`, `len` decimals of type `decimal` without their points, that are null unless they are `valid`. The
-/// only error is `OutOfMemory`. (own)
+/// Makes the column of `values`, `len` decimals of type `decimal` without their points, that are null unless they are `valid`.
+/// Fails only with `OutOfMemory`. (own)
 pub fn valid_decimals(
     alloc: Global,
     decimal: DecimalDType,
@@ -71,13 +72,13 @@ pub fn valid_decimals(
     requires valid { HasValidity valid.now len }
     ensures ok { IfOk result (λ c. (dtype (canonical_tree c) ≡ type.decimal decimal.precision decimal.scale (nullability_in valid.now))
         × IsMade valid.now (λ i. value (decimal_value (slice_index_or (numbers_of values) i (pos 0)) decimal.scale)) len (canonical_tree c)) }
-    ensures err { IfErr result (λ e. e ≡ VortexError.OutOfMemory) }
+    ensures err { OnlyOutOfMemory result }
 {
     let validity = valid.validity(alloc, len)?;
     decimal_column(alloc, decimal, values, &validity)
 }
 
-/// Makes the column of `rows`, `len` rows of values that are stored so, that are null unless they are `valid`. The only error is
+/// Makes the column of `rows`, `len` rows of values that are stored so, that are null unless they are `valid`. Fails only with
 /// `OutOfMemory`. (own)
 pub fn valid_bytes(
     alloc: Global,
@@ -91,7 +92,7 @@ pub fn valid_bytes(
     requires valid { HasValidity valid.now len }
     ensures ok { IfOk result (λ c. (dtype (canonical_tree c) ≡ with_nullability (nullability_in valid.now) (bytes_type storage))
         × IsMade valid.now (λ i. value (bytes_value (slice_index_or rows i []))) len (canonical_tree c)) }
-    ensures err { IfErr result (λ e. e ≡ VortexError.OutOfMemory) }
+    ensures err { OnlyOutOfMemory result }
 {
     let validity = valid.validity(alloc, len)?;
     varbinview_column(alloc, storage, rows, &validity)

@@ -1,7 +1,8 @@
 //! Functions of booleans.
 
-ghost use Rattle.std.specs.Prelude.{◌≡◌, ◌∷◌, [], map, Some, IfOk, IfErr, IsSome};
+ghost use Rattle.std.specs.Prelude.{◌≡◌, ◌∷◌, [], map, Some, IfOk, IsSome};
 ghost use Rattle.std.specs.List.{range_with_len};
+ghost use Rattle.vx_value.specs.Errors.{OnlyOutOfMemory};
 ghost use Rattle.vx_mask.specs.Operands.{bit_in, HasBits};
 ghost use Rattle.vx_value.specs.Types.{bool};
 ghost use Rattle.vx_fn.specs.Binary.{operator_type};
@@ -23,7 +24,7 @@ use vx_mask::{
     BitAnd, BitBuffer, BitEq, BitGt, BitGte, BitLt, BitLte, BitNotEq, BitOperand, BitOr,
 };
 use vx_tree::Canonical;
-use vx_value::{Nullability, VortexError, VortexResult};
+use vx_value::{Nullability, VortexResult};
 
 /// Applies `operator`, which must take booleans, row by row.
 pub(crate) fn operate_bits(
@@ -51,8 +52,8 @@ pub(crate) fn operate_bits(
     }
 }
 
-/// Applies `operator`, which must take booleans, to the `valid` rows, and returns a column in which the others are null. The
-/// only error is `OutOfMemory`.
+/// Applies `operator`, which must take booleans, to the `valid` rows, and returns a column in which the others are null. Fails
+/// only with `OutOfMemory`.
 #[tactic(auto, using(crate::proofs::ValidRowsLemmas::counted))]
 pub(crate) fn operate_bools(
     alloc: Global,
@@ -64,18 +65,18 @@ pub(crate) fn operate_bools(
 ) -> VortexResult<Canonical>
     requires { Operates operator (Bits lhs) (Bits rhs) valid.now len }
     ensures ok { IfOk result (λ c. IsOperated operator (Bits lhs.entry) (Bits rhs.entry) valid.now len (canonical_tree c)) }
-    ensures err { IfErr result (λ e. e ≡ VortexError.OutOfMemory) }
+    ensures err { OnlyOutOfMemory result }
 {
     let bits = operate_bits(alloc, operator, lhs, rhs, len)?;
     let kept = keep_valid(alloc, bits, valid, len)?;
     valid_bools(alloc, kept, valid, len)
 }
 
-/// Negates each row of `input`, `len` booleans; null stays null. The only error is `OutOfMemory`. (own)
+/// Negates each row of `input`, `len` booleans; null stays null. Fails only with `OutOfMemory`. (own)
 pub fn negate(alloc: Global, input: &Argument<'_>, len: usize) -> VortexResult<Canonical>
     requires { Takes Not (input.now ∷ []) len }
     ensures ok { IfOk result (λ c. IsComputed Not (input.now ∷ []) len (canonical_tree c)) }
-    ensures err { IfErr result (λ e. e ≡ VortexError.OutOfMemory) }
+    ensures err { OnlyOutOfMemory result }
 {
     let ArgumentRows::Bits(bits) = input.rows else {
         unreachable!()
@@ -83,7 +84,7 @@ pub fn negate(alloc: Global, input: &Argument<'_>, len: usize) -> VortexResult<C
     negate_bits(alloc, bits, &input.valid, len)
 }
 
-/// Negates the `valid` rows of `input`, `len` booleans, and returns a column in which the others are null. The only error is
+/// Negates the `valid` rows of `input`, `len` booleans, and returns a column in which the others are null. Fails only with
 /// `OutOfMemory`.
 #[tactic(auto, using(crate::proofs::ValidRowsLemmas::counted))]
 fn negate_bits(
@@ -96,7 +97,7 @@ fn negate_bits(
     requires valid { HasValidity valid.now len }
     ensures ok { IfOk result (λ c. IsFilled Not (Some (bool Nullability.NonNullable))
         (λ i. value (value_at (Bits input.entry) i) ∷ []) valid.now len (canonical_tree c)) }
-    ensures err { IfErr result (λ e. e ≡ VortexError.OutOfMemory) }
+    ensures err { OnlyOutOfMemory result }
 {
     let bits = BitBuffer::zip::<BitNotEq>(alloc, input, BitOperand::Bit(true), len)?;
     let kept = keep_valid(alloc, bits, valid, len)?;

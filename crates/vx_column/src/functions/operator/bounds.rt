@@ -1,6 +1,7 @@
 //! Whether rows lie between two bounds.
 
-ghost use Rattle.std.specs.Prelude.{◌≡◌, ◌<◌, ◌∷◌, [], ℕ, true, IfOk, IfErr};
+ghost use Rattle.std.specs.Prelude.{◌≡◌, ◌<◌, ◌∷◌, [], ℕ, true, IfOk};
+ghost use Rattle.vx_value.specs.Errors.{OnlyOutOfMemory};
 ghost use Rattle.vx_value.specs.Decimals.{smallest_width};
 ghost use Rattle.vx_fn.specs.Comparisons.{is_ordered};
 ghost use Rattle.vx_fn.specs.declared.function.ScalarFnRef.TheVariants.{Between};
@@ -24,10 +25,10 @@ use std::marker::PhantomData;
 use vx_fn::{BetweenOptions, Operator, StrictComparison};
 use vx_mask::{BitAnd, BitBuffer, BitOperand};
 use vx_tree::{Canonical, NativeDecimalType, NativeInteger, by_decimal_type, by_type};
-use vx_value::{DecimalType, VortexError, VortexResult};
+use vx_value::{DecimalType, VortexResult};
 
 /// Checks whether each row of `array` lies between `lower` and `upper`, `len` rows each; a row is null if one of the three is.
-/// The only error is `OutOfMemory`. (own)
+/// Fails only with `OutOfMemory`. (own)
 #[tactic(auto, using(crate::proofs::ValidRowsLemmas::counted))]
 pub fn between(
     alloc: Global,
@@ -39,7 +40,7 @@ pub fn between(
 ) -> VortexResult<Canonical>
     requires { Takes (Between options) (array.now ∷ lower.now ∷ upper.now ∷ []) len }
     ensures ok { IfOk result (λ c. IsComputed (Between options) (array.now ∷ lower.now ∷ upper.now ∷ []) len (canonical_tree c)) }
-    ensures err { IfErr result (λ e. e ≡ VortexError.OutOfMemory) }
+    ensures err { OnlyOutOfMemory result }
 {
     let bounds_valid = lower.valid.and(alloc, &upper.valid, len)?;
     let valid = array.valid.and(alloc, &bounds_valid, len)?;

@@ -1,7 +1,8 @@
 //! Comparisons.
 
-ghost use Rattle.std.specs.Prelude.{◌≡◌, ◌<◌, ℕ, true, IfOk, IfErr};
+ghost use Rattle.std.specs.Prelude.{◌≡◌, ◌<◌, ℕ, true, IfOk};
 ghost use Rattle.std.specs.Ordering.{int_cmp};
+ghost use Rattle.vx_value.specs.Errors.{OnlyOutOfMemory};
 ghost use Rattle.vx_value.specs.Bytes.{bytes_cmp};
 ghost use Rattle.vx_value.specs.Cell.{value};
 ghost use Rattle.vx_value.specs.Order.{value_cmp};
@@ -28,7 +29,7 @@ use std::marker::PhantomData;
 use vx_fn::Operator;
 use vx_mask::BitBuffer;
 use vx_tree::{Canonical, NativeNumber};
-use vx_value::{VortexError, VortexResult};
+use vx_value::VortexResult;
 
 /// A comparison operator: `>` and `>=` are `<` and `<=` of swapped operands.
 pub(crate) trait Comparison {
@@ -185,7 +186,7 @@ impl<R: OrderedRows, C: Comparison> RowCheck for Compared<R, C> {
 }
 
 /// Compares the `valid` rows of `left` and `right`, `len` rows each, by `operator`, which must be a comparison. The other rows
-/// are null. The only error is `OutOfMemory`.
+/// are null. Fails only with `OutOfMemory`.
 #[tactic(auto, using(crate::proofs::ValidRowsLemmas::counted))]
 pub(crate) fn compare_ordered<R: OrderedRows>(
     alloc: Global,
@@ -201,7 +202,7 @@ pub(crate) fn compare_ordered<R: OrderedRows>(
     requires valid { HasValidity valid.now len }
     ensures ok { IfOk result (λ c. (dtype (canonical_tree c) ≡ bool (nullability_in valid.now))
         × IsMade valid.now (λ i. value (boolean (is_compared operator (R.row_value left) (R.row_value right) i))) len (canonical_tree c)) }
-    ensures err { IfErr result (λ e. e ≡ VortexError.OutOfMemory) }
+    ensures err { OnlyOutOfMemory result }
 {
     let bits = compare_rows(alloc, operator, left, right, valid, len)?;
     valid_bools(alloc, bits, valid, len)

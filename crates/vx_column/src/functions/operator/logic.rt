@@ -1,7 +1,8 @@
 //! Logic on booleans, null among them.
 
-ghost use Rattle.std.specs.Prelude.{◌≡◌, ◌∷◌, [], true, map, IfOk, IfErr};
+ghost use Rattle.std.specs.Prelude.{◌≡◌, ◌∷◌, [], true, map, IfOk};
 ghost use Rattle.std.specs.List.{range_with_len};
+ghost use Rattle.vx_value.specs.Errors.{OnlyOutOfMemory};
 ghost use Rattle.vx_value.specs.Nullabilities.{union};
 ghost use Rattle.vx_fn.specs.Binary.{is_logical};
 ghost use Rattle.vx_fn.specs.declared.function.ScalarFnRef.TheVariants.{Binary};
@@ -20,7 +21,7 @@ use std::alloc::{AllocError, Global};
 use vx_fn::Operator;
 use vx_mask::{BitAnd, BitBuffer, BitEq, BitLte, BitOperand, BitOperation};
 use vx_tree::Canonical;
-use vx_value::{Nullability, VortexError, VortexResult};
+use vx_value::{Nullability, VortexResult};
 
 /// Truth values: bits, and which of them are known.
 #[derive(Clone, Copy)]
@@ -43,8 +44,8 @@ pub(crate) fn truths_of<'a>(argument: &'a Argument<'_>) -> Truths<'a>
     }
 }
 
-/// Joins `lhs` and `rhs`, `len` rows each, by `operator`, which must be logical: in one pass if no row of either is null.
-/// The only error is `OutOfMemory`.
+/// Joins `lhs` and `rhs`, `len` rows each, by `operator`, which must be logical: in one pass if no row of either is null. Fails
+/// only with `OutOfMemory`.
 #[tactic(auto, using(crate::proofs::ValidRowsLemmas::counted))]
 pub(crate) fn join(
     alloc: Global,
@@ -57,7 +58,7 @@ pub(crate) fn join(
     requires rhs { HasTruths rhs len }
     requires logical { is_logical operator ≡ true }
     ensures ok { IfOk result (λ c. IsComputed (Binary operator) (argument_in lhs.entry ∷ argument_in rhs.entry ∷ []) len (canonical_tree c)) }
-    ensures err { IfErr result (λ e. e ≡ VortexError.OutOfMemory) }
+    ensures err { OnlyOutOfMemory result }
 {
     match (lhs.valid, rhs.valid) {
         (ValidRows::All(first), ValidRows::All(second)) => {
@@ -69,7 +70,7 @@ pub(crate) fn join(
 }
 
 /// Joins `lhs` and `rhs`, `len` rows each, of which one is nullable, by `operator`, which must be logical. A row of the result
-/// is known if what is sure of it is all that is possible. The only error is `OutOfMemory`.
+/// is known if what is sure of it is all that is possible. Fails only with `OutOfMemory`.
 #[tactic(auto, using(crate::proofs::ValidRowsLemmas::counted))]
 fn join_nullable(
     alloc: Global,
@@ -83,7 +84,7 @@ fn join_nullable(
     requires logical { is_logical operator ≡ true }
     requires nullable { union (nullability_in lhs.valid.now) (nullability_in rhs.valid.now) ≡ Nullability.Nullable }
     ensures ok { IfOk result (λ c. IsComputed (Binary operator) (argument_in lhs.entry ∷ argument_in rhs.entry ∷ []) len (canonical_tree c)) }
-    ensures err { IfErr result (λ e. e ≡ VortexError.OutOfMemory) }
+    ensures err { OnlyOutOfMemory result }
 {
     let sure = join_over::<BitAnd>(alloc, operator, lhs, rhs, len)?;
     let possible = join_over::<BitLte>(alloc, operator, lhs, rhs, len)?;

@@ -1,6 +1,7 @@
 //! Functions of which values are null.
 
-ghost use Rattle.std.specs.Prelude.{◌≡◌, ◌∷◌, [], IfOk, IfErr};
+ghost use Rattle.std.specs.Prelude.{◌≡◌, ◌∷◌, [], IfOk};
+ghost use Rattle.vx_value.specs.Errors.{OnlyOutOfMemory};
 ghost use Rattle.vx_fn.specs.declared.function.ScalarFnRef.TheVariants.{IsNull, IsNotNull, Mask};
 ghost use Rattle.vx_tree.specs.Canonicals.{canonical_tree};
 ghost use Rattle.vx_column.specs.Arguments.{IsSized};
@@ -11,34 +12,34 @@ use crate::rows::{Argument, ArgumentRows, ValidRows};
 use std::alloc::Global;
 use vx_mask::{BitAnd, BitBuffer, BitNotEq, BitOperand};
 use vx_tree::Canonical;
-use vx_value::{Nullability, VortexError, VortexResult};
+use vx_value::{Nullability, VortexResult};
 
-/// Checks of each row of `input`, `len` rows, whether it is null. The only error is `OutOfMemory`. (own)
+/// Checks of each row of `input`, `len` rows, whether it is null. Fails only with `OutOfMemory`. (own)
 #[tactic(auto, using(crate::proofs::ValidRowsLemmas::counted))]
 pub fn is_null(alloc: Global, input: &Argument<'_>, len: usize) -> VortexResult<Canonical>
     requires { IsSized len input.now }
     ensures ok { IfOk result (λ c. IsComputed IsNull (input.now ∷ []) len (canonical_tree c)) }
-    ensures err { IfErr result (λ e. e ≡ VortexError.OutOfMemory) }
+    ensures err { OnlyOutOfMemory result }
 {
     let valid = input.valid.as_operand();
     let bits = BitBuffer::zip::<BitNotEq>(alloc, valid, BitOperand::Bit(true), len)?;
     valid_bools(alloc, bits, &ValidRows::All(Nullability::NonNullable), len)
 }
 
-/// Checks of each row of `input`, `len` rows, whether it isn't null: shares the bits that tell it. The only error is
+/// Checks of each row of `input`, `len` rows, whether it isn't null: shares the bits that tell it. Fails only with
 /// `OutOfMemory`. (own)
 #[tactic(auto, using(crate::proofs::ValidRowsLemmas::counted))]
 pub fn is_not_null(alloc: Global, input: &Argument<'_>, len: usize) -> VortexResult<Canonical>
     requires { IsSized len input.now }
     ensures ok { IfOk result (λ c. IsComputed IsNotNull (input.now ∷ []) len (canonical_tree c)) }
-    ensures err { IfErr result (λ e. e ≡ VortexError.OutOfMemory) }
+    ensures err { OnlyOutOfMemory result }
 {
     let bits = bit_rows(alloc, input.valid.as_operand(), len)?;
     valid_bools(alloc, bits, &ValidRows::All(Nullability::NonNullable), len)
 }
 
-/// Returns the rows of `input` for which `mask` is true, null in place of the others, `len` rows each: only the validity is computed. The
-/// only error is `OutOfMemory`. (own)
+/// Returns the rows of `input` for which `mask` is true, null in place of the others, `len` rows each: only the validity is
+/// computed. Fails only with `OutOfMemory`. (own)
 #[tactic(auto, using(crate::proofs::ValidRowsLemmas::counted, crate::proofs::KernelArgumentsLemmas::has_stored))]
 pub fn mask(
     alloc: Global,
@@ -48,7 +49,7 @@ pub fn mask(
 ) -> VortexResult<Canonical>
     requires { Takes Mask (input.now ∷ mask.now ∷ []) len }
     ensures ok { IfOk result (λ c. IsComputed Mask (input.now ∷ mask.now ∷ []) len (canonical_tree c)) }
-    ensures err { IfErr result (λ e. e ≡ VortexError.OutOfMemory) }
+    ensures err { OnlyOutOfMemory result }
 {
     let ArgumentRows::Bits(keep) = mask.rows else {
         unreachable!()

@@ -1,7 +1,8 @@
 //! Rows chosen between two arguments by bits.
 
-ghost use Rattle.std.specs.Prelude.{◌≡◌, ◌<◌, ◌∷◌, [], ℕ, map, length, IfOk, IfErr, if◌then◌else◌};
+ghost use Rattle.std.specs.Prelude.{◌≡◌, ◌<◌, ◌∷◌, [], ℕ, map, length, IfOk, if◌then◌else◌};
 ghost use Rattle.std.specs.List.{range_with_len};
+ghost use Rattle.vx_value.specs.Errors.{OnlyOutOfMemory};
 ghost use Rattle.vx_mask.specs.Operands.{bit_in, HasBits};
 ghost use Rattle.vx_value.specs.Nullabilities.{union};
 ghost use Rattle.vx_value.specs.Decimals.{smallest_width};
@@ -27,9 +28,9 @@ use vx_tree::{
     BinaryBuilder, BinaryViews, Canonical, NativeDecimalType, NativeInteger, NativeNumber,
     by_decimal_type, by_type,
 };
-use vx_value::{DecimalType, Nullability, VortexError, VortexResult};
+use vx_value::{DecimalType, Nullability, VortexResult};
 
-/// Chooses `if_true` where `mask` is true, and `if_false` where it is false or null, `len` rows each. The only error is
+/// Chooses `if_true` where `mask` is true, and `if_false` where it is false or null, `len` rows each. Fails only with
 /// `OutOfMemory`. (own)
 #[tactic(auto, using(crate::proofs::ValidRowsLemmas::counted))]
 pub fn zip(
@@ -41,7 +42,7 @@ pub fn zip(
 ) -> VortexResult<Canonical>
     requires { Takes Zip (if_true.now ∷ if_false.now ∷ mask.now ∷ []) len }
     ensures ok { IfOk result (λ c. IsComputed Zip (if_true.now ∷ if_false.now ∷ mask.now ∷ []) len (canonical_tree c)) }
-    ensures err { IfErr result (λ e. e ≡ VortexError.OutOfMemory) }
+    ensures err { OnlyOutOfMemory result }
 {
     let ArgumentRows::Bits(bits) = mask.rows else {
         unreachable!()
@@ -55,7 +56,7 @@ pub fn zip(
     }
 }
 
-/// Puts `fill_value` in place of the nulls of `input`, `len` rows each. The only error is `OutOfMemory`. (own)
+/// Puts `fill_value` in place of the nulls of `input`, `len` rows each. Fails only with `OutOfMemory`. (own)
 pub fn fill_null(
     alloc: Global,
     input: &Argument<'_>,
@@ -64,7 +65,7 @@ pub fn fill_null(
 ) -> VortexResult<Canonical>
     requires { Takes FillNull (input.now ∷ fill_value.now ∷ []) len }
     ensures ok { IfOk result (λ c. IsComputed FillNull (input.now ∷ fill_value.now ∷ []) len (canonical_tree c)) }
-    ensures err { IfErr result (λ e. e ≡ VortexError.OutOfMemory) }
+    ensures err { OnlyOutOfMemory result }
 {
     let values = Argument {
         rows: input.rows,
@@ -74,7 +75,7 @@ pub fn fill_null(
 }
 
 /// Chooses `if_true` where `choice` is true, else `if_false`, `len` rows each, whose values must be of one type; if one side is
-/// chosen whole, its rows are shared. The only error is `OutOfMemory`.
+/// chosen whole, its rows are shared. Fails only with `OutOfMemory`.
 fn select(
     alloc: Global,
     choice: BitOperand<'_>,
@@ -89,7 +90,7 @@ fn select(
     requires false_valid { HasValidity if_false.now.valid len }
     requires same { plain_type if_true.now.rows ≡ plain_type if_false.now.rows }
     ensures ok { IfOk result (λ c. IsSelected choice.entry if_true.now if_false.now len (canonical_tree c)) }
-    ensures err { IfErr result (λ e. e ≡ VortexError.OutOfMemory) }
+    ensures err { OnlyOutOfMemory result }
 {
     let valid = select_valid(alloc, choice, &if_true.valid, &if_false.valid, len)?;
     match choice {
@@ -133,7 +134,7 @@ fn select_valid(
 }
 
 /// Makes the column of `if_true` at the true bits of `choice`, else `if_false`, `len` rows each, which must be of one type; its
-/// `valid` rows aren't null. The only error is `OutOfMemory`.
+/// `valid` rows aren't null. Fails only with `OutOfMemory`.
 #[tactic(auto, using(crate::proofs::ValidRowsLemmas::counted))]
 fn select_rows(
     alloc: Global,
@@ -145,7 +146,7 @@ fn select_rows(
 ) -> VortexResult<Canonical>
     requires { AreSides choice.now if_true if_false valid.now len }
     ensures ok { IfOk result (λ c. AreSelected choice.now if_true.entry if_false.entry valid.now len (canonical_tree c)) }
-    ensures err { IfErr result (λ e. e ≡ VortexError.OutOfMemory) }
+    ensures err { OnlyOutOfMemory result }
 {
     match (if_true, if_false) {
         (ArgumentRows::Nulls, ArgumentRows::Nulls) => stored_column(alloc, if_true, valid, len),
@@ -200,8 +201,8 @@ fn select_bits(
     }
 }
 
-/// Makes the column of `if_true` at the true bits of `choice`, else `if_false`, `len` rows each, which must be of the type `T`; its
-/// `valid` rows aren't null. The only error is `OutOfMemory`.
+/// Makes the column of `if_true` at the true bits of `choice`, else `if_false`, `len` rows each, which must be of the type `T`;
+/// its `valid` rows aren't null. Fails only with `OutOfMemory`.
 fn select_natives<T: NativeInteger>(
     alloc: Global,
     choice: &BitBuffer,
@@ -213,15 +214,15 @@ fn select_natives<T: NativeInteger>(
     requires kind { T.kind ≡ ptype_in if_true }
     requires sides { AreSides choice.now (Integers if_true) (Integers if_false) valid.now len }
     ensures ok { IfOk result (λ c. AreSelected choice.now (Integers if_true.entry) (Integers if_false.entry) valid.now len (canonical_tree c)) }
-    ensures err { IfErr result (λ e. e ≡ VortexError.OutOfMemory) }
+    ensures err { OnlyOutOfMemory result }
 {
     let left: Operand<'_, T> = operand_of(if_true);
     let numbers = select_numbers(alloc, choice, left, operand_of(if_false), len)?;
     valid_integers(alloc, T::wrap(numbers), valid, len)
 }
 
-/// Makes the column of `if_true` at the true bits of `choice`, else `if_false`, `len` rows each, which must be of one type and stored
-/// in the width of `T`; its `valid` rows aren't null. The only error is `OutOfMemory`.
+/// Makes the column of `if_true` at the true bits of `choice`, else `if_false`, `len` rows each, which must be of one type and
+/// stored in the width of `T`; its `valid` rows aren't null. Fails only with `OutOfMemory`.
 fn select_unscaled<T: NativeDecimalType>(
     alloc: Global,
     choice: &BitBuffer,
@@ -233,7 +234,7 @@ fn select_unscaled<T: NativeDecimalType>(
     requires kind { T.kind ≡ smallest_width if_true.decimal.precision }
     requires sides { AreSides choice.now (Decimals if_true) (Decimals if_false) valid.now len }
     ensures ok { IfOk result (λ c. AreSelected choice.now (Decimals if_true.entry) (Decimals if_false.entry) valid.now len (canonical_tree c)) }
-    ensures err { IfErr result (λ e. e ≡ VortexError.OutOfMemory) }
+    ensures err { OnlyOutOfMemory result }
 {
     let left: Operand<'_, T> = decimal_operand_of(if_true);
     let numbers = select_numbers(alloc, choice, left, decimal_operand_of(if_false), len)?;
