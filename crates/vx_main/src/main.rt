@@ -7,6 +7,8 @@ ghost use Rattle.vx_main.specs.Commands.{texts, command_of};
 ghost use Rattle.std.specs.declared.io.ErrorKind.TheVariants as failure;
 
 mod streams;
+#[cfg(test)]
+mod tests;
 mod top;
 
 use std::process::ExitCode;

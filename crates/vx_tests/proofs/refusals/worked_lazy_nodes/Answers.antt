@@ -1,6 +1,6 @@
 use Rattle.std.proofs.Common.{refl}
 use Rattle.vx_mask.specs.Places.{true_count}
-use Rattle.vx_tree_tests.proofs.refusals.worked_lazy_nodes.Goals as goal
+use Rattle.vx_tests.proofs.refusals.worked_lazy_nodes.Goals as goal
 
 pub returns-clause-filter_len : goal.returns-clause-filter_len
 unfolding true_count

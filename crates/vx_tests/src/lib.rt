@@ -1,5 +1,5 @@
-//! Tests of vx_value, vx_mask, vx_views, vx_tree and vx_array, and laws that tell what their definitions come to in worked examples: what
-//! their contracts and the program don't show.
+//! Tests of the library crates, and laws that tell what their definitions come to in worked examples: what their contracts and the
+//! program don't show.
 //!
 //! A crate with tests is proved once more for them, so they stand here together.
 #![tactic(auto)]
@@ -7,8 +7,14 @@
 #[cfg(test)]
 mod buffers;
 #[cfg(test)]
+mod builders;
+#[cfg(test)]
 mod errors;
 mod refusals;
+#[cfg(test)]
+mod rewriting;
+#[cfg(test)]
+mod rows;
 #[cfg(test)]
 mod sharing;
 mod values;

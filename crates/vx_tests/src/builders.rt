@@ -1,3 +1,5 @@
+//! Builders: rows and nulls that are appended, and those that are refused.
+
 use std::alloc::Global;
 use std::test::Fail;
 use vx_column::Builder;

@@ -16,8 +16,8 @@ ghost use Rattle.vx_tree.specs.Refusals.{refusal};
 ghost use Rattle.vx_tree.specs.Validities.{decimal_refusal, bytes_refusal};
 ghost use Rattle.vx_tree.specs.Calls.{inferred_refusal};
 ghost use Rattle.vx_tree.specs.declared.validity.Validity.TheVariants as validity;
-ghost use Rattle.vx_tree_tests.specs.Parts.{i32, nullable, i8, u8, bool, decimal, two, three, flags, because};
-ghost use Rattle.vx_tree_tests.specs.Parts.{add, all_of_three, from_two_to_five, one_and_two, seven, argument};
+ghost use Rattle.vx_tests.specs.Parts.{i32, nullable, i8, u8, bool, decimal, two, three, flags, because};
+ghost use Rattle.vx_tests.specs.Parts.{add, all_of_three, from_two_to_five, one_and_two, seven, argument};
 
 /// States why filters of three rows and slices from row 2 to row 5 are refused.
 pub fn worked_lazy_nodes()

@@ -8,7 +8,7 @@ ghost use Rattle.vx_value.specs.declared.dtype.PType.TheVariants.{I32, U8};
 ghost use Rattle.vx_value.specs.declared.dtype.Nullability.TheVariants.{NonNullable, Nullable};
 ghost use Rattle.vx_value.specs.IsOf.{is_of};
 ghost use Rattle.vx_value.specs.Order.{scalar_cmp};
-ghost use Rattle.vx_tree_tests.specs.Parts.{i32, nullable, u8, text, binary, hundredths, typed};
+ghost use Rattle.vx_tests.specs.Parts.{i32, nullable, u8, text, binary, hundredths, typed};
 
 /// States of nine values whether they are of a type.
 pub fn worked_types()

@@ -1,8 +1,13 @@
+//! Streams that come in pieces, and fail in the middle.
+
 use std::io;
+use crate::streams::{
+    Failed, MemSink, MemSource, PlainSink, PlainSource, ReadError, Sink, Source, StdinSource,
+    StdoutSink, read_all, write_all,
+};
 use std::alloc::Global;
 use std::io::{Read, Write};
 use std::test::Fail;
-use vx_main::{Failed, MemSink, MemSource, PlainSink, PlainSource, ReadError, Sink, Source, StdinSource, StdoutSink, read_all, write_all};
 
 /// 141 bytes: nine pieces of 16, and a read that finds the end.
 const INPUT: &str =

@@ -1,3 +1,5 @@
+//! The text of a row by itself, which the program never asks for, and a row of a tree.
+
 use std::test::Fail;
 use vx_json::row_text;
 use vx_value::{ByteBuffer, DType, Nullability, Scalar, ScalarValue};
