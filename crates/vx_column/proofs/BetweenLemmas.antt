@@ -30,7 +30,7 @@ use Rattle.vx_column.specs.Arguments.{types_of, value_at, plain_type, type_of_ar
 use Rattle.vx_column.specs.Bits.{bit_by}
 use Rattle.vx_column.specs.Bounds.{bound_by, is_between, AreBetween}
 use Rattle.vx_column.specs.Checks.{checked_rows}
-use Rattle.vx_column.specs.Computed.{Takes, IsMade, IsComputed}
+use Rattle.vx_column.specs.Computed.{Takes, IsColumnOfCells, IsCanonicalResult}
 use Rattle.vx_column.specs.ValidRows.{is_valid, nullability_in, null_unless}
 use Rattle.vx_column.specs.declared.rows.argument.Argument.{Argument}
 use Rattle.vx_column.specs.declared.rows.argument.ArgumentRows.{ArgumentRows}
@@ -154,7 +154,7 @@ module _ (options : BetweenOptions) (n : ℕ) (a l u : Argument) (takes : Takes 
       → ((i : ℕ) → i < n → is_valid valid i ≡ is_valid a.valid i && (is_valid l.valid i && is_valid u.valid i))
       → nullability_in valid ≡ union (nullability_in a.valid) (union (nullability_in l.valid) (nullability_in u.valid))
       → bits ≡ checked_rows (is_valid valid) (is_between options (value_at a.rows) (value_at l.rows) (value_at u.rows)) n
-      → (dtype t ≡ bool (nullability_in valid)) × IsMade valid (λ i. value (boolean (bit_row bits i))) n t → IsComputed (Between options) (a ∷ l ∷ u ∷ []) n t
+      → (dtype t ≡ bool (nullability_in valid)) × IsColumnOfCells valid (λ i. value (boolean (bit_row bits i))) n t → IsCanonicalResult (Between options) (a ∷ l ∷ u ∷ []) n t
   between_computed valid bits t rows nullability are h =
       let lies = is_between options (value_at a.rows) (value_at l.rows) (value_at u.rows) in
       computed_by (Between options) (a ∷ l ∷ u ∷ []) valid (λ i. value (boolean (bit_row bits i))) n t

@@ -53,7 +53,7 @@ use Rattle.vx_column.proofs.ValidRowsLemmas.{child_told, one_slot}
 use Rattle.vx_column.specs.Built.{without_point, built_stored, built}
 use Rattle.vx_column.specs.declared.builder.values.Values.{Values}
 use Rattle.vx_column.specs.declared.builder.values.Values.TheVariants.{Nulls, Bits, Integers, Decimals, Bytes}
-use Rattle.vx_column.specs.Growing.{AreStored, padded, masked_by, rows_kept, IsKept, told_rows, IsColumnOf}
+use Rattle.vx_column.specs.Growing.{HaveStorage, padded, masked_by, rows_kept, IsKept, told_rows, IsColumnOf}
 use Rattle.vx_column.proofs.GrowingLemmas.{length-masked_by, stored_as, rows_counted}
 
 -- ---- the validity
@@ -117,7 +117,7 @@ module _ {A : Type 0} (read : Value → Option A) (make : A → Value) (d : A) (
 -- ---- the column
 
 -- the width and the digits of decimals, and the bytes of text, by their type
-pub width_known : (zs : Numbers DecimalType) (st : Storage) (s : ℕ) (d : DecimalDType) → AreStored st (Decimals zs s) → st ≡ stored_decimals d
+pub width_known : (zs : Numbers DecimalType) (st : Storage) (s : ℕ) (d : DecimalDType) → HaveStorage st (Decimals zs s) → st ≡ stored_decimals d
     → zs.kind ≡ smallest_width d.precision
 width_known zs st s d kind is =
     let same : storage.Decimals kind.0 s ≡ stored_decimals d = sym kind.1 ∙ is in

@@ -58,8 +58,8 @@ use Rattle.vx_column.specs.Arguments.{AreStored}
 use Rattle.vx_column.specs.Arguments.{AreShown}
 use Rattle.vx_column.specs.Arguments.{AreDecimals}
 use Rattle.vx_column.specs.Casts.{converted, rescaled_row, rescaled_item, IsCastTarget}
-use Rattle.vx_column.specs.Computed.{Takes, IsMade, IsComputed, IsNotComputed, cells_of}
-use Rattle.vx_column.specs.Operands.{IsFaultyRow, AreCalculated}
+use Rattle.vx_column.specs.Computed.{Takes, IsColumnOfCells, IsCanonicalResult, HasNoCanonicalResult, cells_of}
+use Rattle.vx_column.specs.Operands.{IsFaultyRow, IsDecimalColumnOf}
 use Rattle.vx_column.specs.ValidRows.{is_valid, nullability_in, null_unless, HasValidity}
 use Rattle.vx_column.specs.declared.rows.argument.Argument.{Argument}
 use Rattle.vx_column.specs.declared.rows.argument.ArgumentRows.{ArgumentRows}
@@ -125,7 +125,7 @@ false_row (true ∷ bits) h =
 
 -- the column of integers in their own type
 pub integers_kept : (p : PType) (z : ℕ → ℤ) (valid : ValidRows) (n : ℕ) (u : Tree) → ((i : ℕ) → i < n → in_range p (z i) ≡ true)
-    → IsMade valid (λ i. value (integer (z i))) n u → IsMade valid (converted p z) n u
+    → IsColumnOfCells valid (λ i. value (integer (z i))) n u → IsColumnOfCells valid (converted p z) n u
 integers_kept p z valid n u ranged =
     made_by valid (λ i. value (integer (z i))) (converted p z) n u
     (λ i lt here. ap (λ b. if b then value (integer (z i)) else fault) (sym (ranged i lt)))
@@ -135,7 +135,7 @@ module _ (cell : ℤ → Cell) (z : ℕ → ℤ) (zs : List ℤ) (valid : ValidR
   same_row : (i : ℕ) → i < n → cell (get_or zs i (pos 0)) ≡ cell (z i)
   same_row i lt = ap cell (row_made (pos 0) z zs n i are lt)
 
-  pub rows_cast : (u : Tree) → IsMade valid (λ i. cell (get_or zs i (pos 0))) n u → IsMade valid (λ i. cell (z i)) n u
+  pub rows_cast : (u : Tree) → IsColumnOfCells valid (λ i. cell (get_or zs i (pos 0))) n u → IsColumnOfCells valid (λ i. cell (z i)) n u
   rows_cast u = made_by valid _ _ n u (λ i lt here. same_row i lt)
 
   pub rows_not_cast : (e : VortexError) → IsFaultyRow (is_valid valid) (λ i. cell (get_or zs i (pos 0))) n e
@@ -146,10 +146,10 @@ module _ (cell : ℤ → Cell) (z : ℕ → ℤ) (zs : List ℤ) (valid : ValidR
 -- so with numbers that are cast to decimals
 module _ (x : Rescaling) (d : DecimalDType) (r : ℕ) (target : x.target ≡ d) (scale : x.scale ≡ r) (z : ℕ → ℤ) (zs : List ℤ) (valid : ValidRows) (n : ℕ)
     (are : zs ≡ map z (range_with_len 0 n)) where
-  same_column : (u : Tree) → AreCalculated x.target valid (rescaled_item x zs) n u → AreCalculated d valid (rescaled_row d r z) n u
+  same_column : (u : Tree) → IsDecimalColumnOf x.target valid (rescaled_item x zs) n u → IsDecimalColumnOf d valid (rescaled_row d r z) n u
   same_column u h =
-      subst (λ (s : ℕ). AreCalculated d valid (rescaled_row d s z) n u) scale
-      (subst (λ (t : DecimalDType). AreCalculated t valid (rescaled_row t x.scale z) n u) target
+      subst (λ (s : ℕ). IsDecimalColumnOf d valid (rescaled_row d s z) n u) scale
+      (subst (λ (t : DecimalDType). IsDecimalColumnOf t valid (rescaled_row t x.scale z) n u) target
       (h.0, rows_cast (λ (y : ℤ). rescaled x.target.precision x.target.scale y x.scale) z zs valid n are u h.1))
 
   same_fault : (e : VortexError) → IsFaultyRow (is_valid valid) (rescaled_item x zs) n e → IsFaultyRow (is_valid valid) (rescaled_row d r z) n e
@@ -158,9 +158,9 @@ module _ (x : Rescaling) (d : DecimalDType) (r : ℕ) (target : x.target ≡ d) 
       (subst (λ (t : DecimalDType). IsFaultyRow (is_valid valid) (rescaled_row t x.scale z) n e) target
       (rows_not_cast (λ (y : ℤ). rescaled x.target.precision x.target.scale y x.scale) z zs valid n are e h))
 
-  pub decimals_cast : (found : Result Canonical VortexError) → IfOk found (λ c. AreCalculated x.target valid (rescaled_item x zs) n (canonical_tree c))
+  pub decimals_cast : (found : Result Canonical VortexError) → IfOk found (λ c. IsDecimalColumnOf x.target valid (rescaled_item x zs) n (canonical_tree c))
       → IfErr found (IsFaultyRow (is_valid valid) (rescaled_item x zs) n)
-      → IfOk found (λ c. AreCalculated d valid (rescaled_row d r z) n (canonical_tree c)) × IfErr found (IsFaultyRow (is_valid valid) (rescaled_row d r z) n)
+      → IfOk found (λ c. IsDecimalColumnOf d valid (rescaled_row d r z) n (canonical_tree c)) × IfErr found (IsFaultyRow (is_valid valid) (rescaled_row d r z) n)
   decimals_cast found ok err = (IfOk-weaker found _ _ (λ c. same_column (canonical_tree c)) ok, IfErr-weaker found _ _ same_fault err)
 
 -- of rows that are all null none is shown, whatever is stored
@@ -187,8 +187,8 @@ module _ (x : Typed) (t : DataType) (r : ArgumentRows) (valid : ValidRows) (n : 
   pub null_stored : HasStored r n
   null_stored = has_stored n null_argument null_sized
 
-  pub nulls_cast : (u : Tree) → (dtype u ≡ with_nullability (nullability_in valid) (plain_type r)) × IsMade valid (λ i. value (value_at r i)) n u
-      → (dtype u ≡ t) × IsMade valid (λ i. cast_to t null) n u
+  pub nulls_cast : (u : Tree) → (dtype u ≡ with_nullability (nullability_in valid) (plain_type r)) × IsColumnOfCells valid (λ i. value (value_at r i)) n u
+      → (dtype u ≡ t) × IsColumnOfCells valid (λ i. cast_to t null) n u
   nulls_cast u h = (
     h.0 ∙ sym (argument_type n null_argument null_sized) ∙ ap (λ m. type_of_rows m r) same_nullability ∙ repeated.typed ∙ typed,
     made_by valid _ _ n u (λ i lt here. let none = shown i lt in absurd (cc)) h.1,
@@ -197,8 +197,8 @@ module _ (x : Typed) (t : DataType) (r : ArgumentRows) (valid : ValidRows) (n : 
 -- booleans stay
 pub bits_kept : (r : ArgumentRows) (bs : BitOperand) (t : DataType) (valid : ValidRows) (n : ℕ) (u : Tree) → r ≡ stored.Bits bs → IsCastTarget r t
     → nullability_in valid ≡ nullability_of t
-    → (dtype u ≡ with_nullability (nullability_in valid) (plain_type r)) × IsMade valid (λ i. value (value_at r i)) n u
-    → (dtype u ≡ t) × IsMade valid (λ i. cast_to t (value_at r i)) n u
+    → (dtype u ≡ with_nullability (nullability_in valid) (plain_type r)) × IsColumnOfCells valid (λ i. value (value_at r i)) n u
+    → (dtype u ≡ t) × IsColumnOfCells valid (λ i. cast_to t (value_at r i)) n u
 bits_kept stored.Nulls bs t valid n u is target nullability h = absurd (cc)
 bits_kept (stored.Bits cs) bs t valid n u is target nullability h = (
   h.0 ∙ ap bool nullability ∙ sym target,
@@ -211,8 +211,8 @@ bits_kept (stored.Bytes ys) bs t valid n u is target nullability h = absurd (cc)
 -- what is cast to a type by name
 pub cast_made : (ty : Nullability → DataType) {r s : ArgumentRows} {t : DataType} {k : Nullability} (valid : ValidRows) (n : ℕ)
     (found : Result Canonical VortexError) → r ≡ s → t ≡ ty k → nullability_of (ty k) ≡ k → nullability_in valid ≡ nullability_of t
-    → IfOk found (λ c. (dtype (canonical_tree c) ≡ ty (nullability_in valid)) × IsMade valid (λ i. cast_to (ty k) (value_at s i)) n (canonical_tree c))
-    → IfOk found (λ c. (dtype (canonical_tree c) ≡ t) × IsMade valid (λ i. cast_to t (value_at r i)) n (canonical_tree c))
+    → IfOk found (λ c. (dtype (canonical_tree c) ≡ ty (nullability_in valid)) × IsColumnOfCells valid (λ i. cast_to (ty k) (value_at s i)) n (canonical_tree c))
+    → IfOk found (λ c. (dtype (canonical_tree c) ≡ t) × IsColumnOfCells valid (λ i. cast_to t (value_at r i)) n (canonical_tree c))
 cast_made ty valid n found is typed own nullability =
     IfOk-weaker found _ _
     (λ c h. (
@@ -248,7 +248,7 @@ own_scale p s z h =
 -- the column of decimals in their own type
 pub decimals_kept : (ds : DecimalOperand) (d : DecimalDType) (valid : ValidRows) (n : ℕ) (u : Tree) → AreDecimals ds n → ds.decimal.precision ≡ d.precision
     → ds.decimal.scale ≡ d.scale → (dtype u ≡ decimal ds.decimal.precision ds.decimal.scale (nullability_in valid))
-    × IsMade valid (λ i. value (value_at (stored.Decimals ds) i)) n u → AreCalculated d valid (rescaled_row d ds.decimal.scale (unscaled_in ds)) n u
+    × IsColumnOfCells valid (λ i. value (value_at (stored.Decimals ds) i)) n u → IsDecimalColumnOf d valid (rescaled_row d ds.decimal.scale (unscaled_in ds)) n u
 decimals_kept ds d valid n u are precision scale h = (
   h.0 ∙ (λ j. decimal (precision j) (scale j) (nullability_in valid)),
   made_by valid _ _ n u
@@ -307,14 +307,14 @@ module _ (n : ℕ) (a : Argument) (target : DType) (takes : Takes (Cast target) 
 
   module _ (valid : ValidRows) (rows : (i : ℕ) → i < n → is_valid valid i ≡ is_valid a.valid i) where
     pub cast_computed : (u : Tree) → nullability_in valid ≡ nullability_of (type_of target)
-        → (dtype u ≡ type_of target) × IsMade valid (λ i. cast_to (type_of target) (value_at a.rows i)) n u → IsComputed (Cast target) (a ∷ []) n u
+        → (dtype u ≡ type_of target) × IsColumnOfCells valid (λ i. cast_to (type_of target) (value_at a.rows i)) n u → IsCanonicalResult (Cast target) (a ∷ []) n u
     cast_computed u nullability h =
         computed_by (Cast target) (a ∷ []) valid _ n u (found.1 ∙ ap Some (sym h.0)) h.1
         (λ i lt. cast_cell target (type_of target) (is_valid valid i) (value_at a.rows i) (λ e. sym nullability ∙ null_nullable valid i e)
         ∙ (λ j. apply (Cast target) (sym h.0 j) (null_unless (rows i lt j) (value (value_at a.rows i)) ∷ [])))
 
     pub cast_not_computed : (e : VortexError) → IsFaultyRow (is_valid valid) (λ i. cast_to (type_of target) (value_at a.rows i)) n e
-        → IsNotComputed (Cast target) (a ∷ []) n e
+        → HasNoCanonicalResult (Cast target) (a ∷ []) n e
     cast_not_computed e (inl memory) = inl memory
     cast_not_computed e (inr h) =
         let i = h.1 in

@@ -34,8 +34,8 @@ use Rattle.vx_column.specs.declared.rows.argument.ArgumentRows.TheVariants as st
 use Rattle.vx_column.specs.declared.rows.argument.BytesOperand.{BytesOperand}
 use Rattle.vx_column.specs.declared.rows.argument.DecimalOperand.{DecimalOperand}
 use Rattle.vx_column.specs.declared.rows.valid.ValidRows.{ValidRows}
-use Rattle.vx_column.specs.Computed.{IsMade}
-use Rattle.vx_column.specs.Filled.{IsFilled}
+use Rattle.vx_column.specs.Computed.{IsColumnOfCells}
+use Rattle.vx_column.specs.Filled.{IsRowwiseResult}
 use Rattle.vx_column.proofs.FilledLemmas.{filled}
 use Rattle.std.proofs.lemmas.Option.{get_or_from_slice_get}
 use Rattle.vx_column.specs.Checks.{checked_rows}
@@ -151,8 +151,8 @@ swapped_compared read op known swapped l r p q v n found is says first second =
 
 -- a column that stores these bits
 pub compared_made : (op : Operator) (valid : ValidRows) (l r : ℕ → Value) (n : ℕ) (bits : List Bool) (t : Tree) →
-    bits ≡ checked_rows (is_valid valid) (is_compared op l r) n → IsMade valid (λ i. value (boolean (bit_row bits i))) n t →
-    IsMade valid (λ i. value (boolean (holds op (value_cmp (l i) (r i))))) n t
+    bits ≡ checked_rows (is_valid valid) (is_compared op l r) n → IsColumnOfCells valid (λ i. value (boolean (bit_row bits i))) n t →
+    IsColumnOfCells valid (λ i. value (boolean (holds op (value_cmp (l i) (r i))))) n t
 compared_made op valid l r n bits t are =
     made_by valid (λ i. value (boolean (bit_row bits i))) _ n t
     (λ i lt here. ap (λ b. value (boolean b)) (bit_made (λ j. is_valid valid j && holds op (value_cmp (l j) (r j))) bits n i are lt)
@@ -162,8 +162,8 @@ compared_made op valid l r n bits t are =
 pub ordered_filled : (op : Operator) (l r : ArgumentRows) (order : ℕ → Ordering) (valid : ValidRows) (n : ℕ) (t : Tree)
     → is_ordered (plain_type l) ≡ true → is_ordered (plain_type r) ≡ true → is_comparison op ≡ true
     → ((i : ℕ) → order i ≡ value_cmp (value_at l i) (value_at r i))
-    → (dtype t ≡ bool (nullability_in valid)) × IsMade valid (λ i. value (boolean (holds op (order i)))) n t
-    → IsFilled (Binary op) (operator_type op (plain_type l)) (pair_at l r) valid n t
+    → (dtype t ≡ bool (nullability_in valid)) × IsColumnOfCells valid (λ i. value (boolean (holds op (order i)))) n t
+    → IsRowwiseResult (Binary op) (operator_type op (plain_type l)) (pair_at l r) valid n t
 ordered_filled op l r order valid n t first second c same made =
     filled (Binary op) (operator_type op (plain_type l)) (pair_at l r) valid n (bool (nullability_in valid)) (λ i. value (boolean (holds op (order i)))) t
     (ap (option_map (with_nullability (nullability_in valid))) (comparison_type op (plain_type l) c first)) made
@@ -172,8 +172,8 @@ ordered_filled op l r order valid n t first second c same made =
 -- from that of its values
 pub compared_filled : (op : Operator) (l r : ArgumentRows) (p q : ℕ → Value) (valid : ValidRows) (n : ℕ) (t : Tree)
     → is_ordered (plain_type l) ≡ true → is_ordered (plain_type r) ≡ true → is_comparison op ≡ true → p ≡ value_at l → q ≡ value_at r
-    → (dtype t ≡ bool (nullability_in valid)) × IsMade valid (λ i. value (boolean (holds op (value_cmp (p i) (q i))))) n t
-    → IsFilled (Binary op) (operator_type op (plain_type l)) (pair_at l r) valid n t
+    → (dtype t ≡ bool (nullability_in valid)) × IsColumnOfCells valid (λ i. value (boolean (holds op (value_cmp (p i) (q i))))) n t
+    → IsRowwiseResult (Binary op) (operator_type op (plain_type l)) (pair_at l r) valid n t
 compared_filled op l r p q valid n t first second c left right =
     ordered_filled op l r (λ i. value_cmp (p i) (q i)) valid n t first second c (λ i j. value_cmp (left j i) (right j i))
 

@@ -12,7 +12,7 @@ use Rattle.vx_value.specs.Cell.{Cell, value, fault}
 use Rattle.vx_tree.specs.Tree.{Tree}
 use Rattle.vx_tree.specs.Cells.{HasNoFault}
 use Rattle.vx_column.proofs.MadeLemmas.{made_by}
-use Rattle.vx_column.specs.Computed.{IsMade}
+use Rattle.vx_column.specs.Computed.{IsColumnOfCells}
 use Rattle.vx_mask.specs.Logic.{bit_row}
 use Rattle.vx_column.specs.ValidRows.{is_valid}
 use Rattle.vx_column.specs.declared.rows.valid.ValidRows.{ValidRows}
@@ -68,7 +68,7 @@ module _ {T : Type 0} (read : T → ℤ) (of_number : ℤ → Value) (valid : Va
       ∙ ap (λ cs. get_or cs i fault) cells_read
       ∙ get_or-map-range_with_len (λ j. zero_unless (of_number (pos 0)) (is_valid valid j) (cell j)) 0 n i i fault lt (omega arith)
 
-  pub calculated_made : (u : Tree) → IsMade valid (λ i. value (of_number (get_or zs i (pos 0)))) n u → IsMade valid cell n u
+  pub calculated_made : (u : Tree) → IsColumnOfCells valid (λ i. value (of_number (get_or zs i (pos 0)))) n u → IsColumnOfCells valid cell n u
   calculated_made u =
       made_by valid (λ i. value (of_number (get_or zs i (pos 0)))) cell n u
       (λ i lt here. calculated_at i lt ∙ ap (λ b. zero_unless (of_number (pos 0)) b (cell i)) here)

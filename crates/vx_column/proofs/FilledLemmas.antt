@@ -16,8 +16,8 @@ use Rattle.vx_tree.specs.declared.canonical.canonical.Canonical.{Canonical}
 use Rattle.vx_column.proofs.ComputedLemmas.{fault_among}
 use Rattle.vx_column.proofs.MadeLemmas.{made_by}
 use Rattle.vx_column.proofs.ValidRowsLemmas.{bit_made}
-use Rattle.vx_column.specs.Computed.{IsMade}
-use Rattle.vx_column.specs.Filled.{IsFilled, filled_cells, filled_type}
+use Rattle.vx_column.specs.Computed.{IsColumnOfCells}
+use Rattle.vx_column.specs.Filled.{IsRowwiseResult, filled_cells, filled_type}
 use Rattle.vx_mask.specs.Logic.{bit_row}
 use Rattle.vx_column.specs.Arguments.{AreShown}
 use Rattle.vx_column.specs.ValidRows.{is_valid, nullability_in, null_unless}
@@ -35,8 +35,8 @@ module _ (f : ScalarFnRef) (of_type : Option DataType) (row : ℕ → List Cell)
       (ap (λ b. null_unless b (apply f s (row i))) here ∙ ap (λ t. apply f t (row i)) same ∙ none)
 
   -- a column that stores them in the valid rows
-  pub filled : (ty : DataType) (stored : ℕ → Cell) (u : Tree) → filled_type valid of_type ≡ Some ty → (dtype u ≡ ty) × IsMade valid stored n u
-      → ((i : ℕ) → i < n → is_valid valid i ≡ true → stored i ≡ apply f ty (row i)) → IsFilled f of_type row valid n u
+  pub filled : (ty : DataType) (stored : ℕ → Cell) (u : Tree) → filled_type valid of_type ≡ Some ty → (dtype u ≡ ty) × IsColumnOfCells valid stored n u
+      → ((i : ℕ) → i < n → is_valid valid i ≡ true → stored i ≡ apply f ty (row i)) → IsRowwiseResult f of_type row valid n u
   filled ty stored u typed made same = record {
     typed = typed ∙ ap Some (sym made.0);
     made = made_by valid stored _ n u (λ i lt here. same i lt here ∙ ap (λ t. apply f t (row i)) (sym made.0)) made.1;
@@ -45,8 +45,8 @@ module _ (f : ScalarFnRef) (of_type : Option DataType) (row : ℕ → List Cell)
   pub bools_filled : (r : Result Canonical VortexError) (test : ℕ → Bool) (bits : List Bool) → filled_type valid of_type ≡ Some (bool (nullability_in valid)) →
       ((i : ℕ) → i < n → is_valid valid i ≡ true → value (boolean (test i)) ≡ apply f (bool (nullability_in valid)) (row i)) →
       bits ≡ map test (range_with_len 0 n) →
-      IfOk r (λ c. (dtype (canonical_tree c) ≡ bool (nullability_in valid)) × IsMade valid (λ i. value (boolean (bit_row bits i))) n (canonical_tree c)) →
-      IfOk r (λ c. IsFilled f of_type row valid n (canonical_tree c))
+      IfOk r (λ c. (dtype (canonical_tree c) ≡ bool (nullability_in valid)) × IsColumnOfCells valid (λ i. value (boolean (bit_row bits i))) n (canonical_tree c)) →
+      IfOk r (λ c. IsRowwiseResult f of_type row valid n (canonical_tree c))
   bools_filled r test bits typed same are =
       IfOk-weaker r _ _
       (λ c made. filled (bool (nullability_in valid)) (λ i. value (boolean (bit_row bits i))) (canonical_tree c) typed made
@@ -55,8 +55,8 @@ module _ (f : ScalarFnRef) (of_type : Option DataType) (row : ℕ → List Cell)
   -- booleans if no row is valid
   pub nulls_filled : (r : Result Canonical VortexError) (bits : List Bool) → filled_type valid of_type ≡ Some (bool (nullability_in valid)) →
       AreShown Nulls valid n →
-      IfOk r (λ c. (dtype (canonical_tree c) ≡ bool (nullability_in valid)) × IsMade valid (λ i. value (boolean (bit_row bits i))) n (canonical_tree c)) →
-      IfOk r (λ c. IsFilled f of_type row valid n (canonical_tree c))
+      IfOk r (λ c. (dtype (canonical_tree c) ≡ bool (nullability_in valid)) × IsColumnOfCells valid (λ i. value (boolean (bit_row bits i))) n (canonical_tree c)) →
+      IfOk r (λ c. IsRowwiseResult f of_type row valid n (canonical_tree c))
   nulls_filled r bits typed none =
       IfOk-weaker r _ _
       (λ c made. filled (bool (nullability_in valid)) (λ i. value (boolean (bit_row bits i))) (canonical_tree c) typed made
@@ -67,8 +67,8 @@ module _ (f : ScalarFnRef) (of_type : Option DataType) (row : ℕ → List Cell)
       filled_type valid of_type ≡ Some (bool (nullability_in valid)) →
       ((i : ℕ) → value (boolean (test i)) ≡ apply f (bool (nullability_in valid)) (row i)) → bits ≡ map test (range_with_len 0 n) →
       kept ≡ map (λ i. is_valid valid i && bit_row bits i) (range_with_len 0 n) →
-      IfOk r (λ c. (dtype (canonical_tree c) ≡ bool (nullability_in valid)) × IsMade valid (λ i. value (boolean (bit_row kept i))) n (canonical_tree c)) →
-      IfOk r (λ c. IsFilled f of_type row valid n (canonical_tree c))
+      IfOk r (λ c. (dtype (canonical_tree c) ≡ bool (nullability_in valid)) × IsColumnOfCells valid (λ i. value (boolean (bit_row kept i))) n (canonical_tree c)) →
+      IfOk r (λ c. IsRowwiseResult f of_type row valid n (canonical_tree c))
   kept_filled r test bits kept typed given are =
       bools_filled r (λ i. is_valid valid i && bit_row bits i) kept typed
       (λ i lt here. ap (λ b. value (boolean (b && bit_row bits i))) here ∙ ap (λ b. value (boolean b)) (bit_made test bits n i are lt) ∙ given i)

@@ -47,7 +47,7 @@ use Rattle.vx_value.specs.declared.error.ArgKind.TheVariants.{BadType}
 use Rattle.vx_tree.specs.Conditions.{unless}
 use Rattle.vx_tree.proofs.ConditionsLemmas.{none_unless, unless_none}
 use Rattle.vx_column.specs.Built.{TypedRows, appended, type_refusal, length_refusal}
-use Rattle.vx_column.specs.Growing.{stored_values, zero_in, AreStored, Accepts, padded, masked_by, rows_kept, IsKept}
+use Rattle.vx_column.specs.Growing.{stored_values, zero_in, HaveStorage, Accepts, padded, masked_by, rows_kept, IsKept}
 
 -- ---- values by bits
 
@@ -139,7 +139,7 @@ bytes_accept : (m : Nullability) (rs : List (List ℕ)) (s : ScalarValue) → is
 bytes_accept m rs (scalar.Bytes bs) h = tt
 bytes_accept m rs _ h = absurd (cc)
 
-pub accepted : (ty : DataType) (values : Values) (s : ScalarValue) → AreStored (storage_of ty) values → is_of ty (value_of s) ≡ true
+pub accepted : (ty : DataType) (values : Values) (s : ScalarValue) → HaveStorage (storage_of ty) values → is_of ty (value_of s) ≡ true
     → Accepts values (value_of s)
 accepted ty (Nulls n) s kind h = nulls_accept (nullability_of ty) n s (stored_as ty storage.Nulls (value_of s) kind h)
 accepted ty (Bits bits) s kind h = bits_accept (nullability_of ty) bits s (stored_as ty storage.Bits (value_of s) kind h)
@@ -151,7 +151,7 @@ accepted ty (Bytes rs) s (inl e) h = text_accepts (nullability_of ty) rs s (stor
 accepted ty (Bytes rs) s (inr e) h = bytes_accept (nullability_of ty) rs s (stored_as ty storage.Bytes (value_of s) e h)
 
 -- what stands under a null is the type's zero value
-zero_is : (st : Storage) (values : Values) → AreStored st values → zero_in values ≡ zero_stored st
+zero_is : (st : Storage) (values : Values) → HaveStorage st values → zero_in values ≡ zero_stored st
 zero_is st (Nulls n) e = ap zero_stored (sym e)
 zero_is st (Bits bs) e = ap zero_stored (sym e)
 zero_is st (Integers zs) e = ap zero_stored (sym e.1)
@@ -159,7 +159,7 @@ zero_is st (Decimals zs s) e = ap zero_stored (sym e.1)
 zero_is st (Bytes rs) (inl e) = ap zero_stored (sym e)
 zero_is st (Bytes rs) (inr e) = ap zero_stored (sym e)
 
-zero_of_type : (ty : DataType) (values : Values) → AreStored (storage_of ty) values → is_of ty (zero_in values) ≡ true
+zero_of_type : (ty : DataType) (values : Values) → HaveStorage (storage_of ty) values → is_of ty (zero_in values) ≡ true
 zero_of_type ty values kind = ap (is_of ty) (zero_is (storage_of ty) values kind) ∙ zero_typed ty
 
 null_of_type : (ty : DataType) → nullability_of ty ≡ Nullable → is_of ty null ≡ true
@@ -213,7 +213,7 @@ module _ (ty : DataType) (n : ℕ) (values : Values) (bits : List Bool) (kept : 
   pub rows_typed : list_all (is_of ty) (rows_kept values bits) ≡ true
   rows_typed = all_masked (is_of ty) null bits (stored_values values) (λ some. null_of_type ty (kept.nullable some)) kept.typed
 
-  module _ (new : Values) (same_zero : zero_in new ≡ zero_in values) (kind : (st : Storage) → AreStored st values → AreStored st new) where
+  module _ (new : Values) (same_zero : zero_in new ≡ zero_in values) (kind : (st : Storage) → HaveStorage st values → HaveStorage st new) where
     within : length bits ≤ length (stored_values values)
     within = omega (arith, kept.told, kept.counted)
 
@@ -266,8 +266,8 @@ module _ (ty : DataType) (n : ℕ) (values : Values) (bits : List Bool) (kept : 
     same_zero : zero_in (Nulls (r + k)) ≡ zero_in values
     same_zero = ap zero_in (sym is)
 
-    same_kind : (st : Storage) → AreStored st values → AreStored st (Nulls (r + k))
-    same_kind st h = subst (AreStored st) is h
+    same_kind : (st : Storage) → HaveStorage st values → HaveStorage st (Nulls (r + k))
+    same_kind st h = subst (HaveStorage st) is h
 
     pub rows_counted_on : rows_kept (Nulls (r + k)) bits ≡ rows_kept values bits ++ replicate k null
     rows_counted_on = rows_more (Nulls (r + k)) same_zero same_kind (replicate k null) (more_nulls values r k is)

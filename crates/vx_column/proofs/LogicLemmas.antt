@@ -27,7 +27,7 @@ use Rattle.vx_tree.specs.ColumnTypes.{bytes_type}
 use Rattle.vx_tree.specs.Tree.{Tree, dtype}
 use Rattle.vx_column.specs.Arguments.{plain_type, row_of, IsSized}
 use Rattle.vx_column.specs.Bits.{bit_by}
-use Rattle.vx_column.specs.Computed.{IsMade, IsComputed}
+use Rattle.vx_column.specs.Computed.{IsColumnOfCells, IsCanonicalResult}
 use Rattle.vx_column.specs.Truths.{argument_in, row_over, HasTruths}
 use Rattle.vx_column.specs.ValidRows.{is_valid, nullability_in, null_unless}
 use Rattle.vx_column.specs.declared.rows.argument.Argument.{Argument}
@@ -156,8 +156,8 @@ module _ (op : Operator) (logical : is_logical op ≡ true) (l r : Truths) (n : 
   pub nullable_joined : (low high known : List Bool) (u : Tree) → union (nullability_in l.valid.now) (nullability_in r.valid.now) ≡ Nullable →
       low ≡ map (over (λ a b. a && b)) (range_with_len 0 n) → high ≡ map (over (λ a b. is_le (bool_cmp a b))) (range_with_len 0 n) →
       known ≡ map (λ i. is_eq (bool_cmp (bit_row low i) (bit_row high i))) (range_with_len 0 n) →
-      dtype u ≡ bool Nullable → IsMade (rows_valid.Bits known) (λ i. value (boolean (bit_row low i))) n u →
-      IsComputed (Binary op) (argument_in l ∷ argument_in r ∷ []) n u
+      dtype u ≡ bool Nullable → IsColumnOfCells (rows_valid.Bits known) (λ i. value (boolean (bit_row low i))) n u →
+      IsCanonicalResult (Binary op) (argument_in l ∷ argument_in r ∷ []) n u
   nullable_joined low high known u nullable lows highs knowns typed made =
       computed_by (Binary op) (argument_in l ∷ argument_in r ∷ []) (rows_valid.Bits known) (λ i. value (boolean (bit_row low i))) n u
       (logic_typed op (nullability_in l.valid.now) (nullability_in r.valid.now) logical ∙ ap (λ m. Some (bool m)) nullable ∙ ap Some (sym typed)) made
@@ -169,11 +169,11 @@ module _ (op : Operator) (logical : is_logical op ≡ true) (l r : Truths) (n : 
   -- if no row of either is null
   pub plain_joined : (m k w : Nullability) (bits : List Bool) (u : Tree) → l.valid.now ≡ rows_valid.All m → r.valid.now ≡ rows_valid.All k →
       bits ≡ map (λ i. bit_by op (bit_in l.bits i) (bit_in r.bits i)) (range_with_len 0 n) → w ≡ union m k →
-      (dtype u ≡ bool w) × IsMade (rows_valid.All w) (λ i. value (boolean (bit_row bits i))) n u →
-      IsComputed (Binary op) (argument_in l ∷ argument_in r ∷ []) n u
+      (dtype u ≡ bool w) × IsColumnOfCells (rows_valid.All w) (λ i. value (boolean (bit_row bits i))) n u →
+      IsCanonicalResult (Binary op) (argument_in l ∷ argument_in r ∷ []) n u
   plain_joined m k w bits u first second made both h =
-      subst (λ v. IsComputed (Binary op) (record { rows = Bits l.bits; valid = v } ∷ argument_in r ∷ []) n u) (sym first)
-      (subst (λ v. IsComputed (Binary op) (record { rows = Bits l.bits; valid = rows_valid.All m } ∷ record { rows = Bits r.bits; valid = v } ∷ []) n u)
+      subst (λ v. IsCanonicalResult (Binary op) (record { rows = Bits l.bits; valid = v } ∷ argument_in r ∷ []) n u) (sym first)
+      (subst (λ v. IsCanonicalResult (Binary op) (record { rows = Bits l.bits; valid = rows_valid.All m } ∷ record { rows = Bits r.bits; valid = v } ∷ []) n u)
       (sym second)
       (computed_by (Binary op) (record { rows = Bits l.bits; valid = rows_valid.All m } ∷ record { rows = Bits r.bits; valid = rows_valid.All k } ∷ [])
       (rows_valid.All w) (λ i. value (boolean (bit_row bits i))) n u (logic_typed op m k logical ∙ ap (λ j. Some (bool j)) (sym both) ∙ ap Some (sym h.0)) h.1

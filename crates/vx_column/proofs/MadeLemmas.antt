@@ -29,7 +29,7 @@ use Rattle.vx_tree.specs.Cells.{slots_rows, node_cells, cells_at, valid_cells}
 use Rattle.vx_tree.specs.Validities.{nullability_by, child_of}
 use Rattle.vx_tree.specs.declared.validity.Validity.{Validity}
 use Rattle.vx_column.specs.Arguments.{types_of, row_of, plain_type, value_at}
-use Rattle.vx_column.specs.Computed.{IsMade, IsComputed}
+use Rattle.vx_column.specs.Computed.{IsColumnOfCells, IsCanonicalResult}
 use Rattle.vx_column.specs.Stored.{boolean_column, integer_column, decimal_column, bytes_column}
 use Rattle.vx_column.specs.Nulls.{validity_cells}
 use Rattle.vx_column.specs.ValidRows.{is_valid, HasValidity, nullability_in, child_in, IsValidityOf, null_unless}
@@ -49,7 +49,7 @@ stored_cell true x = refl
 stored_cell false x = refl
 
 pub made_by : (valid : ValidRows) (stored other : ℕ → Cell) (n : ℕ) (u : Tree) → ((i : ℕ) → i < n → is_valid valid i ≡ true → stored i ≡ other i)
-    → IsMade valid stored n u → IsMade valid other n u
+    → IsColumnOfCells valid stored n u → IsColumnOfCells valid other n u
 made_by valid stored other n u same h = record {
   counted = h.counted;
   shown = h.shown ∙ same_below n _ _ (λ i lt. same_unless_null (is_valid valid i) (stored i) (other i) (same i lt));
@@ -59,8 +59,8 @@ made_by valid stored other n u same h = record {
 
 -- items that stand for the values of `f`
 pub made_stored : {X : Type 0} (read : X → Value) (d : X) (g : ℕ → X) (f : ℕ → Value) (valid : ValidRows) (n : ℕ) (xs : List X) (u : Tree)
-    → xs ≡ map g (range_with_len 0 n) → ((i : ℕ) → read (g i) ≡ f i) → IsMade valid (λ i. value (read (get_or xs i d))) n u
-    → IsMade valid (λ i. value (f i)) n u
+    → xs ≡ map g (range_with_len 0 n) → ((i : ℕ) → read (g i) ≡ f i) → IsColumnOfCells valid (λ i. value (read (get_or xs i d))) n u
+    → IsColumnOfCells valid (λ i. value (f i)) n u
 made_stored read d g f valid n xs u are same h =
     made_by valid (λ i. value (read (get_or xs i d))) (λ i. value (f i)) n u
     (λ i lt here. ap (λ zs. value (read (get_or zs i d))) are
@@ -71,9 +71,9 @@ made_stored read d g f valid n xs u are same h =
 pub rows_made : {X : Type 0} (read : X → Value) (d : X) (g : ℕ → X) (rows stored : ArgumentRows) (valid : ValidRows) (n : ℕ) (xs : List X) (ty : DataType)
     (r : Result Canonical VortexError) → rows ≡ stored → xs ≡ map g (range_with_len 0 n) → ((i : ℕ) → read (g i) ≡ value_at stored i)
     → ty ≡ with_nullability (nullability_in valid) (plain_type stored)
-    → IfOk r (λ c. (dtype (canonical_tree c) ≡ ty) × IsMade valid (λ i. value (read (get_or xs i d))) n (canonical_tree c))
+    → IfOk r (λ c. (dtype (canonical_tree c) ≡ ty) × IsColumnOfCells valid (λ i. value (read (get_or xs i d))) n (canonical_tree c))
     → IfOk r (λ c. (dtype (canonical_tree c) ≡ with_nullability (nullability_in valid) (plain_type rows))
-    × IsMade valid (λ i. value (value_at rows i)) n (canonical_tree c))
+    × IsColumnOfCells valid (λ i. value (value_at rows i)) n (canonical_tree c))
 rows_made read d g rows stored valid n xs ty r is are same typed =
     IfOk-weaker r _ _
     (λ c h. (
@@ -86,7 +86,7 @@ null_always true = refl
 null_always false = refl
 
 -- a column of nulls
-pub nulls_made : (f : ℕ → Value) (valid : ValidRows) (n : ℕ) → ((i : ℕ) → f i ≡ null) → IsMade valid (λ i. value (f i)) n (nulls_of n)
+pub nulls_made : (f : ℕ → Value) (valid : ValidRows) (n : ℕ) → ((i : ℕ) → f i ≡ null) → IsColumnOfCells valid (λ i. value (f i)) n (nulls_of n)
 nulls_made f valid n none = record {
   counted = refl;
   shown = sym (all_below n (λ i. null_unless (is_valid valid i) (value (f i))) (value null)
@@ -97,8 +97,8 @@ nulls_made f valid n none = record {
 
 -- the column of a function, by what it stores
 pub computed_by : (f : ScalarFnRef) (args : List Argument) (valid : ValidRows) (stored : ℕ → Cell) (n : ℕ) (u : Tree)
-    → return_type f (types_of args) ≡ Some (dtype u) → IsMade valid stored n u
-    → ((i : ℕ) → i < n → null_unless (is_valid valid i) (stored i) ≡ apply f (dtype u) (row_of args i)) → IsComputed f args n u
+    → return_type f (types_of args) ≡ Some (dtype u) → IsColumnOfCells valid stored n u
+    → ((i : ℕ) → i < n → null_unless (is_valid valid i) (stored i) ≡ apply f (dtype u) (row_of args i)) → IsCanonicalResult f args n u
 computed_by f args valid stored n u typed h same = record {
   result = record { typed = typed; counted = h.counted; shown = h.shown ∙ same_below n _ _ same; clean = h.clean };
   canonical = h.canonical;
@@ -112,13 +112,13 @@ module _ (valid : ValidRows) (n : ℕ) (sized : HasValidity valid n) (v : Validi
       → node_cells (ty m) k (of_items xs) css ≡ valid_cells (cells_at css 0) (map (λ x. value (read x)) xs))
       → ((xs : List X) → is_canonical (of_items xs) ≡ true) → (xs : List X) (g : ℕ → X) (u : Tree) → xs ≡ map g (range_with_len 0 n)
       → u ≡ column (ty (nullability_by v)) (length xs) (of_items xs) (child_of v (length xs))
-      → (dtype u ≡ ty (nullability_in valid)) × IsMade valid (λ i. value (read (g i))) n u
+      → (dtype u ≡ ty (nullability_in valid)) × IsColumnOfCells valid (λ i. value (read (g i))) n u
   made read of_items ty cells canonical xs g u are new =
       let long : length xs ≡ n = ap length are ∙ length-map-range_with_len g 0 n in
       let child : child_of v (length xs) ≡ child_in valid = ap (child_of v) long ∙ told.1 in
       let stored : map (λ x. value (read x)) xs ≡ map (λ i. value (read (g i))) (range_with_len 0 n) =
       ap (map (λ x. value (read x))) are ∙ map-map (λ x. value (read x)) g (range_with_len 0 n) in
-      let whole : IsMade valid (λ i. value (read (g i))) n (column (ty (nullability_by v)) (length xs) (of_items xs) (child_in valid)) =
+      let whole : IsColumnOfCells valid (λ i. value (read (g i))) n (column (ty (nullability_by v)) (length xs) (of_items xs) (child_in valid)) =
       record {
         counted = long;
         shown = cells (nullability_by v) (length xs) xs (slots_rows (slots_of (child_in valid ∷ [])))
@@ -129,21 +129,21 @@ module _ (valid : ValidRows) (n : ℕ) (sized : HasValidity valid n) (v : Validi
         canonical = canonical xs;
       } in (
         ap dtype new ∙ ap ty told.0,
-        subst (IsMade valid (λ i. value (read (g i))) n) (sym (new ∙ ap (column (ty (nullability_by v)) (length xs) (of_items xs)) child)) whole,
+        subst (IsColumnOfCells valid (λ i. value (read (g i))) n) (sym (new ∙ ap (column (ty (nullability_by v)) (length xs) (of_items xs)) child)) whole,
       )
 
   pub bools_made : (bits : List Bool) (test : ℕ → Bool) (u : Tree) → bits ≡ map test (range_with_len 0 n) → u ≡ boolean_column bits v
-      → (dtype u ≡ bool (nullability_in valid)) × IsMade valid (λ i. value (boolean (test i))) n u
+      → (dtype u ≡ bool (nullability_in valid)) × IsColumnOfCells valid (λ i. value (boolean (test i))) n u
   bools_made = made boolean enc.bool bool (λ m k xs css. refl) (λ xs. refl)
 
   pub integers_made : (p : PType) (zs : List ℤ) (g : ℕ → ℤ) (u : Tree) → zs ≡ map g (range_with_len 0 n) → u ≡ integer_column p zs v
-      → (dtype u ≡ primitive p (nullability_in valid)) × IsMade valid (λ i. value (integer (g i))) n u
+      → (dtype u ≡ primitive p (nullability_in valid)) × IsColumnOfCells valid (λ i. value (integer (g i))) n u
   integers_made p = made integer (enc.primitive p) (primitive p) (λ m k xs css. refl) (λ xs. refl)
 
   pub decimals_made : (d : DecimalDType) (w : DecimalType) (zs : List ℤ) (g : ℕ → ℤ) (u : Tree) → zs ≡ map g (range_with_len 0 n) → u ≡ decimal_column d w zs v
-      → (dtype u ≡ decimal d.precision d.scale (nullability_in valid)) × IsMade valid (λ i. value (of.decimal (g i) d.scale)) n u
+      → (dtype u ≡ decimal d.precision d.scale (nullability_in valid)) × IsColumnOfCells valid (λ i. value (of.decimal (g i) d.scale)) n u
   decimals_made d w = made (λ z. of.decimal z d.scale) (enc.decimals w) (decimal d.precision d.scale) (λ m k xs css. refl) (λ xs. refl)
 
   pub bytes_made : (st : Storage) (rs : List (List ℕ)) (g : ℕ → List ℕ) (u : Tree) → rs ≡ map g (range_with_len 0 n) → u ≡ bytes_column st rs v
-      → (dtype u ≡ with_nullability (nullability_in valid) (bytes_type st)) × IsMade valid (λ i. value (bytes (g i))) n u
+      → (dtype u ≡ with_nullability (nullability_in valid) (bytes_type st)) × IsColumnOfCells valid (λ i. value (bytes (g i))) n u
   bytes_made st = made bytes enc.views (λ m. with_nullability m (bytes_type st)) (λ m k xs css. refl) (λ xs. refl)

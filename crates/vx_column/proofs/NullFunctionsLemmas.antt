@@ -18,7 +18,7 @@ use Rattle.vx_fn.specs.declared.function.ScalarFnRef.{ScalarFnRef}
 use Rattle.vx_fn.specs.declared.function.ScalarFnRef.TheVariants.{Mask}
 use Rattle.vx_tree.specs.Tree.{Tree, dtype}
 use Rattle.vx_column.specs.Arguments.{types_of, type_of_argument, plain_type, value_at, cell_at, IsSized, AreShown}
-use Rattle.vx_column.specs.Computed.{Takes, IsMade, IsComputed}
+use Rattle.vx_column.specs.Computed.{Takes, IsColumnOfCells, IsCanonicalResult}
 use Rattle.vx_column.specs.ValidRows.{is_valid, nullability_in, null_unless}
 use Rattle.vx_column.specs.declared.rows.argument.Argument.{Argument}
 use Rattle.vx_column.specs.declared.rows.argument.ArgumentRows.{ArgumentRows}
@@ -47,7 +47,7 @@ module _ (f : ScalarFnRef) (g : Bool → Bool) (typed : (s : DataType) → retur
   test_cell ty x false h = sym (of_null ty)
 
   pub tested : (a : Argument) (n : ℕ) (bits : List Bool) (u : Tree) → IsSized n a → bits ≡ map (λ i. g (is_valid a.valid i)) (range_with_len 0 n)
-      → (dtype u ≡ bool NonNullable) × IsMade (rows_valid.All NonNullable) (λ i. value (boolean (bit_row bits i))) n u → IsComputed f (a ∷ []) n u
+      → (dtype u ≡ bool NonNullable) × IsColumnOfCells (rows_valid.All NonNullable) (λ i. value (boolean (bit_row bits i))) n u → IsCanonicalResult f (a ∷ []) n u
   tested a n bits u sized made h =
       computed_by f (a ∷ []) (rows_valid.All NonNullable) (λ i. value (boolean (bit_row bits i))) n u (typed (type_of_argument a) ∙ ap Some (sym h.0)) h.1
       (λ i lt. ap (λ b. value (boolean b)) (bit_made (λ j. g (is_valid a.valid j)) bits n i made lt)
@@ -77,8 +77,8 @@ module _ (n : ℕ) (a k : Argument) (takes : Takes Mask (a ∷ k ∷ []) n) wher
 
   pub masked : (keep : BitOperand) (bits : List Bool) (u : Tree) → k.rows ≡ stored.Bits keep
       → bits ≡ map (λ i. is_valid a.valid i && bit_in keep i) (range_with_len 0 n)
-      → (dtype u ≡ with_nullability Nullable (plain_type a.rows)) × IsMade (rows_valid.Bits bits) (λ i. value (value_at a.rows i)) n u
-      → IsComputed Mask (a ∷ k ∷ []) n u
+      → (dtype u ≡ with_nullability Nullable (plain_type a.rows)) × IsColumnOfCells (rows_valid.Bits bits) (λ i. value (value_at a.rows i)) n u
+      → IsCanonicalResult Mask (a ∷ k ∷ []) n u
   masked keep bits u is made h =
       let plain : nullability_in k.valid ≡ NonNullable = sym (argument_nullability n k takes.sized.1.0) ∙ ap nullability_of mask_typed in
       let typed : return_type Mask (types_of (a ∷ k ∷ [])) ≡ Some (with_nullability Nullable (plain_type a.rows)) =

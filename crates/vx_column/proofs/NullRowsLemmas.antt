@@ -35,6 +35,7 @@ use Rattle.vx_tree.specs.declared.canonical.columnar.Columnar.{Columnar}
 use Rattle.vx_tree.specs.declared.validity.Validity.{Validity}
 use Rattle.vx_tree.specs.declared.validity.Validity.TheVariants as validity
 use Rattle.vx_tree.proofs.ConditionsLemmas.{none_refused, none_unless}
+use Rattle.vx_tree.proofs.ValiditiesLemmas.{rows_allowed}
 use Rattle.vx_mask.specs.Logic.{bit_row}
 use Rattle.vx_mask.specs.Operands.{bit_in, HasBits}
 use Rattle.vx_mask.specs.declared.operand.BitOperand.{BitOperand}
@@ -53,16 +54,9 @@ use Rattle.vx_value.specs.declared.decimal.DecimalDType.{DecimalDType}
 use Rattle.vx_value.specs.declared.decimal.DecimalType.{DecimalType}
 use Rattle.vx_column.specs.declared.rows.argument.DecimalRows.{DecimalRows}
 
--- ---- a validity of as many rows is taken
-
-rows_taken : (n : ℕ) (v : Validity) → HasRows v n → array_refusal n v ≡ None
-rows_taken n (validity.Array t) h =
-    none_refused _ _ (none_unless _ _ ((same_type_Decides (dtype t) (bool NonNullable)).1 h.1)) (none_unless _ _ ((unsigned_Decides (len t) n).1 h.2))
-rows_taken n _ h = refl
-
 pub flat_taken : (s ty : DataType) (n : ℕ) (v : Validity) → HasRows v n → ty ≡ with_nullability (nullability_by v) s → flat_refusal s ty n v ≡ None
 flat_taken s ty n v h typed =
-    none_refused _ _ (none_unless _ _ ((same_type_Decides ty (with_nullability (nullability_by v) s)).1 typed)) (rows_taken n v h)
+    none_refused _ _ (none_unless _ _ ((same_type_Decides ty (with_nullability (nullability_by v) s)).1 typed)) (rows_allowed n v h)
 
 -- and the column of rows of bytes with one
 pub bytes_taken : (st : Storage) (ty : DataType) (rs : List (List ℕ)) (v : Validity) → HasRows v (length rs) → are_bytes_of st rs ≡ true

@@ -13,9 +13,9 @@ use Rattle.vx_fn.specs.declared.function.Operator.{Operator}
 use Rattle.vx_fn.specs.declared.function.ScalarFnRef.TheVariants.{Binary}
 use Rattle.vx_tree.specs.Tree.{Tree, dtype}
 use Rattle.vx_column.specs.Arguments.{integer_in, ptype_in, unscaled_in, plain_type, pair_at}
-use Rattle.vx_column.specs.Computed.{IsMade}
-use Rattle.vx_column.specs.Filled.{IsFilled, IsNotFilled, filled_type}
-use Rattle.vx_column.specs.Operands.{IsFaultyRow, IsCalculated, AreCalculated}
+use Rattle.vx_column.specs.Computed.{IsColumnOfCells}
+use Rattle.vx_column.specs.Filled.{IsRowwiseResult, HasNoRowwiseResult, filled_type}
+use Rattle.vx_column.specs.Operands.{IsFaultyRow, IsPrimitiveColumnOf, IsDecimalColumnOf}
 use Rattle.vx_column.specs.ValidRows.{is_valid, nullability_in}
 use Rattle.vx_column.specs.declared.rows.argument.ArgumentRows.{ArgumentRows}
 use Rattle.vx_column.specs.declared.rows.argument.ArgumentRows.TheVariants.{Integers, Decimals}
@@ -28,11 +28,11 @@ use Rattle.vx_column.proofs.OperatorLemmas.{integers_plain, integers_calculated,
 -- cells of a type, each the operator on a row
 module _ (op : Operator) (lhs rhs : ArgumentRows) (valid : ValidRows) (n : ℕ) (ty : DataType) (cell : ℕ → Cell)
     (typed : filled_type valid (operator_type op (plain_type lhs)) ≡ Some ty) (same_cell : (i : ℕ) → cell i ≡ apply (Binary op) ty (pair_at lhs rhs i)) where
-  cells_filled : (u : Tree) → (dtype u ≡ ty) × IsMade valid cell n u → IsFilled (Binary op) (operator_type op (plain_type lhs)) (pair_at lhs rhs) valid n u
+  cells_filled : (u : Tree) → (dtype u ≡ ty) × IsColumnOfCells valid cell n u → IsRowwiseResult (Binary op) (operator_type op (plain_type lhs)) (pair_at lhs rhs) valid n u
   cells_filled u h = filled (Binary op) (operator_type op (plain_type lhs)) (pair_at lhs rhs) valid n ty cell u typed h (λ i lt here. same_cell i)
 
   cells_not_filled : (e : VortexError) → IsFaultyRow (is_valid valid) cell n e
-      → IsNotFilled (Binary op) (operator_type op (plain_type lhs)) (pair_at lhs rhs) valid n e
+      → HasNoRowwiseResult (Binary op) (operator_type op (plain_type lhs)) (pair_at lhs rhs) valid n e
   cells_not_filled e (inl memory) = inl memory
   cells_not_filled e (inr h) =
       inr (
@@ -50,13 +50,13 @@ module _ (op : Operator) (p : PType) (lhs rhs : IntegerOperand) (valid : ValidRo
       (λ j. calculated op p (left j i) (right j i))
       ∙ sym (calculated_value op p (nullability_in valid) (integer_in lhs i) (integer_in rhs i) (integers_plain op (ptype_in lhs) taken))
 
-  pub operation_filled : (u : Tree) → IsCalculated p valid (λ i. calculated op p (l i) (r i)) n u
-      → IsFilled (Binary op) (operator_type op (plain_type (Integers lhs))) (pair_at (Integers lhs) (Integers rhs)) valid n u
+  pub operation_filled : (u : Tree) → IsPrimitiveColumnOf p valid (λ i. calculated op p (l i) (r i)) n u
+      → IsRowwiseResult (Binary op) (operator_type op (plain_type (Integers lhs))) (pair_at (Integers lhs) (Integers rhs)) valid n u
   operation_filled =
       cells_filled op (Integers lhs) (Integers rhs) valid n (primitive p (nullability_in valid)) (λ i. calculated op p (l i) (r i)) typed same_cell
 
   pub operation_not_filled : (e : VortexError) → IsFaultyRow (is_valid valid) (λ i. calculated op p (l i) (r i)) n e
-      → IsNotFilled (Binary op) (operator_type op (plain_type (Integers lhs))) (pair_at (Integers lhs) (Integers rhs)) valid n e
+      → HasNoRowwiseResult (Binary op) (operator_type op (plain_type (Integers lhs))) (pair_at (Integers lhs) (Integers rhs)) valid n e
   operation_not_filled =
       cells_not_filled op (Integers lhs) (Integers rhs) valid n (primitive p (nullability_in valid)) (λ i. calculated op p (l i) (r i)) typed same_cell
 
@@ -69,8 +69,8 @@ module _ (op : Operator) (lhs rhs : DecimalOperand) (valid : ValidRows) (n : ℕ
       ∙ sym (decimal_value op lhs.decimal.precision lhs.decimal.scale (nullability_in valid) (unscaled_in lhs i) (unscaled_in rhs i) lhs.decimal.scale
       rhs.decimal.scale taken)
 
-  pub decimals_filled : (u : Tree) → AreCalculated lhs.decimal valid (λ i. calculated_by op (sized lhs.decimal.precision lhs.decimal.scale) (l i) (r i)) n u
-      → IsFilled (Binary op) (operator_type op (plain_type (Decimals lhs))) (pair_at (Decimals lhs) (Decimals rhs)) valid n u
+  pub decimals_filled : (u : Tree) → IsDecimalColumnOf lhs.decimal valid (λ i. calculated_by op (sized lhs.decimal.precision lhs.decimal.scale) (l i) (r i)) n u
+      → IsRowwiseResult (Binary op) (operator_type op (plain_type (Decimals lhs))) (pair_at (Decimals lhs) (Decimals rhs)) valid n u
   decimals_filled =
       cells_filled op (Decimals lhs) (Decimals rhs) valid n (decimal lhs.decimal.precision lhs.decimal.scale (nullability_in valid))
       (λ i. calculated_by op (sized lhs.decimal.precision lhs.decimal.scale) (l i) (r i))
@@ -78,7 +78,7 @@ module _ (op : Operator) (lhs rhs : DecimalOperand) (valid : ValidRows) (n : ℕ
 
   pub decimals_not_filled : (e : VortexError)
       → IsFaultyRow (is_valid valid) (λ i. calculated_by op (sized lhs.decimal.precision lhs.decimal.scale) (l i) (r i)) n e
-      → IsNotFilled (Binary op) (operator_type op (plain_type (Decimals lhs))) (pair_at (Decimals lhs) (Decimals rhs)) valid n e
+      → HasNoRowwiseResult (Binary op) (operator_type op (plain_type (Decimals lhs))) (pair_at (Decimals lhs) (Decimals rhs)) valid n e
   decimals_not_filled =
       cells_not_filled op (Decimals lhs) (Decimals rhs) valid n (decimal lhs.decimal.precision lhs.decimal.scale (nullability_in valid))
       (λ i. calculated_by op (sized lhs.decimal.precision lhs.decimal.scale) (l i) (r i))

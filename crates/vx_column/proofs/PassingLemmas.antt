@@ -19,8 +19,8 @@ use Rattle.vx_fn.proofs.MeaningsLemmas.{union_with_plain}
 use Rattle.vx_tree.specs.Cells.{HasNoFault}
 use Rattle.vx_tree.specs.Tree.{Tree, dtype}
 use Rattle.vx_column.specs.Arguments.{AreShown, types_of, plain_type, pair_at, row_of, value_at}
-use Rattle.vx_column.specs.Computed.{Takes, IsComputed, IsNotComputed}
-use Rattle.vx_column.specs.Filled.{IsFilled, IsNotFilled}
+use Rattle.vx_column.specs.Computed.{Takes, IsCanonicalResult, HasNoCanonicalResult}
+use Rattle.vx_column.specs.Filled.{IsRowwiseResult, HasNoRowwiseResult}
 use Rattle.vx_column.specs.ValidRows.{is_valid, nullability_in, null_unless}
 use Rattle.vx_column.specs.declared.rows.argument.Argument.{Argument}
 use Rattle.vx_column.specs.declared.rows.argument.ArgumentRows.{ArgumentRows}
@@ -67,12 +67,12 @@ module _ (op : Operator) (n : ℕ) (a b : Argument) (takes : Takes (Binary op) (
       operands_typed op n a b takes
       ∙ ap (λ m. option_map (with_nullability m) (operator_type op (plain_type a.rows))) (sym nullability)
 
-  pub operands_computed : (u : Tree) → IsFilled (Binary op) (operator_type op (plain_type a.rows)) (pair_at a.rows b.rows) valid n u
-      → IsComputed (Binary op) (a ∷ b ∷ []) n u
+  pub operands_computed : (u : Tree) → IsRowwiseResult (Binary op) (operator_type op (plain_type a.rows)) (pair_at a.rows b.rows) valid n u
+      → IsCanonicalResult (Binary op) (a ∷ b ∷ []) n u
   operands_computed u h = computed_by (Binary op) (a ∷ b ∷ []) valid _ n u (same_type ∙ h.typed) h.made (same_cell (dtype u))
 
-  pub operands_not_computed : (e : VortexError) → IsNotFilled (Binary op) (operator_type op (plain_type a.rows)) (pair_at a.rows b.rows) valid n e
-      → IsNotComputed (Binary op) (a ∷ b ∷ []) n e
+  pub operands_not_computed : (e : VortexError) → HasNoRowwiseResult (Binary op) (operator_type op (plain_type a.rows)) (pair_at a.rows b.rows) valid n e
+      → HasNoCanonicalResult (Binary op) (a ∷ b ∷ []) n e
   operands_not_computed e (inl m) = inl m
   operands_not_computed e (inr h) =
       inr (h.0, λ ty typed. λ k. h.1 ty (sym same_type ∙ typed) (subst HasNoFault (sym (same_below n _ _ (same_cell ty))) k))
@@ -85,8 +85,8 @@ null_negated ty true x = refl
 null_negated ty false x = refl
 
 pub negation_computed : (bs : BitOperand) (valid : ValidRows) (n : ℕ) (u : Tree)
-    → IsFilled Not (Some (bool NonNullable)) (λ i. value (value_at (Bits bs) i) ∷ []) valid n u
-    → IsComputed Not (record { rows = Bits bs; valid = valid } ∷ []) n u
+    → IsRowwiseResult Not (Some (bool NonNullable)) (λ i. value (value_at (Bits bs) i) ∷ []) valid n u
+    → IsCanonicalResult Not (record { rows = Bits bs; valid = valid } ∷ []) n u
 negation_computed bs valid n u h =
     computed_by Not (record { rows = Bits bs; valid = valid } ∷ []) valid _ n u
     (ap (λ m. Some (bool m)) (union_with_plain (nullability_in valid) NonNullable refl) ∙ h.typed) h.made

@@ -25,7 +25,7 @@ use Rattle.vx_tree.specs.Tree.{Tree, dtype}
 use Rattle.vx_tree.specs.declared.canonical.canonical.Canonical.{Canonical}
 use Rattle.vx_value.specs.declared.error.VortexError.{VortexError}
 use Rattle.vx_column.specs.Arguments.{types_of, row_of, cell_at, value_at, plain_type, type_of_argument}
-use Rattle.vx_column.specs.Computed.{Takes, IsMade, IsComputed}
+use Rattle.vx_column.specs.Computed.{Takes, IsColumnOfCells, IsCanonicalResult}
 use Rattle.vx_column.specs.Selected.{selected, selected_by, selected_rows, AreSelected, IsSelected}
 use Rattle.vx_column.specs.ValidRows.{is_valid, nullability_in, null_unless}
 use Rattle.vx_column.specs.declared.rows.argument.Argument.{Argument}
@@ -67,7 +67,7 @@ pub column_selected : {X : Type 0} (read : X → Value) (d : X) (bits : List Boo
     (xs : List X) (t : DataType) (found : Result Canonical VortexError) → l ≡ p → r ≡ q
     → value_at p ≡ (λ j. read (x j)) → value_at q ≡ (λ j. read (y j)) → t ≡ with_nullability (nullability_in valid) (plain_type p)
     → xs ≡ selected_rows bits x y n
-    → IfOk found (λ c. (dtype (canonical_tree c) ≡ t) × IsMade valid (λ i. value (read (get_or xs i d))) n (canonical_tree c))
+    → IfOk found (λ c. (dtype (canonical_tree c) ≡ t) × IsColumnOfCells valid (λ i. value (read (get_or xs i d))) n (canonical_tree c))
     → IfOk found (λ c. AreSelected bits l r valid n (canonical_tree c))
 column_selected read d bits l r p q x y valid n xs t found first second left right typed are =
     IfOk-weaker found _ _
@@ -81,7 +81,7 @@ column_selected read d bits l r p q x y valid n xs t found first second left rig
 -- of two that store the same
 pub column_either : (bits : List Bool) (l r : ArgumentRows) (valid : ValidRows) (n : ℕ) (found : Result Canonical VortexError) → value_at l ≡ value_at r
     → IfOk found (λ c. (dtype (canonical_tree c) ≡ with_nullability (nullability_in valid) (plain_type l))
-    × IsMade valid (λ i. value (value_at l i)) n (canonical_tree c))
+    × IsColumnOfCells valid (λ i. value (value_at l i)) n (canonical_tree c))
     → IfOk found (λ c. AreSelected bits l r valid n (canonical_tree c))
 column_either bits l r valid n found same =
     IfOk-weaker found _ _
@@ -106,7 +106,7 @@ pub is_selected : (choice k : BitOperand) (x y : Argument) (t : DataType) (valid
     → ((i : ℕ) → i < n → is_valid valid i ≡ selected choice (is_valid x.valid) (is_valid y.valid) i)
     → nullability_in valid ≡ union (nullability_in x.valid) (nullability_in y.valid)
     → IfOk found (λ c. (dtype (canonical_tree c) ≡ with_nullability (nullability_in valid) t)
-    × IsMade valid (λ i. value (selected k (value_at x.rows) (value_at y.rows) i)) n (canonical_tree c))
+    × IsColumnOfCells valid (λ i. value (selected k (value_at x.rows) (value_at y.rows) i)) n (canonical_tree c))
     → IfOk found (λ c. IsSelected choice x y n (canonical_tree c))
 is_selected choice k x y t valid n found is plain rows nullability =
     IfOk-weaker found _ _
@@ -122,7 +122,7 @@ is_selected choice k x y t valid n found is plain rows nullability =
 
 computed_selected : (f : ScalarFnRef) (args : List Argument) (choice : BitOperand) (x y : Argument) (n : ℕ) (u : Tree)
     → return_type f (types_of args) ≡ Some (with_nullability (union (nullability_in x.valid) (nullability_in y.valid)) (plain_type x.rows))
-    → ((i : ℕ) → i < n → selected choice (cell_at x) (cell_at y) i ≡ apply f (dtype u) (row_of args i)) → IsSelected choice x y n u → IsComputed f args n u
+    → ((i : ℕ) → i < n → selected choice (cell_at x) (cell_at y) i ≡ apply f (dtype u) (row_of args i)) → IsSelected choice x y n u → IsCanonicalResult f args n u
 computed_selected f args choice x y n u typed cells h = record {
   result = record { typed = typed ∙ ap Some (sym h.typed); counted = h.counted; shown = h.shown ∙ same_below n _ _ cells; clean = h.clean };
   canonical = h.canonical;
@@ -161,7 +161,7 @@ module _ (n : ℕ) (a b m : Argument) (takes : Takes Zip (a ∷ b ∷ m ∷ []) 
       ∙ ap Some (set_again either (nullability_in a.valid) a.rows)
 
   pub zip_computed : (choice bits : BitOperand) (u : Tree) → m.rows ≡ Bits bits → ((i : ℕ) → i < n → bit_in choice i ≡ is_valid m.valid i && bit_in bits i)
-      → IsSelected choice a b n u → IsComputed Zip (a ∷ b ∷ m ∷ []) n u
+      → IsSelected choice a b n u → IsCanonicalResult Zip (a ∷ b ∷ m ∷ []) n u
   zip_computed choice bits u is chosen h =
       computed_selected Zip (a ∷ b ∷ m ∷ []) choice a b n u zip_typed
       (λ i lt. ap (λ k. if k then cell_at a i else cell_at b i) (chosen i lt)
@@ -196,7 +196,7 @@ module _ (n : ℕ) (a b : Argument) (takes : Takes FillNull (a ∷ b ∷ []) n) 
       ∙ ap Some (argument_type n b takes.sized.1.0 ∙ ap (with_nullability (nullability_in b.valid)) (sym fill_same))
 
   pub fill_computed : (choice : BitOperand) (u : Tree) → ((i : ℕ) → bit_in choice i ≡ is_valid a.valid i)
-      → IsSelected choice (record { rows = a.rows; valid = rows_valid.All NonNullable }) b n u → IsComputed FillNull (a ∷ b ∷ []) n u
+      → IsSelected choice (record { rows = a.rows; valid = rows_valid.All NonNullable }) b n u → IsCanonicalResult FillNull (a ∷ b ∷ []) n u
   fill_computed choice u chosen h =
       computed_selected FillNull (a ∷ b ∷ []) choice (record { rows = a.rows; valid = rows_valid.All NonNullable }) b n u fill_typed
       (λ i lt. ap (λ k. if k then value (value_at a.rows i) else cell_at b i) (chosen i)

@@ -19,7 +19,7 @@ use Rattle.vx_column.specs.ValidRows.{is_valid}
 use Rattle.vx_column.specs.declared.rows.valid.ValidRows.{ValidRows}
 use Rattle.vx_column.proofs.ValidRowsLemmas.{counted, row_made}
 use Rattle.vx_column.specs.Casts.{none_unless}
-use Rattle.vx_column.specs.Computed.{IsMade}
+use Rattle.vx_column.specs.Computed.{IsColumnOfCells}
 use Rattle.vx_column.proofs.MadeLemmas.{made_by}
 use Rattle.vx_column.proofs.ViewsLemmas.{text_at, row_stored}
 
@@ -34,14 +34,14 @@ text_cell : (bs : List ℕ) → are_bytes_of Text (bs ∷ []) ≡ true → value
 text_cell bs h = ap (λ b. if b then value (bytes bs) else fault) (sym (first_so (is_utf8 bs) _ h))
 
 -- rows that are text
-pub text_kept : (r : BytesRows) (valid : ValidRows) (n : ℕ) (u : Tree) → HasBytes Text r n → IsMade valid (λ i. value (bytes (bytes_at r i))) n u
-    → IsMade valid (λ i. to_text (bytes (bytes_at r i))) n u
+pub text_kept : (r : BytesRows) (valid : ValidRows) (n : ℕ) (u : Tree) → HasBytes Text r n → IsColumnOfCells valid (λ i. value (bytes (bytes_at r i))) n u
+    → IsColumnOfCells valid (λ i. to_text (bytes (bytes_at r i))) n u
 text_kept r valid n u are = made_by valid _ _ n u (λ i lt here. text_cell (bytes_at r i) (row_stored Text r n i are lt))
 
 -- rows of which the valid ones are
 pub text_made : (f : ℕ → List ℕ) (valid : ValidRows) (n : ℕ) (rs : List (List ℕ)) (u : Tree)
     → rs ≡ map (λ i. none_unless (is_valid valid i) (f i)) (range_with_len 0 n)
-    → are_bytes_of Text rs ≡ true → IsMade valid (λ i. value (bytes (get_or rs i []))) n u → IsMade valid (λ i. to_text (bytes (f i))) n u
+    → are_bytes_of Text rs ≡ true → IsColumnOfCells valid (λ i. value (bytes (get_or rs i []))) n u → IsColumnOfCells valid (λ i. to_text (bytes (f i))) n u
 text_made f valid n rs u made are =
     let long = counted (λ i. none_unless (is_valid valid i) (f i)) rs n made in
     made_by valid _ _ n u

@@ -14,7 +14,7 @@ use Rattle.vx_value.specs.declared.rescaling.Rescaling.{Rescaling}
 use Rattle.vx_tree.specs.Natives.{values_of}
 use Rattle.vx_tree.specs.ColumnTypes.{bytes_type}
 use Rattle.vx_tree.specs.Tree.{Tree}
-use Rattle.vx_column.specs.Operands.{IsFaultyRow, IsCalculated}
+use Rattle.vx_column.specs.Operands.{IsFaultyRow, IsPrimitiveColumnOf}
 use Rattle.vx_column.specs.ValidRows.{is_valid, HasValidity}
 use Rattle.vx_column.specs.declared.functions.cast.casts.Conversion.{Conversion}
 use Rattle.vx_column.specs.declared.rows.argument.ArgumentRows.{ArgumentRows}
@@ -61,7 +61,7 @@ HasRowsToConvert x = (length (values_of x.values.now) ≡ x.len) × HasValidity 
 
 -- u is the column of its integers in the target's type
 abbrev pub IsConverted : Conversion → Tree → Type 0
-IsConverted x u = IsCalculated x.target x.valid.now (converted x.target (value_in x)) x.len u
+IsConverted x u = IsPrimitiveColumnOf x.target x.valid.now (converted x.target (value_in x)) x.len u
 
 -- why there is none: out of memory, or one of them is out of range
 abbrev pub IsNotConverted : Conversion → VortexError → Type 0

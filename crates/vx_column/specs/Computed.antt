@@ -32,19 +32,19 @@ IsNoResult f tys row n e =
     (e ≡ OutOfMemory) ⊎ ((e ≡ Fault) × ((ty : DataType) → return_type f tys ≡ Some ty → ¬ (HasNoFault (cells_of f ty row n))))
 
 -- u is the canonical column of n rows: row i is `stored i`, null unless it is valid
-pub record IsMade (valid : ValidRows) (stored : ℕ → Cell) (n : ℕ) (u : Tree) : Type 0 where
+pub record IsColumnOfCells (valid : ValidRows) (stored : ℕ → Cell) (n : ℕ) (u : Tree) : Type 0 where
   pub counted : len u ≡ n
   pub shown : rows u ≡ map (λ i. null_unless (is_valid valid i) (stored i)) (range_with_len 0 n)
   pub clean : AreClean (slots u)
   pub canonical : is_canonical (datum u) ≡ true
 
 -- u is the canonical column of f on the arguments, n rows of each
-pub record IsComputed (f : ScalarFnRef) (args : List Argument) (n : ℕ) (u : Tree) : Type 0 where
+pub record IsCanonicalResult (f : ScalarFnRef) (args : List Argument) (n : ℕ) (u : Tree) : Type 0 where
   pub result : IsResult f (types_of args) (row_of args) n u
   pub canonical : is_canonical (datum u) ≡ true
 
-abbrev pub IsNotComputed : ScalarFnRef → List Argument → ℕ → VortexError → Type 0
-IsNotComputed f args n e = IsNoResult f (types_of args) (row_of args) n e
+abbrev pub HasNoCanonicalResult : ScalarFnRef → List Argument → ℕ → VortexError → Type 0
+HasNoCanonicalResult f args n e = IsNoResult f (types_of args) (row_of args) n e
 
 -- f takes arguments of these types
 abbrev pub IsTaken : ScalarFnRef → List DataType → Type 0

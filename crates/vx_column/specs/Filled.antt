@@ -17,7 +17,7 @@ use Rattle.vx_column.specs.Arguments.{plain_type, pair_at, HasStored}
 use Rattle.vx_column.specs.declared.rows.argument.ArgumentRows.{ArgumentRows}
 use Rattle.vx_column.specs.ValidRows.{is_valid, nullability_in, null_unless, HasValidity}
 use Rattle.vx_column.specs.declared.rows.valid.ValidRows.{ValidRows}
-use Rattle.vx_column.specs.Computed.{IsMade}
+use Rattle.vx_column.specs.Computed.{IsColumnOfCells}
 
 -- the type of the result, if its values have the type `of_type`
 abbrev pub filled_type : ValidRows → Option DataType → Option DataType
@@ -28,13 +28,13 @@ abbrev pub filled_cells : ScalarFnRef → DataType → (ℕ → List Cell) → V
 filled_cells f ty row valid n = map (λ i. null_unless (is_valid valid i) (apply f ty (row i))) (range_with_len 0 n)
 
 -- u is the canonical column of these cells
-pub record IsFilled (f : ScalarFnRef) (of_type : Option DataType) (row : ℕ → List Cell) (valid : ValidRows) (n : ℕ) (u : Tree) : Type 0 where
+pub record IsRowwiseResult (f : ScalarFnRef) (of_type : Option DataType) (row : ℕ → List Cell) (valid : ValidRows) (n : ℕ) (u : Tree) : Type 0 where
   pub typed : filled_type valid of_type ≡ Some (dtype u)
-  pub made : IsMade valid (λ i. apply f (dtype u) (row i)) n u
+  pub made : IsColumnOfCells valid (λ i. apply f (dtype u) (row i)) n u
 
 -- why there is none: out of memory, or one of the cells is a fault
-abbrev pub IsNotFilled : ScalarFnRef → Option DataType → (ℕ → List Cell) → ValidRows → ℕ → VortexError → Type 0
-IsNotFilled f of_type row valid n e =
+abbrev pub HasNoRowwiseResult : ScalarFnRef → Option DataType → (ℕ → List Cell) → ValidRows → ℕ → VortexError → Type 0
+HasNoRowwiseResult f of_type row valid n e =
     (e ≡ OutOfMemory) ⊎ ((e ≡ Fault) × ((ty : DataType) → filled_type valid of_type ≡ Some ty → ¬ (HasNoFault (filled_cells f ty row valid n))))
 
 -- op takes the rows of two arguments of one type, n rows each, of which these are valid
@@ -46,9 +46,9 @@ pub record Operates (op : Operator) (lhs rhs : ArgumentRows) (valid : ValidRows)
   pub sized : HasValidity valid n
 
 -- u is the canonical column of an operator on the rows of two arguments of one type: null in those that aren't valid
-abbrev pub IsOperated : Operator → (lhs rhs : ArgumentRows) → ValidRows → ℕ → Tree → Type 0
-IsOperated op lhs rhs valid n u = IsFilled (Binary op) (operator_type op (plain_type lhs)) (pair_at lhs rhs) valid n u
+abbrev pub IsOperatorResult : Operator → (lhs rhs : ArgumentRows) → ValidRows → ℕ → Tree → Type 0
+IsOperatorResult op lhs rhs valid n u = IsRowwiseResult (Binary op) (operator_type op (plain_type lhs)) (pair_at lhs rhs) valid n u
 
 -- why there is none
-abbrev pub IsNotOperated : Operator → (lhs rhs : ArgumentRows) → ValidRows → ℕ → VortexError → Type 0
-IsNotOperated op lhs rhs valid n e = IsNotFilled (Binary op) (operator_type op (plain_type lhs)) (pair_at lhs rhs) valid n e
+abbrev pub HasNoOperatorResult : Operator → (lhs rhs : ArgumentRows) → ValidRows → ℕ → VortexError → Type 0
+HasNoOperatorResult op lhs rhs valid n e = HasNoRowwiseResult (Binary op) (operator_type op (plain_type lhs)) (pair_at lhs rhs) valid n e

@@ -40,12 +40,12 @@ zero_in (Decimals zs s) = value.decimal (pos 0) s
 zero_in (Bytes rs) = value.bytes []
 
 -- they are stored so
-abbrev pub AreStored : Storage → Values → Type 0
-AreStored st (Nulls n) = st ≡ storage.Nulls
-AreStored st (Bits bs) = st ≡ storage.Bits
-AreStored st (Integers zs) = (p : PType) × (st ≡ storage.Integers p) × (zs.kind ≡ p)
-AreStored st (Decimals zs s) = (p : ℕ) × (st ≡ storage.Decimals p s) × (p ≤ 38) × (zs.kind ≡ smallest_width p)
-AreStored st (Bytes rs) = (st ≡ storage.Text) ⊎ (st ≡ storage.Bytes)
+abbrev pub HaveStorage : Storage → Values → Type 0
+HaveStorage st (Nulls n) = st ≡ storage.Nulls
+HaveStorage st (Bits bs) = st ≡ storage.Bits
+HaveStorage st (Integers zs) = (p : PType) × (st ≡ storage.Integers p) × (zs.kind ≡ p)
+HaveStorage st (Decimals zs s) = (p : ℕ) × (st ≡ storage.Decimals p s) × (p ≤ 38) × (zs.kind ≡ smallest_width p)
+HaveStorage st (Bytes rs) = (st ≡ storage.Text) ⊎ (st ≡ storage.Bytes)
 
 -- the value is of their kind
 abbrev pub Accepts : Values → Value → Type 0
@@ -71,7 +71,7 @@ rows_kept values bits = masked_by value.null bits (stored_values values)
 
 -- n rows of the type, with its zero value under each null
 pub record IsKept (ty : DataType) (n : ℕ) (values : Values) (bits : List Bool) : Type 0 where
-  pub kind : AreStored (storage_of ty) values
+  pub kind : HaveStorage (storage_of ty) values
   pub counted : length (stored_values values) ≡ n
   pub typed : list_all (is_of ty) (stored_values values) ≡ true
   pub told : length bits ≤ n

@@ -9,7 +9,7 @@ use Rattle.vx_value.specs.declared.dtype.PType.{PType}
 use Rattle.vx_value.specs.declared.error.VortexError.{VortexError}
 use Rattle.vx_value.specs.declared.error.VortexError.TheVariants.{OutOfMemory, Fault}
 use Rattle.vx_tree.specs.Tree.{Tree, dtype}
-use Rattle.vx_column.specs.Computed.{IsMade}
+use Rattle.vx_column.specs.Computed.{IsColumnOfCells}
 use Rattle.vx_column.specs.ValidRows.{nullability_in}
 use Rattle.vx_column.specs.declared.rows.valid.ValidRows.{ValidRows}
 use Rattle.vx_column.specs.declared.functions.kernel.operand.Operand.{Operand}
@@ -43,9 +43,9 @@ abbrev pub IsFaultyRow : (ℕ → Bool) → (ℕ → Cell) → ℕ → VortexErr
 IsFaultyRow valid cell n e = (e ≡ OutOfMemory) ⊎ ((e ≡ Fault) × (i : ℕ) × (i < n) × (valid i ≡ true) × (cell i ≡ fault))
 
 -- u is the canonical column of n integers of type p: row i is `cell i`, null unless it is valid
-abbrev pub IsCalculated : PType → ValidRows → (ℕ → Cell) → ℕ → Tree → Type 0
-IsCalculated p valid cell n u = (dtype u ≡ primitive p (nullability_in valid)) × IsMade valid cell n u
+abbrev pub IsPrimitiveColumnOf : PType → ValidRows → (ℕ → Cell) → ℕ → Tree → Type 0
+IsPrimitiveColumnOf p valid cell n u = (dtype u ≡ primitive p (nullability_in valid)) × IsColumnOfCells valid cell n u
 
 -- u is the canonical column of n decimals of type d: row i is `cell i`, null unless it is valid
-abbrev pub AreCalculated : DecimalDType → ValidRows → (ℕ → Cell) → ℕ → Tree → Type 0
-AreCalculated d valid cell n u = (dtype u ≡ decimal d.precision d.scale (nullability_in valid)) × IsMade valid cell n u
+abbrev pub IsDecimalColumnOf : DecimalDType → ValidRows → (ℕ → Cell) → ℕ → Tree → Type 0
+IsDecimalColumnOf d valid cell n u = (dtype u ≡ decimal d.precision d.scale (nullability_in valid)) × IsColumnOfCells valid cell n u

@@ -13,7 +13,7 @@ use Rattle.vx_column.specs.ValidRows.{nullability_in, HasValidity}
 use Rattle.vx_column.specs.declared.rows.argument.Argument.{Argument}
 use Rattle.vx_column.specs.declared.rows.argument.ArgumentRows.{ArgumentRows}
 use Rattle.vx_column.specs.declared.rows.valid.ValidRows.{ValidRows}
-use Rattle.vx_column.specs.Computed.{IsMade}
+use Rattle.vx_column.specs.Computed.{IsColumnOfCells}
 
 -- x in row i if its bit is true, else y
 abbrev pub selected : {A : Type 0} → BitOperand → (ℕ → A) → (ℕ → A) → ℕ → A
@@ -38,7 +38,7 @@ pub record AreSides (bits : List Bool) (x y : ArgumentRows) (valid : ValidRows) 
 -- u is the canonical column of the stored values, null in those that aren't valid
 pub record AreSelected (bits : List Bool) (x y : ArgumentRows) (valid : ValidRows) (n : ℕ) (u : Tree) : Type 0 where
   pub typed : dtype u ≡ with_nullability (nullability_in valid) (plain_type x)
-  pub made : IsMade valid (λ i. value (selected_by bits (value_at x) (value_at y) i)) n u
+  pub made : IsColumnOfCells valid (λ i. value (selected_by bits (value_at x) (value_at y) i)) n u
 
 -- u is the canonical column of these cells, nullable if one of the two is
 pub record IsSelected (choice : BitOperand) (x y : Argument) (n : ℕ) (u : Tree) : Type 0 where

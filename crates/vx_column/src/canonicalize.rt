@@ -26,7 +26,7 @@ pub fn constant_canonicalize(
     ensures ok { IfOk result (λ c. KeepsExactly array.entry.array.now (canonical_tree c)) }
     ensures err { OnlyOutOfMemory result }
 {
-    array.array.well();
+    array.array.well_formed_tree();
     if array.is_empty() {
         Canonical::empty(alloc, array.dtype())
     } else {

@@ -30,7 +30,7 @@ pub fn filter_canonical(alloc: Global, column: &Canonical, mask: &Mask) -> Vorte
     ensures err { OnlyOutOfMemory result }
 {
     let array = column.as_array();
-    array.well();
+    array.well_formed_tree();
     let nullability = array.dtype().nullability();
     match array.kind() {
         ArrayKind::Null => Ok(Canonical::Null(NullArray::new(alloc, mask.true_count())?)),
@@ -76,7 +76,7 @@ fn filter_validity(
     match child_to_validity(validity.as_ref(), nullability)? {
         Validity::Array(child) => {
             let kept = filter_truths(alloc, child, mask)?;
-            kept.well();
+            kept.well_formed_tree();
             Ok(Validity::Array(kept))
         }
         same => Ok(same),

@@ -1,4 +1,5 @@
-//! Filters and masks whole columns, tells their validity, expands constants to columns, and builds columns row by row.
+//! Whole columns: reads their rows, filters and masks them, applies functions to them, expands constants, and builds columns row by
+//! row.
 #![tactic(auto)]
 
 mod builder;
@@ -16,7 +17,6 @@ pub use functions::apply::apply_fn;
 pub use mask::mask_validity_canonical;
 pub use rows::{
     Argument, ArgumentRows, BytesOperand, BytesRows, DecimalOperand, DecimalRows, IntegerOperand,
-    IntegerRows, ValidRows, argument_of, arguments_of, bool_column, decimal_column, execute_scalar,
-    primitive_column, repeated_rows, truths_in, unscaled_of, varbinview_column,
+    IntegerRows, ValidRows, argument_of, execute_scalar,
 };
 pub use validity::validity_canonical;

@@ -54,7 +54,7 @@ fn mask_column(alloc: Global, array: &ArrayRef, child: Option<ArrayRef>) -> Vort
     ensures ok { IfOk result (λ c. KeepsExactly (masked_of array.now child) (canonical_tree c)) }
     ensures err { IfErr result (λ e. (e ≡ VortexError.OutOfMemory) ⊎ ((dtype array.now ≡ null) × AreUnread (len array.now) child e)) }
 {
-    array.well();
+    array.well_formed_tree();
     let len = array.len();
     match array.kind() {
         ArrayKind::Null => mask_nulls(alloc, &child, len),
@@ -134,15 +134,15 @@ fn both_true(
     ensures both { IfOk result (λ v. IsBoth len (Some first.now) (Some second) (child_of v len)) }
     ensures err { OnlyOutOfMemory result }
 {
-    first.well();
-    second.well();
+    first.well_formed_tree();
+    second.well_formed_tree();
     if let (Some(left), Some(right)) = (plain_bits(first), plain_bits(&second)) {
         let left = BitOperand::Bits(left);
         let bits = BitBuffer::zip::<BitAnd>(alloc, left, BitOperand::Bits(right), len)?;
         return ValidRows::Bits(bits).validity(alloc, len);
     }
     let both = and_lazily(alloc, first.clone()?, second, len)?;
-    both.well();
+    both.well_formed_tree();
     Ok(Validity::Array(both))
 }
 

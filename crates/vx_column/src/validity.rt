@@ -24,7 +24,7 @@ pub fn validity_canonical(alloc: Global, column: &Columnar) -> VortexResult<Cano
     ensures err { IfErr result (IsUnread (columnar_tree column.now)) }
 {
     let array = column.as_array();
-    array.well();
+    array.well_formed_tree();
     match argument_of(alloc, column) {
         Ok(argument) => {
             let bits = valid_bits(alloc, argument.valid, array.len())?;

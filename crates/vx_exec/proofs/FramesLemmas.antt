@@ -8,7 +8,7 @@ use Rattle.vx_tree.specs.Cells.{IsClean, AreClean}
 use Rattle.vx_tree.specs.Slots.{set_slot, put, IsAbsentAt, IsHole}
 use Rattle.vx_tree.specs.Keeps.{KeepsExactly}
 use Rattle.vx_tree.proofs.KeepsLemmas.{put_exactly}
-use Rattle.vx_step.specs.Turns.{top}
+use Rattle.vx_step.specs.Turns.{node_potential}
 use Rattle.vx_step.specs.Steps.{IsStopped}
 use Rattle.vx_exec.specs.Frames.{filled, IsFrame, AreFrames, frames_top}
 use Rattle.vx_exec.specs.declared.turn.Frame.{Frame}
@@ -17,7 +17,7 @@ pub filled_append : (fs : List Frame) (f : Frame) (t : Tree) → filled (fs ++ f
 filled_append [] f t = refl
 filled_append (g ∷ fs) f t = ap (λ x. put g.slot x g.parent) (filled_append fs f t)
 
-pub frames_top_append : (fs : List Frame) (f : Frame) → frames_top (fs ++ f ∷ []) ≡ frames_top fs + top f.parent
+pub frames_top_append : (fs : List Frame) (f : Frame) → frames_top (fs ++ f ∷ []) ≡ frames_top fs + node_potential f.parent
 frames_top_append [] f = omega arith
 frames_top_append (g ∷ fs) f = omega (arith, frames_top_append fs f)
 

@@ -8,7 +8,7 @@ use Rattle.vx_tree.specs.Keeps.{KeepsExactly}
 use Rattle.vx_tree.specs.Cost.{cost}
 use Rattle.vx_tree.proofs.KeepsLemmas.{exactly_refl, exactly_trans}
 use Rattle.vx_tree.proofs.ColumnsLemmas.{canonical_columnar}
-use Rattle.vx_step.specs.Turns.{data_meets, meets, target_of, top}
+use Rattle.vx_step.specs.Turns.{data_meets, meets, target_of, node_potential}
 use Rattle.vx_exec.specs.Frames.{filled, IsFrame, AreFrames, frames_top}
 use Rattle.vx_step.specs.Steps.{HasNoShortcut, Awaits, AwaitsAt, IsDone}
 use Rattle.vx_exec.specs.Moves.{IsOneMove, IsMove, is_awaited, is_reached, Reaches, GoesOn, IsExecuted}
@@ -43,12 +43,12 @@ pub move_push : (fits : Tree → Bool) (fs gs : List Frame) (i : ℕ) (t p c : T
 move_push fits fs gs i t p c g going e hole formed direct w aim h join =
     let f : Frame = record { parent = p; slot = i; target = g } in
     let frame : IsFrame f c = record { hole = hole; fits = subst IsNodeOf (sym e) formed; target = aim ∙ ap target_of (sym e) ∙ put_target i c p } in
-    let falls : top p + top c < top (put i c p) = take_falls i c p hole (subst (λ x. Awaits i x) (sym e) w) in
+    let falls : node_potential p + node_potential c < node_potential (put i c p) = take_falls i c p hole (subst (λ x. Awaits i x) (sym e) w) in
     subst (λ x. IsMove fits fs t x c) (sym join) (record {
       one = inr (inl (record { frame = f; going = going; pushed = refl; taken = e; hole = hole; direct = direct; awaited = w; target = aim }));
       exactly = exactly_equal _ _ (ap (filled fs) (sym e) ∙ sym (filled_append fs f c));
       frames = frames_push fs f c (subst (λ x. AreFrames fs x) (sym e) h) frame;
-      falls = omega (arith, frames_top_append fs f, falls, ap top e);
+      falls = omega (arith, frames_top_append fs f, falls, ap node_potential e);
     })
 
 -- a slot that is to be executed first is there
@@ -109,7 +109,7 @@ move_pop fits fs gs f t u reached split w e =
       one = inl (record { frame = f; reached = reached; popped = split; filled = e });
       exactly = exactly_equal _ _ (ap (λ x. filled x t) split ∙ filled_append gs f t ∙ ap (filled gs) (sym e));
       frames = subst (λ x. AreFrames gs x) (sym e) h.0;
-      falls = omega (arith, ap frames_top split, frames_top_append gs f, falls, ap top e);
+      falls = omega (arith, ap frames_top split, frames_top_append gs f, falls, ap node_potential e);
     }
 
 -- whether the node passes the root's test, or is canonical
@@ -182,7 +182,7 @@ pub record IsLoop (fits : Tree → Bool) (root : Tree) (fs : List Frame) (t : Tr
   pub moved : Reaches fits root n fs t
   pub exactly : KeepsExactly root (filled fs t)
   pub frames : AreFrames fs t
-  pub turns : n + (frames_top fs + top t) ≤ cost root
+  pub turns : n + (frames_top fs + node_potential t) ≤ cost root
 
 pub loop_begins : (fits : Tree → Bool) (root : Tree) (fs : List Frame) → fs ≡ [] → IsLoop fits root fs root 0
 loop_begins fits root fs e =

@@ -3,7 +3,7 @@ use Rattle.std.specs.Prelude.{◌≡◌, ℕ, ◌+◌, List, [], ◌∷◌}
 use Rattle.vx_tree.specs.Tree.{Tree}
 use Rattle.vx_tree.specs.Well.{IsNodeOf}
 use Rattle.vx_tree.specs.Slots.{put, IsHole}
-use Rattle.vx_step.specs.Turns.{target_of, top}
+use Rattle.vx_step.specs.Turns.{target_of, node_potential}
 use Rattle.vx_exec.specs.declared.turn.Frame.{Frame}
 
 -- the whole tree: each parent with its slot filled
@@ -24,4 +24,4 @@ AreFrames (f ∷ fs) t = IsFrame f (filled fs t) × AreFrames fs t
 -- the turns left at the suspended parents
 abbrev pub frames_top : List Frame → ℕ
 frames_top [] = 0
-frames_top (f ∷ fs) = top f.parent + frames_top fs
+frames_top (f ∷ fs) = node_potential f.parent + frames_top fs

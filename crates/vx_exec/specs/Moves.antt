@@ -3,7 +3,7 @@ use Rattle.std.specs.Prelude.{◌≡◌, ◌⊎◌, ℕ, zero, suc, ◌+◌, ◌
 use Rattle.vx_tree.specs.Tree.{Tree, datum, is_canonical}
 use Rattle.vx_tree.specs.Keeps.{KeepsExactly}
 use Rattle.vx_tree.specs.Slots.{put, IsHole}
-use Rattle.vx_step.specs.Turns.{meets, target_of, top}
+use Rattle.vx_step.specs.Turns.{meets, target_of, node_potential}
 use Rattle.vx_step.specs.Steps.{HasNoShortcut, Awaits, IsDone}
 use Rattle.vx_exec.specs.Frames.{filled, AreFrames, frames_top}
 use Rattle.vx_exec.specs.declared.turn.Frame.{Frame}
@@ -53,7 +53,7 @@ pub record IsMove (fits : Tree → Bool) (fs : List Frame) (t : Tree) (gs : List
   pub one : IsOneMove fits fs t gs u
   pub exactly : KeepsExactly (filled fs t) (filled gs u)
   pub frames : AreFrames gs u
-  pub falls : frames_top gs + top u < frames_top fs + top t
+  pub falls : frames_top gs + node_potential u < frames_top fs + node_potential t
 
 -- a turn makes one move, or returns the root once it has reached its target
 abbrev pub IsTurned : (Tree → Bool) → List Frame → Tree → List Frame → Turn → Type 0

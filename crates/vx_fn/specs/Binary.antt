@@ -8,7 +8,7 @@ use Rattle.vx_value.specs.Cell.{Cell, fault}
 use Rattle.vx_value.specs.Casts.{sized}
 use Rattle.vx_value.specs.declared.dtype.Nullability.TheVariants.{NonNullable}
 use Rattle.vx_value.specs.declared.id.Id.TheVariants as id
-use Rattle.vx_fn.specs.Meanings.{Meaning, taking_two, widened, null_through, kept}
+use Rattle.vx_fn.specs.Meanings.{Meaning, taking_two, widened, null_through, as_given}
 use Rattle.vx_fn.specs.Comparisons.{ordered_type, compared}
 use Rattle.vx_fn.specs.Arithmetic.{summed_type, multiplied_type, calculated, calculated_by}
 use Rattle.vx_fn.specs.Logic.{both, either}
@@ -68,7 +68,7 @@ operated op _ _ _ = fault
 
 -- to logic null is a truth value; any other result of null is null
 abbrev pub null_rule : Bool → Value → Cell → Cell
-null_rule true = kept
+null_rule true = as_given
 null_rule false = null_through
 
 abbrev pub binary : Operator → Meaning

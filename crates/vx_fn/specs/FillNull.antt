@@ -5,7 +5,7 @@ use Rattle.vx_value.specs.Nullabilities.{same_but_nullability}
 use Rattle.vx_value.specs.Values.{Value, null}
 use Rattle.vx_value.specs.Cell.{Cell, value}
 use Rattle.vx_value.specs.declared.id.Id.TheVariants as id
-use Rattle.vx_fn.specs.Meanings.{Meaning, taking_two, kept}
+use Rattle.vx_fn.specs.Meanings.{Meaning, taking_two, as_given}
 
 abbrev pub fill_type : DataType → DataType → Option DataType
 fill_type s t = if same_but_nullability s t then Some t else None
@@ -15,4 +15,4 @@ filled null w = value w
 filled v w = value v
 
 abbrev pub fill_null : Meaning
-fill_null = taking_two kept kept id.FillNull (codes "input") (codes "fill_value") fill_type (λ ty. filled)
+fill_null = taking_two as_given as_given id.FillNull (codes "input") (codes "fill_value") fill_type (λ ty. filled)

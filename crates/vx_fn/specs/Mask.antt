@@ -6,7 +6,7 @@ use Rattle.vx_value.specs.Values.{Value, null, boolean}
 use Rattle.vx_value.specs.Cell.{Cell, value}
 use Rattle.vx_value.specs.declared.dtype.Nullability.TheVariants.{NonNullable, Nullable}
 use Rattle.vx_value.specs.declared.id.Id.TheVariants as id
-use Rattle.vx_fn.specs.Meanings.{Meaning, taking_two, kept}
+use Rattle.vx_fn.specs.Meanings.{Meaning, taking_two, as_given}
 
 abbrev pub mask_type : DataType → DataType → Option DataType
 mask_type s (bool NonNullable) = Some (with_nullability Nullable s)
@@ -17,4 +17,4 @@ masked v (boolean true) = value v
 masked v _ = value null
 
 abbrev pub mask : Meaning
-mask = taking_two kept kept id.Mask (codes "input") (codes "mask") mask_type (λ ty. masked)
+mask = taking_two as_given as_given id.Mask (codes "input") (codes "mask") mask_type (λ ty. masked)

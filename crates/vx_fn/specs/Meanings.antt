@@ -42,8 +42,8 @@ null_through null c = cell.value null
 null_through _ c = c
 
 -- nothing
-abbrev pub kept : {A B : Type 0} → A → B → B
-kept x answer = answer
+abbrev pub as_given : {A B : Type 0} → A → B → B
+as_given x answer = answer
 
 -- ---- functions by their rules on types and on values, their id, the names of their arguments, their type and their value
 

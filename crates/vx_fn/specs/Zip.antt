@@ -5,7 +5,7 @@ use Rattle.vx_value.specs.Nullabilities.{with_nullability, union, same_but_nulla
 use Rattle.vx_value.specs.Values.{Value, boolean}
 use Rattle.vx_value.specs.Cell.{Cell, value}
 use Rattle.vx_value.specs.declared.id.Id.TheVariants as id
-use Rattle.vx_fn.specs.Meanings.{Meaning, taking_three, kept}
+use Rattle.vx_fn.specs.Meanings.{Meaning, taking_three, as_given}
 
 -- of the two values, nullable where one of them is
 abbrev pub chosen_type : DataType → DataType → Option DataType
@@ -21,4 +21,4 @@ zipped v w (boolean true) = value v
 zipped v w _ = value w
 
 abbrev pub zip : Meaning
-zip = taking_three kept kept id.Zip (codes "if_true") (codes "if_false") (codes "mask") zip_type (λ ty. zipped)
+zip = taking_three as_given as_given id.Zip (codes "if_true") (codes "if_false") (codes "mask") zip_type (λ ty. zipped)

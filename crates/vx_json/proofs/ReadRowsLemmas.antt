@@ -10,16 +10,16 @@ use Rattle.vx_value.specs.Types.{is_nullable}
 use Rattle.vx_value.specs.declared.dtype.Nullability.{Nullability}
 use Rattle.vx_value.specs.declared.dtype.Nullability.TheVariants.{NonNullable, Nullable}
 use Rattle.vx_tree.specs.Rows.{item_or}
-use Rattle.vx_json.specs.ReadRows.{told, told_more, read_unless, AreRead}
+use Rattle.vx_json.specs.ReadRows.{present_rows, told_more, read_unless, AreRead}
 use Rattle.vx_json.specs.SpelledValues.{is_null, or_null, all_read}
 use Rattle.vx_json.proofs.RowsLemmas.{items_there}
 use Rattle.vx_json.proofs.SpelledValuesLemmas.{IsReadTo, read_one, read_none, read_all, mapped_read}
 
-told_none : (A : Type 0) (m : Nullability) → told {A = A} m [] ≡ []
+told_none : (A : Type 0) (m : Nullability) → present_rows {A = A} m [] ≡ []
 told_none A NonNullable = refl
 told_none A Nullable = refl
 
-told_last : {A : Type 0} (m : Nullability) (rows : List (Option A)) (o : Option A) → told m (rows ++ o ∷ []) ≡ told_more m (told m rows) (is_some o)
+told_last : {A : Type 0} (m : Nullability) (rows : List (Option A)) (o : Option A) → present_rows m (rows ++ o ∷ []) ≡ told_more m (present_rows m rows) (is_some o)
 told_last NonNullable rows o = refl
 told_last Nullable rows o = map-append is_some rows (o ∷ [])
 
@@ -33,7 +33,7 @@ pub record AreReadTo {A : Type 0} (m : Nullability) (zero : A) (read : Data → 
   pub rows : List (Option A)
   pub so_far : IsReadTo (or_null m read) vs i rows
   pub held : values ≡ map (item_or zero) rows
-  pub are_told : valid ≡ told m rows
+  pub are_told : valid ≡ present_rows m rows
 
 module _ {A : Type 0} (m : Nullability) (zero : A) (read : Data → Option A) (vs : List Value) where
   pub none_yet : (values : List A) (valid : List Bool) → values ≡ [] → valid ≡ [] → AreReadTo m zero read vs 0 values valid

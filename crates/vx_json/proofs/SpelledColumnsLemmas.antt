@@ -32,6 +32,7 @@ use Rattle.vx_tree.specs.Rows.{item_or}
 use Rattle.vx_tree.specs.Validities.{HasRows, nullability_by, child_of, child_by, truths, array_refusal, flat_refusal, decimal_refusal}
 use Rattle.vx_tree.specs.declared.validity.Validity.{Validity}
 use Rattle.vx_tree.specs.declared.validity.Validity.TheVariants as validity
+use Rattle.vx_tree.proofs.ValiditiesLemmas.{rows_allowed, tree_allowed}
 use Rattle.vx_tree.proofs.ConditionsLemmas.{none_refused, none_unless}
 use Rattle.vx_json.specs.SpelledValues.{integer_spelled, decimal_spelled, bytes_spelled, is_null, or_null, all_read}
 use Rattle.vx_json.specs.SpelledColumns.{column_of_rows, column_of_values, flat_of}
@@ -39,7 +40,7 @@ use Rattle.vx_json.specs.Refused.{IsRead}
 use Rattle.vx_json.specs.SpelledNulls.{validity_spelled}
 use Rattle.vx_json.specs.declared.nulls.Nulls.{Nulls}
 use Rattle.vx_json.specs.declared.nulls.Nulls.TheVariants.{Absent}
-use Rattle.vx_json.specs.ColumnValues.{data_of, count_of, values_refusal, AreStored, AreUnread}
+use Rattle.vx_json.specs.ColumnValues.{data_of, count_of, values_refusal, AreReadAs, AreUnread}
 use Rattle.vx_json.specs.ReadRows.{AreRead}
 use Rattle.vx_json.specs.declared.column_values.ColumnValues.{ColumnValues}
 use Rattle.vx_json.specs.declared.column_values.ColumnValues.TheVariants.{Bits, Integers, Decimals, Views}
@@ -63,13 +64,6 @@ not_refused : (s : DataType) (m : Nullability) (n : ℕ) (v : Validity) → null
     flat_refusal s (with_nullability m s) n v ≡ None
 not_refused s m n v e h = none_refused _ _ (none_unless _ _ ((same_type_Decides _ _).1 (ap (λ k. with_nullability k s) (sym e)))) h
 
-tree_kept : (t : Tree) (n : ℕ) → dtype t ≡ type.bool NonNullable → len t ≡ n → array_refusal n (validity.Array t) ≡ None
-tree_kept t n typed counted = none_refused _ _ (none_unless _ _ ((same_type_Decides _ _).1 typed)) (none_unless _ _ ((unsigned_Decides _ _).1 counted))
-
-pub rows_kept : (n : ℕ) (v : Validity) → HasRows v n → array_refusal n v ≡ None
-rows_kept n (validity.Array t) h = tree_kept t n h.1 h.2
-rows_kept n _ h = refl
-
 -- the validity of bits is one of as many rows
 bits_kept : (bits : List Bool) (v : Validity) → child_of v (length bits) ≡ child_by bits → array_refusal (length bits) v ≡ None
 bits_kept bits (validity.Array t) e = by_tests (is_all_true bits) (is_all_false bits) e
@@ -77,7 +71,7 @@ bits_kept bits (validity.Array t) e = by_tests (is_all_true bits) (is_all_false 
     long : (u : Tree) → dtype u ≡ type.bool NonNullable → len u ≡ length bits → Some t ≡ Some u → array_refusal (length bits) (validity.Array t) ≡ None
     long u typed counted same =
         let is : u ≡ t = sym (same_Some _ _ same) in
-        subst (λ x. array_refusal (length bits) (validity.Array x) ≡ None) is (tree_kept u (length bits) typed counted)
+        subst (λ x. array_refusal (length bits) (validity.Array x) ≡ None) is (tree_allowed u (length bits) typed counted)
 
     by_tests : (a b : Bool) → Some t ≡ (if a then None else (if b then Some (truths false (length bits)) else Some (booleans bits)))
         → array_refusal (length bits) (validity.Array t) ≡ None
@@ -93,7 +87,7 @@ decimals_fit p s m w zs v narrow digits flat =
     none_refused _ _ flat (none_unless _ _ (and_from _ _ ((same_width_Decides w (smallest_width p)).1 narrow) digits))
 
 -- so no column of values that are read is refused, if the validity is one of the nullability and of the rows: a line for each type
-pub values_fit : (m : Nullability) (ty : DataType) (ds : Items) (v : ColumnValues) (valid : List Bool) (w : Validity) → AreStored m (storage_of ty) ds v valid →
+pub values_fit : (m : Nullability) (ty : DataType) (ds : Items) (v : ColumnValues) (valid : List Bool) (w : Validity) → AreReadAs m (storage_of ty) ds v valid →
     nullability_by w ≡ nullability_of ty → array_refusal (count_of v) w ≡ None → values_refusal ty v w ≡ None
 values_fit m (type.bool k) ds (Bits bits) valid w h e kept = not_refused (type.bool NonNullable) k (length bits) w e kept
 values_fit m (type.primitive p k) ds (Integers v) valid w h e kept =
@@ -109,7 +103,7 @@ values_fit m (type.binary k) ds (Views rows) valid w h e kept =
 values_fit m ty ds v valid w h e kept = absurd h
 
 -- values that are never null are those of a column: a line for each type
-pub values_by : (ty : DataType) (ds : Items) (v : ColumnValues) (valid : List Bool) (nulls : Nulls) → AreStored NonNullable (storage_of ty) ds v valid →
+pub values_by : (ty : DataType) (ds : Items) (v : ColumnValues) (valid : List Bool) (nulls : Nulls) → AreReadAs NonNullable (storage_of ty) ds v valid →
     column_of_values nulls ty ds ≡ flat_of ty (count_of v) (data_of v) nulls
 values_by (type.bool k) ds (Bits bits) valid nulls h =
     ap (option_and_then (λ bs. flat_of (type.bool k) (length bs) (bool bs) nulls)) (none_null false as_bool ds bits valid h)
@@ -137,7 +131,7 @@ values_unread (type.binary k) ds nulls h = ap (option_and_then _) (none_null_unr
 
 -- they are as many as there are items
 values_counted : (m : Nullability) (ty : DataType) (vs : List Value) (v : ColumnValues) (valid : List Bool) →
-    AreStored m (storage_of ty) (items_view vs) v valid → count_of v ≡ length vs
+    AreReadAs m (storage_of ty) (items_view vs) v valid → count_of v ≡ length vs
 values_counted m (type.bool k) vs (Bits bits) valid h = rows_counted false as_bool vs bits h
 values_counted m (type.primitive p k) vs (Integers v) valid h = rows_counted (pos 0) (integer_spelled p) vs (values_of v) h.1
 values_counted m (type.decimal p s k) vs (Decimals v) valid h = rows_counted (pos 0) (decimal_spelled p) vs (numbers_of v) h.1
@@ -147,7 +141,7 @@ values_counted m ty vs v valid h = absurd h
 
 -- a column of them, if the validity is one of the nullability and of the items
 module _ (ty : DataType) (vs : List Value) (v : ColumnValues) (valid : List Bool) (nulls : Nulls) (w : Validity)
-    (h : AreStored NonNullable (storage_of ty) (items_view vs) v valid) where
+    (h : AreReadAs NonNullable (storage_of ty) (items_view vs) v valid) where
   pub flat_made : validity_spelled (nullability_of ty) (length vs) nulls ≡ Some w →
       column_of_values nulls ty (items_view vs) ≡ Some (column ty (count_of v) (data_of v) (child_of w (count_of v)))
   flat_made e =
@@ -157,7 +151,7 @@ module _ (ty : DataType) (vs : List Value) (v : ColumnValues) (valid : List Bool
   pub flat_fits : nullability_by w ≡ nullability_of ty → HasRows w (length vs) → values_refusal ty v w ≡ None
   flat_fits e rows =
       values_fit NonNullable ty (items_view vs) v valid w h e
-      (rows_kept (count_of v) w (subst (HasRows w) (sym (values_counted NonNullable ty vs v valid h)) rows))
+      (rows_allowed (count_of v) w (subst (HasRows w) (sym (values_counted NonNullable ty vs v valid h)) rows))
 
 -- and there is none if there is no such validity
 unspelled_by : {A : Type 0} (ty : DataType) (of_items : List A → Data) (read : Json → Option A) (vs : List Value) (nulls : Nulls) →
@@ -191,7 +185,7 @@ rows_column zero ty of_items read ds xs valid w h tells =
     ap (option_map (column_of zero ty of_items)) h.are_read ∙ ap Some (λ i. column ty (counted i) (of_items (sym h.held i)) (child i))
 
 pub rows_by : (ty : DataType) (ds : Items) (v : ColumnValues) (valid : List Bool) (w : Validity) → nullability_of ty ≡ Nullable →
-    AreStored Nullable (storage_of ty) ds v valid → child_of w (length valid) ≡ child_by valid →
+    AreReadAs Nullable (storage_of ty) ds v valid → child_of w (length valid) ≡ child_by valid →
     column_of_rows ty ds ≡ Some (column ty (count_of v) (data_of v) (child_of w (count_of v)))
 rows_by (type.bool Nullable) ds (Bits bits) valid w n h tells = rows_column false (type.bool Nullable) bool as_bool ds bits valid w h tells
 rows_by (type.primitive p Nullable) ds (Integers v) valid w n h tells =
@@ -210,11 +204,11 @@ rows_by (type.binary NonNullable) ds v valid w n h tells = absurd (cc n)
 rows_by ty ds v valid w n h tells = absurd h
 
 -- their validity isn't refused
-pub bits_fit : (ty : DataType) (ds : Items) (v : ColumnValues) (valid : List Bool) (w : Validity) → AreStored Nullable (storage_of ty) ds v valid →
+pub bits_fit : (ty : DataType) (ds : Items) (v : ColumnValues) (valid : List Bool) (w : Validity) → AreReadAs Nullable (storage_of ty) ds v valid →
     child_of w (length valid) ≡ child_by valid → array_refusal (count_of v) w ≡ None
 bits_fit ty ds v valid w h tells = subst (λ n. array_refusal n w ≡ None) (long ty v h) (bits_kept valid w tells)
   where
-    long : (t : DataType) (u : ColumnValues) → AreStored Nullable (storage_of t) ds u valid → length valid ≡ count_of u
+    long : (t : DataType) (u : ColumnValues) → AreReadAs Nullable (storage_of t) ds u valid → length valid ≡ count_of u
     long (type.bool k) (Bits bits) r = told_long false as_bool ds bits valid r
     long (type.primitive p k) (Integers zs) r = told_long (pos 0) (integer_spelled p) ds (values_of zs) valid r.1
     long (type.decimal p s k) (Decimals zs) r = told_long (pos 0) (decimal_spelled p) ds (numbers_of zs) valid r.1

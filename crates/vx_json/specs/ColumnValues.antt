@@ -42,15 +42,15 @@ values_refusal ty (Decimals v) w = decimal_refusal ty (decimal_type_of v) (numbe
 values_refusal ty (Views rows) w = bytes_refusal ty rows w
 
 -- the list spells rows of these values, stored so: a line for each storage
-abbrev pub AreStored : Nullability → Storage → Items → ColumnValues → List Bool → Type 0
-AreStored m storage.Bits ds (Bits bits) valid = AreRead m false as_bool ds bits valid
-AreStored m (storage.Integers p) ds (Integers v) valid = (ptype_of v ≡ p) × AreRead m (pos 0) (integer_spelled p) ds (values_of v) valid
-AreStored m (storage.Decimals p s) ds (Decimals v) valid =
+abbrev pub AreReadAs : Nullability → Storage → Items → ColumnValues → List Bool → Type 0
+AreReadAs m storage.Bits ds (Bits bits) valid = AreRead m false as_bool ds bits valid
+AreReadAs m (storage.Integers p) ds (Integers v) valid = (ptype_of v ≡ p) × AreRead m (pos 0) (integer_spelled p) ds (values_of v) valid
+AreReadAs m (storage.Decimals p s) ds (Decimals v) valid =
     (decimal_type_of v ≡ smallest_width p) × AreRead m (pos 0) (decimal_spelled p) ds (numbers_of v) valid
-AreStored m storage.Text ds (Views rows) valid =
+AreReadAs m storage.Text ds (Views rows) valid =
     (are_bytes_of storage.Text rows ≡ true) × AreRead m [] (bytes_spelled storage.Text) ds rows valid
-AreStored m storage.Bytes ds (Views rows) valid = AreRead m [] (bytes_spelled storage.Bytes) ds rows valid
-AreStored m _ ds v valid = ⊥
+AreReadAs m storage.Bytes ds (Views rows) valid = AreRead m [] (bytes_spelled storage.Bytes) ds rows valid
+AreReadAs m _ ds v valid = ⊥
 
 -- the list spells no rows that are stored so
 abbrev pub AreUnread : Nullability → Storage → Items → Type 0

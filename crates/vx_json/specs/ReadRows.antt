@@ -9,9 +9,9 @@ use Rattle.vx_json.specs.Refused.{IsRefused}
 use Rattle.vx_json.specs.SpelledValues.{or_null, all_read}
 
 -- whether each of these rows isn't null, if rows may be
-abbrev pub told : {A : Type 0} → Nullability → List (Option A) → List Bool
-told NonNullable rows = []
-told Nullable rows = map is_some rows
+abbrev pub present_rows : {A : Type 0} → Nullability → List (Option A) → List Bool
+present_rows NonNullable rows = []
+present_rows Nullable rows = map is_some rows
 
 -- with one row more
 abbrev pub told_more : Nullability → List Bool → Bool → List Bool
@@ -27,7 +27,7 @@ pub record AreRead {A : Type 0} (m : Nullability) (zero : A) (read : Data → Op
   pub rows : List (Option A)
   pub are_read : all_read (or_null m read) ds ≡ Some rows
   pub held : values ≡ map (item_or zero) rows
-  pub are_told : valid ≡ told m rows
+  pub are_told : valid ≡ present_rows m rows
 
 -- the rows that the list spells are read, of which the result has these values, and a list that spells none is refused
 abbrev pub RowsRead : {A R : Type 0} → Nullability → A → (Data → Option A) → Items → Result R VortexError → (R → List A) → List Bool → Type 0

@@ -27,13 +27,13 @@ abbrev pub null_keys : Nulls → ℕ
 null_keys Absent = 0
 null_keys _ = 1
 
--- the tree tells which of n rows are null: it has n rows, of non-nullable booleans
-abbrev pub tells : ℕ → Tree → Bool
-tells n t = same_type (dtype t) (type.bool NonNullable) && (len t == n)
+-- the tree is_validity_tree which of n rows are null: it has n rows, of non-nullable booleans
+abbrev pub is_validity_tree : ℕ → Tree → Bool
+is_validity_tree n t = same_type (dtype t) (type.bool NonNullable) && (len t == n)
 
 -- the validity of n rows: only a nullable type has the key, and a constant tree is read back
 abbrev pub validity_spelled : Nullability → ℕ → Nulls → Option Validity
 validity_spelled m n Absent = Some (without_nulls m)
 validity_spelled NonNullable n nulls = None
 validity_spelled Nullable n EveryRow = Some validity.AllInvalid
-validity_spelled Nullable n (Told t) = if tells n t then Some (validity_of Nullable (Some t)) else None
+validity_spelled Nullable n (Told t) = if is_validity_tree n t then Some (validity_of Nullable (Some t)) else None

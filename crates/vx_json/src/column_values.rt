@@ -7,7 +7,7 @@ ghost use Rattle.vx_value.specs.View.{type_of};
 ghost use Rattle.vx_value.specs.Storage.{storage_of};
 ghost use Rattle.vx_tree.specs.Tree.{column};
 ghost use Rattle.vx_tree.specs.Validities.{child_of};
-ghost use Rattle.vx_json.specs.ColumnValues.{data_of, count_of, values_refusal, AreStored, AreUnread};
+ghost use Rattle.vx_json.specs.ColumnValues.{data_of, count_of, values_refusal, AreReadAs, AreUnread};
 ghost use Rattle.vx_json.specs.Refused.{IsRefused};
 
 use crate::BAD_VALUE;
@@ -57,7 +57,7 @@ pub(crate) fn column_values<N: RowNulls>(
 ) -> VortexResult<ColumnValues>
     requires { N.told nulls.old ≡ [] }
     ensures { MatchResult result
-        (λ v. AreStored N.mode (storage_of (type_of dtype.now)) (items_view list.now.items) v (N.told nulls.new))
+        (λ v. AreReadAs N.mode (storage_of (type_of dtype.now)) (items_view list.now.items) v (N.told nulls.new))
         (IsRefused (AreUnread N.mode (storage_of (type_of dtype.now)) (items_view list.now.items))) }
 {
     Ok(match dtype {

@@ -61,6 +61,6 @@ fn told_validity(tree: &ArrayRef, len: usize) -> VortexResult<Validity>
     if *tree.dtype() != DType::Bool(Nullability::NonNullable) || tree.len() != len {
         return Err(BAD_VALUE);
     }
-    tree.well();
+    tree.well_formed_tree();
     Ok(child_to_validity(Some(tree), Nullability::Nullable)?)
 }

@@ -84,7 +84,7 @@ pub record IsCostly (c : Command) (bytes : List ℕ) : Type 0 where
   pub going_on : GoesOn is_column source (limit_of c)
 
 -- the bytes spell a tree that meets a limit of rewrites; a tree of weight 100 or less meets none
-pub record IsRestless (c : Command) (bytes : List ℕ) (at_root total : ℕ) : Type 0 where
+pub record MeetsRewriteLimit (c : Command) (bytes : List ℕ) (at_root total : ℕ) : Type 0 where
   pub tree : Tree
   pub spelled : Spells bytes tree
   pub stuck : IsStuck c tree at_root total
@@ -102,7 +102,7 @@ HasNoAnswer c bytes Memory = Unit {0}
 HasNoAnswer c bytes BadInput = SpellsNone bytes
 HasNoAnswer c bytes Fault = IsFaulty bytes
 HasNoAnswer c bytes (TurnLimit n turns) = (n ≡ limit_of c) × (turns ≡ limit_of c) × IsCostly c bytes
-HasNoAnswer c bytes (RewriteLimit at_root total) = IsRestless c bytes at_root total
+HasNoAnswer c bytes (RewriteLimit at_root total) = MeetsRewriteLimit c bytes at_root total
 HasNoAnswer c bytes _ = ⊥
 
 -- what a command needs of its input: it isn't too large, and spells a tree without faults whose source costs at most the command's turns

@@ -1,11 +1,11 @@
 //! Streams that come in pieces, and fail in the middle.
 
-use std::io;
 use crate::streams::{
     Failed, MemSink, MemSource, PlainSink, PlainSource, ReadError, Sink, Source, StdinSource,
     StdoutSink, read_all, write_all,
 };
 use std::alloc::Global;
+use std::io;
 use std::io::{Read, Write};
 use std::test::Fail;
 

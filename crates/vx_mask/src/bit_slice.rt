@@ -1,7 +1,6 @@
 //! Ranges of bits in borrowed words.
 
-ghost use Rattle.std.specs.Prelude.{◌≡◌, ◌+◌, ◌*◌, ◌^◌, ◌/◌, ◌-◌, ◌%◌, ◌<◌, ◌≤◌, ◌==◌, ◌++◌, ℕ, false};
-ghost use Rattle.std.specs.Prelude.{length, replicate, take, drop};
+ghost use Rattle.std.specs.Prelude.{◌≡◌, ◌+◌, ◌*◌, ◌^◌, ◌/◌, ◌-◌, ◌%◌, ◌<◌, ◌≤◌, ◌==◌, ◌++◌, ℕ, false, length, replicate, take, drop};
 ghost use Rattle.std.specs.Int.{bit_at};
 ghost use Rattle.vx_mask.specs.Bits.{bit_of, bits_of, bit_of_both};
 ghost use Rattle.vx_mask.specs.Logic.{bit_row};

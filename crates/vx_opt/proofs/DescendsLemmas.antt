@@ -5,7 +5,7 @@ use Rattle.vx_tree.specs.Tree.{Tree, Slots, Data, node, no_slots, absent, slot, 
 use Rattle.vx_tree.specs.Slots.{HoldsAt, set_slot, IsPresentAt, count_slots}
 use Rattle.vx_rule.specs.Rules.{IsSettled}
 use Rattle.vx_opt.specs.Derives.{Step, Derives}
-use Rattle.vx_opt.specs.Limits.{call_limit, IsMadeBelow}
+use Rattle.vx_opt.specs.Limits.{call_limit, IsRewrittenBelow}
 use Rattle.vx_opt.specs.Descends.{Descends, DescendSlots, DescendsUpTo, IsDescended, HaveDescended, IsSunk, IsSinking}
 use Rattle.vx_opt.proofs.LimitsLemmas.{below_refl, below_trans}
 
@@ -55,7 +55,7 @@ upto_step i (node ty n d rs) (node uy m e us) v h (inr g) = subst (IsDescended (
 pub sink_start : (t : Tree) (a : ℕ) → a < call_limit → IsSinking 0 t t a a
 sink_start (node ty n d rs) a l = record { below = below_refl (node ty n d rs) a l; sunk = (refl, refl, refl, refl) }
 
-pub sink_go : (i : ℕ) (t u v : Tree) (a b c : ℕ) → IsSinking i t u a b → IsMadeBelow u v b c → IsSunk i u v → IsSinking (i + 1) t v a c
+pub sink_go : (i : ℕ) (t u v : Tree) (a b c : ℕ) → IsSinking i t u a b → IsRewrittenBelow u v b c → IsSunk i u v → IsSinking (i + 1) t v a c
 sink_go i t u v a b c h m s = record { below = below_trans t u v a b c h.below m; sunk = upto_step i t u v h.sunk s }
 
 pub sink_end : (i : ℕ) (t u : Tree) → i ≡ count_slots (slots t) → IsDescended i t u → HaveDescended t u

@@ -12,7 +12,7 @@ use Rattle.vx_tree.proofs.SlotsLemmas.{put_node, put_twice, put_present}
 use Rattle.vx_rule.specs.Rules.{IsSettled, ArePresent}
 use Rattle.vx_opt.specs.Derives.{Step, InSlot, at_here, below_all}
 use Rattle.vx_opt.specs.Pass.{IsFirst, Optimizes, OptimizesIn, goes_on}
-use Rattle.vx_opt.specs.Limits.{root_limit, call_limit, LeadsTo, IsMade, IsWithin, IsMadeBelow, IsAtLimit, IsLimited, GoesWithin, GoesBelow, IsOptimized, IsSettledFrom, IsUnderWay, IsBetween}
+use Rattle.vx_opt.specs.Limits.{root_limit, call_limit, LeadsTo, IsRewritten, IsWithin, IsRewrittenBelow, IsAtLimit, IsLimited, GoesWithin, GoesBelow, IsOptimized, IsSettledFrom, IsUnderWay, IsBetween}
 use Rattle.vx_opt.proofs.PassLemmas.{first_row, one_more, none_left}
 use Rattle.vx_opt.proofs.DerivesLemmas.{reaches_refl, reaches_row, reaches_trans, reaches_inside, below-length, below-spent, spent-append, count_inside, count_below, count_append, count_le_length}
 
@@ -25,10 +25,10 @@ leads_trans t u v ps qs a b c h g = record {
   counted = omega (arith, length-append ps qs, h.counted, g.counted);
 }
 
-pub made_refl : (t : Tree) (a : ℕ) → IsMade t t a a 0
+pub made_refl : (t : Tree) (a : ℕ) → IsRewritten t t a a 0
 made_refl t a = record { steps = []; leads = record { reaches = reaches_refl t; unspent = refl; counted = omega arith }; at_top = refl }
 
-made_trans : (t u v : Tree) (a b c x y : ℕ) → IsMade t u a b x → IsMade u v b c y → IsMade t v a c (x + y)
+made_trans : (t u v : Tree) (a b c x y : ℕ) → IsRewritten t u a b x → IsRewritten u v b c y → IsRewritten t v a c (x + y)
 made_trans t u v a b c x y h g = record {
   steps = h.steps ++ g.steps;
   leads = leads_trans t u v h.steps g.steps a b c h.leads g.leads;
@@ -36,7 +36,7 @@ made_trans t u v a b c x y h g = record {
 }
 
 -- one more rewrite at the root
-pub made_row : (t u v : Tree) (os : List ℕ) (a b x : ℕ) → IsWell u → IsMade t u a b x → IsFirst u v os → IsMade t v a (b + 1) (x + 1)
+pub made_row : (t u v : Tree) (os : List ℕ) (a b x : ℕ) → IsWell u → IsRewritten t u a b x → IsFirst u v os → IsRewritten t v a (b + 1) (x + 1)
 made_row t u v os a b x w h f =
     let reaches = reaches_row u v os w (first_row u v os f) in
     made_trans t u v a b (b + 1) x 1 h (record {
@@ -46,22 +46,22 @@ made_row t u v os a b x w h f =
     })
 
 -- and more below it
-made_then : (t u v : Tree) (a b c x : ℕ) → IsMade t u a b x → IsMadeBelow u v b c → IsMade t v a c x
-made_then t u v a b c x h g = subst (IsMade t v a c) (add-zero x) (made_trans t u v a b c x 0 h g.made)
+made_then : (t u v : Tree) (a b c x : ℕ) → IsRewritten t u a b x → IsRewrittenBelow u v b c → IsRewritten t v a c x
+made_then t u v a b c x h g = subst (IsRewritten t v a c) (add-zero x) (made_trans t u v a b c x 0 h g.made)
 
-pub below_refl : (t : Tree) (a : ℕ) → a < call_limit → IsMadeBelow t t a a
+pub below_refl : (t : Tree) (a : ℕ) → a < call_limit → IsRewrittenBelow t t a a
 below_refl t a l = record { made = made_refl t a; room = l }
 
-pub below_trans : (t u v : Tree) (a b c : ℕ) → IsMadeBelow t u a b → IsMadeBelow u v b c → IsMadeBelow t v a c
+pub below_trans : (t u v : Tree) (a b c : ℕ) → IsRewrittenBelow t u a b → IsRewrittenBelow u v b c → IsRewrittenBelow t v a c
 below_trans t u v a b c h g = record { made = made_then t u v a b c 0 h.made g; room = g.room }
 
 -- ---- a limit after rewrites
 
 -- at the rewrite itself
-pub limit_here : (t u : Tree) (a n r : ℕ) → IsMade t u a n r → (r ≡ root_limit + 1) ⊎ (n ≡ call_limit) → IsAtLimit t a r n
+pub limit_here : (t u : Tree) (a n r : ℕ) → IsRewritten t u a n r → (r ≡ root_limit + 1) ⊎ (n ≡ call_limit) → IsAtLimit t a r n
 limit_here t u a n r h l = record { tree = u; steps = h.steps; leads = h.leads; root = []; at_one = omega (arith, h.at_top); limit = l }
 
-limit_after : (t u : Tree) (a b x r n : ℕ) → IsMade t u a b x → IsAtLimit u b r n → IsAtLimit t a r n
+limit_after : (t u : Tree) (a b x r n : ℕ) → IsRewritten t u a b x → IsAtLimit u b r n → IsAtLimit t a r n
 limit_after t u a b x r n h g = record {
   tree = g.tree;
   steps = h.steps ++ g.steps;
@@ -71,7 +71,7 @@ limit_after t u a b x r n h g = record {
   limit = g.limit;
 }
 
-pub limited_after : (t u : Tree) (a b x : ℕ) (e : VortexError) → IsMade t u a b x → IsLimited u b e → IsLimited t a e
+pub limited_after : (t u : Tree) (a b x : ℕ) (e : VortexError) → IsRewritten t u a b x → IsLimited u b e → IsLimited t a e
 limited_after t u a b x OutOfMemory h g = tt
 limited_after t u a b x (RewriteLimit r n) h g = limit_after t u a b x r n h g
 limited_after t u a b x _ h g = absurd g
@@ -115,10 +115,10 @@ module _ (i : ℕ) (c p t : Tree) (taken : IsTaken i c p t) where
     counted = omega (arith, h.counted, below-length i ps);
   }
 
-  pub slot_made : (d : Tree) (a b : ℕ) → IsWithin c d a b → IsMadeBelow t (put i d p) a b
+  pub slot_made : (d : Tree) (a b : ℕ) → IsWithin c d a b → IsRewrittenBelow t (put i d p) a b
   slot_made d a b h =
       let m = h.made in
-      subst (λ u. IsMadeBelow t u a b) (put_back d) (record {
+      subst (λ u. IsRewrittenBelow t u a b) (put_back d) (record {
         made = record { steps = below_all i m.steps; leads = slot_leads d m.steps a b m.leads; at_top = count_below i m.steps };
         room = h.room;
       })
@@ -151,7 +151,7 @@ are_present (o ∷ os) t u f h = (f o h.0, are_present os t u f h.1)
 pub between_start : (os : List ℕ) (t : Tree) (a : ℕ) → ArePresent os t → a < call_limit → IsBetween os 0 t t a a
 between_start os t a p l = record { below = below_refl t a l; onward = λ v h. h; present = p }
 
-pub between_go : (os : List ℕ) (i k : ℕ) (t u v : Tree) (a b c : ℕ) → i < length os → IsBetween os i t u a b → IsMadeBelow u v b c
+pub between_go : (os : List ℕ) (i k : ℕ) (t u v : Tree) (a b c : ℕ) → i < length os → IsBetween os i t u a b → IsRewrittenBelow u v b c
     → InSlot (get_or os i k) Optimizes u v → ((j : ℕ) → IsPresent j u → IsPresent j v) → IsBetween os (i + 1) t v a c
 between_go os i k t u v a b c w h m o f = record {
   below = below_trans t u v a b c h.below m;
@@ -168,7 +168,7 @@ pub way_start : (t : Tree) (a : ℕ) → a < call_limit → IsUnderWay t t a a 0
 way_start t a l = record { made = made_refl t a; few = omega arith; room = l; onward = λ v h. h }
 
 pub way_go : (t u v x : Tree) (os : List ℕ) (a b c r : ℕ) → IsWell u → IsUnderWay t u a b r → IsFirst u v os → OptimizesIn os v x → r + 1 ≤ root_limit
-    → IsMadeBelow v x (b + 1) c → IsUnderWay t x a c (r + 1)
+    → IsRewrittenBelow v x (b + 1) c → IsUnderWay t x a c (r + 1)
 way_go t u v x os a b c r w h y s f m = record {
   made = made_then t v x a (b + 1) c (r + 1) (made_row t u v os a b r w h.made y) m;
   few = f;

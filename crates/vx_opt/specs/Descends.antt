@@ -4,7 +4,7 @@ use Rattle.vx_tree.specs.Tree.{Tree, Slots, node, no_slots, absent, slot}
 use Rattle.vx_tree.specs.Slots.{IsPresent}
 use Rattle.vx_rule.specs.Rules.{IsSettled}
 use Rattle.vx_opt.specs.Derives.{Step, Derives, InSlot}
-use Rattle.vx_opt.specs.Limits.{IsMadeBelow}
+use Rattle.vx_opt.specs.Limits.{IsRewrittenBelow}
 
 -- t derives a settled tree, and the second tree is that one with each slot descended from the slot there
 abbrev mutual
@@ -49,5 +49,5 @@ IsSunk i t u = ((IsPresent i t → ⊥) × (u ≡ t)) ⊎ InSlot i Descends t u
 
 -- what the loop over the slots keeps
 pub record IsSinking (i : ℕ) (t u : Tree) (before after : ℕ) : Type 0 where
-  pub below : IsMadeBelow t u before after
+  pub below : IsRewrittenBelow t u before after
   pub sunk : IsDescended i t u

@@ -24,7 +24,7 @@ pub record LeadsTo (t u : Tree) (steps : List Step) (before after : ℕ) : Type 
   pub counted : before + length steps ≡ after
 
 -- u comes from t by such steps, so many of them at the root
-pub record IsMade (t u : Tree) (before after top : ℕ) : Type 0 where
+pub record IsRewritten (t u : Tree) (before after top : ℕ) : Type 0 where
   pub steps : List Step
   pub leads : LeadsTo t u steps before after
   pub at_top : count_at [] steps ≡ top
@@ -41,13 +41,13 @@ pub record IsAtLimit (t : Tree) (before at_root total : ℕ) : Type 0 where
 -- within both limits
 pub record IsWithin (t u : Tree) (before after : ℕ) : Type 0 where
   pub top : ℕ
-  pub made : IsMade t u before after top
+  pub made : IsRewritten t u before after top
   pub few : top ≤ root_limit
   pub room : after < call_limit
 
 -- below the root alone, within the limit of the call
-pub record IsMadeBelow (t u : Tree) (before after : ℕ) : Type 0 where
-  pub made : IsMade t u before after 0
+pub record IsRewrittenBelow (t u : Tree) (before after : ℕ) : Type 0 where
+  pub made : IsRewritten t u before after 0
   pub room : after < call_limit
 
 -- why no tree is given: memory, or a limit
@@ -62,7 +62,7 @@ GoesWithin t before after r = MatchResult r (λ u. IsWithin t u before after) (I
 
 -- a tree that is made below the root, or a limit
 abbrev pub GoesBelow : Tree → ℕ → ℕ → Result Tree VortexError → Type 0
-GoesBelow t before after r = MatchResult r (λ u. IsMadeBelow t u before after) (IsLimited t before)
+GoesBelow t before after r = MatchResult r (λ u. IsRewrittenBelow t u before after) (IsLimited t before)
 
 -- what a call gives: u comes from t within both limits, and each rewrite lowers the weight
 abbrev pub IsOptimized : Tree → Tree → Type 0
@@ -77,13 +77,13 @@ pub record IsSettledFrom (t u : Tree) : Type 0 where
 
 -- what the loop at one root keeps
 pub record IsUnderWay (t u : Tree) (before after at_root : ℕ) : Type 0 where
-  pub made : IsMade t u before after at_root
+  pub made : IsRewritten t u before after at_root
   pub few : at_root ≤ root_limit
   pub room : after < call_limit
   pub onward : (v : Tree) → Optimizes u v → Optimizes t v
 
 -- what the loop over the named slots keeps, before slot number i of them
 pub record IsBetween (os : List ℕ) (i : ℕ) (t u : Tree) (before after : ℕ) : Type 0 where
-  pub below : IsMadeBelow t u before after
+  pub below : IsRewrittenBelow t u before after
   pub onward : (v : Tree) → OptimizesIn (drop i os) u v → OptimizesIn os t v
   pub present : ArePresent os u

@@ -176,7 +176,7 @@ fn cast_to(alloc: Global, array: &ArrayRef, target: DType) -> VortexResult<Array
     ensures same { type_of target ≡ dtype array.now → IfOk result (λ t. t ≡ array.now) }
 {
     if *array.dtype() == target {
-        array.well();
+        array.well_formed_tree();
         return Ok(array.clone()?);
     }
     call_of_one(alloc, ScalarFnRef::Cast(target), array)

@@ -50,42 +50,22 @@ impl ArrayOptimizer for ArrayRef {
     ghost tree = { λ a. a };
 
     fn optimize(self, alloc: Global) -> VortexResult<ArrayRef> {
-        optimize_settled(alloc, self)
+        self.optimize_ctx(alloc, &mut RuleRegistry::empty())
     }
 
+    #[tactic(auto, using(crate::proofs::LimitsLemmas::settled_from, crate::proofs::LimitsLemmas::err_light))]
     fn optimize_ctx(self, alloc: Global, _rules: &mut RuleRegistry) -> VortexResult<ArrayRef> {
-        optimize_settled(alloc, self)
+        let mut total = 0;
+        optimize_root(alloc, self, &mut total)
     }
 
+    #[tactic(auto, using(crate::proofs::LimitsLemmas::err_light))]
     fn optimize_recursive(
         self,
         alloc: Global,
         _rules: &mut RuleRegistry,
     ) -> VortexResult<ArrayRef> {
-        optimize_places(alloc, self)
+        let mut total = 0;
+        descend(alloc, self, 0, &mut total)
     }
-}
-
-/// Optimizes the root of `array`, counting the rewrites from 0.
-#[tactic(auto, using(crate::proofs::LimitsLemmas::settled_from, crate::proofs::LimitsLemmas::err_light))]
-fn optimize_settled(alloc: Global, array: ArrayRef) -> VortexResult<ArrayRef>
-    ensures settled { IfOk result (IsSettledFrom array) }
-    ensures limited { IfErr result (IsLimited array 0) }
-    ensures never_if_light { weight array ≤ 100 → OnlyOutOfMemory result }
-{
-    let mut total = 0;
-    optimize_root(alloc, array, &mut total)
-}
-
-/// Optimizes `array` at each place, counting the rewrites from 0.
-#[tactic(auto, using(crate::proofs::LimitsLemmas::err_light))]
-fn optimize_places(alloc: Global, array: ArrayRef) -> VortexResult<ArrayRef>
-    ensures keeps { IfOk result (Keeps array) }
-    ensures descends { IfOk result (Descends array) }
-    ensures derives { IfOk result (IsOptimized array) }
-    ensures limited { IfErr result (IsLimited array 0) }
-    ensures never_if_light { weight array ≤ 100 → OnlyOutOfMemory result }
-{
-    let mut total = 0;
-    descend(alloc, array, 0, &mut total)
 }

@@ -35,7 +35,7 @@ pub(crate) fn optimize_root(
     let mut current = array;
     let mut at_root = 0;
     while let Some(raw) = first_answer(alloc, &current)? {
-        current.well();
+        current.well_formed_tree();
         at_root += 1;
         *total += 1;
         if at_root > MAX_OPTIMIZER_REWRITE_PASS || *total == MAX_OPTIMIZER_REWRITES {

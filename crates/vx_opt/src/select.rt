@@ -43,39 +43,19 @@ impl ArraySelect for ArrayRef {
     ghost tree = { λ a. a };
 
     fn slice(&self, alloc: Global, range: Range<usize>) -> VortexResult<ArrayRef> {
-        slice_rows(alloc, self, range)
+        self.well_formed_tree();
+        if range.start == 0 && range.end == self.len() {
+            return Ok(self.clone()?);
+        }
+        if range.start == range.end && range.end <= self.len() {
+            return Ok(Canonical::empty(alloc, self.dtype())?.into_array());
+        }
+        let node = SliceArray::try_new(alloc, self.clone()?, range)?;
+        node.into_array().optimize(alloc)
     }
 
     fn filter(&self, alloc: Global, mask: Mask) -> VortexResult<ArrayRef> {
-        filter_rows(alloc, self, mask)
+        let node = FilterArray::try_new(alloc, self.clone()?, mask)?;
+        node.into_array().optimize(alloc)
     }
-}
-
-/// Returns the rows of `array` in `range`.
-fn slice_rows(alloc: Global, array: &ArrayRef, range: Range<usize>) -> VortexResult<ArrayRef>
-    ensures keeps { IfOk result (Keeps (slice_of range.start range.end array.now)) }
-    ensures whole { range.start ≡ 0 → range.end ≡ len array.now → IfOk result (λ t. t ≡ array.now) }
-    ensures empty { range.start ≡ range.end → 0 < len array.now → IfOk result (λ t. t ≡ empty_of (dtype array.now)) }
-    ensures valid { OnOk result (IsRange range.start range.end array.now) }
-    ensures refused { IfErr result (IsNoSlice range.start range.end array.now) }
-{
-    array.well();
-    if range.start == 0 && range.end == array.len() {
-        return Ok(array.clone()?);
-    }
-    if range.start == range.end && range.end <= array.len() {
-        return Ok(Canonical::empty(alloc, array.dtype())?.into_array());
-    }
-    let node = SliceArray::try_new(alloc, array.clone()?, range)?;
-    node.into_array().optimize(alloc)
-}
-
-/// Returns the rows of `array` that `mask` chooses.
-fn filter_rows(alloc: Global, array: &ArrayRef, mask: Mask) -> VortexResult<ArrayRef>
-    ensures keeps { IfOk result (Keeps (filter_of (bits_in mask) array.now)) }
-    ensures valid { OnOk result (IsMaskOf (bits_in mask) array.now) }
-    ensures refused { IfErr result (IsNoFilter (bits_in mask) array.now) }
-{
-    let node = FilterArray::try_new(alloc, array.clone()?, mask)?;
-    node.into_array().optimize(alloc)
 }

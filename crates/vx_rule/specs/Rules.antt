@@ -39,9 +39,9 @@ abbrev pub constants : DataType → Value → ℕ → Tree
 constants ty v n = constant_of (record { of_type = ty; value = v }) n
 
 -- the validity in a masked node's second slot, as a column of n booleans: true if there is none
-abbrev pub told : ℕ → Slots → Tree
-told n (slot t ss) = t
-told n _ = truths true n
+abbrev pub validity_column : ℕ → Slots → Tree
+validity_column n (slot t ss) = t
+validity_column n _ = truths true n
 
 -- Who answers (the node itself, or the child in a slot), the tree, the answer, and the answer's slots that are to be optimized.
 pub data Row : Option ℕ → Tree → Tree → List ℕ → Type 0 where
@@ -99,7 +99,7 @@ pub data Row : Option ℕ → Tree → Tree → List ℕ → Type 0 where
   -- a mask of a masked array masks its child by both
   M1 : (ty mty : DataType) (n k : ℕ) (c m : Tree) (vs : Slots)
       → Row (Some 0) (node ty n (enc.function fn_of.Mask) (slot (node mty k enc.masked (slot c vs)) (slot m no_slots)))
-      (node ty n (enc.function fn_of.Mask) (slot c (slot (both_of n m (told n vs)) no_slots))) []
+      (node ty n (enc.function fn_of.Mask) (slot c (slot (both_of n m (validity_column n vs)) no_slots))) []
   -- a function of constants is a constant, if it has a value: a cast, a negation, bounds, and a filling of nulls
   K1 : (ty s : DataType) (n k : ℕ) (target : DType) (v : Typed) (w : Value) → apply (fn_of.Cast target) ty (value v.value ∷ []) ≡ value w
       → Row (Some 0) (node ty n (enc.function (fn_of.Cast target)) (slot (node s k (enc.constant v) no_slots) no_slots)) (constants ty w n) []

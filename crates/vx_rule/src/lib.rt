@@ -21,10 +21,6 @@ pub use adaptors::{
 };
 pub use encodings::CanonicalEncoding;
 pub use laws::rule_laws;
-pub use nodes::{
-    column_slice, constant_like, empty_column, function_node, function_parts, masked_node,
-    masked_parts,
-};
 pub use push::push_slice;
 pub use raw_node::RawNode;
 pub use rule::{

@@ -19,71 +19,71 @@ use vx_tree::{
 use vx_value::{DType, VortexResult};
 
 /// Returns the function of `array`, which must apply one, and the slots of its arguments.
-pub fn function_parts(array: &ArrayRef) -> (&ScalarFnRef, &[Option<ArrayRef>])
+pub(crate) fn function_parts(array: &ArrayRef) -> (&ScalarFnRef, &[Option<ArrayRef>])
     requires { is_function (datum array.now) ≡ true }
     ensures shape { array.now ≡ node (dtype array.now) (len array.now) (function result.0.now) (slots_of result.1.now) }
     ensures node { IsNode (dtype array.now) (len array.now) (function result.0.now) (shapes (slots_of result.1.now)) }
     ensures well { IsWell array.now }
 {
-    array.well();
+    array.well_formed_tree();
     let ArrayKind::ScalarFn(scalar_fn, slots) = array.kind() else {
         unreachable!()
     };
     (scalar_fn, slots)
 }
 
-/// Makes the node of `scalar_fn` over `slots`, `len` rows of `like`'s type, which must be well formed. Fails only with
+/// Makes the node of `scalar_fn` over `slots`, `len` rows of `original`'s type, which must be well formed. Fails only with
 /// `OutOfMemory`.
-pub fn function_node(
+pub(crate) fn function_node(
     alloc: Global,
-    like: &ArrayRef,
+    original: &ArrayRef,
     scalar_fn: &ScalarFnRef,
     len: usize,
     slots: Vec<Option<ArrayRef>>,
 ) -> VortexResult<ArrayRef>
-    requires { IsNode (dtype like.now) len (function scalar_fn.now) (shapes (slots_of slots.items)) }
-    ensures ok { IfOk result (λ t. t ≡ node (dtype like.now) len (function scalar_fn.now) (slots_of slots.items)) }
+    requires { IsNode (dtype original.now) len (function scalar_fn.now) (shapes (slots_of slots.items)) }
+    ensures ok { IfOk result (λ t. t ≡ node (dtype original.now) len (function scalar_fn.now) (slots_of slots.items)) }
     ensures err { OnlyOutOfMemory result }
 {
     let vtable = ScalarFn { id: scalar_fn.id() };
     let payload = ScalarFnData::new(scalar_fn.clone()?);
-    let parts = ArrayParts::new(vtable, like.dtype().clone()?, len, payload, slots);
+    let parts = ArrayParts::new(vtable, original.dtype().clone()?, len, payload, slots);
     Ok(Array::from_parts_unchecked(alloc, parts)?.into_array())
 }
 
 /// Returns the child of `array`, which must be masked, and the slot of its validity.
-pub fn masked_parts(array: &ArrayRef) -> (&ArrayRef, &Option<ArrayRef>)
+pub(crate) fn masked_parts(array: &ArrayRef) -> (&ArrayRef, &Option<ArrayRef>)
     requires { is_masked (datum array.now) ≡ true }
     ensures shape { array.now ≡ masked_of result.0.now result.1.now }
     ensures well { IsWell array.now }
 {
-    array.well();
+    array.well_formed_tree();
     let ArrayKind::Masked(child, validity) = array.kind() else {
         unreachable!()
     };
     (child, validity)
 }
 
-/// Makes the masked array of `child`, of `like`'s type, with this tree in the slot of its validity; it must be well formed.
+/// Makes the masked array of `child`, of `original`'s type, with this tree in the slot of its validity; it must be well formed.
 /// Fails only with `OutOfMemory`.
-pub fn masked_node(
+pub(crate) fn masked_node(
     alloc: Global,
-    like: &ArrayRef,
+    original: &ArrayRef,
     child: ArrayRef,
     validity: Option<ArrayRef>,
 ) -> VortexResult<ArrayRef>
-    requires { IsNode (dtype like.now) (len child) masked (shapes (slots_of (Some child ∷ validity ∷ []))) }
-    ensures ok { IfOk result (λ t. t ≡ node (dtype like.now) (len child) masked (slots_of (Some child ∷ validity ∷ []))) }
+    requires { IsNode (dtype original.now) (len child) masked (shapes (slots_of (Some child ∷ validity ∷ []))) }
+    ensures ok { IfOk result (λ t. t ≡ node (dtype original.now) (len child) masked (slots_of (Some child ∷ validity ∷ []))) }
     ensures err { OnlyOutOfMemory result }
 {
     let len = child.len();
     let slots = vec![in alloc; Some(child), validity]?;
-    let parts = ArrayParts::new(Masked, like.dtype().clone()?, len, MaskedData, slots);
+    let parts = ArrayParts::new(Masked, original.dtype().clone()?, len, MaskedData, slots);
     Ok(Array::from_parts_unchecked(alloc, parts)?.into_array())
 }
 
 /// Returns the constant of `len` rows that has the value of `array`, which must be one. Fails only with `OutOfMemory`.
-pub fn constant_like(alloc: Global, array: &ArrayRef, len: usize) -> VortexResult<ArrayRef>
+pub(crate) fn constant_like(alloc: Global, array: &ArrayRef, len: usize) -> VortexResult<ArrayRef>
     requires { is_constant (datum array.now) ≡ true }
     ensures ok { IfOk result (λ t. IsConstantLike array.now len t) }
     ensures err { OnlyOutOfMemory result }
@@ -95,7 +95,7 @@ pub fn constant_like(alloc: Global, array: &ArrayRef, len: usize) -> VortexResul
 }
 
 /// Returns the column of type `dtype` without rows. Fails only with `OutOfMemory`.
-pub fn empty_column(alloc: Global, dtype: &DType) -> VortexResult<ArrayRef>
+pub(crate) fn empty_column(alloc: Global, dtype: &DType) -> VortexResult<ArrayRef>
     ensures ok { IfOk result (λ t. t ≡ empty_of (type_of dtype.now)) }
     ensures err { OnlyOutOfMemory result }
 {
@@ -115,7 +115,11 @@ fn as_column(array: ArrayRef) -> Canonical
 
 /// Returns the rows of `array`, which must be canonical, in `range`, as a column that shares its buffers. Fails only with
 /// `OutOfMemory`.
-pub fn column_slice(alloc: Global, array: &ArrayRef, range: Range<usize>) -> VortexResult<ArrayRef>
+pub(crate) fn column_slice(
+    alloc: Global,
+    array: &ArrayRef,
+    range: Range<usize>,
+) -> VortexResult<ArrayRef>
     requires canonical { is_canonical (datum array.now) ≡ true }
     requires within { (range.start ≤ range.end) × (range.end ≤ len array.now) }
     ensures ok { IfOk result (λ t. IsColumnSlice range.start range.end array.now t) }

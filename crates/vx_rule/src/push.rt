@@ -36,7 +36,7 @@ fn push(alloc: Global, array: &ArrayRef, range: Range<usize>) -> VortexResult<Ar
     ensures ok { IfOk result (λ t. IsPushed range.start range.end array.now t) }
     ensures err { OnlyOutOfMemory result }
 {
-    array.well();
+    array.well_formed_tree();
     if range.start == 0 && range.end == array.len() {
         return Ok(array.clone()?);
     }
@@ -107,7 +107,7 @@ fn masked_part(
     ensures ok { IfOk result (λ t. IsPushed range.start range.end array.now t) }
     ensures err { OnlyOutOfMemory result }
 {
-    array.well();
+    array.well_formed_tree();
     let validity = slice_validity(alloc, validity, range)?;
     masked_node(alloc, array, part, validity)
 }

@@ -12,7 +12,7 @@ use Rattle.vx_tree.specs.Keeps.{KeepsExactly}
 use Rattle.vx_tree.proofs.KeepsLemmas.{exactly_trans}
 use Rattle.vx_rule.proofs.FiltersLemmas.{whole_exactly, nothing_exactly, run_exactly}
 use Rattle.vx_rule.proofs.PushLemmas.{canonical_cost}
-use Rattle.vx_step.specs.Turns.{slot_top, top}
+use Rattle.vx_step.specs.Turns.{slot_potential, node_potential}
 use Rattle.vx_step.specs.Steps.{IsShort, HasNoShortcut, IsDone, IsStep}
 use Rattle.vx_step.specs.declared.steps.ExecutionStep.TheVariants.{ExecuteSlot}
 use Rattle.vx_step.specs.declared.steps.SlotTarget.TheVariants.{Canonical}
@@ -64,16 +64,16 @@ module _ (bits : List Bool) (c : Tree) (counted_bits : length bits ≡ len c) (c
     falls = by_target (cases_Bool (is_canonical (datum c)));
   }
     where
-      by_target : (is_canonical (datum c) ≡ true) ⊎ (is_canonical (datum c) ≡ false) → top c < top (filter_of bits c)
+      by_target : (is_canonical (datum c) ≡ true) ⊎ (is_canonical (datum c) ≡ false) → node_potential c < node_potential (filter_of bits c)
       by_target (inl h) = omega (arith, top_paid c, canonical_cost c h)
-      by_target (inr h) = omega (arith, top_paid c, ap (λ b. slot_top b (slot_cost (enc.filter bits) (cost c) (extra c))) h)
+      by_target (inr h) = omega (arith, top_paid c, ap (λ b. slot_potential b (slot_cost (enc.filter bits) (cost c) (extra c))) h)
 
   pub run_done : (a b : ℕ) (u : Tree) → is_all_true bits ≡ false → is_canonical (datum c) ≡ false → IsRun bits a b
       → KeepsExactly (slice_of a b c) u → cost u ≤ cost c + 3 * reach c → IsDone (filter_of bits c) u
   run_done a b u not_all unready run same bound = record {
     by = inl (bits, c, refl, inr (inr (not_all, unready, a, b, run, same, bound)));
     exactly = exactly_trans (filter_of bits c) (slice_of a b c) u (run_exactly bits c counted_bits counted_rows a b run) same;
-    falls = omega (arith, top_paid u, bound, ap (λ x. slot_top x (slot_cost (enc.filter bits) (cost c) (extra c))) unready);
+    falls = omega (arith, top_paid u, bound, ap (λ x. slot_potential x (slot_cost (enc.filter bits) (cost c) (extra c))) unready);
   }
 
   -- the child is a column, and so is u

@@ -9,7 +9,7 @@ use Rattle.vx_value.specs.declared.error.VortexError.{VortexError}
 use Rattle.vx_value.specs.declared.error.VortexError.TheVariants.{OutOfMemory, Fault}
 use Rattle.vx_tree.specs.Cells.{IsClean}
 use Rattle.vx_tree.specs.Keeps.{KeepsExactly}
-use Rattle.vx_step.specs.Turns.{meets, slot_target, target_of, top}
+use Rattle.vx_step.specs.Turns.{meets, slot_target, target_of, node_potential}
 use Rattle.vx_step.specs.declared.steps.SlotTarget.{SlotTarget}
 use Rattle.vx_step.specs.declared.steps.ExecutionStep.{ExecutionStep}
 use Rattle.vx_step.specs.declared.steps.ExecutionStep.TheVariants.{ExecuteSlot, Done}
@@ -77,7 +77,7 @@ pub record IsColumnOf (t u : Tree) : Type 0 where
 pub record IsDone (t u : Tree) : Type 0 where
   pub by : IsShortcut t u ⊎ IsColumnOf t u
   pub exactly : KeepsExactly t u
-  pub falls : top u < top t
+  pub falls : node_potential u < node_potential t
 
 abbrev pub IsStep : Tree → ExecutionStep → Type 0
 IsStep t (ExecuteSlot i g) = HasNoShortcut t × Awaits i t × (g ≡ target_of t)

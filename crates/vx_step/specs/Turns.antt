@@ -23,19 +23,19 @@ abbrev pub target_of : Tree → SlotTarget
 target_of t = slot_target (datum t)
 
 -- the turns that a node takes itself, once its slots are done: a line for each encoding
-abbrev pub base_top : Data → ℕ
-base_top d = base_cost d
+abbrev pub base_potential : Data → ℕ
+base_potential d = base_cost d
 
 -- the turns left for a slot: those that the bound has for it, or none once it has reached its target
-abbrev pub slot_top : Bool → ℕ → ℕ
-slot_top true c = 0
-slot_top false c = c
+abbrev pub slot_potential : Bool → ℕ → ℕ
+slot_potential true c = 0
+slot_potential false c = c
 
-abbrev pub slots_top : Data → Executed → Slots → ℕ
-slots_top d e no_slots = 0
-slots_top d e (absent ss) = slots_top d (after e) ss
-slots_top d e (slot t ss) = counted (is_next e) (slot_top (meets (slot_target d) t) (slot_cost d (cost t) (extra t))) + slots_top d (after e) ss
+abbrev pub slots_potential : Data → Executed → Slots → ℕ
+slots_potential d e no_slots = 0
+slots_potential d e (absent ss) = slots_potential d (after e) ss
+slots_potential d e (slot t ss) = counted (is_next e) (slot_potential (meets (slot_target d) t) (slot_cost d (cost t) (extra t))) + slots_potential d (after e) ss
 
 -- the turns left at a node, current or suspended
-abbrev pub top : Tree → ℕ
-top (node ty n d ss) = base_top d + slots_top d (executed d) ss
+abbrev pub node_potential : Tree → ℕ
+node_potential (node ty n d ss) = base_potential d + slots_potential d (executed d) ss

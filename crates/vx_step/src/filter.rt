@@ -30,7 +30,7 @@ pub(crate) fn filter_or_wait(
     ensures ok { IfOk result (IsStep (filter_of (bits_in mask.now) child.now)) }
     ensures err { IfErr result (IsStopped (filter_of (bits_in mask.now) child.now)) }
 {
-    child.well();
+    child.well_formed_tree();
     if mask.true_count() == 0 {
         return Ok(done(Canonical::empty(alloc, child.dtype())?));
     }
@@ -49,7 +49,7 @@ fn choose_or_wait(alloc: Global, child: &ArrayRef, mask: &Mask) -> VortexResult<
     ensures ok { IfOk result (IsStep (filter_of (bits_in mask.now) child.now)) }
     ensures err { IfErr result (IsStopped (filter_of (bits_in mask.now) child.now)) }
 {
-    child.well();
+    child.well_formed_tree();
     match Canonical::try_from_array_ref(child.clone()?) {
         Ok(column) => Ok(done(filter_column(alloc, &column, mask)?)),
         Err(child) => slice_or_wait(alloc, child, mask),
@@ -63,7 +63,7 @@ fn filter_column(alloc: Global, column: &Canonical, mask: &Mask) -> VortexResult
     ensures ok { IfOk result (λ c. KeepsExactly (filter_of (bits_in mask.now) (canonical_tree column.now)) (canonical_tree c)) }
     ensures err { OnlyOutOfMemory result }
 {
-    column.as_array().well();
+    column.as_array().well_formed_tree();
     match mask.contiguous_range() {
         Some(range) => slice_canonical(alloc, column, range),
         None => filter_canonical(alloc, column, mask),
@@ -81,7 +81,7 @@ fn slice_or_wait(alloc: Global, child: ArrayRef, mask: &Mask) -> VortexResult<Ex
     ensures ok { IfOk result (IsStep (filter_of (bits_in mask.now) child)) }
     ensures err { IfErr result (IsStopped (filter_of (bits_in mask.now) child)) }
 {
-    child.well();
+    child.well_formed_tree();
     match mask.contiguous_range() {
         Some(range) => {
             let part = push_slice(alloc, &child, range)?;

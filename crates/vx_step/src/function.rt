@@ -33,7 +33,7 @@ pub(crate) fn apply_or_wait(
         None => {
             let columns = columns_of(alloc, slots)?;
             let column = apply_fn(alloc, scalar_fn, columns.as_slice(), array.len())?;
-            column.as_array().well();
+            column.as_array().well_formed_tree();
             Ok(ExecutionStep::Done(column.into_array()))
         }
     }

@@ -23,7 +23,7 @@ pub(crate) fn mask_or_wait(
     ensures ok { IfOk result (λ s. IsStep array.now s) }
     ensures err { IfErr result (IsStopped array.now) }
 {
-    array.well();
+    array.well_formed_tree();
     match Canonical::try_from_array_ref(child.clone()?) {
         Ok(column) => {
             let validity = told_by(validity)?;

@@ -28,6 +28,6 @@ pub(crate) fn slice_or_wait(
         return Ok(ExecutionStep::ExecuteSlot(0, SlotTarget::Canonical));
     }
     let part = push_slice(alloc, child, range)?;
-    part.well();
+    part.well_formed_tree();
     Ok(ExecutionStep::Done(part))
 }

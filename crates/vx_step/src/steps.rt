@@ -81,6 +81,6 @@ pub(crate) fn done(column: Canonical) -> ExecutionStep
     ensures canonical { is_canonical (datum (canonical_tree column)) ≡ true }
     ensures known { IsColumn (canonical_tree column) }
 {
-    column.as_array().well();
+    column.as_array().well_formed_tree();
     ExecutionStep::Done(column.into_array())
 }

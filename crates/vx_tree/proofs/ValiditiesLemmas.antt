@@ -30,7 +30,7 @@ use Rattle.vx_tree.specs.Validities.{nullability_by, without_nulls, child_of, va
 use Rattle.vx_tree.specs.declared.validity.Validity.{Validity}
 use Rattle.vx_tree.specs.declared.validity.Validity.TheVariants as validity
 use Rattle.vx_tree.proofs.CellsLemmas.{rows_counted}
-use Rattle.vx_tree.proofs.ConditionsLemmas.{first_none, second_none, unless_none}
+use Rattle.vx_tree.proofs.ConditionsLemmas.{first_none, second_none, unless_none, none_refused, none_unless}
 use Rattle.vx_tree.proofs.KindsLemmas.{type_in, len_in}
 use Rattle.vx_tree.proofs.KeepsLemmas.{column_exactly, rows_equal}
 use Rattle.vx_tree.proofs.NativesLemmas.{map_part}
@@ -302,3 +302,11 @@ pub masked_is_node : (t : Tree) (v : Validity) → HasRows v (len t)
 masked_is_node t v h =
     let w = child_of v (len t) in
     (dtype t, option_map shape_of w, ap (λ l. Some (shape_of t) ∷ l) (one_shape w), refl, masked_validity v (len t) h)
+
+-- a validity of as many rows isn't refused
+pub tree_allowed : (t : Tree) (n : ℕ) → dtype t ≡ type.bool NonNullable → len t ≡ n → array_refusal n (validity.Array t) ≡ None
+tree_allowed t n typed counted = none_refused _ _ (none_unless _ _ ((same_type_Decides _ _).1 typed)) (none_unless _ _ ((unsigned_Decides _ _).1 counted))
+
+pub rows_allowed : (n : ℕ) (v : Validity) → HasRows v n → array_refusal n v ≡ None
+rows_allowed n (validity.Array t) h = tree_allowed t n h.1 h.2
+rows_allowed n _ h = refl

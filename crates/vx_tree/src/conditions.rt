@@ -6,7 +6,7 @@ use vx_value::{ArgKind, VortexError, VortexResult};
 
 /// Checks a condition. `InvalidArgument` with `broken` unless it `holds`. (own)
 #[inline]
-pub fn check_that(holds: bool, broken: ArgKind) -> VortexResult<()>
+pub(crate) fn check_that(holds: bool, broken: ArgKind) -> VortexResult<()>
     ensures { Checks result (unless holds (VortexError.InvalidArgument broken)) }
 {
     if holds {

@@ -16,6 +16,10 @@ ghost use Rattle.vx_tree.specs.Refusals.{refusal};
 ghost use Rattle.vx_tree.specs.Validities.{HasRows, nullability_by, child_of, validity_of, valid_rows};
 ghost use Rattle.vx_tree.specs.NodeValidities.{node_validity, IsValidityFor};
 ghost use Rattle.vx_tree.specs.declared.validity.Validity.{Validity};
+ghost use Rattle.std.specs.Prelude.{◌≡◌, true, false};
+ghost use Rattle.vx_tree.specs.Tree.{Tree, Data, datum, is_constant, is_canonical, is_columnar};
+ghost use Rattle.vx_tree.specs.Well.{IsWell};
+ghost use Rattle.vx_tree.specs.Columns.{IsColumn};
 
 /// States that keeping a tree, and keeping it exactly, are preorders and hold in a slot too. (own)
 pub fn keeping_laws()
@@ -73,4 +77,11 @@ pub fn validity_laws()
 /// States that the validity of a tree tells which of its rows are null. (own)
 pub fn node_validity_laws()
     ensures { (t : Tree) → IsWell t → IsValidityFor t (node_validity t) }
+{}
+
+/// States what every column is, and that canonical columns are columns and no constants. (own)
+pub fn column_laws()
+    ensures known { (t : Tree) → IsWell t → is_columnar (datum t) ≡ true → IsColumn t }
+    ensures canonical_columns { (d : Data) → is_canonical d ≡ true → is_columnar d ≡ true }
+    ensures canonical_open { (d : Data) → is_canonical d ≡ true → is_constant d ≡ false }
 {}

@@ -21,7 +21,7 @@ pub use array::{
 };
 pub use arrays::boolean::{Bool, BoolArray, BoolData};
 pub use arrays::constant::{Constant, ConstantArray, ConstantData};
-pub use arrays::decimal::{Decimal, DecimalArray, DecimalData, decimal_type};
+pub use arrays::decimal::{Decimal, DecimalArray, DecimalData};
 pub use arrays::filter::{Filter, FilterArray, FilterData, FilterDataParts};
 pub use arrays::masked::{Masked, MaskedArray, MaskedData};
 pub use arrays::null::{Null, NullArray};
@@ -30,10 +30,9 @@ pub use arrays::scalar_fn::{ScalarFn, ScalarFnArray, ScalarFnData};
 pub use arrays::scalar_fn_validity::{EmptyArrayData, ScalarFnValidity, ScalarFnValidityArray};
 pub use arrays::slice::{Slice, SliceArray, SliceData, SliceDataParts};
 pub use arrays::varbinview::{VarBinView, VarBinViewArray, VarBinViewData, bytes_type};
-pub use canonical::{Canonical, Columnar, FlatEncoding, column_laws, slice_canonical};
-pub use conditions::check_that;
+pub use canonical::{Canonical, Columnar, slice_canonical};
 pub use laws::{
-    choice_laws, execution_bounds, keeping_laws, node_validity_laws, refused_exactly,
+    choice_laws, column_laws, execution_bounds, keeping_laws, node_validity_laws, refused_exactly,
     validity_laws, weight_laws,
 };
 pub use matcher::{AnyArray, AnyCanonical, AnyColumnar, AnyScalarFn, Matcher};
@@ -43,7 +42,7 @@ pub use native::{
 };
 pub use node_validity::and_lazily;
 pub use suspended::Suspended;
-pub use types::{BOOLEANS, is_same_type};
+pub use types::is_same_type;
 pub use validity::{
     Validity, child_to_validity, choose_validity, slice_validity, validity_nchildren,
     validity_to_child,

@@ -40,7 +40,7 @@ fn node_validity(alloc: Global, array: &ArrayRef) -> VortexResult<Validity>
     if !array.dtype().is_nullable() {
         return Ok(Validity::NonNullable);
     }
-    array.well();
+    array.well_formed_tree();
     let len = array.len();
     match array.kind() {
         ArrayKind::Constant(scalar) => Ok(constant_validity(scalar)),

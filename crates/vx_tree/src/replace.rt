@@ -99,7 +99,7 @@ impl ArrayRef {
         ensures valid { OnOk result (with_slot_refusal slot child self ≡ None) }
         ensures refused { IfErr result (λ e. (e ≡ VortexError.OutOfMemory) ⊎ (with_slot_refusal slot child self ≡ Some e)) }
     {
-        self.well();
+        self.well_formed_tree();
         let Some(old) = self.slots().get(slot) else {
             return Err(VortexError::InvalidArgument(ArgKind::SlotCount));
         };
@@ -120,7 +120,7 @@ impl ArrayRef {
         ensures valid { OnOk result (with_slots_refusal (slots_of slots.items) self ≡ None) }
         ensures refused { IfErr result (λ e. (e ≡ VortexError.OutOfMemory) ⊎ (with_slots_refusal (slots_of slots.items) self ≡ Some e)) }
     {
-        self.well();
+        self.well_formed_tree();
         let old = self.slots();
         if slots.len() != old.len() {
             return Err(VortexError::InvalidArgument(ArgKind::SlotCount));

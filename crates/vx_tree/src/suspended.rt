@@ -40,7 +40,7 @@ impl ArrayRef {
         requires { IsPresent slot self }
         ensures { IfOk result (λ p. (put slot p.1 p.0 ≡ self) × IsHole slot p.0 × IsNodeOf self × HasSlot slot p.1 self) }
     {
-        self.well();
+        self.well_formed_tree();
         let mut node = self.into_root();
         let root = Rc::make_mut(&mut node)?;
         let taken = root.slots[slot].take();

@@ -7,7 +7,7 @@ ghost use Rattle.vx_value.specs.View.{type_of};
 use vx_value::{DType, Nullability};
 
 /// The type of a validity's rows. (own)
-pub const BOOLEANS: DType = DType::Bool(Nullability::NonNullable);
+pub(crate) const BOOLEANS: DType = DType::Bool(Nullability::NonNullable);
 
 /// Returns whether two types are the same. (own)
 #[inline]

@@ -105,6 +105,14 @@ impl ByteBuffer {
     }
 }
 
+/// Checks whether `bytes` are UTF-8. (own)
+#[tactic(auto, using(crate::proofs::BytesLemmas::is_text, crate::proofs::BytesLemmas::is_no_text))]
+pub fn is_text(bytes: &[u8]) -> bool
+    ensures { result ≡ is_utf8 bytes.now }
+{
+    str::from_utf8(bytes).is_ok()
+}
+
 /// Buffers are equal if they have the same bytes, shared or not.
 impl PartialEq for ByteBuffer {
     ghost eq = { bytes_eq };

@@ -15,7 +15,7 @@ mod rescaling;
 mod scalar;
 mod text;
 
-pub use bytes::ByteBuffer;
+pub use bytes::{ByteBuffer, is_text};
 pub use cast::has_cast;
 pub use decimal::{DecimalDType, DecimalType, DecimalValue};
 pub use digits::Digits;

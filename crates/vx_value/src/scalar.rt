@@ -2,7 +2,7 @@
 
 ghost use Rattle.std.specs.Prelude.{◌≡◌, ◌↔◌, IfOk, IfErr, IsErrOf, OnOk, true, false, option_copied, option_map};
 ghost use Rattle.vx_value.specs.View.{type_of, value_of, cell_of, cell_seen};
-ghost use Rattle.vx_value.specs.Values.{Value, null};
+ghost use Rattle.vx_value.specs.Values.{Value, null, boolean, integer, decimal};
 ghost use Rattle.vx_value.specs.Types.{nullability_of, is_nullable};
 ghost use Rattle.vx_value.specs.Nullabilities.{with_nullability};
 ghost use Rattle.vx_value.specs.Defaults.{zero_stored, zero_of, default_of};
@@ -10,7 +10,6 @@ ghost use Rattle.vx_value.specs.IsOf.{is_of, in_range, is_null};
 ghost use Rattle.vx_value.specs.Parts.{boolean_in, integer_in, decimal_in, bytes_in, text_in};
 ghost use Rattle.vx_value.specs.ScalarKinds.{scalar_of, IsStored};
 ghost use Rattle.vx_value.specs.Types as type;
-ghost use Rattle.vx_value.specs.Values.{boolean, integer, decimal};
 ghost use Rattle.vx_value.specs.Decimals.{has_digits};
 
 use crate::{

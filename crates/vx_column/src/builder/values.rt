@@ -9,7 +9,7 @@ ghost use Rattle.vx_tree.specs.Validities.{HasRows};
 ghost use Rattle.vx_value.specs.View.{type_of, value_of};
 ghost use Rattle.vx_value.specs.Storage.{storage_of};
 ghost use Rattle.vx_value.specs.declared.dtype.Storage.{Storage as StorageOf};
-ghost use Rattle.vx_column.specs.Growing.{stored_values, zero_in, AreStored, Accepts, IsColumnOf};
+ghost use Rattle.vx_column.specs.Growing.{stored_values, zero_in, HaveStorage, Accepts, IsColumnOf};
 
 use crate::rows::{bool_column, decimal_column, primitive_column, varbinview_column};
 use std::alloc::{AllocError, Global};
@@ -36,7 +36,7 @@ impl Values {
         dtype: &DType,
         capacity: usize,
     ) -> Result<Values, AllocError>
-        ensures stored { IfOk result (AreStored (storage_of (type_of dtype.now))) }
+        ensures stored { IfOk result (HaveStorage (storage_of (type_of dtype.now))) }
         ensures empty { IfOk result (λ values. stored_values values ≡ []) }
     {
         Ok(match dtype {
@@ -63,7 +63,7 @@ impl Values {
         ensures ok { OnOk result (stored_values self.new ≡ stored_values self.old ++ value_of value.now ∷ []) }
         ensures err { OnErr result (stored_values self.new ≡ stored_values self.old) }
         ensures zero { zero_in self.new ≡ zero_in self.old }
-        ensures stored { (st : StorageOf) → AreStored st self.old → AreStored st self.new }
+        ensures stored { (st : StorageOf) → HaveStorage st self.old → HaveStorage st self.new }
     {
         match (self, value) {
             (Values::Bits(bits), ScalarValue::Bool(bit)) => bits.push(*bit),
@@ -83,7 +83,7 @@ impl Values {
         ensures ok { OnOk result (stored_values self.new ≡ stored_values self.old ++ replicate count (zero_in self.old)) }
         ensures err { OnErr result (stored_values self.new ≡ stored_values self.old) }
         ensures zero { zero_in self.new ≡ zero_in self.old }
-        ensures stored { (st : StorageOf) → AreStored st self.old → AreStored st self.new }
+        ensures stored { (st : StorageOf) → HaveStorage st self.old → HaveStorage st self.new }
     {
         match self {
             Values::Nulls(rows) => {
@@ -104,7 +104,7 @@ impl Values {
         dtype: &DType,
         validity: &Validity,
     ) -> VortexResult<Canonical>
-        requires kind { AreStored (storage_of (type_of dtype.now)) self }
+        requires kind { HaveStorage (storage_of (type_of dtype.now)) self }
         requires typed { list_all (is_of (type_of dtype.now)) (stored_values self) ≡ true }
         requires sized { HasRows validity.now (length (stored_values self)) }
         ensures ok { IfOk result (λ c. IsColumnOf (storage_of (type_of dtype.now)) self validity.now (canonical_tree c)) }

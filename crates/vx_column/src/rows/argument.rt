@@ -198,7 +198,7 @@ fn bytes_of(storage: Storage, rows: BytesRows<'_>) -> ArgumentRows<'_>
 
 /// Returns the rows of a constant, each `scalar`; `false`, 0 or no bytes stand under a null. (own)
 #[tactic(auto, using(crate::proofs::StoredLemmas::stored_integer))]
-pub fn repeated_rows(scalar: &Scalar) -> ArgumentRows<'_>
+pub(crate) fn repeated_rows(scalar: &Scalar) -> ArgumentRows<'_>
     ensures { IsRepeated scalar.now result }
 {
     let dtype = scalar.dtype();
@@ -223,7 +223,7 @@ pub fn repeated_rows(scalar: &Scalar) -> ArgumentRows<'_>
 }
 
 /// Returns the decimal that `scalar` is without its point, or 0 if it is no decimal. (own)
-pub fn unscaled_of(scalar: &Scalar) -> i128
+pub(crate) fn unscaled_of(scalar: &Scalar) -> i128
     ensures { result ≡ unscaled_of scalar.now.value }
 {
     match scalar.as_decimal() {
@@ -259,7 +259,7 @@ fn null_argument(alloc: Global, rows: ArgumentRows<'_>, len: usize) -> VortexRes
 }
 
 /// Returns the rows of each of `columns`. `Fault` if a row of one has no value.
-pub fn arguments_of(alloc: Global, columns: &[Columnar]) -> VortexResult<Vec<Argument<'_>>>
+pub(crate) fn arguments_of(alloc: Global, columns: &[Columnar]) -> VortexResult<Vec<Argument<'_>>>
     ensures ok { IfOk result (λ v. AllZip IsArgument columns.now v.items) }
     ensures err { IfErr result (AnyUnread columns.now) }
 {

@@ -10,18 +10,21 @@ ghost use Rattle.vx_tree.specs.Canonicals.{canonical_tree};
 ghost use Rattle.vx_column.specs.Arguments.{stored_decimals};
 ghost use Rattle.vx_column.specs.Stored.{boolean_column, integer_column, decimal_column, bytes_column};
 
-use crate::rows::reader::bytes_type;
 use std::alloc::Global;
 use vx_mask::BitBuffer;
 use vx_tree::{
     BinaryViews, BoolArray, Canonical, DecimalArray, DecimalValues, PrimitiveArray,
-    PrimitiveValues, Validity, VarBinViewArray,
+    PrimitiveValues, Validity, VarBinViewArray, bytes_type,
 };
 use vx_value::{DType, DecimalDType, Storage, VortexResult};
 
 /// Makes the column of `bits`, whose null rows `validity` tells. Fails only with `OutOfMemory`.
 #[tactic(auto, using(crate::proofs::NullRowsLemmas::flat_taken))]
-pub fn bool_column(alloc: Global, bits: BitBuffer, validity: &Validity) -> VortexResult<Canonical>
+pub(crate) fn bool_column(
+    alloc: Global,
+    bits: BitBuffer,
+    validity: &Validity,
+) -> VortexResult<Canonical>
     requires { HasRows validity.now (length bits) }
     ensures ok { IfOk result (λ c. canonical_tree c ≡ boolean_column bits validity.now) }
     ensures err { OnlyOutOfMemory result }
@@ -32,7 +35,7 @@ pub fn bool_column(alloc: Global, bits: BitBuffer, validity: &Validity) -> Vorte
 }
 
 /// Makes the column of `values`, whose null rows `validity` tells. Fails only with `OutOfMemory`.
-pub fn primitive_column(
+pub(crate) fn primitive_column(
     alloc: Global,
     values: PrimitiveValues,
     validity: &Validity,
@@ -49,7 +52,7 @@ pub fn primitive_column(
 /// Makes the column of `values`, decimals of type `decimal` without their points, whose null rows `validity` tells. Fails only
 /// with `OutOfMemory`.
 #[tactic(auto, using(crate::proofs::NullRowsLemmas::decimals_taken))]
-pub fn decimal_column(
+pub(crate) fn decimal_column(
     alloc: Global,
     decimal: DecimalDType,
     values: DecimalValues,
@@ -67,7 +70,7 @@ pub fn decimal_column(
 
 /// Makes the column of `rows`, of values that are stored so, whose null rows `validity` tells. Fails only with `OutOfMemory`.
 #[tactic(auto, using(crate::proofs::NullRowsLemmas::bytes_taken))]
-pub fn varbinview_column(
+pub(crate) fn varbinview_column(
     alloc: Global,
     storage: Storage,
     rows: BinaryViews,

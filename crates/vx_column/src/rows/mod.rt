@@ -1,5 +1,5 @@
-//! Reads the rows of trees: single rows, those that aren't null, and whole columns as the arguments of a function. Makes
-//! columns of stored values.
+//! Reads the rows of trees: single rows, those that aren't null, and whole columns as the arguments of a function. Makes columns of
+//! stored values.
 
 mod argument;
 mod column;
@@ -9,8 +9,10 @@ mod valid;
 
 pub use argument::{
     Argument, ArgumentRows, BytesOperand, BytesRows, DecimalOperand, DecimalRows, IntegerOperand,
-    IntegerRows, argument_of, arguments_of, repeated_rows, unscaled_of,
+    IntegerRows, argument_of,
 };
-pub use column::{bool_column, decimal_column, primitive_column, varbinview_column};
-pub use probe::{execute_scalar, truths_in};
+pub(crate) use argument::{arguments_of, repeated_rows, unscaled_of};
+pub(crate) use column::{bool_column, decimal_column, primitive_column, varbinview_column};
+pub use probe::execute_scalar;
+pub(crate) use probe::truths_in;
 pub use valid::ValidRows;

@@ -305,13 +305,13 @@ fn bytes_at(alloc: Global, rows: &BinaryViews, index: usize, dtype: &DType) -> V
 
 /// Returns the rows of `array`, which must be non-nullable booleans. Shares those of a column without a validity, repeats a constant, and
 /// cuts and chooses those of slices and filters of such a column by words. `Fault` if a row has no value.
-pub fn truths_in(alloc: Global, array: &ArrayRef) -> VortexResult<BitBuffer>
+pub(crate) fn truths_in(alloc: Global, array: &ArrayRef) -> VortexResult<BitBuffer>
     requires { dtype array.now ≡ type.bool Nullability.NonNullable }
     ensures ok { IfOk result (λ bits. rows array.now ≡ map (λ b. value (boolean b)) bits) }
     ensures sized { IfOk result (λ bits. length bits ≡ len array.now) }
     ensures err { IfErr result (IsUnread array.now) }
 {
-    array.well();
+    array.well_formed_tree();
     if let ArrayKind::Constant(scalar) = array.kind() {
         return Ok(BitBuffer::repeat(alloc, is_true(scalar), array.len())?);
     }
@@ -329,7 +329,7 @@ fn stored_truths(alloc: Global, array: &ArrayRef) -> Result<Option<BitBuffer>, A
     ensures rows { IfOk result (λ o. IfSome o (λ bits. rows array.now ≡ map (λ b. value (boolean b)) bits)) }
     ensures sized { IfOk result (λ o. IfSome o (λ bits. length bits ≡ len array.now)) }
 {
-    array.well();
+    array.well_formed_tree();
     match array.kind() {
         ArrayKind::Bool(bits, None) => Ok(Some(bits.clone()?)),
         ArrayKind::Slice(child, start, end) => match stored_truths(alloc, child) {
@@ -354,7 +354,7 @@ fn read_truths(alloc: Global, array: &ArrayRef) -> VortexResult<BitBuffer>
     ensures sized { IfOk result (λ bits. length bits ≡ len array.now) }
     ensures err { IfErr result (IsUnread array.now) }
 {
-    array.well();
+    array.well_formed_tree();
     let mut bits = BitBuilder::with_capacity(alloc, array.len())?;
     for index in 0..array.len() {
         match scalar_at(alloc, array, index) {

@@ -17,6 +17,7 @@ use crate::rows::argument::{
 use crate::rows::valid::ValidRows;
 use std::alloc::Global;
 use vx_mask::BitOperand;
+use vx_tree::bytes_type;
 use vx_value::{ByteBuffer, DType, Nullability, Scalar, ScalarValue, Storage, VortexResult};
 
 impl Argument<'_> {
@@ -125,14 +126,4 @@ fn bytes_scalar(
     let value = ByteBuffer::copy_from(alloc, bytes.value(index))?;
     let dtype = bytes_type(bytes.storage, nullability);
     Ok(Scalar::new_unchecked(dtype, Some(ScalarValue::Bytes(value))))
-}
-
-/// Returns the type of text or bytes that are stored so: text, else bytes.
-pub(crate) fn bytes_type(storage: Storage, nullability: Nullability) -> DType
-    ensures { type_of result ≡ with_nullability nullability (bytes_type storage) }
-{
-    match storage {
-        Storage::Text => DType::Utf8(nullability),
-        _ => DType::Binary(nullability),
-    }
 }

@@ -34,7 +34,7 @@ pub fn column_text(alloc: Global, column: &Columnar) -> VortexResult<String>
     ensures err { IfErr result (IsUnread (columnar_tree column.now)) }
 {
     let array = column.as_array();
-    array.well();
+    array.well_formed_tree();
     let mut text = head_text(alloc, array)?;
     // A row takes at least two bytes, so a column too long for memory is refused at once.
     text.reserve(array.len().saturating_mul(2))?;

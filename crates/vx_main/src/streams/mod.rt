@@ -9,7 +9,8 @@ mod write;
 
 pub use mem::{MemSink, MemSource};
 pub use plain::{PlainSink, PlainSource};
-pub use read::{INPUT_LIMIT, ReadError, read_all};
+pub use read::INPUT_LIMIT;
+pub(crate) use read::{ReadError, read_all};
 pub use system::{StdinSource, StdoutSink, SystemStream};
 pub use traits::{Failed, Sink, Source};
-pub use write::write_all;
+pub(crate) use write::write_all;

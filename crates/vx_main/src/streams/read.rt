@@ -16,7 +16,7 @@ const PIECE: usize = 65_536;
 
 /// The error of `read_all`.
 #[derive(Clone, Copy, Debug, PartialEq, Eq)]
-pub enum ReadError {
+pub(crate) enum ReadError {
     /// A read failed.
     Failed,
     /// The input exceeds `INPUT_LIMIT`. Holds the number of bytes read so far.
@@ -49,7 +49,7 @@ impl From<Failed> for ReadError {
 /// # Errors
 ///
 /// `Failed` if a read fails; `TooLarge` if more than `INPUT_LIMIT` bytes come; `OutOfMemory`.
-pub fn read_all<S: Source>(alloc: Global, source: &mut S) -> Result<Vec<u8>, ReadError>
+pub(crate) fn read_all<S: Source>(alloc: Global, source: &mut S) -> Result<Vec<u8>, ReadError>
     ensures all { IfOk result (λ bytes. TakesAll (S.left source.old) (S.left source.new) bytes.items) }
     ensures fits { IfOk result (λ bytes. length bytes.items ≤ input_limit) }
 

@@ -8,7 +8,7 @@ ghost use Rattle.vx_main.specs.Streams.{AppendsPrefix};
 use crate::streams::{Failed, Sink};
 
 /// Writes all of `bytes`, piece by piece. If a write fails, the bytes that `sink` took before stay.
-pub fn write_all<K: Sink>(sink: &mut K, bytes: &[u8]) -> Result<(), Failed>
+pub(crate) fn write_all<K: Sink>(sink: &mut K, bytes: &[u8]) -> Result<(), Failed>
     ensures written { OnOk result (Appends (K.held sink.old) (K.held sink.new) bytes.now) }
     ensures cut_short { OnErr result (AppendsPrefix (K.held sink.old) (K.held sink.new) bytes.now) }
     ensures cause { HasCause (K.faults sink.old) (K.faults sink.new) result }

@@ -20,7 +20,7 @@ pub(crate) fn answer(alloc: Global, bytes: &[u8], command: Command) -> Result<St
     ensures causes { IfErr result (HasNoAnswer command bytes.now) }
 {
     let array = tree_of_bytes(alloc, bytes)?;
-    array.well();
+    array.well_formed_tree();
     let source = prepare(alloc, array, command)?;
     let mut ctx = ExecutionCtx::new(alloc).with_limit(command.limit());
     let column = execute(source, &mut ctx)?;

@@ -8,7 +8,7 @@ ghost use Rattle.vx_main.specs.Causes.{Rose};
 ghost use Rattle.vx_main.specs.Streams.{TakesSome, AppendsPrefix};
 ghost use Rattle.vx_main.specs.Commands.{texts, command_of, reads_tree, limit_of};
 ghost use Rattle.vx_main.specs.Statuses.{has_no_input, has_no_tree};
-ghost use Rattle.vx_main.specs.Runs.{Writes, WritesPrefix, IsFaulty, IsCostly, IsRestless, Suffices};
+ghost use Rattle.vx_main.specs.Runs.{Writes, WritesPrefix, IsFaulty, IsCostly, MeetsRewriteLimit, Suffices};
 ghost use Rattle.vx_main.specs.declared.top.words.Command.{Command as CommandOf};
 
 use crate::streams::{ReadError, Sink, Source, read_all, write_all};
@@ -49,7 +49,7 @@ pub fn run<S: Source, K: Sink>(
     ensures turn_limit { (c : CommandOf) (limit turns : ℕ) → command_of (texts words.now.items) ≡ Some c → result ≡ Status.TurnLimit limit turns
         → (reads_tree (Some c) ≡ true) × (limit ≡ limit_of c) × (turns ≡ limit) × IfSome (S.left source.old) (IsCostly c) }
     ensures rewrite_limit { (c : CommandOf) (at_root total : ℕ) → command_of (texts words.now.items) ≡ Some c → result ≡ Status.RewriteLimit at_root total
-        → (reads_tree (Some c) ≡ true) × IfSome (S.left source.old) (λ bytes. IsRestless c bytes at_root total) }
+        → (reads_tree (Some c) ≡ true) × IfSome (S.left source.old) (λ bytes. MeetsRewriteLimit c bytes at_root total) }
     ensures write_fault { (c : CommandOf) → command_of (texts words.now.items) ≡ Some c → result ≡ Status.WriteFault
         → Rose (K.faults sink.old) (K.faults sink.new) × WritesPrefix c (S.left source.old) (K.held sink.old) (K.held sink.new) }
     ensures memory { result ≡ Status.Memory → reads_tree (command_of (texts words.now.items)) ≡ true }

@@ -65,14 +65,18 @@ impl<V: CanonicalEncoding> SliceReduce for V {
         array: &ArrayView<'_, V>,
         range: Range<usize>,
     ) -> VortexResult<Option<RawNode>> {
-        s3(alloc, array.array(), range)
+        slice_of_column(alloc, array.array(), range)
     }
 
     ghost lets = { λ d k. column_lets d (V.canonical d k) };
 }
 
 /// Row S3: a slice of a canonical column is one of its range, which shares its buffers.
-fn s3(alloc: Global, array: &ArrayRef, range: Range<usize>) -> VortexResult<Option<RawNode>>
+fn slice_of_column(
+    alloc: Global,
+    array: &ArrayRef,
+    range: Range<usize>,
+) -> VortexResult<Option<RawNode>>
     requires canonical { is_canonical (datum array.now) ≡ true }
     requires part { IsPartOf range.start range.end array.now }
     ensures { Answers (Some 0) (slice_of range.start range.end array.now) result }

@@ -51,7 +51,7 @@ impl SliceReduce for Constant {
         array: &ArrayView<'_, Constant>,
         range: Range<usize>,
     ) -> VortexResult<Option<RawNode>> {
-        s2(alloc, array.array(), range)
+        slice_of_constant(alloc, array.array(), range)
     }
 
     ghost lets = { constant_lets };
@@ -63,7 +63,7 @@ impl FilterReduce for Constant {
         array: &ArrayView<'_, Constant>,
         mask: &Mask,
     ) -> VortexResult<Option<RawNode>> {
-        f6(alloc, array.array(), mask)
+        filter_of_constant(alloc, array.array(), mask)
     }
 }
 
@@ -75,7 +75,7 @@ impl CastReduce for Constant {
         parent: &ArrayRef,
         _dtype: &DType,
     ) -> VortexResult<Option<RawNode>> {
-        fold_row(alloc, parent)
+        fold_constants(alloc, parent)
     }
 }
 
@@ -86,7 +86,7 @@ impl NotReduce for Constant {
         _array: &ArrayView<'_, Constant>,
         parent: &ArrayRef,
     ) -> VortexResult<Option<RawNode>> {
-        fold_row(alloc, parent)
+        fold_constants(alloc, parent)
     }
 }
 
@@ -100,7 +100,7 @@ impl BetweenReduce for Constant {
         _upper: &ArrayRef,
         _options: &BetweenOptions,
     ) -> VortexResult<Option<RawNode>> {
-        fold_row(alloc, parent)
+        fold_constants(alloc, parent)
     }
 }
 
@@ -112,13 +112,17 @@ impl FillNullReduce for Constant {
         parent: &ArrayRef,
         _fill_value: &ArrayRef,
     ) -> VortexResult<Option<RawNode>> {
-        fold_row(alloc, parent)
+        fold_constants(alloc, parent)
     }
 }
 
 /// Row S2: a slice of a constant is a shorter one.
 #[tactic(auto, using(crate::proofs::FitsLemmas::fit_S2))]
-fn s2(alloc: Global, child: &ArrayRef, range: Range<usize>) -> VortexResult<Option<RawNode>>
+fn slice_of_constant(
+    alloc: Global,
+    child: &ArrayRef,
+    range: Range<usize>,
+) -> VortexResult<Option<RawNode>>
     requires constant { is_constant (datum child.now) ≡ true }
     requires part { IsPartOf range.start range.end child.now }
     ensures { Answers (Some 0) (slice_of range.start range.end child.now) result }
@@ -129,7 +133,7 @@ fn s2(alloc: Global, child: &ArrayRef, range: Range<usize>) -> VortexResult<Opti
 
 /// Row F6: a filter of a constant is a shorter one.
 #[tactic(auto, using(crate::proofs::FitsLemmas::fit_F6))]
-fn f6(alloc: Global, child: &ArrayRef, mask: &Mask) -> VortexResult<Option<RawNode>>
+fn filter_of_constant(alloc: Global, child: &ArrayRef, mask: &Mask) -> VortexResult<Option<RawNode>>
     requires { is_constant (datum child.now) ≡ true }
     ensures { Answers (Some 0) (filter_of (bits_in mask.now) child.now) result }
 {
@@ -139,7 +143,7 @@ fn f6(alloc: Global, child: &ArrayRef, mask: &Mask) -> VortexResult<Option<RawNo
 
 /// Rows K1 to K4: a function of constants is a constant, if it has a value. `parent` must apply one of the functions that are
 /// folded; the answer is `None` exactly if a slot holds no constant, or if the row has no value. Fails only with `OutOfMemory`.
-fn fold_row(alloc: Global, parent: &ArrayRef) -> VortexResult<Option<RawNode>>
+fn fold_constants(alloc: Global, parent: &ArrayRef) -> VortexResult<Option<RawNode>>
     requires { applies folds (datum parent.now) ≡ true }
     ensures { Answers (Some 0) parent.now result }
 {

@@ -41,7 +41,7 @@ impl FilterReduce for Filter {
         array: &ArrayView<'_, Filter>,
         mask: &Mask,
     ) -> VortexResult<Option<RawNode>> {
-        f5(alloc, array.array(), mask)
+        filter_of_filter(alloc, array.array(), mask)
     }
 }
 
@@ -62,13 +62,13 @@ impl ArrayReduceRule<Filter> for TrivialFilterRule {
             unreachable!()
         };
         if mask.all_true() {
-            return f1(alloc, child, mask);
+            return filter_of_all(alloc, child, mask);
         }
         if mask.true_count() == 0 {
-            return f2(alloc, child, mask);
+            return filter_of_none(alloc, child, mask);
         }
         match mask.contiguous_range() {
-            Some(range) => f3(alloc, child, mask, range),
+            Some(range) => filter_of_run(alloc, child, mask, range),
             None => Ok(None),
         }
     }
@@ -76,7 +76,7 @@ impl ArrayReduceRule<Filter> for TrivialFilterRule {
 
 /// Row F5: a filter of a filter is the filter by the combined mask.
 #[tactic(auto, using(crate::proofs::FitsLemmas::fit_F5))]
-fn f5(alloc: Global, child: &ArrayRef, mask: &Mask) -> VortexResult<Option<RawNode>>
+fn filter_of_filter(alloc: Global, child: &ArrayRef, mask: &Mask) -> VortexResult<Option<RawNode>>
     requires filter { is_filter (datum child.now) ≡ true }
     requires long { length (bits_in mask.now) ≡ len child.now }
     ensures { Answers (Some 0) (filter_of (bits_in mask.now) child.now) result }
@@ -104,7 +104,7 @@ fn combine(alloc: Global, outer: &Mask, inner: &Mask) -> VortexResult<Mask>
 
 /// Row F1: a filter that chooses all rows is its child.
 #[tactic(auto, using(crate::proofs::FitsLemmas::fit_F1))]
-fn f1(alloc: Global, child: &ArrayRef, mask: &Mask) -> VortexResult<Option<RawNode>>
+fn filter_of_all(alloc: Global, child: &ArrayRef, mask: &Mask) -> VortexResult<Option<RawNode>>
     requires { is_all_true (bits_in mask.now) ≡ true }
     ensures { Answers None (filter_of (bits_in mask.now) child.now) result }
 {
@@ -113,7 +113,7 @@ fn f1(alloc: Global, child: &ArrayRef, mask: &Mask) -> VortexResult<Option<RawNo
 
 /// Row F2: a filter that chooses no row is the empty column.
 #[tactic(auto, using(crate::proofs::FitsLemmas::fit_F2))]
-fn f2(alloc: Global, child: &ArrayRef, mask: &Mask) -> VortexResult<Option<RawNode>>
+fn filter_of_none(alloc: Global, child: &ArrayRef, mask: &Mask) -> VortexResult<Option<RawNode>>
     requires some { is_all_true (bits_in mask.now) ≡ false }
     requires none { true_count (bits_in mask.now) ≡ 0 }
     ensures { Answers None (filter_of (bits_in mask.now) child.now) result }
@@ -124,7 +124,7 @@ fn f2(alloc: Global, child: &ArrayRef, mask: &Mask) -> VortexResult<Option<RawNo
 
 /// Row F3: a filter of consecutive rows is a slice.
 #[tactic(auto, using(crate::proofs::FitsLemmas::fit_F3, crate::proofs::FiltersLemmas::run_range))]
-fn f3(
+fn filter_of_run(
     alloc: Global,
     child: &ArrayRef,
     mask: &Mask,

@@ -5,7 +5,7 @@ ghost use Rattle.vx_value.specs.Errors.{OnlyOutOfMemory};
 ghost use Rattle.vx_mask.specs.Masks.{bits_in};
 ghost use Rattle.vx_fn.specs.declared.function.ScalarFnRef.TheVariants as fn_of;
 ghost use Rattle.vx_tree.specs.Tree.{len, datum, slots_of, slice_of, filter_of, is_masked};
-ghost use Rattle.vx_rule.specs.Rules.{IsPartOf, told};
+ghost use Rattle.vx_rule.specs.Rules.{IsPartOf, validity_column};
 ghost use Rattle.vx_rule.specs.Calls.{IsCallOf};
 ghost use Rattle.vx_rule.specs.Answers.{Answers};
 ghost use Rattle.vx_rule.specs.SliceLaws.{masked_lets};
@@ -53,7 +53,7 @@ impl SliceReduce for Masked {
         array: &ArrayView<'_, Masked>,
         range: Range<usize>,
     ) -> VortexResult<Option<RawNode>> {
-        s5(alloc, array.array(), range)
+        slice_of_masked(alloc, array.array(), range)
     }
 
     ghost lets = { masked_lets };
@@ -65,7 +65,7 @@ impl FilterReduce for Masked {
         array: &ArrayView<'_, Masked>,
         mask: &Mask,
     ) -> VortexResult<Option<RawNode>> {
-        f8(alloc, array.array(), mask)
+        filter_of_masked(alloc, array.array(), mask)
     }
 }
 
@@ -76,12 +76,16 @@ impl MaskReduce for Masked {
         parent: &ArrayRef,
         mask: &ArrayRef,
     ) -> VortexResult<Option<RawNode>> {
-        m1(alloc, parent, array.array(), mask)
+        mask_of_masked(alloc, parent, array.array(), mask)
     }
 }
 
 /// Row S5: a slice of a masked array is a masked slice.
-fn s5(alloc: Global, child: &ArrayRef, range: Range<usize>) -> VortexResult<Option<RawNode>>
+fn slice_of_masked(
+    alloc: Global,
+    child: &ArrayRef,
+    range: Range<usize>,
+) -> VortexResult<Option<RawNode>>
     requires masked { is_masked (datum child.now) ≡ true }
     requires part { IsPartOf range.start range.end child.now }
     ensures { Answers (Some 0) (slice_of range.start range.end child.now) result }
@@ -95,7 +99,7 @@ fn s5(alloc: Global, child: &ArrayRef, range: Range<usize>) -> VortexResult<Opti
 }
 
 /// Row F8: a filter of a masked array is a masked filter.
-fn f8(alloc: Global, child: &ArrayRef, mask: &Mask) -> VortexResult<Option<RawNode>>
+fn filter_of_masked(alloc: Global, child: &ArrayRef, mask: &Mask) -> VortexResult<Option<RawNode>>
     requires masked { is_masked (datum child.now) ≡ true }
     requires long { length (bits_in mask.now) ≡ len child.now }
     ensures { Answers (Some 0) (filter_of (bits_in mask.now) child.now) result }
@@ -108,7 +112,7 @@ fn f8(alloc: Global, child: &ArrayRef, mask: &Mask) -> VortexResult<Option<RawNo
 }
 
 /// Row M1: a mask of a masked array masks its child by both.
-fn m1(
+fn mask_of_masked(
     alloc: Global,
     parent: &ArrayRef,
     input: &ArrayRef,
@@ -118,10 +122,10 @@ fn m1(
     requires call { IsCallOf fn_of.Mask (input.now ∷ mask.now ∷ []) parent.now }
     ensures { Answers (Some 0) parent.now result }
 {
-    parent.well();
+    parent.well_formed_tree();
     let (child, validity) = masked_parts(input);
     let len = parent.len();
-    let validity = told(alloc, validity, len)?;
+    let validity = validity_column(alloc, validity, len)?;
     let both = and_lazily(alloc, mask.clone()?, validity, len)?;
     let slots = vec![in alloc; Some(child.clone()?), Some(both)]?;
     let call = function_node(alloc, parent, &ScalarFnRef::Mask, len, slots)?;
@@ -129,8 +133,8 @@ fn m1(
 }
 
 /// Returns the validity in a masked array's slot as an array of `len` booleans. Fails only with `OutOfMemory`.
-fn told(alloc: Global, validity: &Option<ArrayRef>, len: usize) -> VortexResult<ArrayRef>
-    ensures ok { IfOk result (λ t. t ≡ told len (slots_of (validity.now ∷ []))) }
+fn validity_column(alloc: Global, validity: &Option<ArrayRef>, len: usize) -> VortexResult<ArrayRef>
+    ensures ok { IfOk result (λ t. t ≡ validity_column len (slots_of (validity.now ∷ []))) }
     ensures err { OnlyOutOfMemory result }
 {
     match validity {

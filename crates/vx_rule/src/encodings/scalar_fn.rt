@@ -1,7 +1,6 @@
 //! The rules of functions.
 
 ghost use Rattle.std.specs.Prelude.{◌≡◌, Some, None, length, true, false};
-ghost use Rattle.vx_value.specs.Types.{same_type};
 ghost use Rattle.vx_value.specs.View.{type_of};
 ghost use Rattle.vx_mask.specs.Masks.{bits_in};
 ghost use Rattle.vx_fn.specs.declared.function.ScalarFnRef.TheVariants as fn_of;
@@ -23,7 +22,7 @@ use std::alloc::Global;
 use std::ops::Range;
 use vx_fn::ScalarFnRef;
 use vx_mask::Mask;
-use vx_tree::{ArrayKind, ArrayRef, ArrayView, ScalarFn, VTable};
+use vx_tree::{ArrayKind, ArrayRef, ArrayView, ScalarFn, VTable, is_same_type};
 use vx_value::{DType, VortexResult};
 
 impl ReduceVTable for ScalarFn {
@@ -49,7 +48,7 @@ impl SliceReduce for ScalarFn {
         array: &ArrayView<'_, ScalarFn>,
         range: Range<usize>,
     ) -> VortexResult<Option<RawNode>> {
-        s4(alloc, array.array(), range)
+        slice_of_function(alloc, array.array(), range)
     }
 
     ghost lets = { function_lets };
@@ -61,7 +60,7 @@ impl FilterReduce for ScalarFn {
         array: &ArrayView<'_, ScalarFn>,
         mask: &Mask,
     ) -> VortexResult<Option<RawNode>> {
-        f7(alloc, array.array(), mask)
+        filter_of_function(alloc, array.array(), mask)
     }
 }
 
@@ -79,7 +78,7 @@ impl ArrayReduceRule<ScalarFn> for TrivialCastRule {
     ) -> VortexResult<Option<RawNode>> {
         match array.array().kind() {
             ArrayKind::ScalarFn(ScalarFnRef::Cast(target), slots) => {
-                c1(alloc, array.array(), target, only_argument(slots))
+                cast_to_own_type(alloc, array.array(), target, only_argument(slots))
             }
             _ => Ok(None),
         }
@@ -100,10 +99,10 @@ impl ArrayReduceRule<ScalarFn> for TrivialNullTestRule {
     ) -> VortexResult<Option<RawNode>> {
         match array.array().kind() {
             ArrayKind::ScalarFn(ScalarFnRef::IsNull, slots) => {
-                n1(alloc, array.array(), only_argument(slots), false)
+                null_test_of_non_nullable(alloc, array.array(), only_argument(slots), false)
             }
             ArrayKind::ScalarFn(ScalarFnRef::IsNotNull, slots) => {
-                n1(alloc, array.array(), only_argument(slots), true)
+                null_test_of_non_nullable(alloc, array.array(), only_argument(slots), true)
             }
             _ => Ok(None),
         }
@@ -111,7 +110,11 @@ impl ArrayReduceRule<ScalarFn> for TrivialNullTestRule {
 }
 
 /// Row S4: a slice of a function is the function of slices.
-fn s4(alloc: Global, child: &ArrayRef, range: Range<usize>) -> VortexResult<Option<RawNode>>
+fn slice_of_function(
+    alloc: Global,
+    child: &ArrayRef,
+    range: Range<usize>,
+) -> VortexResult<Option<RawNode>>
     requires function { is_function (datum child.now) ≡ true }
     requires part { IsPartOf range.start range.end child.now }
     ensures { Answers (Some 0) (slice_of range.start range.end child.now) result }
@@ -124,7 +127,7 @@ fn s4(alloc: Global, child: &ArrayRef, range: Range<usize>) -> VortexResult<Opti
 }
 
 /// Row F7: a filter of a function is the function of filters.
-fn f7(alloc: Global, child: &ArrayRef, mask: &Mask) -> VortexResult<Option<RawNode>>
+fn filter_of_function(alloc: Global, child: &ArrayRef, mask: &Mask) -> VortexResult<Option<RawNode>>
     requires function { is_function (datum child.now) ≡ true }
     requires long { length (bits_in mask.now) ≡ len child.now }
     ensures { Answers (Some 0) (filter_of (bits_in mask.now) child.now) result }
@@ -137,7 +140,7 @@ fn f7(alloc: Global, child: &ArrayRef, mask: &Mask) -> VortexResult<Option<RawNo
 
 /// Row C1: a cast to its argument's own type is the argument.
 #[tactic(auto, using(crate::proofs::FitsLemmas::fit_C1, crate::proofs::QuietLemmas::cast_quiet))]
-fn c1(
+fn cast_to_own_type(
     alloc: Global,
     array: &ArrayRef,
     target: &DType,
@@ -152,16 +155,9 @@ fn c1(
     Ok(Some(RawNode::done(alloc, child.clone()?)))
 }
 
-/// Returns whether two types are the same.
-fn is_same_type(dtype: &DType, other: &DType) -> bool
-    ensures { result ≡ same_type (type_of dtype.now) (type_of other.now) }
-{
-    *dtype == *other
-}
-
 /// Row N1: a test for null of a non-nullable argument is the constant `value`, which is false for `IsNull` and true for `IsNotNull`.
 #[tactic(auto, using(crate::proofs::FitsLemmas::fit_N1, crate::proofs::QuietLemmas::null_test_quiet))]
-fn n1(
+fn null_test_of_non_nullable(
     alloc: Global,
     array: &ArrayRef,
     child: &ArrayRef,

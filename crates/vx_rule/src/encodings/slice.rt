@@ -39,7 +39,7 @@ impl SliceReduce for Slice {
         array: &ArrayView<'_, Slice>,
         range: Range<usize>,
     ) -> VortexResult<Option<RawNode>> {
-        s1(alloc, array.array(), range)
+        slice_of_slice(alloc, array.array(), range)
     }
 
     ghost lets = { slice_lets };
@@ -47,7 +47,11 @@ impl SliceReduce for Slice {
 
 /// Row S1: a slice of a slice is one slice.
 #[tactic(auto, using(crate::proofs::FitsLemmas::fit_S1))]
-fn s1(alloc: Global, child: &ArrayRef, range: Range<usize>) -> VortexResult<Option<RawNode>>
+fn slice_of_slice(
+    alloc: Global,
+    child: &ArrayRef,
+    range: Range<usize>,
+) -> VortexResult<Option<RawNode>>
     requires slice { is_slice (datum child.now) ≡ true }
     requires part { IsPartOf range.start range.end child.now }
     ensures { Answers (Some 0) (slice_of range.start range.end child.now) result }

@@ -95,7 +95,7 @@ impl ArrayRef {
 
     /// States what holds of every tree: it is well formed, and its meaning has one cell per row. (own)
     #[tactic(auto, using(crate::proofs::CellsLemmas::rows_counted))]
-    pub fn well(&self)
+    pub fn well_formed_tree(&self)
         ensures formed { IsWell self.now }
         ensures counted { length (rows self.now) ≡ len self.now }
     {

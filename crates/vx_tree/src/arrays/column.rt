@@ -1,6 +1,7 @@
 //! What all flat columns share: a value in each row, and a slot for their validity.
 
 ghost use Rattle.std.specs.Prelude.{◌≡◌, ◌⊎◌, ℕ, List, [], ◌∷◌, Option, IfOk, IfErr, OnOk, Some, None, option_map};
+ghost use Rattle.vx_value.specs.Errors.{OnlyOutOfMemory};
 ghost use Rattle.vx_value.specs.Types.{DataType};
 ghost use Rattle.vx_value.specs.View.{type_of};
 ghost use Rattle.vx_tree.specs.Tree.{column, slots_of};
@@ -118,6 +119,22 @@ pub(crate) fn flat_column<V: VTable>(
         ⊎ (flat_refusal (type_of of_type.now) (type_of dtype) len validity.now ≡ Some e)) }
 {
     check_flat_column(&dtype, of_type, len, validity)?;
+    flat_unchecked(alloc, dtype, len, payload, validity)
+}
+
+/// Makes the column of `payload`, `len` values, which may have the type `dtype` and this validity. Checks nothing. Fails only with
+/// `OutOfMemory`.
+pub(crate) fn flat_unchecked<V: VTable>(
+    alloc: Global,
+    dtype: DType,
+    len: usize,
+    payload: V::TypedArrayData,
+    validity: &Validity,
+) -> VortexResult<Array<V>>
+    requires { IsNode (type_of dtype) len (V.stands_for payload) (shapes (slots_of (child_of validity.now len ∷ []))) }
+    ensures ok { IfOk result (λ a. a ≡ column (type_of dtype) len (V.stands_for payload) (child_of validity.now len)) }
+    ensures err { OnlyOutOfMemory result }
+{
     let child = validity_to_child(alloc, validity, len)?;
     Array::over(alloc, dtype, len, payload, child)
 }

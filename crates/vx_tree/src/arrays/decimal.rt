@@ -14,7 +14,7 @@ use crate::array::{
     Array, ArrayId, ArrayKind, ArrayParts, Encoded, Encoding, EncodingKind, EncodingVariant, Node,
     VTable,
 };
-use crate::arrays::column::{check_column, check_flat_column, flat_column};
+use crate::arrays::column::{check_column, check_flat_column, flat_unchecked};
 use crate::arrays::{into_payload, payload};
 use crate::conditions::check_that;
 use crate::native::DecimalValues;
@@ -90,7 +90,7 @@ impl VTable for Decimal {
 
 /// Returns the non-nullable type of the decimals of type `dtype`. For a type that isn't one of decimals, it is one that has a
 /// single digit, so never `dtype`. (own)
-pub fn decimal_type(dtype: &DType) -> DType
+fn decimal_type(dtype: &DType) -> DType
     ensures { type_of result ≡ decimal_type (storage_of (type_of dtype.now)) }
 {
     if let DType::Decimal(decimal, _) = dtype {
@@ -153,15 +153,7 @@ impl DecimalArray {
             (child_of validity.now (length (numbers_of values)))) }
         ensures err { OnlyOutOfMemory result }
     {
-        let of_type = decimal_type(&dtype);
         let len = values.len();
-        flat_column(
-            alloc,
-            dtype,
-            &of_type,
-            len,
-            DecimalData { values },
-            validity,
-        )
+        flat_unchecked(alloc, dtype, len, DecimalData { values }, validity)
     }
 }

@@ -3,6 +3,7 @@
 ghost use Rattle.std.specs.Prelude.{refl, ◌≡◌, ◌⊎◌, IfOk, IfErr, OnOk, Some, None, length};
 ghost use Rattle.vx_value.specs.Errors.{OnlyOutOfMemory};
 ghost use Rattle.vx_tree.specs.Tree.{views, is_views, column};
+ghost use Rattle.vx_value.specs.Nullabilities.{with_nullability};
 ghost use Rattle.vx_value.specs.View.{type_of};
 ghost use Rattle.vx_value.specs.declared.id.Id.TheVariants as id;
 ghost use Rattle.vx_tree.specs.ColumnTypes.{bytes_type, are_bytes_of};
@@ -12,7 +13,7 @@ use crate::array::{
     Array, ArrayId, ArrayKind, ArrayParts, Encoded, Encoding, EncodingKind, EncodingVariant, Node,
     VTable,
 };
-use crate::arrays::column::{check_column, check_flat_column, flat_column};
+use crate::arrays::column::{check_column, check_flat_column, flat_unchecked};
 use crate::arrays::{into_payload, payload};
 use crate::conditions::check_that;
 use crate::validity::Validity;
@@ -79,19 +80,27 @@ impl VTable for VarBinView {
     fn validate(_alloc: Global, parts: &ArrayParts<VarBinView>) -> VortexResult<()> {
         let storage = parts.dtype.storage();
         let rows = &parts.payload.rows;
-        check_column(parts, &bytes_type(storage), rows.len())?;
+        check_column(parts, &plain_type(storage), rows.len())?;
         check_that(are_bytes_of(storage, rows), ArgKind::BadValue)
     }
 }
 
-/// Returns the non-nullable type of rows of bytes that are stored so: text if they are stored as text, else bytes. (own)
-pub fn bytes_type(storage: Storage) -> DType
-    ensures { type_of result ≡ bytes_type storage }
+/// Returns the type of text or bytes; `storage` says which. (own)
+pub fn bytes_type(storage: Storage, nullability: Nullability) -> DType
+    ensures typed { type_of result ≡ with_nullability nullability (bytes_type storage) }
+    ensures plain { nullability ≡ Nullability.NonNullable → type_of result ≡ bytes_type storage }
 {
     match storage {
-        Storage::Text => DType::Utf8(Nullability::NonNullable),
-        _ => DType::Binary(Nullability::NonNullable),
+        Storage::Text => DType::Utf8(nullability),
+        _ => DType::Binary(nullability),
     }
+}
+
+/// Returns the non-nullable type of text or bytes; `storage` says which.
+fn plain_type(storage: Storage) -> DType
+    ensures { type_of result ≡ bytes_type storage }
+{
+    bytes_type(storage, Nullability::NonNullable)
 }
 
 /// Returns whether `rows` are values that are stored so: whether each is UTF-8 if they are text.
@@ -124,7 +133,7 @@ impl VarBinViewArray {
         ensures refused { IfErr result (λ e. (e ≡ VortexError.OutOfMemory) ⊎ (bytes_refusal (type_of dtype) rows validity.now ≡ Some e)) }
     {
         let storage = dtype.storage();
-        check_flat_column(&dtype, &bytes_type(storage), rows.len(), validity)?;
+        check_flat_column(&dtype, &plain_type(storage), rows.len(), validity)?;
         check_that(are_bytes_of(storage, &rows), ArgKind::BadValue)?;
         VarBinViewArray::new_unchecked(alloc, dtype, rows, validity)
     }
@@ -140,15 +149,7 @@ impl VarBinViewArray {
         ensures ok { IfOk result (λ a. a ≡ column (type_of dtype) (length rows) (views rows) (child_of validity.now (length rows))) }
         ensures err { OnlyOutOfMemory result }
     {
-        let of_type = bytes_type(dtype.storage());
         let len = rows.len();
-        flat_column(
-            alloc,
-            dtype,
-            &of_type,
-            len,
-            VarBinViewData { rows },
-            validity,
-        )
+        flat_unchecked(alloc, dtype, len, VarBinViewData { rows }, validity)
     }
 }

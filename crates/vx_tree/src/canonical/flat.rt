@@ -18,7 +18,7 @@ use std::ops::Range;
 use vx_value::{DType, VortexResult};
 
 /// Encodings of columns that hold the values of their rows themselves, and have one slot, for their validity. (own)
-pub trait FlatEncoding: VTable {
+pub(crate) trait FlatEncoding: VTable {
     /// Returns no values of type `dtype`, whose canonical encoding must be this one.
     fn no_values(alloc: Global, dtype: &DType) -> Result<Self::TypedArrayData, AllocError>
         requires { Self.is_kind (no_rows (storage_of (type_of dtype.now))) ≡ true }
@@ -75,6 +75,6 @@ fn flat_validity<V: FlatEncoding>(column: &Array<V>) -> &Option<ArrayRef>
     ensures formed { IsWell column.now }
 {
     let _data = column.data();
-    column.as_array().well();
+    column.as_array().well_formed_tree();
     &column.slots()[0]
 }

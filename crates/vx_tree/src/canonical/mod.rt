@@ -3,12 +3,9 @@
 mod canonical;
 mod columnar;
 mod flat;
-mod laws;
 mod slicing;
 mod values;
 
 pub use canonical::Canonical;
 pub use columnar::Columnar;
-pub use flat::FlatEncoding;
-pub use laws::column_laws;
 pub use slicing::slice_canonical;

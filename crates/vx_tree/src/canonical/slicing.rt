@@ -43,6 +43,6 @@ fn slice_nulls(alloc: Global, column: &NullArray, range: Range<usize>) -> Vortex
     ensures err { OnlyOutOfMemory result }
 {
     let _nulls = column.data();
-    column.as_array().well();
+    column.as_array().well_formed_tree();
     NullArray::new(alloc, range.end - range.start)
 }

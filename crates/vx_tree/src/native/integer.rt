@@ -62,7 +62,7 @@ pub trait NativeInteger: NativeNumber {
     }
 
     /// States that the number is in the range of its type.
-    final fn ranged(self)
+    final fn number_in_range(self)
         ensures { in_range kind (Self.value self) ≡ true }
     {
         let _in_range = self.to_wide();

@@ -14,7 +14,7 @@ use std::fmt;
 use std::marker::Model;
 use std::ops::Range;
 use vx_mask::{Buffer, Mask};
-use vx_value::ByteBuffer;
+use vx_value::{ByteBuffer, is_text};
 
 /// Rows of bytes, as in the original's `VarBinViewArray`. Each row is a view into one of the data buffers, which clones,
 /// slices and filtered columns share.
@@ -163,14 +163,6 @@ impl BinaryViews {
         let buffers = self.buffers.clone()?;
         Ok(BinaryViews { views, buffers })
     }
-}
-
-/// Checks whether `bytes` are UTF-8.
-#[tactic(auto, using(vx_value::proofs::BytesLemmas::is_text, vx_value::proofs::BytesLemmas::is_no_text))]
-fn is_text(bytes: &[u8]) -> bool
-    ensures { result ≡ is_utf8 bytes.now }
-{
-    str::from_utf8(bytes).is_ok()
 }
 
 /// Shares the views and the data. Fails only if they can't be shared once more.

@@ -12,7 +12,7 @@ returns-in_ok-bits-in-Ok-clause-ok c =
     let column = c.args.column.now in
     let made = c.in_ok-bits-in-Ok in
     let is = c.as_array-array.ensures.of in
-    let counted = subst (λ x. length (rows x) ≡ len x) is c.well.ensures.counted in
+    let counted = subst (λ x. length (rows x) ≡ len x) is c.well_formed_tree.ensures.counted in
     let long : c.len.result ≡ len (columnar_tree column) = c.len.ensures ∙ ap len is in
     let shown = shown_exactly column c.in-Ok.argument made.bits counted c.in-Ok.ensures.ok (made.ensures.sized ∙ long)
     (λ i lt. made.ensures.rows i (subst (λ n. i < n) (sym long) lt)) in

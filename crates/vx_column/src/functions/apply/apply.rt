@@ -3,7 +3,7 @@
 ghost use Rattle.std.specs.Prelude.{map, IfOk, IfErr};
 ghost use Rattle.vx_tree.specs.Canonicals.{columnar_tree, canonical_tree};
 ghost use Rattle.vx_column.specs.Applied.{IsCall, IsApplied, IsUnapplied};
-ghost use Rattle.vx_column.specs.Computed.{Takes, IsComputed, IsNotComputed};
+ghost use Rattle.vx_column.specs.Computed.{Takes, IsCanonicalResult, HasNoCanonicalResult};
 
 use crate::functions::apply::constant::{apply_constants, constants};
 use crate::functions::cast::cast;
@@ -50,8 +50,8 @@ fn apply_to_columns(
     len: usize,
 ) -> VortexResult<Canonical>
     requires { Takes function.now arguments.now len }
-    ensures ok { IfOk result (λ c. IsComputed function.now arguments.now len (canonical_tree c)) }
-    ensures err { IfErr result (IsNotComputed function.now arguments.now len) }
+    ensures ok { IfOk result (λ c. IsCanonicalResult function.now arguments.now len (canonical_tree c)) }
+    ensures err { IfErr result (HasNoCanonicalResult function.now arguments.now len) }
 {
     match (function, arguments) {
         (ScalarFnRef::Binary(operator), [lhs, rhs]) => operate(alloc, *operator, lhs, rhs, len),

@@ -14,8 +14,8 @@ ghost use Rattle.vx_tree.specs.Tree.{dtype};
 ghost use Rattle.vx_column.specs.Arguments.{value_at, ptype_in, integer_in, HasStored, AreShown, AreIntegers};
 ghost use Rattle.vx_column.specs.declared.rows.argument.ArgumentRows.TheVariants.{Nulls};
 ghost use Rattle.vx_column.specs.Casts.{converted, IsCastTarget, HasRowsToConvert, IsConverted, IsNotConverted};
-ghost use Rattle.vx_column.specs.Computed.{Takes, IsMade, IsComputed, IsNotComputed};
-ghost use Rattle.vx_column.specs.Operands.{number_in, HasRow, IsFaultyRow, IsCalculated};
+ghost use Rattle.vx_column.specs.Computed.{Takes, IsColumnOfCells, IsCanonicalResult, HasNoCanonicalResult};
+ghost use Rattle.vx_column.specs.Operands.{number_in, HasRow, IsFaultyRow, IsPrimitiveColumnOf};
 ghost use Rattle.vx_column.specs.ValidRows.{is_valid, HasValidity, nullability_in};
 
 use crate::functions::cast::rescale::{cast_decimals, integers_to_decimals};
@@ -33,15 +33,15 @@ use vx_value::{DType, Nullability, PType, Scalar, Storage, VortexError, VortexRe
 /// Casts `input`, `len` rows, to `target`: shares its values if they are stored the same, and casts no value under a null.
 /// `Fault` if `target` doesn't have the value of a row. (own)
 #[tactic(auto, using(crate::proofs::KernelArgumentsLemmas::has_stored))]
-pub fn cast(
+pub(crate) fn cast(
     alloc: Global,
     target: &DType,
     input: &Argument<'_>,
     len: usize,
 ) -> VortexResult<Canonical>
     requires { Takes (Cast target.now) (input.now ∷ []) len }
-    ensures ok { IfOk result (λ c. IsComputed (Cast target.now) (input.now ∷ []) len (canonical_tree c)) }
-    ensures err { IfErr result (IsNotComputed (Cast target.now) (input.now ∷ []) len) }
+    ensures ok { IfOk result (λ c. IsCanonicalResult (Cast target.now) (input.now ∷ []) len (canonical_tree c)) }
+    ensures err { IfErr result (HasNoCanonicalResult (Cast target.now) (input.now ∷ []) len) }
 {
     let valid = cast_valid_rows(&input.valid, target.nullability(), len)?;
     cast_rows(alloc, target, input.rows, &valid, len)
@@ -88,7 +88,7 @@ fn cast_rows(
     requires nullability { nullability_in valid.now ≡ nullability_of (type_of target.now) }
     requires target { IsCastTarget rows (type_of target.now) }
     ensures ok { IfOk result (λ c. (dtype (canonical_tree c) ≡ type_of target.now)
-        × IsMade valid.now (λ i. cast_to (type_of target.now) (value_at rows.entry i)) len (canonical_tree c)) }
+        × IsColumnOfCells valid.now (λ i. cast_to (type_of target.now) (value_at rows.entry i)) len (canonical_tree c)) }
     ensures err { IfErr result (IsFaultyRow (is_valid valid.now) (λ i. cast_to (type_of target.now) (value_at rows.entry i)) len) }
 {
     match (rows, target) {
@@ -127,7 +127,7 @@ fn cast_nulls(
     requires nullability { nullability_in valid.now ≡ nullability_of (type_of target.now) }
     requires target { IsCastTarget Nulls (type_of target.now) }
     ensures ok { IfOk result (λ c. (dtype (canonical_tree c) ≡ type_of target.now)
-        × IsMade valid.now (λ i. cast_to (type_of target.now) null) len (canonical_tree c)) }
+        × IsColumnOfCells valid.now (λ i. cast_to (type_of target.now) null) len (canonical_tree c)) }
     ensures err { OnlyOutOfMemory result }
 {
     let null = Scalar::null(target.clone()?);
@@ -146,7 +146,7 @@ fn cast_integers(
 ) -> VortexResult<Canonical>
     requires integers { AreIntegers (ptype_in integers) integers len }
     requires valid { HasValidity valid.now len }
-    ensures ok { IfOk result (λ c. IsCalculated target valid.now (converted target (integer_in integers.entry)) len (canonical_tree c)) }
+    ensures ok { IfOk result (λ c. IsPrimitiveColumnOf target valid.now (converted target (integer_in integers.entry)) len (canonical_tree c)) }
     ensures err { IfErr result (IsFaultyRow (is_valid valid.now) (converted target (integer_in integers.entry)) len) }
 {
     if integers.ptype() == target {
@@ -172,7 +172,7 @@ fn keep_integers(
 ) -> VortexResult<Canonical>
     requires integers { AreIntegers (ptype_in integers) integers len }
     requires valid { HasValidity valid.now len }
-    ensures ok { IfOk result (λ c. IsCalculated (ptype_in integers.entry) valid.now (converted (ptype_in integers.entry) (integer_in integers.entry)) len
+    ensures ok { IfOk result (λ c. IsPrimitiveColumnOf (ptype_in integers.entry) valid.now (converted (ptype_in integers.entry) (integer_in integers.entry)) len
         (canonical_tree c)) }
     ensures err { OnlyOutOfMemory result }
 {
@@ -196,7 +196,7 @@ fn know_ranges<T: NativeInteger>(integers: IntegerOperand<'_>, len: usize)
 {
     let numbers: Operand<'_, T> = operand_of(integers);
     for index in 0..len {
-        numbers.row(index).ranged();
+        numbers.row(index).number_in_range();
     }
 }
 

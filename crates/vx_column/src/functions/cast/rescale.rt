@@ -8,7 +8,7 @@ ghost use Rattle.vx_tree.specs.Canonicals.{canonical_tree};
 ghost use Rattle.vx_column.specs.Arguments.{ptype_in, integer_in, unscaled_in, AreIntegers, AreDecimals};
 ghost use Rattle.vx_column.specs.ValidRows.{is_valid, HasValidity};
 ghost use Rattle.vx_column.specs.Casts.{rescaled_row, rescaled_item};
-ghost use Rattle.vx_column.specs.Operands.{number_in, HasRow, IsFaultyRow, AreCalculated};
+ghost use Rattle.vx_column.specs.Operands.{number_in, HasRow, IsFaultyRow, IsDecimalColumnOf};
 
 use crate::functions::kernel::{
     Calculation, DecimalCalculation, Operand, calculated_decimals, decimal_rows, integer_rows,
@@ -34,7 +34,7 @@ pub(crate) fn integers_to_decimals(
 ) -> VortexResult<Canonical>
     requires integers { AreIntegers (ptype_in integers) integers len }
     requires valid { HasValidity valid.now len }
-    ensures ok { IfOk result (λ c. AreCalculated target valid.now (rescaled_row target 0 (integer_in integers.entry)) len (canonical_tree c)) }
+    ensures ok { IfOk result (λ c. IsDecimalColumnOf target valid.now (rescaled_row target 0 (integer_in integers.entry)) len (canonical_tree c)) }
     ensures err { IfErr result (IsFaultyRow (is_valid valid.now) (rescaled_row target 0 (integer_in integers.entry)) len) }
 {
     let values = integer_rows(alloc, integers, len)?;
@@ -55,7 +55,7 @@ pub(crate) fn cast_decimals(
     requires decimals { AreDecimals decimals len }
     requires valid { HasValidity valid.now len }
     ensures ok { IfOk result (λ c.
-        AreCalculated target valid.now (rescaled_row target decimals.entry.decimal.scale (unscaled_in decimals.entry)) len (canonical_tree c)) }
+        IsDecimalColumnOf target valid.now (rescaled_row target decimals.entry.decimal.scale (unscaled_in decimals.entry)) len (canonical_tree c)) }
     ensures err { IfErr result
         (IsFaultyRow (is_valid valid.now) (rescaled_row target decimals.entry.decimal.scale (unscaled_in decimals.entry)) len) }
 {
@@ -77,7 +77,7 @@ fn rescale_numbers(
 ) -> VortexResult<Canonical>
     requires rows { length (numbers_in numbers.now) ≡ len }
     requires valid { HasValidity valid.now len }
-    ensures ok { IfOk result (λ c. AreCalculated rescaling.target valid.now (rescaled_item rescaling (numbers_in numbers.now)) len (canonical_tree c)) }
+    ensures ok { IfOk result (λ c. IsDecimalColumnOf rescaling.target valid.now (rescaled_item rescaling (numbers_in numbers.now)) len (canonical_tree c)) }
     ensures err { IfErr result (IsFaultyRow (is_valid valid.now) (rescaled_item rescaling (numbers_in numbers.now)) len) }
 {
     let width = DecimalType::smallest_decimal_value_type(&rescaling.target());
@@ -96,7 +96,7 @@ fn rescale_into<U: NativeDecimalType>(
     requires kind { U.kind ≡ smallest_width rescaling.target.precision }
     requires rows { length (numbers_in numbers.now) ≡ len }
     requires valid { HasValidity valid.now len }
-    ensures ok { IfOk result (λ c. AreCalculated rescaling.target valid.now (rescaled_item rescaling (numbers_in numbers.now)) len (canonical_tree c)) }
+    ensures ok { IfOk result (λ c. IsDecimalColumnOf rescaling.target valid.now (rescaled_item rescaling (numbers_in numbers.now)) len (canonical_tree c)) }
     ensures err { IfErr result (IsFaultyRow (is_valid valid.now) (rescaled_item rescaling (numbers_in numbers.now)) len) }
 {
     by_native!(
@@ -117,7 +117,7 @@ fn rescale_buffer<T: NativeNumber, U: NativeDecimalType>(
     requires kind { U.kind ≡ smallest_width rescaling.target.precision }
     requires rows { length (map T.value buffer.now) ≡ len }
     requires valid { HasValidity valid.now len }
-    ensures ok { IfOk result (λ c. AreCalculated rescaling.target valid.now (rescaled_item rescaling (map T.value buffer.now)) len (canonical_tree c)) }
+    ensures ok { IfOk result (λ c. IsDecimalColumnOf rescaling.target valid.now (rescaled_item rescaling (map T.value buffer.now)) len (canonical_tree c)) }
     ensures err { IfErr result (IsFaultyRow (is_valid valid.now) (rescaled_item rescaling (map T.value buffer.now)) len) }
 {
     let numbers = Operand::Rows(buffer.as_slice());

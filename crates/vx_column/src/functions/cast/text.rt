@@ -12,7 +12,7 @@ ghost use Rattle.vx_tree.specs.Canonicals.{canonical_tree};
 ghost use Rattle.vx_tree.specs.Tree.{dtype};
 ghost use Rattle.vx_column.specs.Arguments.{bytes_in, HasBytes, AreBytes};
 ghost use Rattle.vx_column.specs.Casts.{none_unless};
-ghost use Rattle.vx_column.specs.Computed.{IsMade};
+ghost use Rattle.vx_column.specs.Computed.{IsColumnOfCells};
 ghost use Rattle.vx_column.specs.Operands.{IsFaultyRow};
 ghost use Rattle.vx_column.specs.ValidRows.{is_valid, HasValidity, nullability_in};
 
@@ -20,7 +20,7 @@ use crate::functions::kernel::{stored_column, valid_bytes};
 use crate::rows::{ArgumentRows, BytesOperand, BytesRows, ValidRows};
 use std::alloc::Global;
 use vx_tree::{BinaryBuilder, BinaryViews, Canonical};
-use vx_value::{Storage, VortexError, VortexResult};
+use vx_value::{Storage, VortexError, VortexResult, is_text};
 
 /// Casts the `valid` rows of `bytes`, `len` rows, to text; the others are null. Shares the rows if each of them is UTF-8. `Fault` if a
 /// valid one isn't.
@@ -34,7 +34,7 @@ pub(crate) fn cast_to_text(
     requires bytes { AreBytes bytes len }
     requires valid { HasValidity valid.now len }
     ensures ok { IfOk result (λ c. (dtype (canonical_tree c) ≡ utf8 (nullability_in valid.now))
-        × IsMade valid.now (λ i. to_text (bytes_value (bytes_in bytes.entry i))) len (canonical_tree c)) }
+        × IsColumnOfCells valid.now (λ i. to_text (bytes_value (bytes_in bytes.entry i))) len (canonical_tree c)) }
     ensures err { IfErr result (IsFaultyRow (is_valid valid.now) (λ i. to_text (bytes_value (bytes_in bytes.entry i))) len) }
 {
     if are_text(bytes) {
@@ -94,12 +94,4 @@ fn text_at<'a>(bytes: &'a BytesOperand<'_>, valid: &ValidRows, index: usize) -> 
     }
     let value = bytes.value(index);
     if is_text(value) { Some(value) } else { None }
-}
-
-/// Checks whether `bytes` are UTF-8.
-#[tactic(auto, using(vx_value::proofs::BytesLemmas::is_text, vx_value::proofs::BytesLemmas::is_no_text))]
-fn is_text(bytes: &[u8]) -> bool
-    ensures { result ≡ is_utf8 bytes.now }
-{
-    str::from_utf8(bytes).is_ok()
 }

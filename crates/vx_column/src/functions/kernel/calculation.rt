@@ -7,7 +7,7 @@ ghost use Rattle.vx_value.specs.Values.{Value, integer, decimal};
 ghost use Rattle.vx_value.specs.Cell.{Cell, value, fault};
 ghost use Rattle.vx_mask.specs.Logic.{bit_row};
 ghost use Rattle.vx_tree.specs.Canonicals.{canonical_tree};
-ghost use Rattle.vx_column.specs.Operands.{zero_unless, calculated_rows, IsFaultyRow, IsCalculated, AreCalculated};
+ghost use Rattle.vx_column.specs.Operands.{zero_unless, calculated_rows, IsFaultyRow, IsPrimitiveColumnOf, IsDecimalColumnOf};
 ghost use Rattle.vx_column.specs.ValidRows.{is_valid, HasValidity};
 
 use crate::functions::kernel::valid::{valid_decimals, valid_integers};
@@ -18,7 +18,7 @@ use vx_tree::{Canonical, NativeDecimalType, NativeInteger, NativeNumber};
 use vx_value::{DecimalDType, VortexError, VortexResult};
 
 /// A calculation of numbers of the type `U`, one for each row. (own)
-pub trait Calculation<U: NativeNumber> {
+pub(crate) trait Calculation<U: NativeNumber> {
     // row i exists
     ghost has_row: { Self → ℕ → Type 0 };
 
@@ -35,14 +35,14 @@ pub trait Calculation<U: NativeNumber> {
 }
 
 /// A calculation of integers. (own)
-pub trait IntegerCalculation<U: NativeInteger>: Calculation<U> {
+pub(crate) trait IntegerCalculation<U: NativeInteger>: Calculation<U> {
     /// States that each number stands for itself.
     fn are_integers(&self)
         ensures { Self.stands_for self.now ≡ integer };
 }
 
 /// A calculation of decimals of one type, numbers without their points. (own)
-pub trait DecimalCalculation<U: NativeDecimalType>: Calculation<U> {
+pub(crate) trait DecimalCalculation<U: NativeDecimalType>: Calculation<U> {
     // the type of the decimals
     ghost of_type: { Self → DecimalTypeOf };
 
@@ -56,7 +56,7 @@ pub trait DecimalCalculation<U: NativeDecimalType>: Calculation<U> {
 
 /// Makes the column of `calculation`, `len` rows, that are null unless they are `valid`; only valid rows are calculated. `Fault`
 /// if one has no value. (own)
-pub fn calculated_column<U: NativeInteger, C: IntegerCalculation<U>>(
+pub(crate) fn calculated_column<U: NativeInteger, C: IntegerCalculation<U>>(
     alloc: Global,
     calculation: &C,
     valid: &ValidRows,
@@ -64,7 +64,7 @@ pub fn calculated_column<U: NativeInteger, C: IntegerCalculation<U>>(
 ) -> VortexResult<Canonical>
     requires rows { (i : ℕ) → i < len → C.has_row calculation.now i }
     requires valid { HasValidity valid.now len }
-    ensures ok { IfOk result (λ c. IsCalculated U.kind valid.now (C.cell calculation.now) len (canonical_tree c)) }
+    ensures ok { IfOk result (λ c. IsPrimitiveColumnOf U.kind valid.now (C.cell calculation.now) len (canonical_tree c)) }
     ensures err { IfErr result (IsFaultyRow (is_valid valid.now) (C.cell calculation.now) len) }
 {
     let numbers = calculate_rows::<U, C>(alloc, calculation, valid, len)?;
@@ -75,7 +75,7 @@ pub fn calculated_column<U: NativeInteger, C: IntegerCalculation<U>>(
 
 /// Makes the column of `calculation`, `len` rows of decimals, which must be stored in the width of `U`. The rows are null unless
 /// they are `valid`; only valid rows are calculated. `Fault` if one has no value. (own)
-pub fn calculated_decimals<U: NativeDecimalType, C: DecimalCalculation<U>>(
+pub(crate) fn calculated_decimals<U: NativeDecimalType, C: DecimalCalculation<U>>(
     alloc: Global,
     calculation: &C,
     valid: &ValidRows,
@@ -84,7 +84,7 @@ pub fn calculated_decimals<U: NativeDecimalType, C: DecimalCalculation<U>>(
     requires kind { U.kind ≡ smallest_width (C.of_type calculation.now).precision }
     requires rows { (i : ℕ) → i < len → C.has_row calculation.now i }
     requires valid { HasValidity valid.now len }
-    ensures ok { IfOk result (λ c. AreCalculated (C.of_type calculation.now) valid.now (C.cell calculation.now) len (canonical_tree c)) }
+    ensures ok { IfOk result (λ c. IsDecimalColumnOf (C.of_type calculation.now) valid.now (C.cell calculation.now) len (canonical_tree c)) }
     ensures err { IfErr result (IsFaultyRow (is_valid valid.now) (C.cell calculation.now) len) }
 {
     let numbers = calculate_rows::<U, C>(alloc, calculation, valid, len)?;

@@ -6,9 +6,9 @@ mod operand;
 mod stored;
 mod valid;
 
-pub use calculation::{
+pub(crate) use calculation::{
     Calculation, DecimalCalculation, IntegerCalculation, calculated_column, calculated_decimals,
 };
-pub use operand::{Operand, decimal_operand_of, operand_of};
-pub use stored::{bit_rows, byte_rows, decimal_rows, integer_rows, stored_column};
-pub use valid::{keep_valid, valid_bools, valid_bytes, valid_decimals, valid_integers};
+pub(crate) use operand::{Operand, decimal_operand_of, operand_of};
+pub(crate) use stored::{bit_rows, byte_rows, decimal_rows, integer_rows, stored_column};
+pub(crate) use valid::{keep_valid, valid_bools, valid_bytes, valid_decimals, valid_integers};

@@ -10,7 +10,7 @@ use vx_tree::{NativeDecimalType, NativeInteger, NativeNumber, narrowed, native_o
 
 /// Numbers of a native type: one for each row, or one for every row. (own)
 #[derive(Clone, Copy)]
-pub enum Operand<'a, T> {
+pub(crate) enum Operand<'a, T> {
     Rows(&'a [T]),
     Value(T),
 }
@@ -30,7 +30,7 @@ impl<'a, T: NativeNumber> Operand<'a, T> {
 }
 
 /// Returns `integers`, which must be of the type `T`, as native numbers. (own)
-pub fn operand_of<'a, T: NativeInteger>(integers: IntegerOperand<'a>) -> Operand<'a, T>
+pub(crate) fn operand_of<'a, T: NativeInteger>(integers: IntegerOperand<'a>) -> Operand<'a, T>
     requires kind { ptype_in integers ≡ T.kind }
     requires ranged { IsInRange integers.rows }
     ensures numbers { number_in T.value result ≡ integer_in integers.entry }
@@ -43,7 +43,9 @@ pub fn operand_of<'a, T: NativeInteger>(integers: IntegerOperand<'a>) -> Operand
 }
 
 /// Returns `decimals`, which must be stored in the width of `T`, as native numbers. (own)
-pub fn decimal_operand_of<'a, T: NativeDecimalType>(decimals: DecimalOperand<'a>) -> Operand<'a, T>
+pub(crate) fn decimal_operand_of<'a, T: NativeDecimalType>(
+    decimals: DecimalOperand<'a>,
+) -> Operand<'a, T>
     requires kind { T.kind ≡ smallest_width decimals.decimal.precision }
     requires decimals { (n : ℕ) × AreDecimals decimals n }
     ensures numbers { number_in T.value result ≡ unscaled_in decimals.entry }

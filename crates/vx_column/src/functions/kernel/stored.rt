@@ -12,7 +12,7 @@ ghost use Rattle.vx_tree.specs.ColumnTypes.{are_decimals_of};
 ghost use Rattle.vx_tree.specs.Canonicals.{canonical_tree};
 ghost use Rattle.vx_tree.specs.Tree.{dtype};
 ghost use Rattle.vx_column.specs.Arguments.{integer_in, ptype_in, unscaled_in, bytes_in, plain_type, value_at, stored_decimals, HasStored, AreIntegers, AreDecimals, AreBytes};
-ghost use Rattle.vx_column.specs.Computed.{IsMade};
+ghost use Rattle.vx_column.specs.Computed.{IsColumnOfCells};
 ghost use Rattle.vx_column.specs.ValidRows.{HasValidity, nullability_in};
 
 use crate::functions::kernel::valid::{valid_bools, valid_bytes, valid_decimals, valid_integers};
@@ -26,7 +26,11 @@ use vx_tree::{BinaryViews, Canonical, DecimalValues, NullArray, PrimitiveValues}
 use vx_value::{ByteBuffer, DecimalType, VortexResult};
 
 /// Returns `bits` as `len` rows: shares a buffer, and writes out one bit. (own)
-pub fn bit_rows(alloc: Global, bits: BitOperand<'_>, len: usize) -> Result<BitBuffer, AllocError>
+pub(crate) fn bit_rows(
+    alloc: Global,
+    bits: BitOperand<'_>,
+    len: usize,
+) -> Result<BitBuffer, AllocError>
     requires { HasBits bits len }
     ensures { IfOk result (λ b. b ≡ map (λ i. bit_in bits.entry i) (range_with_len 0 len)) }
 {
@@ -37,7 +41,7 @@ pub fn bit_rows(alloc: Global, bits: BitOperand<'_>, len: usize) -> Result<BitBu
 }
 
 /// Returns `integers` as `len` rows: shares a buffer, and writes out one integer. (own)
-pub fn integer_rows(
+pub(crate) fn integer_rows(
     alloc: Global,
     integers: IntegerOperand<'_>,
     len: usize,
@@ -53,7 +57,7 @@ pub fn integer_rows(
 }
 
 /// Returns `decimals` as `len` rows: shares a buffer, and writes out one number. (own)
-pub fn decimal_rows(
+pub(crate) fn decimal_rows(
     alloc: Global,
     decimals: DecimalOperand<'_>,
     len: usize,
@@ -72,7 +76,7 @@ pub fn decimal_rows(
 }
 
 /// Returns `bytes` as `len` rows: shares a column, and copies the bytes of one value once. (own)
-pub fn byte_rows(
+pub(crate) fn byte_rows(
     alloc: Global,
     bytes: BytesOperand<'_>,
     len: usize,
@@ -91,7 +95,7 @@ pub fn byte_rows(
 
 /// Makes the column of `rows`, `len` rows, that are null unless they are `valid`. Shares the buffer of `rows`, and writes out
 /// one value. Fails only with `OutOfMemory`. (own)
-pub fn stored_column(
+pub(crate) fn stored_column(
     alloc: Global,
     rows: ArgumentRows<'_>,
     valid: &ValidRows,
@@ -100,7 +104,7 @@ pub fn stored_column(
     requires rows { HasStored rows len }
     requires valid { HasValidity valid.now len }
     ensures ok { IfOk result (λ c. (dtype (canonical_tree c) ≡ with_nullability (nullability_in valid.now) (plain_type rows.entry))
-        × IsMade valid.now (λ i. value (value_at rows.entry i)) len (canonical_tree c)) }
+        × IsColumnOfCells valid.now (λ i. value (value_at rows.entry i)) len (canonical_tree c)) }
     ensures err { OnlyOutOfMemory result }
 {
     match rows {

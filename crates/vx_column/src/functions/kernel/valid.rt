@@ -16,7 +16,7 @@ ghost use Rattle.vx_tree.specs.Canonicals.{canonical_tree};
 ghost use Rattle.vx_tree.specs.Tree.{dtype};
 ghost use Rattle.vx_column.specs.Arguments.{stored_decimals};
 ghost use Rattle.vx_column.specs.ValidRows.{is_valid, HasValidity, nullability_in};
-ghost use Rattle.vx_column.specs.Computed.{IsMade};
+ghost use Rattle.vx_column.specs.Computed.{IsColumnOfCells};
 
 use crate::rows::{ValidRows, bool_column, decimal_column, primitive_column, varbinview_column};
 use std::alloc::{AllocError, Global};
@@ -25,7 +25,7 @@ use vx_tree::{BinaryViews, Canonical, DecimalValues, PrimitiveValues};
 use vx_value::{DecimalDType, Storage, VortexResult};
 
 /// Makes the column of `bits`, `len` rows, that are null unless they are `valid`. Fails only with `OutOfMemory`. (own)
-pub fn valid_bools(
+pub(crate) fn valid_bools(
     alloc: Global,
     bits: BitBuffer,
     valid: &ValidRows,
@@ -34,7 +34,7 @@ pub fn valid_bools(
     requires bits { length bits ≡ len }
     requires valid { HasValidity valid.now len }
     ensures ok { IfOk result (λ c. (dtype (canonical_tree c) ≡ bool (nullability_in valid.now))
-        × IsMade valid.now (λ i. value (boolean (bit_row bits i))) len (canonical_tree c)) }
+        × IsColumnOfCells valid.now (λ i. value (boolean (bit_row bits i))) len (canonical_tree c)) }
     ensures err { OnlyOutOfMemory result }
 {
     let validity = valid.validity(alloc, len)?;
@@ -42,7 +42,7 @@ pub fn valid_bools(
 }
 
 /// Makes the column of `values`, `len` rows, that are null unless they are `valid`. Fails only with `OutOfMemory`. (own)
-pub fn valid_integers(
+pub(crate) fn valid_integers(
     alloc: Global,
     values: PrimitiveValues,
     valid: &ValidRows,
@@ -51,7 +51,7 @@ pub fn valid_integers(
     requires values { length (values_of values) ≡ len }
     requires valid { HasValidity valid.now len }
     ensures ok { IfOk result (λ c. (dtype (canonical_tree c) ≡ primitive (ptype_of values) (nullability_in valid.now))
-        × IsMade valid.now (λ i. value (integer (slice_index_or (values_of values) i (pos 0)))) len (canonical_tree c)) }
+        × IsColumnOfCells valid.now (λ i. value (integer (slice_index_or (values_of values) i (pos 0)))) len (canonical_tree c)) }
     ensures err { OnlyOutOfMemory result }
 {
     let validity = valid.validity(alloc, len)?;
@@ -60,7 +60,7 @@ pub fn valid_integers(
 
 /// Makes the column of `values`, `len` decimals of type `decimal` without their points, that are null unless they are `valid`.
 /// Fails only with `OutOfMemory`. (own)
-pub fn valid_decimals(
+pub(crate) fn valid_decimals(
     alloc: Global,
     decimal: DecimalDType,
     values: DecimalValues,
@@ -71,7 +71,7 @@ pub fn valid_decimals(
     requires stored { are_decimals_of (stored_decimals decimal) (decimal_type_of values) (numbers_of values) ≡ true }
     requires valid { HasValidity valid.now len }
     ensures ok { IfOk result (λ c. (dtype (canonical_tree c) ≡ type.decimal decimal.precision decimal.scale (nullability_in valid.now))
-        × IsMade valid.now (λ i. value (decimal_value (slice_index_or (numbers_of values) i (pos 0)) decimal.scale)) len (canonical_tree c)) }
+        × IsColumnOfCells valid.now (λ i. value (decimal_value (slice_index_or (numbers_of values) i (pos 0)) decimal.scale)) len (canonical_tree c)) }
     ensures err { OnlyOutOfMemory result }
 {
     let validity = valid.validity(alloc, len)?;
@@ -80,7 +80,7 @@ pub fn valid_decimals(
 
 /// Makes the column of `rows`, `len` rows of values that are stored so, that are null unless they are `valid`. Fails only with
 /// `OutOfMemory`. (own)
-pub fn valid_bytes(
+pub(crate) fn valid_bytes(
     alloc: Global,
     storage: Storage,
     rows: BinaryViews,
@@ -91,7 +91,7 @@ pub fn valid_bytes(
     requires stored { are_bytes_of storage rows ≡ true }
     requires valid { HasValidity valid.now len }
     ensures ok { IfOk result (λ c. (dtype (canonical_tree c) ≡ with_nullability (nullability_in valid.now) (bytes_type storage))
-        × IsMade valid.now (λ i. value (bytes_value (slice_index_or rows i []))) len (canonical_tree c)) }
+        × IsColumnOfCells valid.now (λ i. value (bytes_value (slice_index_or rows i []))) len (canonical_tree c)) }
     ensures err { OnlyOutOfMemory result }
 {
     let validity = valid.validity(alloc, len)?;
@@ -99,7 +99,7 @@ pub fn valid_bytes(
 }
 
 /// Returns `bits`, `len` rows, with `false` in each row that isn't valid. (own)
-pub fn keep_valid(
+pub(crate) fn keep_valid(
     alloc: Global,
     bits: BitBuffer,
     valid: &ValidRows,

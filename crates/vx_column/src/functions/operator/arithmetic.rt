@@ -10,7 +10,7 @@ ghost use Rattle.vx_fn.specs.declared.function.Operator.TheVariants.{Add, Sub, M
 ghost use Rattle.vx_tree.specs.Canonicals.{canonical_tree};
 ghost use Rattle.vx_column.specs.Arguments.{ptype_in};
 ghost use Rattle.vx_column.specs.Digits.{IsWithin};
-ghost use Rattle.vx_column.specs.Filled.{Operates, IsOperated, IsNotOperated};
+ghost use Rattle.vx_column.specs.Filled.{Operates, IsOperatorResult, HasNoOperatorResult};
 ghost use Rattle.vx_column.specs.Operands.{number_in, HasRow};
 ghost use Rattle.vx_column.specs.declared.rows.argument.ArgumentRows.TheVariants.{Integers};
 
@@ -126,8 +126,8 @@ pub(crate) fn calculate<T: NativeInteger + CheckedNumber, A: Arithmetic>(
     requires operator { is_comparison A.operator ≡ false }
     requires kind { T.kind ≡ ptype_in lhs }
     requires operands { Operates A.operator (Integers lhs) (Integers rhs) valid.now len }
-    ensures ok { IfOk result (λ c. IsOperated A.operator (Integers lhs.entry) (Integers rhs.entry) valid.now len (canonical_tree c)) }
-    ensures err { IfErr result (IsNotOperated A.operator (Integers lhs.entry) (Integers rhs.entry) valid.now len) }
+    ensures ok { IfOk result (λ c. IsOperatorResult A.operator (Integers lhs.entry) (Integers rhs.entry) valid.now len (canonical_tree c)) }
+    ensures err { IfErr result (HasNoOperatorResult A.operator (Integers lhs.entry) (Integers rhs.entry) valid.now len) }
 {
     let operation: Operation<'_, T, A> = Operation {
         left: operand_of(lhs),

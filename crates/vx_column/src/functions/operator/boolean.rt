@@ -11,8 +11,8 @@ ghost use Rattle.vx_value.specs.Cell.{value};
 ghost use Rattle.vx_fn.specs.declared.function.ScalarFnRef.TheVariants.{Not};
 ghost use Rattle.vx_tree.specs.Canonicals.{canonical_tree};
 ghost use Rattle.vx_column.specs.Arguments.{value_at};
-ghost use Rattle.vx_column.specs.Computed.{Takes, IsComputed};
-ghost use Rattle.vx_column.specs.Filled.{Operates, IsFilled, IsOperated};
+ghost use Rattle.vx_column.specs.Computed.{Takes, IsCanonicalResult};
+ghost use Rattle.vx_column.specs.Filled.{Operates, IsRowwiseResult, IsOperatorResult};
 ghost use Rattle.vx_column.specs.ValidRows.{HasValidity};
 ghost use Rattle.vx_column.specs.declared.rows.argument.ArgumentRows.TheVariants.{Bits};
 
@@ -64,7 +64,7 @@ pub(crate) fn operate_bools(
     len: usize,
 ) -> VortexResult<Canonical>
     requires { Operates operator (Bits lhs) (Bits rhs) valid.now len }
-    ensures ok { IfOk result (λ c. IsOperated operator (Bits lhs.entry) (Bits rhs.entry) valid.now len (canonical_tree c)) }
+    ensures ok { IfOk result (λ c. IsOperatorResult operator (Bits lhs.entry) (Bits rhs.entry) valid.now len (canonical_tree c)) }
     ensures err { OnlyOutOfMemory result }
 {
     let bits = operate_bits(alloc, operator, lhs, rhs, len)?;
@@ -73,9 +73,9 @@ pub(crate) fn operate_bools(
 }
 
 /// Negates each row of `input`, `len` booleans; null stays null. Fails only with `OutOfMemory`. (own)
-pub fn negate(alloc: Global, input: &Argument<'_>, len: usize) -> VortexResult<Canonical>
+pub(crate) fn negate(alloc: Global, input: &Argument<'_>, len: usize) -> VortexResult<Canonical>
     requires { Takes Not (input.now ∷ []) len }
-    ensures ok { IfOk result (λ c. IsComputed Not (input.now ∷ []) len (canonical_tree c)) }
+    ensures ok { IfOk result (λ c. IsCanonicalResult Not (input.now ∷ []) len (canonical_tree c)) }
     ensures err { OnlyOutOfMemory result }
 {
     let ArgumentRows::Bits(bits) = input.rows else {
@@ -95,7 +95,7 @@ fn negate_bits(
 ) -> VortexResult<Canonical>
     requires input { HasBits input len }
     requires valid { HasValidity valid.now len }
-    ensures ok { IfOk result (λ c. IsFilled Not (Some (bool Nullability.NonNullable))
+    ensures ok { IfOk result (λ c. IsRowwiseResult Not (Some (bool Nullability.NonNullable))
         (λ i. value (value_at (Bits input.entry) i) ∷ []) valid.now len (canonical_tree c)) }
     ensures err { OnlyOutOfMemory result }
 {

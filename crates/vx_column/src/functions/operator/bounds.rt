@@ -9,7 +9,7 @@ ghost use Rattle.vx_tree.specs.Canonicals.{canonical_tree};
 ghost use Rattle.vx_column.specs.Arguments.{ptype_in, plain_type};
 ghost use Rattle.vx_column.specs.Bounds.{AreBounded, bound_by, is_between, is_bounded, AreBetween};
 ghost use Rattle.vx_column.specs.Checks.{checked_rows};
-ghost use Rattle.vx_column.specs.Computed.{Takes, IsComputed};
+ghost use Rattle.vx_column.specs.Computed.{Takes, IsCanonicalResult};
 ghost use Rattle.vx_column.specs.ValidRows.{is_valid, HasValidity};
 ghost use Rattle.vx_column.specs.declared.rows.argument.ArgumentRows.TheVariants.{Bits, Integers, Decimals};
 
@@ -30,7 +30,7 @@ use vx_value::{DecimalType, VortexResult};
 /// Checks whether each row of `array` lies between `lower` and `upper`, `len` rows each; a row is null if one of the three is.
 /// Fails only with `OutOfMemory`. (own)
 #[tactic(auto, using(crate::proofs::ValidRowsLemmas::counted))]
-pub fn between(
+pub(crate) fn between(
     alloc: Global,
     options: BetweenOptions,
     array: &Argument<'_>,
@@ -39,7 +39,7 @@ pub fn between(
     len: usize,
 ) -> VortexResult<Canonical>
     requires { Takes (Between options) (array.now ∷ lower.now ∷ upper.now ∷ []) len }
-    ensures ok { IfOk result (λ c. IsComputed (Between options) (array.now ∷ lower.now ∷ upper.now ∷ []) len (canonical_tree c)) }
+    ensures ok { IfOk result (λ c. IsCanonicalResult (Between options) (array.now ∷ lower.now ∷ upper.now ∷ []) len (canonical_tree c)) }
     ensures err { OnlyOutOfMemory result }
 {
     let bounds_valid = lower.valid.and(alloc, &upper.valid, len)?;

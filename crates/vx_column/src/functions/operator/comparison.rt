@@ -17,7 +17,7 @@ ghost use Rattle.vx_tree.specs.Tree.{dtype};
 ghost use Rattle.vx_column.specs.Arguments.{bytes_in};
 ghost use Rattle.vx_column.specs.Checks.{checked_rows};
 ghost use Rattle.vx_column.specs.Compared.{HasBytesRow, is_compared};
-ghost use Rattle.vx_column.specs.Computed.{IsMade};
+ghost use Rattle.vx_column.specs.Computed.{IsColumnOfCells};
 ghost use Rattle.vx_column.specs.Operands.{number_in, HasRow};
 ghost use Rattle.vx_column.specs.ValidRows.{is_valid, HasValidity, nullability_in};
 
@@ -201,7 +201,7 @@ pub(crate) fn compare_ordered<R: OrderedRows>(
     requires right { (i : ℕ) → i < len → R.has_row right i }
     requires valid { HasValidity valid.now len }
     ensures ok { IfOk result (λ c. (dtype (canonical_tree c) ≡ bool (nullability_in valid.now))
-        × IsMade valid.now (λ i. value (boolean (is_compared operator (R.row_value left) (R.row_value right) i))) len (canonical_tree c)) }
+        × IsColumnOfCells valid.now (λ i. value (boolean (is_compared operator (R.row_value left) (R.row_value right) i))) len (canonical_tree c)) }
     ensures err { OnlyOutOfMemory result }
 {
     let bits = compare_rows(alloc, operator, left, right, valid, len)?;

@@ -8,7 +8,7 @@ ghost use Rattle.vx_fn.specs.Arithmetic.{calculated_by};
 ghost use Rattle.vx_fn.specs.Binary.{is_comparison};
 ghost use Rattle.vx_tree.specs.Canonicals.{canonical_tree};
 ghost use Rattle.vx_column.specs.declared.rows.argument.ArgumentRows.TheVariants.{Decimals};
-ghost use Rattle.vx_column.specs.Filled.{Operates, IsOperated, IsNotOperated};
+ghost use Rattle.vx_column.specs.Filled.{Operates, IsOperatorResult, HasNoOperatorResult};
 ghost use Rattle.vx_column.specs.Digits.{is_within, AreLimits, HasLimits};
 ghost use Rattle.vx_column.specs.Operands.{number_in, HasRow};
 
@@ -37,8 +37,8 @@ pub(crate) fn operate_decimals<T: NativeDecimalType + CheckedNumber>(
 ) -> VortexResult<Canonical>
     requires kind { T.kind ≡ smallest_width lhs.decimal.precision }
     requires operands { Operates operator (Decimals lhs) (Decimals rhs) valid.now len }
-    ensures ok { IfOk result (λ c. IsOperated operator (Decimals lhs.entry) (Decimals rhs.entry) valid.now len (canonical_tree c)) }
-    ensures err { IfErr result (IsNotOperated operator (Decimals lhs.entry) (Decimals rhs.entry) valid.now len) }
+    ensures ok { IfOk result (λ c. IsOperatorResult operator (Decimals lhs.entry) (Decimals rhs.entry) valid.now len (canonical_tree c)) }
+    ensures err { IfErr result (HasNoOperatorResult operator (Decimals lhs.entry) (Decimals rhs.entry) valid.now len) }
 {
     match operator {
         Operator::Add => calculate_decimals::<T, Sum>(alloc, lhs, rhs, valid, len),
@@ -132,8 +132,8 @@ fn calculate_decimals<T: NativeDecimalType + CheckedNumber, A: Arithmetic>(
     requires operator { is_comparison A.operator ≡ false }
     requires kind { T.kind ≡ smallest_width lhs.decimal.precision }
     requires operands { Operates A.operator (Decimals lhs) (Decimals rhs) valid.now len }
-    ensures ok { IfOk result (λ c. IsOperated A.operator (Decimals lhs.entry) (Decimals rhs.entry) valid.now len (canonical_tree c)) }
-    ensures err { IfErr result (IsNotOperated A.operator (Decimals lhs.entry) (Decimals rhs.entry) valid.now len) }
+    ensures ok { IfOk result (λ c. IsOperatorResult A.operator (Decimals lhs.entry) (Decimals rhs.entry) valid.now len (canonical_tree c)) }
+    ensures err { IfErr result (HasNoOperatorResult A.operator (Decimals lhs.entry) (Decimals rhs.entry) valid.now len) }
 {
     let operation: DecimalOperation<'_, T, A> = DecimalOperation {
         left: decimal_operand_of(lhs),

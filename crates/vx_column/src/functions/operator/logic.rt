@@ -10,7 +10,7 @@ ghost use Rattle.vx_tree.specs.Canonicals.{canonical_tree};
 ghost use Rattle.vx_mask.specs.declared.operand.BitOperand.{BitOperand as Operand};
 ghost use Rattle.vx_column.specs.declared.rows.argument.ArgumentRows.TheVariants.{Bits};
 ghost use Rattle.vx_column.specs.Bits.{bit_by};
-ghost use Rattle.vx_column.specs.Computed.{IsComputed};
+ghost use Rattle.vx_column.specs.Computed.{IsCanonicalResult};
 ghost use Rattle.vx_column.specs.Truths.{HasTruths, argument_in, row_over};
 ghost use Rattle.vx_column.specs.ValidRows.{nullability_in};
 
@@ -57,7 +57,7 @@ pub(crate) fn join(
     requires lhs { HasTruths lhs len }
     requires rhs { HasTruths rhs len }
     requires logical { is_logical operator ≡ true }
-    ensures ok { IfOk result (λ c. IsComputed (Binary operator) (argument_in lhs.entry ∷ argument_in rhs.entry ∷ []) len (canonical_tree c)) }
+    ensures ok { IfOk result (λ c. IsCanonicalResult (Binary operator) (argument_in lhs.entry ∷ argument_in rhs.entry ∷ []) len (canonical_tree c)) }
     ensures err { OnlyOutOfMemory result }
 {
     match (lhs.valid, rhs.valid) {
@@ -83,7 +83,7 @@ fn join_nullable(
     requires rhs { HasTruths rhs len }
     requires logical { is_logical operator ≡ true }
     requires nullable { union (nullability_in lhs.valid.now) (nullability_in rhs.valid.now) ≡ Nullability.Nullable }
-    ensures ok { IfOk result (λ c. IsComputed (Binary operator) (argument_in lhs.entry ∷ argument_in rhs.entry ∷ []) len (canonical_tree c)) }
+    ensures ok { IfOk result (λ c. IsCanonicalResult (Binary operator) (argument_in lhs.entry ∷ argument_in rhs.entry ∷ []) len (canonical_tree c)) }
     ensures err { OnlyOutOfMemory result }
 {
     let sure = join_over::<BitAnd>(alloc, operator, lhs, rhs, len)?;

@@ -10,6 +10,6 @@ mod decimals;
 mod logic;
 mod operators;
 
-pub use boolean::negate;
-pub use bounds::between;
-pub use operators::operate;
+pub(crate) use boolean::negate;
+pub(crate) use bounds::between;
+pub(crate) use operators::operate;

@@ -4,8 +4,8 @@ ghost use Rattle.std.specs.Prelude.{◌≡◌, ◌∷◌, [], IfOk, IfErr};
 ghost use Rattle.vx_fn.specs.declared.function.ScalarFnRef.TheVariants.{Binary};
 ghost use Rattle.vx_tree.specs.Canonicals.{canonical_tree};
 ghost use Rattle.vx_column.specs.Arguments.{ptype_in, AreShown};
-ghost use Rattle.vx_column.specs.Computed.{Takes, IsComputed, IsNotComputed};
-ghost use Rattle.vx_column.specs.Filled.{Operates, IsOperated, IsNotOperated};
+ghost use Rattle.vx_column.specs.Computed.{Takes, IsCanonicalResult, HasNoCanonicalResult};
+ghost use Rattle.vx_column.specs.Filled.{Operates, IsOperatorResult, HasNoOperatorResult};
 ghost use Rattle.vx_column.specs.declared.rows.argument.ArgumentRows.TheVariants.{Integers};
 
 use crate::functions::kernel::{Operand, operand_of, valid_bools};
@@ -23,7 +23,7 @@ use vx_tree::{Canonical, NativeInteger, by_decimal_type, by_type};
 use vx_value::{DecimalType, VortexResult};
 
 /// Applies `operator` to `lhs` and `rhs`, `len` rows each, whose types it must accept. `Fault` if a row has no value. (own)
-pub fn operate(
+pub(crate) fn operate(
     alloc: Global,
     operator: Operator,
     lhs: &Argument<'_>,
@@ -31,8 +31,8 @@ pub fn operate(
     len: usize,
 ) -> VortexResult<Canonical>
     requires { Takes (Binary operator) (lhs.now ∷ rhs.now ∷ []) len }
-    ensures ok { IfOk result (λ c. IsComputed (Binary operator) (lhs.now ∷ rhs.now ∷ []) len (canonical_tree c)) }
-    ensures err { IfErr result (IsNotComputed (Binary operator) (lhs.now ∷ rhs.now ∷ []) len) }
+    ensures ok { IfOk result (λ c. IsCanonicalResult (Binary operator) (lhs.now ∷ rhs.now ∷ []) len (canonical_tree c)) }
+    ensures err { IfErr result (HasNoCanonicalResult (Binary operator) (lhs.now ∷ rhs.now ∷ []) len) }
 {
     if operator.is_logical() {
         return join(alloc, operator, truths_of(lhs), truths_of(rhs), len);
@@ -53,8 +53,8 @@ fn operate_rows(
 ) -> VortexResult<Canonical>
     requires operands { Operates operator lhs rhs valid.now len }
     requires shown { AreShown lhs valid.now len }
-    ensures ok { IfOk result (λ c. IsOperated operator lhs.entry rhs.entry valid.now len (canonical_tree c)) }
-    ensures err { IfErr result (IsNotOperated operator lhs.entry rhs.entry valid.now len) }
+    ensures ok { IfOk result (λ c. IsOperatorResult operator lhs.entry rhs.entry valid.now len (canonical_tree c)) }
+    ensures err { IfErr result (HasNoOperatorResult operator lhs.entry rhs.entry valid.now len) }
 {
     match (lhs, rhs) {
         (ArgumentRows::Nulls, ArgumentRows::Nulls) => {
@@ -95,8 +95,8 @@ fn operate_natives<T: NativeInteger + CheckedNumber>(
 ) -> VortexResult<Canonical>
     requires kind { T.kind ≡ ptype_in lhs }
     requires operands { Operates operator (Integers lhs) (Integers rhs) valid.now len }
-    ensures ok { IfOk result (λ c. IsOperated operator (Integers lhs.entry) (Integers rhs.entry) valid.now len (canonical_tree c)) }
-    ensures err { IfErr result (IsNotOperated operator (Integers lhs.entry) (Integers rhs.entry) valid.now len) }
+    ensures ok { IfOk result (λ c. IsOperatorResult operator (Integers lhs.entry) (Integers rhs.entry) valid.now len (canonical_tree c)) }
+    ensures err { IfErr result (HasNoOperatorResult operator (Integers lhs.entry) (Integers rhs.entry) valid.now len) }
 {
     match operator {
         Operator::Add => calculate::<T, Sum>(alloc, lhs, rhs, valid, len),

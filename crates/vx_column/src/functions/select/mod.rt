@@ -3,5 +3,5 @@
 mod nulls;
 mod select;
 
-pub use nulls::{is_not_null, is_null, mask};
-pub use select::{fill_null, zip};
+pub(crate) use nulls::{is_not_null, is_null, mask};
+pub(crate) use select::{fill_null, zip};

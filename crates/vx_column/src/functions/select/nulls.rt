@@ -5,7 +5,7 @@ ghost use Rattle.vx_value.specs.Errors.{OnlyOutOfMemory};
 ghost use Rattle.vx_fn.specs.declared.function.ScalarFnRef.TheVariants.{IsNull, IsNotNull, Mask};
 ghost use Rattle.vx_tree.specs.Canonicals.{canonical_tree};
 ghost use Rattle.vx_column.specs.Arguments.{IsSized};
-ghost use Rattle.vx_column.specs.Computed.{Takes, IsComputed};
+ghost use Rattle.vx_column.specs.Computed.{Takes, IsCanonicalResult};
 
 use crate::functions::kernel::{bit_rows, stored_column, valid_bools};
 use crate::rows::{Argument, ArgumentRows, ValidRows};
@@ -16,9 +16,9 @@ use vx_value::{Nullability, VortexResult};
 
 /// Checks of each row of `input`, `len` rows, whether it is null. Fails only with `OutOfMemory`. (own)
 #[tactic(auto, using(crate::proofs::ValidRowsLemmas::counted))]
-pub fn is_null(alloc: Global, input: &Argument<'_>, len: usize) -> VortexResult<Canonical>
+pub(crate) fn is_null(alloc: Global, input: &Argument<'_>, len: usize) -> VortexResult<Canonical>
     requires { IsSized len input.now }
-    ensures ok { IfOk result (λ c. IsComputed IsNull (input.now ∷ []) len (canonical_tree c)) }
+    ensures ok { IfOk result (λ c. IsCanonicalResult IsNull (input.now ∷ []) len (canonical_tree c)) }
     ensures err { OnlyOutOfMemory result }
 {
     let valid = input.valid.as_operand();
@@ -29,9 +29,13 @@ pub fn is_null(alloc: Global, input: &Argument<'_>, len: usize) -> VortexResult<
 /// Checks of each row of `input`, `len` rows, whether it isn't null: shares the bits that tell it. Fails only with
 /// `OutOfMemory`. (own)
 #[tactic(auto, using(crate::proofs::ValidRowsLemmas::counted))]
-pub fn is_not_null(alloc: Global, input: &Argument<'_>, len: usize) -> VortexResult<Canonical>
+pub(crate) fn is_not_null(
+    alloc: Global,
+    input: &Argument<'_>,
+    len: usize,
+) -> VortexResult<Canonical>
     requires { IsSized len input.now }
-    ensures ok { IfOk result (λ c. IsComputed IsNotNull (input.now ∷ []) len (canonical_tree c)) }
+    ensures ok { IfOk result (λ c. IsCanonicalResult IsNotNull (input.now ∷ []) len (canonical_tree c)) }
     ensures err { OnlyOutOfMemory result }
 {
     let bits = bit_rows(alloc, input.valid.as_operand(), len)?;
@@ -41,14 +45,14 @@ pub fn is_not_null(alloc: Global, input: &Argument<'_>, len: usize) -> VortexRes
 /// Returns the rows of `input` for which `mask` is true, null in place of the others, `len` rows each: only the validity is
 /// computed. Fails only with `OutOfMemory`. (own)
 #[tactic(auto, using(crate::proofs::ValidRowsLemmas::counted, crate::proofs::KernelArgumentsLemmas::has_stored))]
-pub fn mask(
+pub(crate) fn mask(
     alloc: Global,
     input: &Argument<'_>,
     mask: &Argument<'_>,
     len: usize,
 ) -> VortexResult<Canonical>
     requires { Takes Mask (input.now ∷ mask.now ∷ []) len }
-    ensures ok { IfOk result (λ c. IsComputed Mask (input.now ∷ mask.now ∷ []) len (canonical_tree c)) }
+    ensures ok { IfOk result (λ c. IsCanonicalResult Mask (input.now ∷ mask.now ∷ []) len (canonical_tree c)) }
     ensures err { OnlyOutOfMemory result }
 {
     let ArgumentRows::Bits(keep) = mask.rows else {

@@ -9,7 +9,7 @@ ghost use Rattle.vx_value.specs.Decimals.{smallest_width};
 ghost use Rattle.vx_fn.specs.declared.function.ScalarFnRef.TheVariants.{Zip, FillNull};
 ghost use Rattle.vx_tree.specs.Canonicals.{canonical_tree};
 ghost use Rattle.vx_column.specs.Arguments.{plain_type, ptype_in, bytes_in, HasStored, AreBytes};
-ghost use Rattle.vx_column.specs.Computed.{Takes, IsComputed};
+ghost use Rattle.vx_column.specs.Computed.{Takes, IsCanonicalResult};
 ghost use Rattle.vx_column.specs.Operands.{number_in, HasRow, HasRows};
 ghost use Rattle.vx_column.specs.Selected.{selected, selected_rows, AreSides, AreSelected, IsSelected};
 ghost use Rattle.vx_column.specs.declared.rows.argument.ArgumentRows.TheVariants.{Integers, Decimals};
@@ -33,7 +33,7 @@ use vx_value::{DecimalType, Nullability, VortexResult};
 /// Chooses `if_true` where `mask` is true, and `if_false` where it is false or null, `len` rows each. Fails only with
 /// `OutOfMemory`. (own)
 #[tactic(auto, using(crate::proofs::ValidRowsLemmas::counted))]
-pub fn zip(
+pub(crate) fn zip(
     alloc: Global,
     if_true: &Argument<'_>,
     if_false: &Argument<'_>,
@@ -41,7 +41,7 @@ pub fn zip(
     len: usize,
 ) -> VortexResult<Canonical>
     requires { Takes Zip (if_true.now ∷ if_false.now ∷ mask.now ∷ []) len }
-    ensures ok { IfOk result (λ c. IsComputed Zip (if_true.now ∷ if_false.now ∷ mask.now ∷ []) len (canonical_tree c)) }
+    ensures ok { IfOk result (λ c. IsCanonicalResult Zip (if_true.now ∷ if_false.now ∷ mask.now ∷ []) len (canonical_tree c)) }
     ensures err { OnlyOutOfMemory result }
 {
     let ArgumentRows::Bits(bits) = mask.rows else {
@@ -57,14 +57,14 @@ pub fn zip(
 }
 
 /// Puts `fill_value` in place of the nulls of `input`, `len` rows each. Fails only with `OutOfMemory`. (own)
-pub fn fill_null(
+pub(crate) fn fill_null(
     alloc: Global,
     input: &Argument<'_>,
     fill_value: &Argument<'_>,
     len: usize,
 ) -> VortexResult<Canonical>
     requires { Takes FillNull (input.now ∷ fill_value.now ∷ []) len }
-    ensures ok { IfOk result (λ c. IsComputed FillNull (input.now ∷ fill_value.now ∷ []) len (canonical_tree c)) }
+    ensures ok { IfOk result (λ c. IsCanonicalResult FillNull (input.now ∷ fill_value.now ∷ []) len (canonical_tree c)) }
     ensures err { OnlyOutOfMemory result }
 {
     let values = Argument {

@@ -24,7 +24,7 @@ optimize_root-returns-then-at_root-gt-MAX_OPTIMIZER_REWRITE_PASS-clause-within t
     ] in
     let w = c.loop-current in
     let r = c.in-Some.raw in
-    let m = made_row c.args.array w.current r.tree r.optimize.items c.args.total.now w.total w.at_root c.well.ensures.formed w.invariant.made
+    let m = made_row c.args.array w.current r.tree r.optimize.items c.args.total.now w.total w.at_root c.well_formed_tree.ensures.formed w.invariant.made
     (subst (IsPass w.current) c.in-Some.is c.in_ok-raw.ensures.answer) in
     limit_here c.args.array r.tree c.args.total.now (w.total + 1) (w.at_root + 1) m l
 
@@ -38,7 +38,7 @@ pub optimize_root-returns-in_err-current-clause-within : goal.optimize_root-retu
 optimize_root-returns-in_err-current-clause-within t c =
     let w = c.loop-current in
     let r = c.in-Some.raw in
-    let m = made_row c.args.array w.current r.tree r.optimize.items c.args.total.now w.total w.at_root c.well.ensures.formed w.invariant.made
+    let m = made_row c.args.array w.current r.tree r.optimize.items c.args.total.now w.total w.at_root c.well_formed_tree.ensures.formed w.invariant.made
     (subst (IsPass w.current) c.in-Some.is c.in_ok-raw.ensures.answer) in
     passed_on _ _ _ _ c.from_residual-in_err-current.ensures.1
     (limited_after c.args.array r.tree c.args.total.now (w.total + 1) (w.at_root + 1) _ m c.in_err-current.ensures.below)
@@ -48,7 +48,7 @@ optimize_root-loop-current-preserved t c =
     let w = c.loop-current in
     let r = c.in-Some.raw in
     way_go c.args.array w.current r.tree c.in_ok-current.current r.optimize.items c.args.total.now w.total c.optimize_slots.new.total w.at_root
-    c.well.ensures.formed w.invariant (subst (IsPass w.current) c.in-Some.is c.in_ok-raw.ensures.answer) c.in_ok-current.ensures.passes
+    c.well_formed_tree.ensures.formed w.invariant (subst (IsPass w.current) c.in-Some.is c.in_ok-raw.ensures.answer) c.in_ok-current.ensures.passes
     (omega arith) c.in_ok-current.ensures.below
 
 pub optimize_root-returns-clause-within : goal.optimize_root-returns-clause-within

@@ -22,13 +22,13 @@ clone_is_same _ _ e = absurd e
 
 pub from_parts_unchecked-requires : goal.from_parts_unchecked-requires
 from_parts_unchecked-requires c =
-    let typed : type_of c.in_ok-clone-2.field-0 ≡ dtype c.args.like.now = ap type_of c.in_ok-clone-2.ensures.cases ∙ c.dtype.ensures in
+    let typed : type_of c.in_ok-clone-2.field-0 ≡ dtype c.args.original.now = ap type_of c.in_ok-clone-2.ensures.cases ∙ c.dtype.ensures in
     let same = ap (λ p. p.scalar_fn) c.new-payload.ensures ∙ clone_is_same _ _ c.in_ok-clone.ensures.cases in
     rw c.new-parts.ensures (subst (λ x. x) (λ i. IsNode (sym typed i) c.args.len (function (sym same i)) (shapes (slots_of c.args.slots.items))) c.requires)
 
 pub returns-clause-ok : goal.returns-clause-ok
 returns-clause-ok c =
-    let typed : type_of c.in_ok-clone-2.field-0 ≡ dtype c.args.like.now = ap type_of c.in_ok-clone-2.ensures.cases ∙ c.dtype.ensures in
+    let typed : type_of c.in_ok-clone-2.field-0 ≡ dtype c.args.original.now = ap type_of c.in_ok-clone-2.ensures.cases ∙ c.dtype.ensures in
     let same = ap (λ p. p.scalar_fn) c.new-payload.ensures ∙ clone_is_same _ _ c.in_ok-clone.ensures.cases in
     let made = rw c.new-parts.ensures at c.in_ok-from_parts_unchecked.ensures in
     c.into_array.ensures ∙ made ∙ (λ i. node (typed i) c.args.len (function (same i)) (slots_of c.args.slots.items))

@@ -15,7 +15,7 @@ push-returns-then-range-len-clause-ok t c =
     let x = c.args.array.now in
     let first : a ≡ 0 = grind (arith, common_steps) in
     let last : b ≡ len x = grind (arith, common_steps) in
-    whole_pushed a b x c.well.ensures.formed c.requires.0 c.requires.1 c.in_ok-clone.field-0 first last c.in_ok-clone.ensures.cases
+    whole_pushed a b x c.well_formed_tree.ensures.formed c.requires.0 c.requires.1 c.in_ok-clone.field-0 first last c.in_ok-clone.ensures.cases
 
 pub push-returns-then-range-clause-ok : goal.push-returns-then-range-clause-ok
 push-returns-then-range-clause-ok t c =
@@ -23,13 +23,13 @@ push-returns-then-range-clause-ok t c =
     let b = c.args.range.end in
     let none : a ≡ b = grind (arith, common_steps) in
     IfOk-weaker c.empty_column.result _ _
-    (λ u e. empty_pushed a b c.args.array.now c.well.ensures.formed c.requires.0 c.requires.1 u none (e ∙ ap empty_of c.dtype.ensures))
+    (λ u e. empty_pushed a b c.args.array.now c.well_formed_tree.ensures.formed c.requires.0 c.requires.1 u none (e ∙ ap empty_of c.dtype.ensures))
     c.empty_column.ensures.ok
 
 pub push-returns-in-Constant-clause-ok : goal.push-returns-in-Constant-clause-ok
 push-returns-in-Constant-clause-ok t c =
     IfOk-weaker c.constant_like.result _ _
-    (constant_pushed c.args.range.start c.args.range.end c.args.array.now c.well.ensures.formed c.requires.0 c.requires.1) c.constant_like.ensures.ok
+    (constant_pushed c.args.range.start c.args.range.end c.args.array.now c.well_formed_tree.ensures.formed c.requires.0 c.requires.1) c.constant_like.ensures.ok
 
 pub push-returns-in_default-clause-ok : goal.push-returns-in_default-clause-ok
 push-returns-in_default-clause-ok t c =
@@ -39,7 +39,7 @@ push-returns-in_default-clause-ok t c =
 pub push-returns-in-Slice-clause-ok : goal.push-returns-in-Slice-clause-ok
 push-returns-in-Slice-clause-ok t c =
     IfOk-weaker c.push.result _ _
-    (λ u h. inner_pushed c.args.range.start c.args.range.end c.args.array.now c.well.ensures.formed c.requires.0 c.requires.1 c.in-Slice.from c.in-Slice.field-2
+    (λ u h. inner_pushed c.args.range.start c.args.range.end c.args.array.now c.well_formed_tree.ensures.formed c.requires.0 c.requires.1 c.in-Slice.from c.in-Slice.field-2
     c.in-Slice.child.now u c.in-Slice.ensures.0 h)
     c.push.ensures.ok
 

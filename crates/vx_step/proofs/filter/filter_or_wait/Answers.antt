@@ -15,7 +15,7 @@ returns-then-true_count-eq0-clause-ok c =
     let none : true_count bits ≡ 0 = grind (arith, common_steps) in
     let empty = c.in_ok-empty.ensures.ok ∙ ap empty_of c.dtype.ensures in
     subst (IsStep (filter_of bits c.args.child.now)) (sym c.done.ensures.done)
-    (nothing_done bits c.args.child.now c.requires c.well.ensures.counted
+    (nothing_done bits c.args.child.now c.requires c.well_formed_tree.ensures.counted
     (canonical_tree c.in_ok-empty.field-0) none empty c.done.ensures.known c.done.ensures.canonical)
 
 pub returns-then-all_true-clause-ok : goal.returns-then-all_true-clause-ok
@@ -24,4 +24,4 @@ returns-then-all_true-clause-ok c =
     let some : 0 < true_count bits = grind (arith, common_steps) in
     let all : is_all_true bits ≡ true = grind (arith, common_steps) in
     subst (IsDone (filter_of bits c.args.child.now)) (sym c.in_ok-clone.ensures.cases)
-    (whole_done bits c.args.child.now c.requires c.well.ensures.counted some all)
+    (whole_done bits c.args.child.now c.requires c.well_formed_tree.ensures.counted some all)

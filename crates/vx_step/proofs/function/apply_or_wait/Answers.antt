@@ -25,7 +25,7 @@ returns-in_ok-column-in-None-clause-ok c =
     let listed =
     subst (λ (xs : List Columnar). IsApplied f (map columnar_tree xs) c.len.result u) c.as_slice.ensures.value c.in_ok-column-in-None.ensures.ok in
     let applied = subst (λ n. IsApplied f ts n u) c.len.ensures listed in
-    let well : IsWell u = subst IsWell c.as_array.ensures.of c.well.ensures.formed in
+    let well : IsWell u = subst IsWell c.as_array.ensures.of c.well_formed_tree.ensures.formed in
     subst (λ x. IsDone c.args.array.now x) (sym c.into_array.ensures)
     (applied_done f c.args.array.now (slots_of c.args.slots.now) ts c.requires.shape c.requires.well c.in_ok-columns-in-None.ensures
     c.in-None.ensures u applied well c.as_array.ensures.columnar)

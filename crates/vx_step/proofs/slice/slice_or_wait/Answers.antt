@@ -6,7 +6,7 @@ use Rattle.vx_step.proofs.slice.slice_or_wait.Goals as goal
 pub returns-clause-ok : goal.returns-clause-ok
 returns-clause-ok c =
     let whole : is_canonical (datum c.args.child.now) ≡ true = search rules in
-    part_done c.args.range.start c.args.range.end c.args.child.now c.args.array.now c.in_ok-part.part c.requires.shape whole c.well.ensures.formed
+    part_done c.args.range.start c.args.range.end c.args.child.now c.args.array.now c.in_ok-part.part c.requires.shape whole c.well_formed_tree.ensures.formed
     c.in_ok-part.ensures.canonical c.in_ok-part.ensures.ok
 
 pub returns-then-not-is-clause-ok : goal.returns-then-not-is-clause-ok

@@ -8,4 +8,4 @@ use Rattle.vx_step.proofs.steps.done.Goals as goal
 pub returns-clause-known : goal.returns-clause-known
 returns-clause-known c =
     let t = canonical_tree c.args.column in
-    column_known t (subst IsWell c.as_array.ensures.of c.well.ensures.formed) (canonical_columnar (datum t) c.as_array.ensures.canonical)
+    column_known t (subst IsWell c.as_array.ensures.of c.well_formed_tree.ensures.formed) (canonical_columnar (datum t) c.as_array.ensures.canonical)

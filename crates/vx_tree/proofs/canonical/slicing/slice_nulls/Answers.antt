@@ -11,7 +11,7 @@ returns c =
     let t = c.args.column.now in
     let a = c.args.range.start in
     let b = c.args.range.end in
-    let well = subst IsWell c.as_array.ensures.of c.well.ensures.formed in
+    let well = subst IsWell c.as_array.ensures.of c.well_formed_tree.ensures.formed in
     let part = nulls_part t a b well c.data-nulls.ensures c.requires.0 c.requires.1 in
     record {
       ok = IfOk-weaker c.new.result _ _ (λ u made. subst (KeepsExactly (slice_of a b t)) (sym made) part) c.new.ensures.ok;

@@ -9,7 +9,7 @@ use Rattle.vx_value.specs.View.{type_of}
 use Rattle.vx_tree.specs.ColumnTypes.{are_bytes_of}
 use Rattle.vx_tree.specs.Canonicals.{canonical_tree}
 use Rattle.vx_column.specs.Stored.{decimal_column}
-use Rattle.vx_column.specs.Growing.{stored_values, AreStored, IsColumnOf}
+use Rattle.vx_column.specs.Growing.{stored_values, HaveStorage, IsColumnOf}
 use Rattle.vx_column.proofs.BuiltLemmas.{width_known, digits_known, bytes_known}
 use Rattle.vx_column.proofs.builder.values.Values.finish.Goals as goal
 
@@ -19,7 +19,7 @@ decimal_column-requires-clause-stored c =
     let ty = type_of c.args.dtype.now in
     let made = c.in_ok-into_values-in-Decimals in
     let stored = ap (λ t. storage_of (type_of t)) c.in-Decimal.is in
-    let kind = subst (AreStored (storage_of ty)) c.in-Decimals.is c.requires.kind in
+    let kind = subst (HaveStorage (storage_of ty)) c.in-Decimals.is c.requires.kind in
     let typed = subst (λ vs. list_all (is_of ty) (stored_values vs) ≡ true) c.in-Decimals.is c.requires.typed in
     and_from _ _ ((same_width_Decides _ _).1 (ap (λ v. v.kind) made.ensures ∙ width_known c.in-Decimals.values (storage_of ty) _ d kind stored))
     (ap (λ v. list_all (has_digits d.precision) v.numbers) made.ensures ∙ digits_known ty d _ _ stored typed)
@@ -36,7 +36,7 @@ returns-in_ok-into_values-in-Decimals-clause-ok c =
     let st = storage_of (type_of c.args.dtype.now) in
     let made = c.in_ok-into_values-in-Decimals in
     let stored = ap (λ t. storage_of (type_of t)) c.in-Decimal.is in
-    let kind = subst (AreStored st) c.in-Decimals.is c.requires.kind in
+    let kind = subst (HaveStorage st) c.in-Decimals.is c.requires.kind in
     let width = ap (λ v. v.kind) made.ensures ∙ width_known c.in-Decimals.values st _ d kind stored in
     IfOk-weaker c.decimal_column.result _ _
     (λ column is.

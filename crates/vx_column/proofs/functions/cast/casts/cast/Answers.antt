@@ -2,7 +2,7 @@ use Rattle.std.proofs.Common.{inl, inr, sym, subst, ◌∙◌, ◌∷◌, []}
 use Rattle.std.proofs.lemmas.Result.{IfOk-weaker, IfErr-weaker, err_from_is_err_and}
 use Rattle.vx_fn.specs.declared.function.ScalarFnRef.TheVariants.{Cast}
 use Rattle.vx_tree.specs.Canonicals.{canonical_tree}
-use Rattle.vx_column.specs.Computed.{IsNotComputed}
+use Rattle.vx_column.specs.Computed.{HasNoCanonicalResult}
 use Rattle.vx_column.proofs.CastsLemmas.{shown_again, is_cast_target, cast_computed, cast_not_computed, null_not_computed}
 use Rattle.vx_column.proofs.functions.cast.casts.cast.Goals as goal
 
@@ -30,7 +30,7 @@ pub returns-in_err-valid-clause-err : goal.returns-in_err-valid-clause-err
 returns-in_err-valid-clause-err c =
     let p = err_from_is_err_and c.from_residual.result c.from_residual.ensures.1 in
     let never = null_not_computed c.args.len c.args.input.now c.args.target.now c.requires in
-    rw p.1 (subst (IsNotComputed (Cast c.args.target.now) (c.args.input.now ∷ []) c.args.len) (sym p.2) (elim c.in_err-valid.ensures.err [
+    rw p.1 (subst (HasNoCanonicalResult (Cast c.args.target.now) (c.args.input.now ∷ []) c.args.len) (sym p.2) (elim c.in_err-valid.ensures.err [
       | inl memory ↦ inl memory
       | inr h ↦ inr (h.0, never h.2 h.3 h.4 (sym c.nullability.ensures ∙ h.1))
     ]))

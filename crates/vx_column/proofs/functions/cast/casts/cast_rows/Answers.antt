@@ -6,7 +6,7 @@ use Rattle.vx_value.specs.Casts.{cast_to}
 use Rattle.vx_tree.specs.Canonicals.{canonical_tree}
 use Rattle.vx_tree.specs.Tree.{dtype}
 use Rattle.vx_column.specs.Arguments.{value_at}
-use Rattle.vx_column.specs.Computed.{IsMade}
+use Rattle.vx_column.specs.Computed.{IsColumnOfCells}
 use Rattle.vx_column.proofs.CastsLemmas.{bits_kept, cast_made}
 use Rattle.vx_column.proofs.functions.cast.casts.cast_rows.Goals as goal
 
@@ -14,7 +14,7 @@ pub returns-in-Nulls-default-clause-ok : goal.returns-in-Nulls-default-clause-ok
 returns-in-Nulls-default-clause-ok c =
     let t = type_of c.args.target.now in
     subst (λ r. IfOk c.cast_nulls.result (λ u. (dtype (canonical_tree u) ≡ t)
-    × IsMade c.args.valid.now (λ i. cast_to t (value_at r i)) c.args.len (canonical_tree u)))
+    × IsColumnOfCells c.args.valid.now (λ i. cast_to t (value_at r i)) c.args.len (canonical_tree u)))
     (sym c.in-Nulls-default.is-0) c.cast_nulls.ensures.ok
 
 pub returns-in-Bits-default-clause-ok : goal.returns-in-Bits-default-clause-ok

@@ -9,4 +9,4 @@ loop-index-preserved g c =
     let kind = g.T.NativeInteger.kind in
     let i = c.loop-index.index in
     let same = c.row.ensures ∙ ap (λ f. f i) c.operand_of-numbers.ensures.numbers in
-    below_more (λ j. in_range kind (integer_in c.args.integers j) ≡ true) i c.loop-index.invariant (ap (in_range kind) (sym same) ∙ c.ranged.ensures)
+    below_more (λ j. in_range kind (integer_in c.args.integers j) ≡ true) i c.loop-index.invariant (ap (in_range kind) (sym same) ∙ c.number_in_range.ensures)

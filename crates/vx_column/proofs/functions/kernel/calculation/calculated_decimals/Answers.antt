@@ -7,7 +7,7 @@ use Rattle.vx_tree.specs.ColumnTypes.{are_decimals_of}
 use Rattle.vx_tree.specs.Canonicals.{canonical_tree}
 use Rattle.vx_column.specs.Arguments.{stored_decimals}
 use Rattle.vx_column.specs.ValidRows.{is_valid}
-use Rattle.vx_column.specs.Operands.{calculated_rows, AreCalculated}
+use Rattle.vx_column.specs.Operands.{calculated_rows, IsDecimalColumnOf}
 use Rattle.vx_column.proofs.ComputedLemmas.{calculated_long, calculated_made}
 use Rattle.vx_column.proofs.UnscaledLemmas.{digits_stored}
 use Rattle.vx_column.proofs.functions.kernel.calculation.calculated_decimals.Goals as goal
@@ -34,7 +34,7 @@ valid_decimals-requires-clause-stored g c =
 pub returns-clause-ok : goal.returns-clause-ok
 returns-clause-ok g c =
     IfOk-weaker c.valid_decimals.result _ _
-    (λ u made. subst (λ d. AreCalculated d c.args.valid.now (g.C.Calculation.cell c.args.calculation.now) c.args.len (canonical_tree u))
+    (λ u made. subst (λ d. IsDecimalColumnOf d c.args.valid.now (g.C.Calculation.cell c.args.calculation.now) c.args.len (canonical_tree u))
     c.decimal-decimal.ensures.value (
       made.0,
       calculated_made g.U.Number.value (λ z. decimal z c.decimal-decimal.result.scale) c.args.valid.now (g.C.Calculation.cell c.args.calculation.now) c.args.len

@@ -9,7 +9,7 @@ use Rattle.vx_tree.specs.Natives.{values_of}
 use Rattle.vx_tree.specs.Tree.{dtype}
 use Rattle.vx_column.specs.Arguments.{plain_type, value_at, integer_in, unscaled_in, bytes_in, HasStored}
 use Rattle.vx_column.specs.ValidRows.{nullability_in}
-use Rattle.vx_column.specs.Computed.{IsMade}
+use Rattle.vx_column.specs.Computed.{IsColumnOfCells}
 use Rattle.vx_column.proofs.ValidRowsLemmas.{counted}
 use Rattle.vx_column.proofs.MadeLemmas.{nulls_made, rows_made}
 use Rattle.vx_column.proofs.ViewsLemmas.{rows_stored, row_stored}
@@ -46,7 +46,7 @@ returns-in_ok-new-in-Nulls-clause-ok c =
     let valid = c.args.valid.now in
     let n = c.args.len in
     let is = c.in-Nulls.is in
-    subst (λ u. (dtype u ≡ with_nullability (nullability_in valid) (plain_type c.args.rows)) × IsMade valid (λ i. value (value_at c.args.rows i)) n u)
+    subst (λ u. (dtype u ≡ with_nullability (nullability_in valid) (plain_type c.args.rows)) × IsColumnOfCells valid (λ i. value (value_at c.args.rows i)) n u)
     (sym c.in_ok-new-in-Nulls.ensures.ok) (
       ap (λ r. with_nullability (nullability_in valid) (plain_type r)) (sym is),
       nulls_made (value_at c.args.rows) valid n (λ i. ap (λ r. value_at r i) is),

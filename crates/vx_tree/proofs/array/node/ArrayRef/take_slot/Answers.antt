@@ -29,4 +29,4 @@ returns c =
     (ap is_ok c.in_ok-root.was))
     (slot_taken (type_of n.dtype) n.len
     (data_of n.encoding) n.slots.items c.args.slot c.in-Some.child c.args.self same c.index_mut.result.now c.take-taken.new.self
-    c.requires c.well.ensures.formed (sym c.index_mut.ensures.value ∙ sym c.take-taken.ensures.value ∙ c.in-Some.is) c.take-taken.ensures.after)
+    c.requires c.well_formed_tree.ensures.formed (sym c.index_mut.ensures.value ∙ sym c.take-taken.ensures.value ∙ c.in-Some.is) c.take-taken.ensures.after)

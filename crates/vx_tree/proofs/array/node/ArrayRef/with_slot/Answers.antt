@@ -32,7 +32,7 @@ into_array-requires c =
     let same = slot_found c.slots.result.now c.args.slot c.args.child c.args.self c.slots.ensures c.in-Some.old.now c.in-Some.ensures.lookup.3.0
     c.in-Some.ensures.lookup.1 in
     slot_replaced (type_of n.dtype) n.len
-    (data_of n.encoding) n.slots.items c.args.self c.in_ok-node.ensures c.well.ensures.formed c.args.slot c.args.child (same ∙ c.in_ok-check_slot.ensures)
+    (data_of n.encoding) n.slots.items c.args.self c.in_ok-node.ensures c.well_formed_tree.ensures.formed c.args.slot c.args.child (same ∙ c.in_ok-check_slot.ensures)
 
 pub returns-clause-ok : goal.returns-clause-ok
 returns-clause-ok c =

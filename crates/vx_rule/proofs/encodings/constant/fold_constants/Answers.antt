@@ -4,7 +4,7 @@ use Rattle.vx_tree.specs.Tree.{dtype, len, datum, slots_of}
 use Rattle.vx_rule.specs.Tags.{applies}
 use Rattle.vx_rule.specs.Constants.{constant_values, folds}
 use Rattle.vx_rule.proofs.ConstantsLemmas.{folded_type, folded_value, folded_none, folded_quiet, fit_folded}
-use Rattle.vx_rule.proofs.encodings.constant.fold_row.Goals as goal
+use Rattle.vx_rule.proofs.encodings.constant.fold_constants.Goals as goal
 
 pub apply_row-requires : goal.apply_row-requires
 apply_row-requires c =

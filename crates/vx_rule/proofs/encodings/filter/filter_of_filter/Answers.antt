@@ -2,7 +2,7 @@ use Rattle.std.proofs.Common.{◌≡◌, ap, sym, ◌∙◌}
 use Rattle.vx_mask.specs.Masks.{bits_in}
 use Rattle.vx_tree.specs.Tree.{len}
 use Rattle.vx_rule.proofs.CombinedLemmas.{combined_long}
-use Rattle.vx_rule.proofs.encodings.filter.f5.Goals as goal
+use Rattle.vx_rule.proofs.encodings.filter.filter_of_filter.Goals as goal
 
 pub combine-requires : goal.combine-requires
 combine-requires c = c.requires.long ∙ ap len c.in-Filter.ensures.0

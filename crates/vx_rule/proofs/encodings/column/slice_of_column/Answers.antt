@@ -1,7 +1,7 @@
 use Rattle.std.proofs.Common.{Some, ◌∙◌}
 use Rattle.vx_tree.specs.Tree.{slice_of}
 use Rattle.vx_rule.proofs.FitsLemmas.{fit_S3, raw_row}
-use Rattle.vx_rule.proofs.encodings.column.s3.Goals as goal
+use Rattle.vx_rule.proofs.encodings.column.slice_of_column.Goals as goal
 
 pub returns : goal.returns
 returns c =

@@ -3,7 +3,7 @@ use Rattle.vx_mask.specs.Masks.{bits_in}
 use Rattle.vx_tree.specs.Tree.{filter_of}
 use Rattle.vx_rule.proofs.SlotsLemmas.{told_len, chosen_masked}
 use Rattle.vx_rule.proofs.FitsLemmas.{fit_F8, raw_row}
-use Rattle.vx_rule.proofs.encodings.masked.f8.Goals as goal
+use Rattle.vx_rule.proofs.encodings.masked.filter_of_masked.Goals as goal
 
 pub choose_validity-requires : goal.choose_validity-requires
 choose_validity-requires c =

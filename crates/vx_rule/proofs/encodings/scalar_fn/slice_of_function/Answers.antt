@@ -2,7 +2,7 @@ use Rattle.std.proofs.Common.{Some, ◌∙◌}
 use Rattle.vx_tree.specs.Tree.{dtype, len, slots_of, slice_of}
 use Rattle.vx_rule.proofs.SlotsLemmas.{called_long, sliced_node}
 use Rattle.vx_rule.proofs.FitsLemmas.{fit_S4, raw_row}
-use Rattle.vx_rule.proofs.encodings.scalar_fn.s4.Goals as goal
+use Rattle.vx_rule.proofs.encodings.scalar_fn.slice_of_function.Goals as goal
 
 pub slice_slots-requires-clause-long : goal.slice_slots-requires-clause-long
 slice_slots-requires-clause-long c =

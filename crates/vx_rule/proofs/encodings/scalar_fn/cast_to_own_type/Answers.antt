@@ -4,7 +4,7 @@ use Rattle.vx_value.specs.View.{type_of}
 use Rattle.vx_tree.specs.Tree.{dtype, len}
 use Rattle.vx_rule.proofs.FitsLemmas.{fit_C1}
 use Rattle.vx_rule.proofs.QuietLemmas.{cast_quiet}
-use Rattle.vx_rule.proofs.encodings.scalar_fn.c1.Goals as goal
+use Rattle.vx_rule.proofs.encodings.scalar_fn.cast_to_own_type.Goals as goal
 
 pub returns-then-not-is_same_type : goal.returns-then-not-is_same_type
 returns-then-not-is_same_type c =

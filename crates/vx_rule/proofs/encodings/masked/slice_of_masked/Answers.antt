@@ -3,7 +3,7 @@ use Rattle.vx_tree.specs.Tree.{slice_of, len}
 use Rattle.vx_rule.proofs.PushLemmas.{masked_range}
 use Rattle.vx_rule.proofs.SlotsLemmas.{sliced_masked}
 use Rattle.vx_rule.proofs.FitsLemmas.{fit_S5, raw_row}
-use Rattle.vx_rule.proofs.encodings.masked.s5.Goals as goal
+use Rattle.vx_rule.proofs.encodings.masked.slice_of_masked.Goals as goal
 
 pub new-requires : goal.new-requires
 new-requires c =

@@ -4,7 +4,7 @@ use Rattle.vx_tree.specs.Tree.{dtype, len, node, function, slots_of, filter_of, 
 use Rattle.vx_tree.specs.Well.{IsNode, shapes}
 use Rattle.vx_rule.proofs.SlotsLemmas.{called_long, chosen_node}
 use Rattle.vx_rule.proofs.FitsLemmas.{fit_F7, raw_row}
-use Rattle.vx_rule.proofs.encodings.scalar_fn.f7.Goals as goal
+use Rattle.vx_rule.proofs.encodings.scalar_fn.filter_of_function.Goals as goal
 
 pub choose_slots-requires : goal.choose_slots-requires
 choose_slots-requires c =

@@ -6,7 +6,7 @@ use Rattle.vx_tree.specs.NodeValidities.{both_of}
 use Rattle.vx_rule.specs.Rules.{told}
 use Rattle.vx_rule.proofs.FitsLemmas.{fit_M1}
 use Rattle.vx_rule.proofs.MaskedLemmas.{told_has_rows, both_node}
-use Rattle.vx_rule.proofs.encodings.masked.m1.Goals as goal
+use Rattle.vx_rule.proofs.encodings.masked.mask_of_masked.Goals as goal
 
 pub and_lazily-requires-clause-second : goal.and_lazily-requires-clause-second
 and_lazily-requires-clause-second c =
@@ -15,7 +15,7 @@ and_lazily-requires-clause-second c =
     let y = c.in_ok-validity.validity in
     let is : y ≡ told (len t) (slots_of (p.result.1.now ∷ [])) =
     c.in_ok-validity.ensures.ok ∙ (λ i. told (c.len-len.ensures i) (slots_of (p.result.1.now ∷ []))) in
-    rw c.len-len.ensures (told_has_rows (dtype t) (len t) t c.args.input.now c.args.mask.now p.result.0.now p.result.1.now c.well.ensures.formed
+    rw c.len-len.ensures (told_has_rows (dtype t) (len t) t c.args.input.now c.args.mask.now p.result.0.now p.result.1.now c.well_formed_tree.ensures.formed
     c.requires.call.0 c.requires.call.1 p.ensures.shape y is)
 
 pub function_node-requires : goal.function_node-requires
@@ -26,7 +26,7 @@ function_node-requires c =
     let y = c.in_ok-validity.validity in
     let both : c.in_ok-both.both ≡ both_of (len t) m y = c.in_ok-both.ensures.ok ∙ (λ i. both_of (c.len-len.ensures i) m y) in
     let items = c.in_ok-slots.ensures.items ∙ (λ i. Some (c.in_ok-clone-2.ensures.cases i) ∷ Some c.in_ok-both.both ∷ []) in
-    let made = both_node (dtype t) (len t) t c.args.input.now c.args.mask.now p.result.0.now p.result.1.now c.well.ensures.formed
+    let made = both_node (dtype t) (len t) t c.args.input.now c.args.mask.now p.result.0.now p.result.1.now c.well_formed_tree.ensures.formed
     c.requires.call.0 c.requires.call.1 p.ensures.shape m y c.in_ok-both.both both in
     subst (λ x. x) (λ i. IsNode (dtype t) (sym c.len-len.ensures i) (function fn_of.Mask) (shapes (slots_of (sym items i)))) made
 

@@ -2,7 +2,7 @@ use Rattle.std.proofs.Common.{◌≡◌, ap, sym, ◌∙◌}
 use Rattle.vx_mask.specs.Masks.{bits_in}
 use Rattle.vx_tree.specs.Tree.{len}
 use Rattle.vx_rule.proofs.FiltersLemmas.{run_range}
-use Rattle.vx_rule.proofs.encodings.filter.f3.Goals as goal
+use Rattle.vx_rule.proofs.encodings.filter.filter_of_run.Goals as goal
 
 pub new-requires : goal.new-requires
 new-requires c =

@@ -1,5 +1,5 @@
 use Rattle.vx_tree.proofs.ColumnsLemmas.{column_known, canonical_columnar, canonical_open}
-use Rattle.vx_tree.proofs.canonical.laws.column_laws.Goals as goal
+use Rattle.vx_tree.proofs.laws.column_laws.Goals as goal
 
 pub returns-clause-known : goal.returns-clause-known
 returns-clause-known c = column_known
