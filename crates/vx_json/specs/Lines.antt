@@ -5,7 +5,9 @@ use Rattle.vx_column.specs.Arguments.{type_of_argument, value_at}
 use Rattle.vx_column.specs.ValidRows.{is_valid}
 use Rattle.vx_column.specs.declared.rows.argument.Argument.{Argument}
 use Rattle.vx_column.specs.declared.rows.valid.ValidRows.{ValidRows}
-use Rattle.vx_json.specs.RowText.{row_text}
+use Rattle.vx_value.specs.declared.dtype.Storage.{Storage}
+use Rattle.vx_tree.specs.ColumnTypes.{bytes_type}
+use Rattle.vx_json.specs.RowText.{row_text, bytes_text, in_quotes}
 use Rattle.vx_json.specs.Output.{line}
 
 -- the text of a row that is null unless it is valid
@@ -21,6 +23,14 @@ lines valid text (suc n) = lines valid text n ++ line (unless_null (valid n) (te
 -- for each of these integers
 abbrev pub integer_lines : ValidRows → List ℤ → List ℕ
 integer_lines valid zs = lines (is_valid valid) (λ i. signed_decimal (slice_index_or zs i (pos 0))) (length zs)
+
+-- for each of these decimals without their points
+abbrev pub decimal_lines : ValidRows → List ℤ → List ℕ
+decimal_lines valid zs = lines (is_valid valid) (λ i. in_quotes (signed_decimal (slice_index_or zs i (pos 0)))) (length zs)
+
+-- for each of n rows of bytes, which are text if that is stored
+abbrev pub bytes_lines : Storage → ValidRows → List (List ℕ) → ℕ → List ℕ
+bytes_lines st valid rs n = lines (is_valid valid) (λ i. bytes_text (bytes_type st) (slice_index_or rs i [])) n
 
 -- the text of row i, as if it weren't null
 abbrev pub row_text_at : Argument → ℕ → List ℕ

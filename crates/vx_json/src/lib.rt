@@ -17,7 +17,7 @@ mod tree;
 mod types;
 mod values;
 
-pub use text::{PrintedNumber, column_text, push_integer, push_row, row_text};
+pub use text::{column_text, row_text};
 pub use tree::{tree_of, tree_of_bytes};
 use vx_value::{ArgKind, VortexError};
 

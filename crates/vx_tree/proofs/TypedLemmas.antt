@@ -38,7 +38,7 @@ use Rattle.vx_fn.specs.FillNull.{fill_type, filled}
 use Rattle.vx_fn.specs.IsNull.{test_type}
 use Rattle.vx_fn.specs.Logic.{kleene_and, kleene_or, truth}
 use Rattle.vx_fn.specs.Mask.{mask_type, masked}
-use Rattle.vx_fn.specs.Meanings.{widen, widened, null_through, kept}
+use Rattle.vx_fn.specs.Meanings.{widen, widened, null_through, as_given}
 use Rattle.vx_fn.specs.Negation.{not_type, negated}
 use Rattle.vx_fn.specs.ReturnTypes.{return_type}
 use Rattle.vx_fn.specs.Zip.{zip_type, zipped}
@@ -302,12 +302,12 @@ values_fit : (f : ScalarFnRef) → IsTyped (return_type f) (value_of f)
 values_fit (function.Binary op) = two_fit widened (null_rule (is_logical op)) (binary_type op) (operated op) (binary_fits op)
 values_fit (function.Between options) = three_fit widened null_through between_type (λ ty. lies_between options) (between_fits options)
 values_fit function.Not = one_fits widened null_through not_type (λ ty. negated) not_fits
-values_fit function.Mask = two_fit kept kept mask_type (λ ty. masked) mask_fits
-values_fit function.Zip = three_fit kept kept zip_type (λ ty. zipped) zip_fits
-values_fit function.FillNull = two_fit kept kept fill_type (λ ty. filled) fill_fits
-values_fit function.IsNull = one_fits kept kept test_type (λ ty v. value (boolean (is_null v))) (λ s ty v h. test_fits ty)
-values_fit function.IsNotNull = one_fits kept kept test_type (λ ty v. value (boolean (not (is_null v)))) (λ s ty v h. test_fits ty)
-values_fit (function.Cast target) = one_fits kept kept (cast_type (type_of target)) cast_to (λ s ty v h e. cast_fits ty v)
+values_fit function.Mask = two_fit as_given as_given mask_type (λ ty. masked) mask_fits
+values_fit function.Zip = three_fit as_given as_given zip_type (λ ty. zipped) zip_fits
+values_fit function.FillNull = two_fit as_given as_given fill_type (λ ty. filled) fill_fits
+values_fit function.IsNull = one_fits as_given as_given test_type (λ ty v. value (boolean (is_null v))) (λ s ty v h. test_fits ty)
+values_fit function.IsNotNull = one_fits as_given as_given test_type (λ ty v. value (boolean (not (is_null v)))) (λ s ty v h. test_fits ty)
+values_fit (function.Cast target) = one_fits as_given as_given (cast_type (type_of target)) cast_to (λ s ty v h e. cast_fits ty v)
 
 -- of cells
 cells_fit : (ty : DataType) (g : List Value → Cell) (tys : List DataType) (cs : List Cell) → AllZip CellFits tys cs

@@ -1,21 +1,33 @@
 //! The lines of a column's rows.
 
-ghost use Rattle.std.specs.Prelude.{◌≡◌, ◌<◌, ◌++◌, ℕ, pos, List, length, map, slice_index_or, OnOk, string_bytes};
+ghost use Rattle.std.specs.Prelude.{◌≡◌, ◌<◌, [], true, ◌++◌, ℕ, pos, List, length, map, slice_index_or, OnOk, string_bytes};
 ghost use Rattle.std.specs.Fmt.{signed_decimal};
+ghost use Rattle.std.specs.Str.{is_utf8};
+ghost use Rattle.hex.specs.Hex.{encode_lower};
+ghost use Rattle.serde_json.specs.Data.{string};
+ghost use Rattle.serde_json.specs.Written.{compact_text};
 ghost use Rattle.vx_value.specs.Errors.{OnlyOutOfMemory};
 ghost use Rattle.vx_mask.specs.Logic.{bit_row};
 ghost use Rattle.vx_tree.specs.Natives.{values_of, ptype_of};
+ghost use Rattle.vx_tree.specs.DecimalNumbers.{numbers_of, decimal_type_of};
+ghost use Rattle.vx_tree.specs.ColumnTypes.{are_bytes_of};
 ghost use Rattle.vx_column.specs.Arguments.{IsSized};
 ghost use Rattle.vx_column.specs.ValidRows.{is_valid, HasValidity};
-ghost use Rattle.vx_json.specs.RowText.{boolean_text};
-ghost use Rattle.vx_json.specs.Lines.{lines, integer_lines, row_text_at, row_lines, unless_null};
+ghost use Rattle.vx_json.specs.RowText.{boolean_text, in_quotes};
+ghost use Rattle.vx_json.specs.Lines.{lines, integer_lines, decimal_lines, bytes_lines, row_text_at, row_lines, unless_null};
 
 use crate::text::printed::PrintedNumber;
-use crate::text::rows::{push_integer, push_row};
-use vx_column::{Argument, ArgumentRows, IntegerOperand, IntegerRows, ValidRows};
+use crate::text::rows::{push_decimal, push_hex, push_integer, push_row, push_utf8};
+use vx_column::{
+    Argument, ArgumentRows, BytesOperand, BytesRows, DecimalOperand, DecimalRows, IntegerOperand,
+    IntegerRows, ValidRows,
+};
 use vx_mask::{BitBuffer, BitOperand};
-use vx_tree::{NativeInteger, PrimitiveValues, by_type};
-use vx_value::VortexResult;
+use vx_tree::{
+    BinaryViews, DecimalValues, NativeDecimalType, NativeInteger, PrimitiveValues, by_decimal_type,
+    by_type,
+};
+use vx_value::{Storage, VortexResult};
 
 /// Rows that each have a text. (own)
 trait TextRows {
@@ -61,6 +73,60 @@ impl<'a, T: PrintedNumber> TextRows for Integers<'a, T> {
     #[inline]
     fn push_text(&self, text: &mut String, index: usize) -> VortexResult<()> {
         Ok(push_integer(text, self.values[index])?)
+    }
+}
+
+/// The numbers of a column of decimals, without their points.
+#[derive(Clone, Copy)]
+struct Decimals<'a, T> {
+    numbers: &'a [T],
+}
+
+/// Their texts, without a look at which rows are null.
+impl<'a, T: PrintedNumber> TextRows for Decimals<'a, T> {
+    ghost has_row = { λ s i. i < length s.numbers.now };
+
+    ghost text_at = { λ s i. in_quotes (signed_decimal (slice_index_or (map T.value s.numbers.now) i (pos 0))) };
+
+    #[inline]
+    fn push_text(&self, text: &mut String, index: usize) -> VortexResult<()> {
+        Ok(push_decimal(text, self.numbers[index])?)
+    }
+}
+
+/// The rows of a column of text.
+#[derive(Clone, Copy)]
+struct Texts<'a> {
+    rows: &'a BinaryViews,
+}
+
+/// Their texts, without a look at which rows are null.
+impl TextRows for Texts<'_> {
+    ghost has_row = { λ s i. (i < length s.rows.now) × (is_utf8 (slice_index_or s.rows.now i []) ≡ true) };
+
+    ghost text_at = { λ s i. compact_text (string (slice_index_or s.rows.now i [])) };
+
+    #[inline]
+    fn push_text(&self, text: &mut String, index: usize) -> VortexResult<()> {
+        Ok(push_utf8(text, self.rows.value(index))?)
+    }
+}
+
+/// The rows of a column of bytes.
+#[derive(Clone, Copy)]
+struct ByteRows<'a> {
+    rows: &'a BinaryViews,
+}
+
+/// Their texts, without a look at which rows are null.
+impl TextRows for ByteRows<'_> {
+    ghost has_row = { λ s i. i < length s.rows.now };
+
+    ghost text_at = { λ s i. in_quotes (encode_lower (slice_index_or s.rows.now i [])) };
+
+    #[inline]
+    fn push_text(&self, text: &mut String, index: usize) -> VortexResult<()> {
+        Ok(push_hex(text, self.rows.value(index))?)
     }
 }
 
@@ -128,7 +194,56 @@ fn push_integers(text: &mut String, values: &PrimitiveValues, valid: &ValidRows)
     by_type!(values.ptype(), push_natives(text, values, valid))
 }
 
-/// Appends a line for each of the `len` rows of `argument`. Booleans and integers are written without a scalar. Fails only with
+/// Appends a line for each of `values`, decimals without their points in integers of type `T`, or `null` unless it is `valid`.
+fn push_native_decimals<T: NativeDecimalType + PrintedNumber>(
+    text: &mut String,
+    values: &DecimalValues,
+    valid: &ValidRows,
+) -> VortexResult<()>
+    requires kind { decimal_type_of values.now ≡ T.kind }
+    requires valid { HasValidity valid.now (length (numbers_of values.now)) }
+    ensures ok { OnOk result (string_bytes text.new ≡ string_bytes text.old ++ decimal_lines valid.now (numbers_of values.now)) }
+    ensures err { OnlyOutOfMemory result }
+{
+    let decimals = Decimals {
+        numbers: T::decimals(values).as_slice(),
+    };
+    push_lines(text, &decimals, valid, values.len())?;
+    Ok(())
+}
+
+/// Appends a line for each of `values`, decimals without their points, or `null` unless it is `valid`.
+fn push_decimals(text: &mut String, values: &DecimalValues, valid: &ValidRows) -> VortexResult<()>
+    requires { HasValidity valid.now (length (numbers_of values.now)) }
+    ensures ok { OnOk result (string_bytes text.new ≡ string_bytes text.old ++ decimal_lines valid.now (numbers_of values.now)) }
+    ensures err { OnlyOutOfMemory result }
+{
+    by_decimal_type!(
+        values.values_type(),
+        push_native_decimals(text, values, valid)
+    )
+}
+
+/// Appends a line for each of `rows`, which must be `len` rows of text if `storage` says so, or `null` unless it is `valid`.
+fn push_bytes(
+    text: &mut String,
+    storage: Storage,
+    rows: &BinaryViews,
+    valid: &ValidRows,
+    len: usize,
+) -> VortexResult<()>
+    requires rows { (length rows.now ≡ len) × (are_bytes_of storage rows.now ≡ true) }
+    requires valid { HasValidity valid.now len }
+    ensures ok { OnOk result (string_bytes text.new ≡ string_bytes text.old ++ bytes_lines storage valid.now rows.now len) }
+    ensures err { OnlyOutOfMemory result }
+{
+    match storage {
+        Storage::Text => push_lines(text, &Texts { rows }, valid, len),
+        _ => push_lines(text, &ByteRows { rows }, valid, len),
+    }
+}
+
+/// Appends a line for each of the `len` rows of `argument`. Rows of columns are written without a scalar. Fails only with
 /// `OutOfMemory`; some of the lines may have been appended.
 pub(crate) fn push_rows(text: &mut String, argument: &Argument<'_>, len: usize) -> VortexResult<()>
     requires { IsSized len argument.now }
@@ -144,6 +259,18 @@ pub(crate) fn push_rows(text: &mut String, argument: &Argument<'_>, len: usize) 
                 dtype: _,
             },
         ) => push_integers(text, values, valid)?,
+        ArgumentRows::Decimals(
+            DecimalOperand {
+                rows: DecimalRows::Rows(values),
+                decimal: _,
+            },
+        ) => push_decimals(text, values, valid)?,
+        ArgumentRows::Bytes(
+            BytesOperand {
+                rows: BytesRows::Rows(rows),
+                storage,
+            },
+        ) => push_bytes(text, storage, rows, valid, len)?,
         _ => push_lines(text, argument, valid, len)?,
     }
     Ok(())

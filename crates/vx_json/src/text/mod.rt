@@ -6,5 +6,4 @@ mod printed;
 mod rows;
 
 pub use column::column_text;
-pub use printed::PrintedNumber;
-pub use rows::{push_integer, push_row, row_text};
+pub use rows::row_text;

@@ -7,7 +7,7 @@ use itoa::Integer;
 use vx_tree::NativeNumber;
 
 /// A native number that `itoa` prints as the integer that it stands for. (own)
-pub trait PrintedNumber: NativeNumber + Integer {
+pub(crate) trait PrintedNumber: NativeNumber + Integer {
     /// States that the number's text is that of the integer.
     fn is_printed(self)
         ensures { Self.text self ≡ signed_decimal (Self.value self) };

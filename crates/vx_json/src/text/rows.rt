@@ -18,7 +18,7 @@ use vx_value::{DType, Scalar, ScalarValue, VortexResult};
 /// Appends the text of a row: `null`, `true`, `false`, an integer in decimal, or a string. The string of a decimal is its unscaled
 /// integer, as `"4200"` for 42.00; that of a binary value has two lower-case hexadecimal digits for each byte. If memory runs out,
 /// part of it may have been appended. (own)
-pub fn push_row(text: &mut String, scalar: &Scalar) -> Result<(), AllocError>
+pub(crate) fn push_row(text: &mut String, scalar: &Scalar) -> Result<(), AllocError>
     ensures { OnOk result (string_bytes text.new ≡ string_bytes text.old ++ row_text scalar.now.of_type scalar.now.value) }
 {
     match scalar.value() {
@@ -36,21 +36,19 @@ pub fn push_row(text: &mut String, scalar: &Scalar) -> Result<(), AllocError>
 
 /// Appends `number` in decimal. If memory runs out, part of it may have been appended. (own)
 #[inline]
-pub fn push_integer<T: PrintedNumber>(text: &mut String, number: T) -> Result<(), AllocError>
+pub(crate) fn push_integer<T: PrintedNumber>(text: &mut String, number: T) -> Result<(), AllocError>
     ensures { OnOk result (string_bytes text.new ≡ string_bytes text.old ++ signed_decimal (T.value number)) }
 {
     number.is_printed();
     text.push_str(Buffer::new().format(number))
 }
 
-// These three aren't inlined and don't see the scalar: the rows of booleans and integers then take fewer instructions.
-
-/// Appends `unscaled` in decimal, between quotation marks.
-#[inline(never)]
-fn push_decimal(text: &mut String, unscaled: i128) -> Result<(), AllocError>
-    ensures { OnOk result (string_bytes text.new ≡ string_bytes text.old ++ in_quotes (signed_decimal unscaled)) }
+/// Appends `number`, a decimal without its point, between quotation marks.
+pub(crate) fn push_decimal<T: PrintedNumber>(text: &mut String, number: T) -> Result<(), AllocError>
+    ensures { OnOk result (string_bytes text.new ≡ string_bytes text.old ++ in_quotes (signed_decimal (T.value number))) }
 {
-    push_quoted(text, Buffer::new().format(unscaled))
+    number.is_printed();
+    push_quoted(text, Buffer::new().format(number))
 }
 
 /// Appends `inner` between quotation marks.
@@ -63,14 +61,12 @@ fn push_quoted(text: &mut String, inner: &str) -> Result<(), AllocError>
 }
 
 /// Appends `bytes`, which must be UTF-8, as a JSON string. One without an escape is written as it is.
-#[inline(never)]
-fn push_utf8(text: &mut String, bytes: &[u8]) -> Result<(), AllocError>
+pub(crate) fn push_utf8(text: &mut String, bytes: &[u8]) -> Result<(), AllocError>
     requires { is_utf8 bytes.now ≡ true }
     ensures { OnOk result (string_bytes text.new ≡ string_bytes text.old ++ compact_text (string bytes.now)) }
 {
-    let Ok(utf8) = str::from_utf8(bytes) else {
-        unreachable!();
-    };
+    // Safety: the bytes are UTF-8, as the condition says.
+    let utf8 = unsafe { str::from_utf8_unchecked(bytes) };
     if !has_escapes(bytes) {
         return push_quoted(text, utf8);
     }
@@ -96,8 +92,7 @@ fn has_escapes(bytes: &[u8]) -> bool
 }
 
 /// Appends two hexadecimal digits for each of `bytes`, between quotation marks.
-#[inline(never)]
-fn push_hex(text: &mut String, bytes: &[u8]) -> Result<(), AllocError>
+pub(crate) fn push_hex(text: &mut String, bytes: &[u8]) -> Result<(), AllocError>
     ensures { OnOk result (string_bytes text.new ≡ string_bytes text.old ++ in_quotes (encode_lower bytes.now)) }
 {
     let digits = hex::encode(*text.allocator(), bytes)?;

@@ -1,4 +1,4 @@
-use Rattle.std.proofs.Common.{◌≡◌, [], ◌∷◌, length, true, refl, subst}
+use Rattle.std.proofs.Common.{◌≡◌, [], ◌∷◌, length, true, refl, sym, subst}
 use Rattle.vx_value.specs.View.{type_of}
 use Rattle.vx_value.specs.Storage.{storage_of}
 use Rattle.vx_tree.specs.DecimalNumbers.{numbers_of, decimal_type_of}
@@ -21,5 +21,5 @@ flat_unchecked-requires c =
     let child = child_of c.args.validity.now n in
     let pass : are_decimals_of s w zs ≡ true = unless_none _ _ (second_none _ _ c.requires) in
     let flat = flat_made (decimal_type s) ty n c.args.validity.now child (child ∷ []) (first_none _ _ c.requires) refl refl in
-    subst (λ k. IsNode ty k (decimals w zs) (shapes (slots_of (child_of c.args.validity.now k ∷ [])))) c.len-len.ensures
+    subst (λ k. IsNode ty k (decimals w zs) (shapes (slots_of (child_of c.args.validity.now k ∷ [])))) (sym c.len-len.ensures)
     (decimals_node s w zs pass ty n (shapes (slots_of (child ∷ []))) flat)

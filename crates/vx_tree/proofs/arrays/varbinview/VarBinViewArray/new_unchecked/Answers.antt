@@ -1,4 +1,4 @@
-use Rattle.std.proofs.Common.{◌≡◌, [], ◌∷◌, length, true, refl, subst}
+use Rattle.std.proofs.Common.{◌≡◌, [], ◌∷◌, length, true, refl, sym, subst}
 use Rattle.vx_value.specs.View.{type_of}
 use Rattle.vx_value.specs.Storage.{storage_of}
 use Rattle.vx_tree.specs.Tree.{slots_of, views}
@@ -19,5 +19,5 @@ flat_unchecked-requires c =
     let child = child_of c.args.validity.now n in
     let pass : are_bytes_of s rs ≡ true = unless_none _ _ (second_none _ _ c.requires) in
     let flat = flat_made (bytes_type s) ty n c.args.validity.now child (child ∷ []) (first_none _ _ c.requires) refl refl in
-    subst (λ k. IsNode ty k (views rs) (shapes (slots_of (child_of c.args.validity.now k ∷ [])))) c.len-len.ensures
+    subst (λ k. IsNode ty k (views rs) (shapes (slots_of (child_of c.args.validity.now k ∷ [])))) (sym c.len-len.ensures)
     (bytes_node s rs pass ty n (shapes (slots_of (child ∷ []))) flat)
