@@ -20,7 +20,7 @@ use Rattle.vx_tree.specs.NodeValidities.{both_of}
 use Rattle.vx_rule.specs.declared.raw_node.RawNode.{RawNode}
 use Rattle.vx_rule.specs.Answers.{Answers, IsRaw}
 use Rattle.vx_rule.specs.Pushes.{IsConstantLike}
-use Rattle.vx_rule.specs.Rules.{Row, IsPart, lets_slice, told, F1, F2, F3, C1, N1_null, N1_valid, S_whole, S_empty, S1, S2, S3, S4, S5, F5, F6, F7, F8, M1}
+use Rattle.vx_rule.specs.Rules.{Row, IsPart, lets_slice, validity_column, F1, F2, F3, C1, N1_null, N1_valid, S_whole, S_empty, S1, S2, S3, S4, S5, F5, F6, F7, F8, M1}
 use Rattle.vx_rule.proofs.PushLemmas.{masked_mapped}
 use Rattle.vx_rule.specs.Calls.{null_test}
 
@@ -111,11 +111,11 @@ pub fit_S5 : (a b : ℕ) (x c s u : Tree) (v w : Option Tree) (os : List ℕ) �
 fit_S5 a b x c s u v w os e p slices parts made g =
     let ty = dtype (masked_of c v) in
     let vs = slots_of (v ∷ []) in
-    let told = slot (slice_of a b c) (map_slots (part_of a b) vs) in
-    let made : u ≡ node ty (b - a) enc.masked told =
+    let validity_column = slot (slice_of a b c) (map_slots (part_of a b) vs) in
+    let made : u ≡ node ty (b - a) enc.masked validity_column =
     made ∙ (λ i. node (dtype (e i)) (len (slices i)) enc.masked (slots_of (Some (slices i) ∷ parts i ∷ [])))
     ∙ ap (node ty (b - a) enc.masked) (masked_mapped (part_of a b) (slice_of a b c) v) in
-    row_by (Some 0) (slice_of a b (masked_of c v)) (slice_of a b x) (node ty (b - a) enc.masked told) u (present_from 0 told) os
+    row_by (Some 0) (slice_of a b (masked_of c v)) (slice_of a b x) (node ty (b - a) enc.masked validity_column) u (present_from 0 validity_column) os
     (S5 ty ty (b - a) a b (len c) c vs (subst (λ y. IsPart a b (len y)) e p)) (ap (slice_of a b) (sym e)) (sym made)
     (sym (g ∙ ap (λ y. present_from 0 (slots y)) made))
 
@@ -149,21 +149,21 @@ pub fit_F8 : (bits : List Bool) (x c s u : Tree) (v w : Option Tree) (os : List 
 fit_F8 bits x c s u v w os e filters parts made g =
     let ty = dtype (masked_of c v) in
     let vs = slots_of (v ∷ []) in
-    let told = slot (filter_of bits c) (map_slots (choice_of bits) vs) in
-    let made : u ≡ node ty (true_count bits) enc.masked told =
+    let validity_column = slot (filter_of bits c) (map_slots (choice_of bits) vs) in
+    let made : u ≡ node ty (true_count bits) enc.masked validity_column =
     made ∙ (λ i. node (dtype (e i)) (len (filters i)) enc.masked (slots_of (Some (filters i) ∷ parts i ∷ [])))
     ∙ ap (node ty (true_count bits) enc.masked) (masked_mapped (choice_of bits) (filter_of bits c) v) in
-    row_by (Some 0) (filter_of bits (masked_of c v)) (filter_of bits x) (node ty (true_count bits) enc.masked told) u (present_from 0 told) os
+    row_by (Some 0) (filter_of bits (masked_of c v)) (filter_of bits x) (node ty (true_count bits) enc.masked validity_column) u (present_from 0 validity_column) os
     (F8 ty ty (true_count bits) (len c) bits c vs) (ap (filter_of bits) (sym e)) (sym made) (sym (g ∙ ap (λ y. present_from 0 (slots y)) made))
 
 -- ---- of a masked array for a mask
 
 pub fit_M1 : (ty : DataType) (n : ℕ) (t x c m y both u : Tree) (v : Option Tree) (os : List ℕ)
-    → t ≡ node ty n (enc.function fn_of.Mask) (slots_of (Some x ∷ Some m ∷ [])) → x ≡ masked_of c v → y ≡ told n (slots_of (v ∷ [])) → both ≡ both_of n m y
+    → t ≡ node ty n (enc.function fn_of.Mask) (slots_of (Some x ∷ Some m ∷ [])) → x ≡ masked_of c v → y ≡ validity_column n (slots_of (v ∷ [])) → both ≡ both_of n m y
     → u ≡ node ty n (enc.function fn_of.Mask) (slots_of (Some c ∷ Some both ∷ [])) → os ≡ [] → Row (Some 0) t u os
 fit_M1 ty n t x c m y both u v os shape e tells joins made g =
     let vs = slots_of (v ∷ []) in
     row_by (Some 0) (node ty n (enc.function fn_of.Mask) (slot (masked_of c v) (slot m no_slots))) t
-    (node ty n (enc.function fn_of.Mask) (slot c (slot (both_of n m (told n vs)) no_slots))) u [] os
+    (node ty n (enc.function fn_of.Mask) (slot c (slot (both_of n m (validity_column n vs)) no_slots))) u [] os
     (M1 ty (dtype (masked_of c v)) n (len c) c m vs) (sym (shape ∙ ap (λ z. node ty n (enc.function fn_of.Mask) (slot z (slot m no_slots))) e))
     (sym (made ∙ ap (λ z. node ty n (enc.function fn_of.Mask) (slot c (slot z no_slots))) (joins ∙ ap (both_of n m) tells))) (sym g)

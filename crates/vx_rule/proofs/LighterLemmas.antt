@@ -11,7 +11,7 @@ use Rattle.vx_tree.specs.Parts.{part_of, part_by, choice_of, choice_by, column_r
 use Rattle.vx_tree.specs.Columns.{empty_of, empty_stored}
 use Rattle.vx_tree.specs.Weight.{weight, slots_weights, column_weight, total, excess}
 use Rattle.vx_tree.proofs.WeightLemmas.{weight_low}
-use Rattle.vx_rule.specs.Rules.{Row, ArePresent, told, F1, F2, F3, C1, N1_null, N1_valid, S_whole, S_empty, S1, S2, S3, S4, S5, F5, F6, F7, F8, M1, K1, K2, K3, K4}
+use Rattle.vx_rule.specs.Rules.{Row, ArePresent, validity_column, F1, F2, F3, C1, N1_null, N1_valid, S_whole, S_empty, S1, S2, S3, S4, S5, F5, F6, F7, F8, M1, K1, K2, K3, K4}
 
 -- ---- weights of what rows make
 
@@ -45,7 +45,7 @@ choices_light bits no_slots = omega arith
 choices_light bits (absent ss) = choices_light bits ss
 choices_light bits (slot t ss) = omega (arith, choice_light (datum t) bits t, choices_light bits ss)
 
-told_light : (n : ℕ) (vs : Slots) → weight (told n vs) ≤ 3 + total (slots_weights vs)
+told_light : (n : ℕ) (vs : Slots) → weight (validity_column n vs) ≤ 3 + total (slots_weights vs)
 told_light n no_slots = omega arith
 told_light n (absent vs) = omega arith
 told_light n (slot t vs) = omega arith

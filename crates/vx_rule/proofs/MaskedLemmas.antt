@@ -14,7 +14,7 @@ use Rattle.vx_tree.specs.Well.{shape, shape_of, shapes, IsNode, IsWell, IsValidi
 use Rattle.vx_tree.specs.Validities.{HasRows}
 use Rattle.vx_tree.specs.NodeValidities.{both_of}
 use Rattle.vx_tree.specs.declared.validity.Validity.TheVariants as validity
-use Rattle.vx_rule.specs.Rules.{told}
+use Rattle.vx_rule.specs.Rules.{validity_column}
 use Rattle.vx_rule.proofs.SlotsLemmas.{masked_parts, well_second}
 
 -- ---- the types of a mask's arguments
@@ -46,7 +46,7 @@ twice type.null = refl
 twice _ = refl
 
 told_rows : (n k : ℕ) (v : Option Tree) → IfSome v IsWell → IsValidity Nullable k (option_map shape_of v) → k ≡ n
-    → HasRows (validity.Array (told n (slots_of (v ∷ [])))) n
+    → HasRows (validity.Array (validity_column n (slots_of (v ∷ [])))) n
 told_rows n k None w ok e = (((refl, refl, refl), tt), refl, refl)
 told_rows n k (Some t) w ok e = (w, cc (ok), let same : len t ≡ k = cc (ok) in same ∙ e)
 
@@ -63,7 +63,7 @@ module _ (ty : DataType) (n : ℕ) (p x m c : Tree) (v : Option Tree) (well : Is
   child_long : len c ≡ n
   child_long = sym (ap len inner) ∙ here.long
 
-  pub told_has_rows : (y : Tree) → y ≡ told n (slots_of (v ∷ [])) → HasRows (validity.Array y) n
+  pub told_has_rows : (y : Tree) → y ≡ validity_column n (slots_of (v ∷ [])) → HasRows (validity.Array y) n
   told_has_rows y e =
       let w : IsWell (masked_of c v) = subst IsWell inner under.0 in
       subst (λ z. HasRows (validity.Array z) n) (sym e) (told_rows n (len c) v (well_second c v w.1) (masked_parts c v w.0) child_long)

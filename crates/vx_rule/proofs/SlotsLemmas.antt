@@ -198,13 +198,13 @@ masked_mapped_node : (g : Tree → Tree) (c s : Tree) (v w : Option Tree) → ((
     → dtype s ≡ dtype c → w ≡ option_map g v
     → IsNode (dtype (masked_of c v)) (len s) enc.masked (shapes (slots_of (Some s ∷ w ∷ [])))
 masked_mapped_node g c s v w h ok typed e =
-    let told = validity_mapped g (len s) (len c) v h (well_second c v ok.1) (masked_parts c v ok.0) in (
+    let validity_column = validity_mapped g (len s) (len c) v h (well_second c v ok.1) (masked_parts c v ok.0) in (
       dtype s,
       option_map shape_of w,
       two_shapes s w,
       ap (with_nullability Nullable) (sym typed),
       subst
-          (λ x. IsValidity Nullable (len s) (option_map shape_of x)) (sym e) told,
+          (λ x. IsValidity Nullable (len s) (option_map shape_of x)) (sym e) validity_column,
     )
 
 len_by : (k n : ℕ) (v : Option Tree) → k ≡ n → IsValidity Nullable n (option_map shape_of v) → HasLen k v
