@@ -1,5 +1,5 @@
 -- A column whose validity has no fault has none itself.
-use Rattle.std.proofs.Common.{◌≡◌, ℕ, List, [], ◌∷◌, map, Bool, true, false, Option, Some, None, refl, sym, subst, ap, ◌∙◌}
+use Rattle.std.proofs.Common.{◌≡◌, ℕ, List, [], ◌∷◌, length, map, Bool, true, false, Option, Some, None, refl, sym, subst, ap, ◌∙◌}
 use Rattle.std.proofs.lemmas.Bool.{false≢true}
 use Rattle.std.specs.List.{AllByRecursion}
 use Rattle.vx_value.specs.Types as type
@@ -13,7 +13,7 @@ use Rattle.vx_tree.specs.Tree.{Tree, Data, Slots, node, no_slots, absent, slot, 
 use Rattle.vx_tree.specs.Well.{Shape, shape, shape_of, shapes, IsWell, AreWell, IsValidity, IsFlat}
 use Rattle.vx_tree.specs.Cells.{rows, slots_rows, cells_at, valid_cells, HasNoFault, IsClean, AreClean}
 use Rattle.vx_value.specs.Storage.{storage_of}
-use Rattle.vx_tree.specs.ColumnTypes.{scale_of}
+use Rattle.vx_tree.specs.ColumnTypes.{scale_of, decimal_type, bytes_type}
 use Rattle.vx_tree.proofs.KindsLemmas.{type_in}
 use Rattle.vx_tree.proofs.TypedLemmas.{CellFits, AllFit, rows_fit}
 use Rattle.vx_tree.proofs.ValiditiesLemmas.{whole}
@@ -55,11 +55,15 @@ flat_whole of_type k ty n (slot t us) cs flat wells clean h =
 column_whole : (ty : DataType) (n : ℕ) (d : Data) (ss : Slots) → IsWell (node ty n d ss) → is_canonical d ≡ true → AreClean ss
     → HasNoFault (rows (node ty n d ss))
 column_whole ty n enc.nulls ss w h clean = copies_clean n null
-column_whole ty n (enc.bool bs) ss w h clean = flat_whole _ _ ty n ss _ w.0 w.1 clean (values_whole boolean bs)
-column_whole ty n (enc.primitive p zs) ss w h clean = flat_whole _ _ ty n ss _ w.0 w.1 clean (values_whole integer zs)
+column_whole ty n (enc.bool bs) ss w h clean =
+    flat_whole (type.bool NonNullable) (length bs) ty n ss (map (λ b. value (boolean b)) bs) w.0 w.1 clean (values_whole boolean bs)
+column_whole ty n (enc.primitive p zs) ss w h clean =
+    flat_whole (type.primitive p NonNullable) (length zs) ty n ss (map (λ z. value (integer z)) zs) w.0 w.1 clean (values_whole integer zs)
 column_whole ty n (enc.decimals k zs) ss w h clean =
-    flat_whole _ _ ty n ss _ w.0.0 w.1 clean (values_whole (λ z. decimal z (scale_of (storage_of ty))) zs)
-column_whole ty n (enc.views rs) ss w h clean = flat_whole _ _ ty n ss _ w.0.0 w.1 clean (values_whole bytes rs)
+    let s = scale_of (storage_of ty) in
+    flat_whole (decimal_type (storage_of ty)) (length zs) ty n ss (map (λ z. value (decimal z s)) zs) w.0.0 w.1 clean (values_whole (λ z. decimal z s) zs)
+column_whole ty n (enc.views rs) ss w h clean =
+    flat_whole (bytes_type (storage_of ty)) (length rs) ty n ss (map (λ r. value (bytes r)) rs) w.0.0 w.1 clean (values_whole bytes rs)
 column_whole ty n _ ss w h clean = absurd (false≢true h)
 
 -- no row of a canonical column with clean slots is a fault

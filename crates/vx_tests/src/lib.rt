@@ -9,7 +9,11 @@ mod buffers;
 #[cfg(test)]
 mod builders;
 #[cfg(test)]
+mod casts;
+#[cfg(test)]
 mod errors;
+#[cfg(test)]
+mod parts;
 mod refusals;
 #[cfg(test)]
 mod rewriting;

@@ -1,7 +1,10 @@
 use Rattle.std.proofs.Common.{◌∙◌, sym, subst, map}
 use Rattle.std.proofs.lemmas.Result.{IfErr-weaker, err_from_is_err_and}
 use Rattle.vx_tree.specs.Tree.{datum}
+use Rattle.vx_tree.specs.Cells.{rows, HasNoFault}
 use Rattle.vx_tree.specs.Well.{IsWell}
+use Rattle.vx_column.specs.Arguments.{types_of_scalars, cells_of_scalars}
+use Rattle.vx_column.specs.Computed.{IsResult}
 use Rattle.vx_tree.specs.Canonicals.{canonical_tree, columnar_tree}
 use Rattle.vx_tree.proofs.ColumnsLemmas.{canonical_open}
 use Rattle.vx_column.proofs.CellsLemmas.{IfOk-both}
@@ -25,7 +28,8 @@ returns-in-Some-clause-ok c =
     let all = rw c.in-Some.is at c.in_ok-scalars.ensures.all in
     let some = rw c.in-Some.is at c.in_ok-scalars.ensures.some in
     IfOk-both c.apply_constants.result
-    (λ u both constant.
+    (λ u (both : IsResult c.args.function.now (types_of_scalars ss) (λ _. cells_of_scalars ss) n (columnar_tree u) × HasNoFault (rows (columnar_tree u)))
+    constant.
     applied (scalar_rows c.args.function.now n xs ss c.requires all) both.0 both.1 (constant ∙ sym (all_repeat n xs ss some all)))
     (IfOk-both c.apply_constants.result (λ u made none. (made, none)) (rw c.as_slice.ensures.value at c.apply_constants.ensures.ok)
     c.apply_constants.ensures.whole) c.apply_constants.ensures.constant
@@ -52,7 +56,7 @@ returns-in_ok-column-in-None-clause-ok c =
     let made = rw c.as_slice-in-None.ensures.value at c.in_ok-column-in-None.ensures.ok in
     let other = rw c.in-None.is at c.in_ok-scalars.ensures.not_all in
     let column = canonical_tree c.in_ok-column-in-None.column in
-    let well = subst IsWell c.as_array-in-None.ensures.of c.well_formed_tree-in-None.ensures.formed in
+    let well = subst IsWell c.as_array.ensures.of c.well_formed_tree.ensures.formed in
     applied rows made.result (canonical_whole column well made.canonical made.result.clean) (canonical_open (datum (canonical_tree c.in_ok-column-in-None.column)) made.canonical ∙ sym other)
 
 pub returns-in_err-column-in-None-clause-err : goal.returns-in_err-column-in-None-clause-err

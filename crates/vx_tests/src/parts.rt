@@ -1,0 +1,146 @@
+//! Nodes made of their parts: each tag, with memory to spare.
+
+use std::alloc::Global;
+use std::rc::Rc;
+use std::test::Fail;
+use vx_fn::ScalarFnRef;
+use vx_mask::{BitBuffer, Buffer, Mask};
+use vx_tree::{
+    Array, ArrayRef, BinaryViews, BoolArray, ConstantArray, DecimalArray, DecimalType,
+    DecimalValues, FilterArray, IntoArray, MaskedArray, NullArray, PrimitiveArray, PrimitiveValues,
+    ScalarFnArray, ScalarFnValidityArray, SliceArray, VTable, Validity, VarBinViewArray, View,
+};
+use vx_value::{
+    ArgKind, ByteBuffer, DType, DecimalDType, Nullability, PType, Scalar, VortexError, VortexResult,
+};
+
+const NEVER: Nullability = Nullability::NonNullable;
+
+/// Checks that a node is made again of the parts of `handle`, which isn't shared.
+fn is_remade<V: VTable>(alloc: Global, handle: Array<V>) -> bool {
+    match handle.try_into_parts() {
+        Ok(parts) => Array::try_from_parts(alloc, parts).is_ok(),
+        Err(_) => false,
+    }
+}
+
+fn bools(alloc: Global) -> VortexResult<BoolArray> {
+    let bits = BitBuffer::repeat(alloc, true, 3)?;
+    BoolArray::try_new(alloc, DType::Bool(NEVER), bits, &Validity::NonNullable)
+}
+
+fn integers(alloc: Global) -> VortexResult<PrimitiveArray> {
+    let items = vec![in alloc; 10i32, 20, 30]?;
+    let values = PrimitiveValues::new(PType::I32, Buffer::from_vec(alloc, items)?);
+    let dtype = DType::Primitive(PType::I32, NEVER);
+    PrimitiveArray::try_new(alloc, dtype, values, &Validity::NonNullable)
+}
+
+fn decimals(alloc: Global) -> VortexResult<DecimalArray> {
+    let items = vec![in alloc; 1234i16, -5, 0]?;
+    let values = DecimalValues::new(DecimalType::I16, Buffer::from_vec(alloc, items)?);
+    let dtype = DType::Decimal(DecimalDType::try_new(4, 2)?, NEVER);
+    DecimalArray::try_new(alloc, dtype, values, &Validity::NonNullable)
+}
+
+fn views(alloc: Global) -> VortexResult<BinaryViews> {
+    let view = View {
+        buffer: 0,
+        start: 1,
+        size: 2,
+    };
+    let views = Buffer::from_vec(alloc, vec![in alloc; view]?)?;
+    let buffers = vec![in alloc; ByteBuffer::copy_from(alloc, b"abc")?]?;
+    match BinaryViews::try_new(alloc, views, buffers)? {
+        Some(rows) => Ok(rows),
+        None => Err(VortexError::InvalidArgument(ArgKind::BadValue)),
+    }
+}
+
+fn texts(alloc: Global) -> VortexResult<VarBinViewArray> {
+    let rows = views(alloc)?;
+    VarBinViewArray::try_new(alloc, DType::Utf8(NEVER), rows, &Validity::NonNullable)
+}
+
+#[test]
+fn columns_are_made_of_their_parts(rt: HostRuntime) -> Result<(), Fail> {
+    let alloc = rt.alloc();
+    assert!(rt; is_remade(alloc, bools(alloc)?));
+    assert!(rt; is_remade(alloc, integers(alloc)?));
+    assert!(rt; is_remade(alloc, decimals(alloc)?));
+    assert!(rt; is_remade(alloc, texts(alloc)?));
+    assert!(rt; is_remade(alloc, NullArray::new(alloc, 3)?));
+    Ok(())
+}
+
+fn seven() -> Scalar {
+    Scalar::primitive(7, PType::I32, NEVER)
+}
+
+fn chosen(alloc: Global) -> VortexResult<FilterArray> {
+    let mask = Mask::from_bits(BitBuffer::repeat(alloc, true, 3)?);
+    FilterArray::try_new(alloc, integers(alloc)?.into_array(), mask)
+}
+
+fn part(alloc: Global) -> VortexResult<SliceArray> {
+    SliceArray::try_new(alloc, integers(alloc)?.into_array(), 1..3)
+}
+
+fn test(alloc: Global) -> VortexResult<ScalarFnArray> {
+    let children = vec![in alloc; integers(alloc)?.into_array()]?;
+    ScalarFnArray::try_new(alloc, ScalarFnRef::IsNull, children)
+}
+
+#[test]
+fn lazy_nodes_are_made_of_their_parts(rt: HostRuntime) -> Result<(), Fail> {
+    let alloc = rt.alloc();
+    let child = integers(alloc)?.into_array();
+    assert!(rt; is_remade(alloc, ConstantArray::new(alloc, seven(), 3)?));
+    assert!(rt; is_remade(alloc, chosen(alloc)?));
+    assert!(rt; is_remade(alloc, part(alloc)?));
+    assert!(rt; is_remade(alloc, test(alloc)?));
+    assert!(rt; is_remade(alloc, ScalarFnValidityArray::new(alloc, child.clone()?)?));
+    assert!(rt;
+        is_remade(
+            alloc,
+            MaskedArray::new_unchecked(alloc, child, &Validity::AllValid)?
+        )
+    );
+    Ok(())
+}
+
+fn other(alloc: Global) -> VortexResult<ArrayRef> {
+    Ok(ConstantArray::new(alloc, seven(), 3)?.into_array())
+}
+
+fn replaced(alloc: Global) -> VortexResult<ArrayRef> {
+    part(alloc)?.into_array().with_slot(alloc, 0, other(alloc)?)
+}
+
+fn all_replaced(alloc: Global) -> VortexResult<ArrayRef> {
+    let slots = vec![in alloc; Some(other(alloc)?)]?;
+    part(alloc)?.into_array().with_slots(alloc, slots)
+}
+
+#[test]
+fn slots_are_replaced(rt: HostRuntime) -> Result<(), Fail> {
+    assert!(rt; replaced(rt.alloc())?.len() == 2);
+    assert!(rt; all_replaced(rt.alloc())?.len() == 2);
+    Ok(())
+}
+
+fn owned(alloc: Global) -> VortexResult<PrimitiveArray> {
+    Ok(integers(alloc)?.as_view().into_owned()?)
+}
+
+fn unshared(alloc: Global) -> VortexResult<ArrayRef> {
+    let shared = Rc::new(alloc, integers(alloc)?)?;
+    Ok(Array::shared_into_array(shared)?)
+}
+
+#[test]
+fn handles_are_owned(rt: HostRuntime) -> Result<(), Fail> {
+    assert!(rt; owned(rt.alloc())?.len() == 3);
+    assert!(rt; unshared(rt.alloc())?.len() == 3);
+    Ok(())
+}
