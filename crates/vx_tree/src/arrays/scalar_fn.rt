@@ -241,8 +241,8 @@ impl ScalarFnArray {
 
     /// Makes a node that applies `scalar_fn` to `children`, with `len` rows.
     ///
-    /// The first condition that fails gives the error: `InvalidArgument` with `Arity` if the function takes another number
-    /// of arguments, `ChildLen` if a child doesn't have `len` rows, and `NoRow` if the function takes no such types.
+    /// The first condition that fails gives the error: `InvalidArgument` with `Arity` if the function takes another number of
+    /// arguments, `ChildLen` if a child doesn't have `len` rows, and `NoRow` if the function takes no arguments of their types.
     #[tactic(auto, using(crate::proofs::CallsLemmas::calls))]
     pub fn try_new_with_len(
         alloc: Global,

@@ -17,7 +17,7 @@ use crate::canonical::flat::flat_empty;
 use std::alloc::Global;
 use vx_value::{DType, VortexResult};
 
-/// Evaluates to the column of a borrowed `Canonical` of this variant, `Some(column)`; to `None` if it is of another.
+/// Evaluates to `Some(column)`, the column of a borrowed `Canonical` of this variant, or to `None` if it is another variant.
 macro_rules! variant {
     ($canonical:expr, $variant:ident) => {
         match $canonical {
@@ -27,8 +27,8 @@ macro_rules! variant {
     };
 }
 
-/// Evaluates to the column of an owned `Canonical` of this variant, `Some(column)`; to `None` if it is of another, which is dropped
-/// whole.
+/// Evaluates to `Some(column)`, the column of an owned `Canonical` of this variant, or to `None` if it is another variant,
+/// which is dropped whole.
 macro_rules! into_variant {
     ($canonical:expr, $variant:ident) => {
         match $canonical {

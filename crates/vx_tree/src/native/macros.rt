@@ -35,7 +35,8 @@ macro_rules! by_decimal_type {
     };
 }
 
-/// Evaluates one expression over the numbers in a `NativeBuffer`, whichever their type: `by_native!(buffer, |numbers| sum(numbers))`.
+/// Evaluates one expression over the numbers in a `NativeBuffer`, whatever their type: `by_native!(buffer, |numbers|
+/// sum(numbers))`.
 #[macro_export]
 macro_rules! by_native {
     ($buffer:expr, |$numbers:ident| $body:expr) => {
@@ -74,7 +75,7 @@ macro_rules! for_decimals {
     };
 }
 
-/// Evaluates one expression over what an enum holds, whichever of these variants it is of.
+/// Evaluates one expression over the payload of an enum, whichever of these variants it is.
 macro_rules! over {
     ([$($variant:ident),*] $values:expr, $enum:ident($value:ident) => $body:expr) => {
         match $values {
@@ -92,7 +93,7 @@ macro_rules! named {
     };
 }
 
-/// Makes an enum `$to` out of the result of `$body`, of the variant that a kind names.
+/// Makes an enum `$to` from the result of `$body`, of the variant that a kind names.
 macro_rules! made {
     ([$($variant:ident),*] $kind:expr, $kinds:ident => $to:ident, $body:expr) => {
         match $kind {
