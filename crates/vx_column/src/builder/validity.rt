@@ -1,4 +1,4 @@
-//! Which rows of a column that grows aren't null.
+//! Which rows of a growing column aren't null.
 
 ghost use Rattle.std.specs.Prelude.{◌≡◌, ◌+◌, ◌≤◌, ◌<◌, ◌^◌, ◌++◌, [], false, IfOk, OnOk, OnErr, length, replicate, take};
 ghost use Rattle.vx_column.specs.Growing.{padded, told_rows};
@@ -60,7 +60,7 @@ impl ValidityBuilder {
         Ok(())
     }
 
-    /// Forgets all but the first `len` rows, of which there must be as many.
+    /// Keeps only the first `len` rows, which must exist.
     pub(super) fn truncate(&mut self, len: usize)
         requires { len ≤ length self.old }
         ensures { self.new ≡ take len self.old }
