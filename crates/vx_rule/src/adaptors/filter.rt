@@ -14,7 +14,7 @@ use vx_value::VortexResult;
 
 /// Encodings that have a row for a filter.
 pub trait FilterReduce: VTable {
-    /// Returns what stands for the filter of `array` by `mask`, which must have as many rows: `None` exactly if no row fits.
+    /// Returns the answer for the filter of `array` by `mask`, which must have as many rows: `None` exactly if no row fits.
     /// Fails only with `OutOfMemory`.
     fn filter(
         alloc: Global,
