@@ -1,4 +1,4 @@
-//! Rules that a caller registers.
+//! Rules registered by a caller.
 
 ghost use Rattle.std.specs.Prelude.{◌≡◌};
 

@@ -1,4 +1,4 @@
-//! Optimizing a root.
+//! Optimizes a root.
 
 ghost use Rattle.std.specs.Prelude.{◌<◌, ℕ, IfOk};
 ghost use Rattle.vx_tree.specs.Slots.{IsPresent};
@@ -13,7 +13,7 @@ use vx_rule::RawNode;
 use vx_tree::ArrayRef;
 use vx_value::{VortexError, VortexResult};
 
-/// The rewrites that one root may take.
+/// The number of rewrites that one root may take.
 const MAX_OPTIMIZER_REWRITE_PASS: u32 = 100;
 
 /// The rewrite at which a call gives up. (own)
