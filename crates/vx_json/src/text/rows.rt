@@ -60,7 +60,7 @@ fn push_quoted(text: &mut String, inner: &str) -> Result<(), AllocError>
     text.push_str("\"")
 }
 
-/// Appends `bytes`, which must be UTF-8, as a JSON string. One without an escape is written as it is.
+/// Appends `bytes`, which must be UTF-8, as a JSON string. Text without escapes is copied unchanged.
 pub(crate) fn push_utf8(text: &mut String, bytes: &[u8]) -> Result<(), AllocError>
     requires { is_utf8 bytes.now ≡ true }
     ensures { OnOk result (string_bytes text.new ≡ string_bytes text.old ++ compact_text (string bytes.now)) }
@@ -82,7 +82,7 @@ fn push_escaped(text: &mut String, utf8: &str) -> Result<(), AllocError>
     text.push_str(value.to_string(alloc)?.as_str())
 }
 
-/// Checks whether a JSON string of `bytes` has an escape: for a quotation mark, a backslash or a control character.
+/// Returns whether a JSON string of `bytes` has an escape: for a quotation mark, a backslash or a control character.
 fn has_escapes(bytes: &[u8]) -> bool
     ensures { result ≡ list_any has_escape bytes.now }
 {
