@@ -92,7 +92,7 @@ pub fn run<S: Source, K: Sink>(
     }
 }
 
-/// Writes the whole of `text`, which takes no memory.
+/// Writes the whole of `text`. Takes no memory.
 fn finish<K: Sink>(sink: &mut K, text: &[u8]) -> Status
     ensures done { result ≡ Status.Done → Appends (K.held sink.old) (K.held sink.new) text.now }
     ensures fault { result ≡ Status.WriteFault
