@@ -13,7 +13,7 @@ use vx_mask::Buffer;
 use vx_tree::{NativeKind, NativeNumber, NativeValues};
 use vx_value::VortexResult;
 
-/// Reads a number of type `T`.
+/// Readers of numbers of type `T`.
 pub(crate) trait NumberReader<T: NativeNumber> {
     // each number that it reads is one of `T`
     ghost fits: { Self → Type 0 };
