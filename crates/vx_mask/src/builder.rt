@@ -122,7 +122,7 @@ impl BitBuilder {
         Ok(())
     }
 
-    /// Shortens the builder to its first `len` bits, of which there must be as many.
+    /// Keeps only the first `len` bits, which must exist.
     pub fn truncate(&mut self, len: usize)
         requires { len ≤ length self.old }
         ensures { self.new ≡ take len self.old }
