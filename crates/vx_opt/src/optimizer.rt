@@ -20,8 +20,8 @@ use vx_value::VortexResult;
 ///
 /// # Errors
 ///
-/// `RewriteLimit` at the 101st rewrite at one root or the 4,194,304th of the call, even if no row fits after it, and never for a tree of
-/// weight 100 or less; `OutOfMemory`.
+/// `RewriteLimit` at the 101st rewrite at one root or the 4,194,304th of the call, even if no row fits after it, and never for
+/// a tree of weight 100 or less; `OutOfMemory`.
 pub trait ArrayOptimizer: Sized {
     // the tree that is optimized
     ghost tree: { Self → Tree };
@@ -32,7 +32,7 @@ pub trait ArrayOptimizer: Sized {
         ensures limited { IfErr result (IsLimited (tree self) 0) }
         ensures never_if_light { weight (tree self) ≤ 100 → OnlyOutOfMemory result };
 
-    /// Rewrites the root in the same way, also by the entries of `rules`.
+    /// Rewrites the root in the same way, also by the entries of `rules`, of which there are none yet.
     fn optimize_ctx(self, alloc: Global, rules: &mut RuleRegistry) -> VortexResult<ArrayRef>
         ensures settled { IfOk result (IsSettledFrom (tree self)) }
         ensures limited { IfErr result (IsLimited (tree self) 0) }

@@ -19,8 +19,8 @@ const MAX_OPTIMIZER_REWRITE_PASS: u32 = 100;
 /// The rewrite at which a call gives up. (own)
 const MAX_OPTIMIZER_REWRITES: u32 = 4_194_304;
 
-/// Rewrites the root of `array` until no row fits. The slots that an answer names are optimized before the next pass. `total` counts the
-/// rewrites of the call.
+/// Rewrites the root of `array` until no row fits. The slots that an answer names are optimized before the next pass. `total`
+/// counts the rewrites of the call.
 #[cycle(optimize)]
 pub(crate) fn optimize_root(
     alloc: Global,

@@ -70,8 +70,8 @@ fn filter_column(alloc: Global, column: &Canonical, mask: &Mask) -> VortexResult
     }
 }
 
-/// Replaces the filter of `child`, which isn't a column yet, by its slice, pushed down, if the chosen rows are consecutive. Otherwise requests
-/// `child` as a canonical column.
+/// Replaces the filter of `child`, which isn't a column yet, by its slice, pushed down, if the chosen rows are consecutive.
+/// Otherwise requests `child` as a canonical column.
 #[tactic(auto, using(vx_rule::proofs::FiltersLemmas::run_range, crate::proofs::FilterLemmas::run_done, crate::proofs::FilterLemmas::filter_waits))]
 fn slice_or_wait(alloc: Global, child: ArrayRef, mask: &Mask) -> VortexResult<ExecutionStep>
     requires within { length (bits_in mask.now) ≡ len child }

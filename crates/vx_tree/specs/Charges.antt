@@ -40,7 +40,7 @@ abbrev pub excess : List ℕ → ℕ
 excess [] = 0
 excess (w ∷ ws) = w - 3 + excess ws
 
--- the weight of a column of n rows; one without rows weighs no more than its slots
+-- the weight of a column of n rows; one without rows weighs no more than its slots, or 3 if it has none
 abbrev pub column_weight : ℕ → List ℕ → ℕ
 column_weight zero ws = 3 + excess ws
 column_weight (suc n) ws = 3 + total ws

@@ -53,7 +53,7 @@ base_cost d = (charge d).own
 abbrev pub slot_cost : Data → ℕ → ℕ → ℕ
 slot_cost d c e = c + 1 + (charge d).by_reach * e
 
--- the most turns that an execution of the tree takes
+-- a bound on the turns that an execution of the tree takes
 abbrev mutual
   pub cost : Tree → ℕ
   cost (node ty n d ss) = base_cost d + slots_cost d (executed d) ss

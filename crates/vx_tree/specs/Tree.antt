@@ -1,4 +1,4 @@
--- Trees, and what each encoding makes of them: a file for each.
+-- Trees, and the meaning of each encoding: a file for each.
 pub mod Nodes
 pub mod Constant
 pub mod Slice

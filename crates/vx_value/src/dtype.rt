@@ -141,8 +141,8 @@ impl DType {
         self.with_nullability(Nullability::Nullable)
     }
 
-    /// Returns the non-nullable type that is otherwise the same; `Null`, which is always nullable, stays. Fails only if there is
-    /// no memory for it.
+    /// Returns the non-nullable type that is otherwise the same; `Null`, which is always nullable, stays. Fails only if there
+    /// is no memory for it.
     pub fn as_nonnullable(&self) -> Result<DType, AllocError>
         ensures { IfOk result (λ t. type_of t ≡ with_nullability Nullability.NonNullable (type_of self.now)) }
     {

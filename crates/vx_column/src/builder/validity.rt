@@ -9,7 +9,8 @@ use std::marker::Model;
 use vx_mask::BitBuilder;
 use vx_value::Nullability;
 
-/// Builds the validity of a column: a bit for each row up to the last null, false if the row is null. Rows past it take no memory.
+/// Builds the validity of a column: a bit for each row up to the last null, false if the row is null. Rows past it take no
+/// memory.
 #[derive(Debug, Drop)]
 pub(super) struct ValidityBuilder {
     bits: BitBuilder,

@@ -30,7 +30,8 @@ pub(super) enum Values {
 }
 
 impl Values {
-    /// Makes the values of no rows of type `dtype`, with room for `capacity` of them. Fails only if there is no memory for them.
+    /// Makes the values of no rows of type `dtype`, with room for `capacity` of them. Fails only if there is no memory for
+    /// them.
     pub(super) fn with_capacity(
         alloc: Global,
         dtype: &DType,

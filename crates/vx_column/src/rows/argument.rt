@@ -249,7 +249,7 @@ fn constant_argument(alloc: Global, scalar: &Scalar, len: usize) -> VortexResult
     }
 }
 
-/// Returns `rows`, none of which is valid, as an argument of `len` rows. Fails only with `OutOfMemory`.
+/// Returns the argument of `rows`, `len` rows that are all null. Fails only with `OutOfMemory`.
 fn null_argument(alloc: Global, rows: ArgumentRows<'_>, len: usize) -> VortexResult<Argument<'_>>
     ensures ok { IfOk result (λ a. a ≡ record { rows = rows.entry; valid = Bits (replicate len false) }) }
     ensures err { OnlyOutOfMemory result }

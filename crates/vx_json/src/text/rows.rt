@@ -15,9 +15,9 @@ use serde_json::Value;
 use std::alloc::{AllocError, Global};
 use vx_value::{DType, Scalar, ScalarValue, VortexResult};
 
-/// Appends the text of a row: `null`, `true`, `false`, an integer in decimal, or a string. The string of a decimal is its unscaled
-/// integer, as `"4200"` for 42.00; that of a binary value has two lower-case hexadecimal digits for each byte. If memory runs out,
-/// part of it may have been appended. (own)
+/// Appends the text of a row: `null`, `true`, `false`, an integer in decimal, or a string. The string of a decimal is its
+/// unscaled integer, as `"4200"` for 42.00; that of a binary value has two lower-case hexadecimal digits for each byte. If
+/// memory runs out, part of it may have been appended. (own)
 pub(crate) fn push_row(text: &mut String, scalar: &Scalar) -> Result<(), AllocError>
     ensures { OnOk result (string_bytes text.new ≡ string_bytes text.old ++ row_text scalar.now.of_type scalar.now.value) }
 {

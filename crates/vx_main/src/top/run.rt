@@ -18,8 +18,8 @@ use crate::top::status::Status;
 use crate::top::words::{Command, HELP, VERSION, read_command};
 use std::alloc::Global;
 
-/// Runs the command in `words`: reads the tree in `source`, rewrites it if the command is `optimize`, executes it to a column and writes
-/// the column's text into `sink`.
+/// Runs the command in `words`: reads the tree in `source`, rewrites it if the command is `optimize`, executes it to a column
+/// and writes the column's text into `sink`.
 ///
 /// The text is complete before the first write. `source` and `sink` count their own faults. (own)
 pub fn run<S: Source, K: Sink>(

@@ -15,7 +15,7 @@ use vx_fn::{BetweenOptions, ScalarFnRef};
 use vx_tree::{ArrayKind, ArrayRef, ArrayView, VTable};
 use vx_value::{DType, VortexResult};
 
-/// Encodings that have a row for a mask of them.
+/// Encodings that have a row for a mask above them.
 pub trait MaskReduce: VTable {
     /// Returns the answer for `parent`, the mask of `array` by `mask`: `None` exactly if no row fits. Fails only with
     /// `OutOfMemory`.
@@ -30,7 +30,7 @@ pub trait MaskReduce: VTable {
         ensures { Answers (Some 0) parent.now result };
 }
 
-/// Encodings that have a row for a cast of them.
+/// Encodings that have a row for a cast above them.
 pub trait CastReduce: VTable {
     /// Returns the answer for `parent`, the cast of `array` to `dtype`: `None` exactly if no row fits. Fails only with
     /// `OutOfMemory`.
@@ -45,7 +45,7 @@ pub trait CastReduce: VTable {
         ensures { Answers (Some 0) parent.now result };
 }
 
-/// Encodings that have a row for a negation of them.
+/// Encodings that have a row for a negation above them.
 pub trait NotReduce: VTable {
     /// Returns the answer for `parent`, the negation of `array`: `None` exactly if no row fits. Fails only with `OutOfMemory`.
     fn invert(
@@ -58,7 +58,7 @@ pub trait NotReduce: VTable {
         ensures { Answers (Some 0) parent.now result };
 }
 
-/// Encodings that have a row for a `between` of them.
+/// Encodings that have a row for a `between` above them.
 pub trait BetweenReduce: VTable {
     /// Returns the answer for `parent`, whether `array` lies between `lower` and `upper`: `None` exactly if no row fits. Fails
     /// only with `OutOfMemory`.
@@ -75,7 +75,7 @@ pub trait BetweenReduce: VTable {
         ensures { Answers (Some 0) parent.now result };
 }
 
-/// Encodings that have a row for a `fill_null` of them.
+/// Encodings that have a row for a `fill_null` above them.
 pub trait FillNullReduce: VTable {
     /// Returns the answer for `parent`, `array` with its nulls replaced by `fill_value`: `None` exactly if no row fits. Fails
     /// only with `OutOfMemory`.
@@ -104,7 +104,7 @@ macro_rules! for_first_argument {
     }};
 }
 
-/// The rule of `V` for a mask of it. Answers only for the first argument.
+/// The rule of `V` for a mask above it. Answers only for the first argument.
 #[derive(Debug, Default, Drop)]
 pub struct MaskReduceAdaptor<V>(pub V);
 
@@ -123,7 +123,7 @@ impl<V: MaskReduce> ArrayParentReduceRule<V> for MaskReduceAdaptor<V> {
     }
 }
 
-/// The rule of `V` for a cast of it.
+/// The rule of `V` for a cast above it.
 #[derive(Debug, Default, Drop)]
 pub struct CastReduceAdaptor<V>(pub V);
 
@@ -142,7 +142,7 @@ impl<V: CastReduce> ArrayParentReduceRule<V> for CastReduceAdaptor<V> {
     }
 }
 
-/// The rule of `V` for a negation of it.
+/// The rule of `V` for a negation above it.
 #[derive(Debug, Default, Drop)]
 pub struct NotReduceAdaptor<V>(pub V);
 
@@ -161,7 +161,7 @@ impl<V: NotReduce> ArrayParentReduceRule<V> for NotReduceAdaptor<V> {
     }
 }
 
-/// The rule of `V` for a `between` of it. Answers only for the first argument.
+/// The rule of `V` for a `between` above it. Answers only for the first argument.
 #[derive(Debug, Default, Drop)]
 pub struct BetweenReduceAdaptor<V>(pub V);
 
@@ -183,7 +183,7 @@ impl<V: BetweenReduce> ArrayParentReduceRule<V> for BetweenReduceAdaptor<V> {
     }
 }
 
-/// The rule of `V` for a `fill_null` of it. Answers only for the first argument.
+/// The rule of `V` for a `fill_null` above it. Answers only for the first argument.
 #[derive(Debug, Default, Drop)]
 pub struct FillNullReduceAdaptor<V>(pub V);
 

@@ -26,7 +26,7 @@ pub trait FilterReduce: VTable {
         ensures { Answers (Some 0) (filter_of (bits_in mask.now) array.now.array.now) result };
 }
 
-/// The rule of `V` for a filter of it.
+/// The rule of `V` for a filter above it.
 #[derive(Debug, Default, Drop)]
 pub struct FilterReduceAdaptor<V>(pub V);
 

@@ -30,8 +30,8 @@ pub trait SliceReduce: VTable {
     ghost lets: { (d : Data) → Self.is_kind d ≡ true → lets_slice d ≡ true };
 }
 
-/// The rule of `V` for a slice of it. A slice of all rows is the child, a slice of no rows is the empty column, and `V` answers
-/// for the rest.
+/// The rule of `V` for a slice above it. A slice of all rows is the child, a slice of no rows is the empty column, and `V`
+/// answers for the rest.
 #[derive(Debug, Default, Drop)]
 pub struct SliceReduceAdaptor<V>(pub V);
 

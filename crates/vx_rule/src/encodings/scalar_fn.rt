@@ -155,7 +155,8 @@ fn cast_to_own_type(
     Ok(Some(RawNode::done(alloc, child.clone()?)))
 }
 
-/// Row N1: a test for null of a non-nullable argument is the constant `value`, which is false for `IsNull` and true for `IsNotNull`.
+/// Row N1: a test for null of a non-nullable argument is the constant `value`, which is false for `IsNull` and true for
+/// `IsNotNull`.
 #[tactic(auto, using(crate::proofs::FitsLemmas::fit_N1, crate::proofs::QuietLemmas::null_test_quiet))]
 fn null_test_of_non_nullable(
     alloc: Global,

@@ -24,7 +24,8 @@ pub(crate) trait FlatEncoding: VTable {
         requires { Self.is_kind (no_rows (storage_of (type_of dtype.now))) ≡ true }
         ensures { IfOk result (λ none. Self.stands_for none ≡ no_rows (storage_of (type_of dtype.now))) };
 
-    /// Returns the values of the rows in `range`, which must be in order and in bounds. They share their storage with `payload`.
+    /// Returns the values of the rows in `range`, which must be in order and in bounds. They share their storage with
+    /// `payload`.
     fn slice_values(
         payload: &Self::TypedArrayData,
         range: Range<usize>,

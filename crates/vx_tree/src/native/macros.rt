@@ -22,8 +22,8 @@ macro_rules! by_type {
     };
 }
 
-/// Calls a generic function at the type that a `DecimalType` names: `by_decimal_type!(width, read(list))` calls `read::<i8>(list)`
-/// at `I8`.
+/// Calls a generic function at the type that a `DecimalType` names: `by_decimal_type!(width, read(list))` calls
+/// `read::<i8>(list)` at `I8`.
 #[macro_export]
 macro_rules! by_decimal_type {
     ($decimal_type:expr, $function:ident($($argument:expr),* $(,)?)) => {
@@ -68,7 +68,8 @@ macro_rules! for_integers {
     };
 }
 
-/// Calls one of the macros below for the variants of the five types that decimals are stored in, which come first among its arguments.
+/// Calls one of the macros below for the variants of the five types that decimals are stored in, which come first among its
+/// arguments.
 macro_rules! for_decimals {
     ($macro:ident!($($argument:tt)*)) => {
         $macro!([I8, I16, I32, I64, I128] $($argument)*)

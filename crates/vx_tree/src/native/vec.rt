@@ -82,8 +82,8 @@ fn any_with_capacity(
 }
 
 impl<K: NativeKind> NativeVec<K> {
-    /// Makes an empty vector of numbers of the type that `kind` names, with room for `capacity` of them. Fails only if there is no
-    /// memory for them.
+    /// Makes an empty vector of numbers of the type that `kind` names, with room for `capacity` of them. Fails only if there is
+    /// no memory for them.
     pub fn with_capacity(
         alloc: Global,
         kind: K,

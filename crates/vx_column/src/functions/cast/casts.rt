@@ -189,8 +189,8 @@ fn know_integers(integers: IntegerOperand<'_>, len: usize)
     by_type!(integers.ptype(), know_ranges(integers, len))
 }
 
-/// States that `integers`, `len` rows, which must be of the type `T`, are in its range. The loop computes nothing, so the compiler
-/// leaves it out.
+/// States that `integers`, `len` rows, which must be of the type `T`, are in its range. The loop computes nothing, so the
+/// compiler leaves it out.
 fn know_ranges<T: NativeInteger>(integers: IntegerOperand<'_>, len: usize)
     requires { AreIntegers T.kind integers len }
     ensures { (i : ℕ) → i < len → in_range T.kind (integer_in integers.entry i) ≡ true }

@@ -75,7 +75,7 @@ pub(crate) fn fill_null(
 }
 
 /// Chooses `if_true` if `choice` is true, else `if_false`, row by row, `len` rows each, whose values must be of one type.
-/// Shares the rows if every row is from one side. Fails only with `OutOfMemory`.
+/// Shares the rows of one side if `choice` is a single bit. Fails only with `OutOfMemory`.
 fn select(
     alloc: Global,
     choice: BitOperand<'_>,
@@ -174,7 +174,7 @@ fn select_rows(
     }
 }
 
-/// Chooses between bits, word by word; shares them if every bit is from one side.
+/// Chooses between bits, word by word; shares those of one side if `choice` is a single bit.
 #[tactic(auto, using(crate::proofs::ValidRowsLemmas::counted))]
 fn select_bits(
     alloc: Global,
