@@ -30,7 +30,7 @@ pub(crate) fn descend(
     descend_slots(alloc, root, depth + 1, total)
 }
 
-/// Optimizes the root of every child of `array`, then its slots.
+/// Optimizes every child of `array` in the same way.
 #[cycle(descend)]
 fn descend_slots(
     alloc: Global,
@@ -49,7 +49,7 @@ fn descend_slots(
     Ok(current)
 }
 
-/// Optimizes the root of the child in `slot`, counted from 0, then its slots, if there is a child.
+/// Optimizes the child in `slot`, counted from 0, in the same way, if there is one.
 #[cycle(descend)]
 #[tactic(auto, using(crate::proofs::LimitsLemmas::at_slot, crate::proofs::LimitsLemmas::below_refl))]
 fn descend_slot(

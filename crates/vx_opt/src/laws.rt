@@ -20,8 +20,8 @@ pub fn deriving_laws()
     ensures handed_in { (t u : Tree) → Keeps t u → Reaches t u (record { place = []; spent = suc (weight u) } ∷ []) }
 {}
 
-/// States that slicing twice, with any tree that may stand for the first slice, gives what may stand for the one slice, and
-/// that filtering twice gives what may stand for the filter by the combined mask. (own)
+/// States that a slice of a tree that may stand for a slice may stand for the one slice, and a filter of a tree that may stand
+/// for a filter may stand for the filter by the combined mask. (own)
 pub fn selecting_laws()
     ensures slices { (t u v : Tree) (a b c d : ℕ) → IsRange a b t → IsRange c d (slice_of a b t)
         → Keeps (slice_of a b t) u → Keeps (slice_of c d u) v → Keeps (slice_of (a + c) (a + d) t) v }

@@ -54,7 +54,7 @@ pub fn run<S: Source, K: Sink>(
         → Rose (K.faults sink.old) (K.faults sink.new) × WritesPrefix c (S.left source.old) (K.held sink.old) (K.held sink.new) }
     ensures memory { result ≡ Status.Memory → reads_tree (command_of (texts words.now.items)) ≡ true }
 
-    // And each cause has its status, unless one that comes before it.
+    // And each cause gives its status, unless an earlier cause gives another.
     ensures too_large_comes { reads_tree (command_of (texts words.now.items)) ≡ true
         → IfSome (S.left source.old) (λ bytes. input_limit < length bytes → has_no_input result ≡ true) }
     ensures bad_input_comes { reads_tree (command_of (texts words.now.items)) ≡ true

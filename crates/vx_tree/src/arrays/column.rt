@@ -17,7 +17,7 @@ use crate::validity::{Validity, check_validity, validity_to_child};
 use std::alloc::Global;
 use vx_value::{ArgKind, DType, Nullability, VortexError, VortexResult};
 
-/// Checks that `parts` make a column of `values` values of type `of_type`, whose nullability doesn't count.
+/// Checks that `parts` make a column of `values` values of type `of_type`, whose nullability is ignored.
 #[tactic(auto, using(crate::proofs::RefusalsLemmas::column_slot_count, crate::proofs::RefusalsLemmas::the_slot, crate::proofs::RefusalsLemmas::column_by_slot))]
 pub(crate) fn check_column<V: Encoded>(
     parts: &ArrayParts<V>,

@@ -120,7 +120,7 @@ impl Canonical {
         self.as_array().dtype()
     }
 
-    /// Returns the column if it is one of nulls, else `None`.
+    /// Returns the column if it is a column of nulls, else `None`.
     pub fn as_null(&self) -> Option<&NullArray>
         ensures { option_map (λ c. c.now) result ≡ null_column self.now }
     {
@@ -141,21 +141,21 @@ impl Canonical {
         variant!(self, Primitive)
     }
 
-    /// Returns the column if it is one of decimals, else `None`.
+    /// Returns the column if it is a column of decimals, else `None`.
     pub fn as_decimal(&self) -> Option<&DecimalArray>
         ensures { option_map (λ c. c.now) result ≡ decimal_column self.now }
     {
         variant!(self, Decimal)
     }
 
-    /// Returns the column if it is one of text or bytes, else `None`.
+    /// Returns the column if it is a column of text or bytes, else `None`.
     pub fn as_varbinview(&self) -> Option<&VarBinViewArray>
         ensures { option_map (λ c. c.now) result ≡ varbinview_column self.now }
     {
         variant!(self, VarBinView)
     }
 
-    /// Returns the column by value if it is one of nulls, else `None`.
+    /// Returns the column by value if it is a column of nulls, else `None`.
     pub fn into_null(self) -> Option<NullArray>
         ensures { result ≡ null_column self }
     {
@@ -176,14 +176,14 @@ impl Canonical {
         into_variant!(self, Primitive)
     }
 
-    /// Returns the column by value if it is one of decimals, else `None`.
+    /// Returns the column by value if it is a column of decimals, else `None`.
     pub fn into_decimal(self) -> Option<DecimalArray>
         ensures { result ≡ decimal_column self }
     {
         into_variant!(self, Decimal)
     }
 
-    /// Returns the column by value if it is one of text or bytes, else `None`.
+    /// Returns the column by value if it is a column of text or bytes, else `None`.
     pub fn into_varbinview(self) -> Option<VarBinViewArray>
         ensures { result ≡ varbinview_column self }
     {

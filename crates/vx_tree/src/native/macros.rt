@@ -35,8 +35,8 @@ macro_rules! by_decimal_type {
     };
 }
 
-/// Evaluates one expression over the numbers in a `NativeBuffer`, whatever their type: `by_native!(buffer, |numbers|
-/// sum(numbers))`.
+/// Evaluates one expression over the numbers in a `NativeBuffer`, whatever their type:
+/// `by_native!(buffer, |numbers| sum(numbers))`.
 #[macro_export]
 macro_rules! by_native {
     ($buffer:expr, |$numbers:ident| $body:expr) => {
