@@ -28,7 +28,7 @@ use Rattle.vx_column.proofs.CallsLemmas.{AreRows, call_typed, call_lengths, unre
 use Rattle.vx_column.proofs.ComputedLemmas.{fault_among}
 use Rattle.vx_column.specs.Arguments.{AnyUnread}
 use Rattle.vx_mask.proofs.Lists.{same_below}
-use Rattle.vx_column.proofs.KeepsLemmas.{same_exactly}
+use Rattle.vx_column.proofs.KeepsLemmas.{same_exactly, whole_clean}
 
 pub taken : (f : ScalarFnRef) {ts : List Tree} {n : ℕ} {tys : List DataType} {row : ℕ → List Cell} → AreRows ts n tys row → IsCall f ts n
     → IsSome (return_type f tys)
@@ -42,10 +42,11 @@ rows_are : (f : ScalarFnRef) (ts : List Tree) (n : ℕ) (tys : List DataType) (r
 rows_are f ts n tys row same ty = same_below n _ _ (λ i h. ap (apply f ty) (same.cells i h))
 
 pub applied : {f : ScalarFnRef} {ts : List Tree} {n : ℕ} {tys : List DataType} {row : ℕ → List Cell} {u : Tree} →
-    AreRows ts n tys row → IsResult f tys row n u → is_constant (datum u) ≡ gives_constant ts n → IsApplied f ts n u
-applied {f = f} {ts = ts} {n = n} {tys = tys} {row = row} {u = u} same h kept = record {
+    AreRows ts n tys row → IsResult f tys row n u → HasNoFault (rows u) → is_constant (datum u) ≡ gives_constant ts n → IsApplied f ts n u
+applied {f = f} {ts = ts} {n = n} {tys = tys} {row = row} {u = u} same h none kept = record {
   typed = ap (return_type f) same.types ∙ h.typed;
   exactly = same_exactly (call_of f (dtype u) n ts) u refl (sym h.counted) (rows_are f ts n tys row same (dtype u) ∙ sym h.shown) h.clean;
+  clean = whole_clean u h.clean none;
   constant_kept = kept;
 }
 

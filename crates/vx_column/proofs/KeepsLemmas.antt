@@ -12,7 +12,7 @@ use Rattle.vx_tree.proofs.KeepsLemmas.{rows_equal}
 use Rattle.vx_tree.proofs.ValiditiesLemmas.{whole}
 
 -- a tree that has another's type, length and rows, and no fault below, stands for it exactly
-whole_clean : (u : Tree) → AreClean (slots u) → HasNoFault (rows u) → IsClean u
+pub whole_clean : (u : Tree) → AreClean (slots u) → HasNoFault (rows u) → IsClean u
 whole_clean (node ty n d ss) e h = (h, e)
 
 pub same_exactly : (t u : Tree) → dtype t ≡ dtype u → len t ≡ len u → rows t ≡ rows u → AreClean (slots u) → KeepsExactly t u

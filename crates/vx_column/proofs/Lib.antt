@@ -38,3 +38,4 @@ pub mod SelectLemmas
 pub mod SelectedLemmas
 pub mod AppliedLemmas
 pub mod CallsLemmas
+pub mod WholeLemmas

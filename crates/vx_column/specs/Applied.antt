@@ -8,7 +8,7 @@ use Rattle.vx_fn.specs.ReturnTypes.{return_type}
 use Rattle.vx_fn.specs.declared.function.ScalarFnRef.{ScalarFnRef}
 use Rattle.vx_tree.specs.Tree.{Tree, function, filled_slots, dtype, len, datum, is_constant, constant_of, call_of}
 use Rattle.vx_tree.specs.Well.{IsNode, shapes}
-use Rattle.vx_tree.specs.Cells.{rows, HasNoFault}
+use Rattle.vx_tree.specs.Cells.{rows, HasNoFault, IsClean}
 use Rattle.vx_tree.specs.Canonicals.{columnar_tree}
 use Rattle.vx_tree.specs.Keeps.{KeepsExactly}
 use Rattle.vx_tree.specs.declared.canonical.columnar.Columnar.{Columnar}
@@ -29,10 +29,11 @@ gives_constant ts n = nat_lt 0 n && all_constant ts
 abbrev pub Repeats : Columnar → Typed → Type 0
 Repeats c s = columnar_tree c ≡ constant_of s (len (columnar_tree c))
 
--- u stands for the node exactly, and is a constant if and only if there is a row and every tree is a constant
+-- u stands for the node exactly, has no fault, and is a constant if and only if there is a row and every tree is a constant
 pub record IsApplied (f : ScalarFnRef) (ts : List Tree) (n : ℕ) (u : Tree) : Type 0 where
   pub typed : return_type f (map dtype ts) ≡ Some (dtype u)
   pub exactly : KeepsExactly (call_of f (dtype u) n ts) u
+  pub clean : IsClean u
   pub constant_kept : is_constant (datum u) ≡ gives_constant ts n
 
 -- why f can't be applied: out of memory, or a fault in one of the node's rows

@@ -1,6 +1,6 @@
 //! The loop of turns.
 
-ghost use Rattle.std.specs.Prelude.{◌≡◌, ◌⊎◌, ◌≤◌, ◌<◌, ℕ, IfOk, IfErr, OnOk, Err, true};
+ghost use Rattle.std.specs.Prelude.{◌≡◌, ◌⊎◌, ◌≤◌, ◌<◌, ℕ, IsOk, IfOk, IfErr, OnOk, Err, true};
 ghost use Rattle.vx_tree.specs.Tree.{datum, is_canonical, is_columnar};
 ghost use Rattle.vx_tree.specs.Keeps.{KeepsExactly};
 ghost use Rattle.vx_tree.specs.Cost.{cost};
@@ -68,8 +68,8 @@ impl ExecutionCtx {
     }
 }
 
-/// Executes `array` until its root matches `M` or is canonical. Returns `array` unchanged if its root already does. Each call
-/// counts its turns from 0.
+/// Executes `array` until its root matches `M` or is canonical. Returns `array` unchanged, in one turn and without memory, if
+/// its root already matches. Each call counts its turns from 0.
 ///
 /// # Errors
 ///
@@ -81,6 +81,7 @@ pub fn execute_until<M: Matcher>(array: ArrayRef, ctx: &mut ExecutionCtx) -> Vor
         (λ u. KeepsExactly array u × ((M.fits u ≡ true) ⊎ (is_canonical (datum u) ≡ true))) }
     ensures executed { IfOk result (IsExecuted M.fits array ctx.new.turns) }
     ensures as_it_is { M.fits array ≡ true → IfOk result (λ u. u ≡ array) }
+    ensures at_once { M.fits array ≡ true → 1 ≤ ctx.old.limit → IsOk result }
     ensures bound { OnOk result (ctx.new.turns ≤ cost array) }
     ensures within { OnOk result ((1 ≤ ctx.new.turns) × (ctx.new.turns ≤ ctx.old.limit)) }
     ensures limit { (l : ℕ) → result ≡ Err (VortexError.IterationLimit l)
@@ -104,8 +105,8 @@ pub fn execute_until<M: Matcher>(array: ArrayRef, ctx: &mut ExecutionCtx) -> Vor
     Err(VortexError::IterationLimit { limit: ctx.limit })
 }
 
-/// Executes `array` to a column of its type and length. Returns `array` unchanged if it is already a constant or a canonical
-/// column.
+/// Executes `array` to a column of its type and length. Returns `array` unchanged, in one turn and without memory, if it is
+/// already a constant or a canonical column.
 ///
 /// # Errors
 ///
@@ -114,6 +115,7 @@ pub fn execute(array: ArrayRef, ctx: &mut ExecutionCtx) -> VortexResult<Columnar
     ensures ok { IfOk result (λ c. KeepsExactly array (columnar_tree c)) }
     ensures executed { IfOk result (λ c. IsExecuted (λ t. is_columnar (datum t)) array ctx.new.turns (columnar_tree c)) }
     ensures as_it_is { is_columnar (datum array) ≡ true → IfOk result (λ c. columnar_tree c ≡ array) }
+    ensures at_once { is_columnar (datum array) ≡ true → 1 ≤ ctx.old.limit → IsOk result }
     ensures bound { OnOk result (ctx.new.turns ≤ cost array) }
     ensures within { OnOk result ((1 ≤ ctx.new.turns) × (ctx.new.turns ≤ ctx.old.limit)) }
     ensures limit { (l : ℕ) → result ≡ Err (VortexError.IterationLimit l)

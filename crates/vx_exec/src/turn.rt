@@ -1,6 +1,6 @@
 //! One turn of the executor.
 
-ghost use Rattle.std.specs.Prelude.{◌≡◌, IfOk, IfErr, false};
+ghost use Rattle.std.specs.Prelude.{◌≡◌, [], IsOk, IfOk, IfErr, true, false};
 ghost use Rattle.vx_step.specs.Steps.{IsStopped};
 ghost use Rattle.vx_exec.specs.Frames.{filled, AreFrames};
 ghost use Rattle.vx_exec.specs.Moves.{is_reached, IsMove, IsTurned};
@@ -81,6 +81,7 @@ pub fn take_turn<M: Matcher>(
     requires { AreFrames frames.old.items current }
     ensures ok { IfOk result (λ r. IsTurned M.fits frames.old.items current frames.new.items r) }
     ensures err { IfErr result (IsStopped (filled frames.old.items current)) }
+    ensures returns { frames.old.items ≡ [] → is_reached M.fits [] current ≡ true → IsOk result }
 {
     if is_reached::<M>(frames, &current) {
         match frames.pop() {

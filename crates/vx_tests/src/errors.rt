@@ -3,7 +3,7 @@
 use std::alloc::AllocError;
 use vx_value::{ArgKind, VortexError};
 
-static ERROR_TEXTS: [(VortexError, &str); 19] = [
+static ERROR_TEXTS: [(VortexError, &str); 20] = [
     (VortexError::OutOfMemory, "out of memory"),
     (
         VortexError::IterationLimit { limit: 4 },
@@ -31,12 +31,16 @@ static ERROR_TEXTS: [(VortexError, &str); 19] = [
         "slot count",
     ),
     (
-        VortexError::InvalidArgument(ArgKind::SlotMissing { slot: 0 }),
-        "slot 0 must be present",
+        VortexError::InvalidArgument(ArgKind::SlotMissing { slot: 2 }),
+        "slot 2 must be present",
     ),
     (
-        VortexError::InvalidArgument(ArgKind::SlotType { slot: 0 }),
+        VortexError::InvalidArgument(ArgKind::SlotType { slot: 1 }),
         "slot type",
+    ),
+    (
+        VortexError::InvalidArgument(ArgKind::SlotLen { slot: 1 }),
+        "slot len",
     ),
     (
         VortexError::InvalidArgument(ArgKind::Arity { want: 2, got: 1 }),

@@ -21,7 +21,7 @@ use vx_value::VortexResult;
 ///
 /// # Errors
 ///
-/// `Fault` if a row has no value; `OutOfMemory`.
+/// `Fault` exactly if a row has no value; `OutOfMemory`.
 pub fn apply_fn(
     alloc: Global,
     function: &ScalarFnRef,
@@ -37,6 +37,7 @@ pub fn apply_fn(
         None => {
             let rows = arguments_of(alloc, arguments)?;
             let column = apply_to_columns(alloc, function, rows.as_slice(), len)?;
+            column.as_array().well_formed_tree();
             Ok(Columnar::Canonical(column))
         }
     }

@@ -4,6 +4,7 @@ ghost use Rattle.std.specs.Prelude.{◌≡◌, ◌<◌, map, IfOk, IfErr, IfSome
 ghost use Rattle.std.specs.List.{AllZip};
 ghost use Rattle.vx_fn.specs.ReturnTypes.{return_type};
 ghost use Rattle.vx_tree.specs.Tree.{datum, is_constant};
+ghost use Rattle.vx_tree.specs.Cells.{rows, HasNoFault};
 ghost use Rattle.vx_tree.specs.Canonicals.{columnar_tree};
 ghost use Rattle.vx_column.specs.Applied.{Repeats, gives_constant};
 ghost use Rattle.vx_column.specs.Arguments.{types_of_scalars, cells_of_scalars};
@@ -58,6 +59,7 @@ pub(crate) fn apply_constants(
     requires some { 0 < len }
     ensures ok { IfOk result (λ c. IsResult function.now (types_of_scalars scalars.now) (λ _. cells_of_scalars scalars.now) len (columnar_tree c)) }
     ensures constant { IfOk result (λ c. is_constant (datum (columnar_tree c)) ≡ true) }
+    ensures whole { IfOk result (λ c. HasNoFault (rows (columnar_tree c))) }
     ensures err { IfErr result (IsNoResult function.now (types_of_scalars scalars.now) (λ _. cells_of_scalars scalars.now) len) }
 {
     let scalar = apply_row(function, scalars)?;

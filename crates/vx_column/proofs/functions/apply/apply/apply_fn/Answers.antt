@@ -1,11 +1,13 @@
 use Rattle.std.proofs.Common.{◌∙◌, sym, subst, map}
 use Rattle.std.proofs.lemmas.Result.{IfErr-weaker, err_from_is_err_and}
 use Rattle.vx_tree.specs.Tree.{datum}
+use Rattle.vx_tree.specs.Well.{IsWell}
 use Rattle.vx_tree.specs.Canonicals.{canonical_tree, columnar_tree}
 use Rattle.vx_tree.proofs.ColumnsLemmas.{canonical_open}
 use Rattle.vx_column.proofs.CellsLemmas.{IfOk-both}
 use Rattle.vx_column.specs.Applied.{IsUnapplied}
 use Rattle.vx_column.proofs.AppliedLemmas.{taken, call_taken, applied, unapplied, unread, all_repeat}
+use Rattle.vx_column.proofs.WholeLemmas.{canonical_whole}
 use Rattle.vx_column.proofs.CallsLemmas.{argument_rows, scalar_rows, arguments_sized}
 use Rattle.vx_column.proofs.functions.apply.apply.apply_fn.Goals as goal
 
@@ -23,8 +25,10 @@ returns-in-Some-clause-ok c =
     let all = rw c.in-Some.is at c.in_ok-scalars.ensures.all in
     let some = rw c.in-Some.is at c.in_ok-scalars.ensures.some in
     IfOk-both c.apply_constants.result
-    (λ u made constant. applied (scalar_rows c.args.function.now n xs ss c.requires all) made (constant ∙ sym (all_repeat n xs ss some all)))
-    (rw c.as_slice.ensures.value at c.apply_constants.ensures.ok) c.apply_constants.ensures.constant
+    (λ u both constant.
+    applied (scalar_rows c.args.function.now n xs ss c.requires all) both.0 both.1 (constant ∙ sym (all_repeat n xs ss some all)))
+    (IfOk-both c.apply_constants.result (λ u made none. (made, none)) (rw c.as_slice.ensures.value at c.apply_constants.ensures.ok)
+    c.apply_constants.ensures.whole) c.apply_constants.ensures.constant
 
 pub returns-in-Some-clause-err : goal.returns-in-Some-clause-err
 returns-in-Some-clause-err c =
@@ -47,7 +51,9 @@ returns-in_ok-column-in-None-clause-ok c =
     let rows = argument_rows c.args.function.now c.args.len c.args.arguments.now c.in_ok-rows-in-None.rows.items c.requires c.in_ok-rows-in-None.ensures.ok in
     let made = rw c.as_slice-in-None.ensures.value at c.in_ok-column-in-None.ensures.ok in
     let other = rw c.in-None.is at c.in_ok-scalars.ensures.not_all in
-    applied rows made.result (canonical_open (datum (canonical_tree c.in_ok-column-in-None.column)) made.canonical ∙ sym other)
+    let column = canonical_tree c.in_ok-column-in-None.column in
+    let well = subst IsWell c.as_array-in-None.ensures.of c.well_formed_tree-in-None.ensures.formed in
+    applied rows made.result (canonical_whole column well made.canonical made.result.clean) (canonical_open (datum (canonical_tree c.in_ok-column-in-None.column)) made.canonical ∙ sym other)
 
 pub returns-in_err-column-in-None-clause-err : goal.returns-in_err-column-in-None-clause-err
 returns-in_err-column-in-None-clause-err c =

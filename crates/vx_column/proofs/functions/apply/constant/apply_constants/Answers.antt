@@ -1,8 +1,10 @@
 use Rattle.std.proofs.Common.{inl, inr, sym, subst}
 use Rattle.std.proofs.lemmas.Result.{IfOk-weaker, err_from_is_err_and}
+use Rattle.vx_tree.specs.Cells.{rows, HasNoFault}
 use Rattle.vx_tree.specs.Canonicals.{columnar_tree}
 use Rattle.vx_column.specs.Arguments.{types_of_scalars, cells_of_scalars}
 use Rattle.vx_column.specs.Computed.{IsNoResult}
+use Rattle.vx_column.proofs.KeepsLemmas.{copies_clean}
 use Rattle.vx_column.proofs.AppliedLemmas.{constant_result, fault_at_row}
 use Rattle.vx_column.proofs.functions.apply.constant.apply_constants.Goals as goal
 
@@ -14,6 +16,11 @@ returns-clause-ok c =
     (λ u. constant_result c.args.function.now (types_of_scalars ss) (cells_of_scalars ss) c.args.len made.scalar (columnar_tree u) made.ensures.typed
     made.ensures.ok)
     c.constant.ensures.ok
+
+pub returns-clause-whole : goal.returns-clause-whole
+returns-clause-whole c =
+    IfOk-weaker c.constant.result _ _
+    (λ u e. subst (λ t. HasNoFault (rows t)) (sym e) (copies_clean c.args.len c.in_ok-scalar.scalar.value)) c.constant.ensures.ok
 
 pub returns-in_err-scalar-clause-err : goal.returns-in_err-scalar-clause-err
 returns-in_err-scalar-clause-err c =
