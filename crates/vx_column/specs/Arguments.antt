@@ -41,7 +41,7 @@ use Rattle.vx_column.specs.declared.rows.argument.ArgumentRows.TheVariants as st
 use Rattle.vx_column.specs.declared.rows.valid.ValidRows.{ValidRows}
 use Rattle.vx_column.specs.ValidRows.{is_valid, HasValidity, AreTold, nullability_in, null_unless}
 
--- the integer at row i, or 0 past the last one
+-- the integer at row i, 0 past the last one
 abbrev pub integer_at : IntegerRows → ℕ → ℤ
 integer_at (rows_in.Rows vs) i = slice_index_or (values_of vs.now) i (pos 0)
 integer_at (rows_in.Value p z) i = z
@@ -50,12 +50,12 @@ abbrev pub ptype_at : IntegerRows → PType
 ptype_at (rows_in.Rows vs) = ptype_of vs.now
 ptype_at (rows_in.Value p z) = p
 
--- the one for every row is in the range of its type
+-- if one integer stands for every row, it is in the range of its type
 abbrev pub IsInRange : IntegerRows → Type 0
 IsInRange (rows_in.Rows vs) = Unit {0}
 IsInRange (rows_in.Value p z) = in_range p z ≡ true
 
--- there are n rows; one integer stands for any number of them
+-- there are n rows; a single value stands for any number of them
 abbrev pub HasIntegers : IntegerRows → ℕ → Type 0
 HasIntegers (rows_in.Rows vs) n = length (values_of vs.now) ≡ n
 HasIntegers (rows_in.Value p z) n = Unit {0}
@@ -66,11 +66,11 @@ integer_in zs = integer_at zs.rows
 abbrev pub ptype_in : IntegerOperand → PType
 ptype_in zs = ptype_at zs.rows
 
--- n integers of type p, which columns of their type store
+-- n integers that are values of type p
 abbrev pub AreIntegers : PType → IntegerOperand → ℕ → Type 0
 AreIntegers p zs n = (ptype_in zs ≡ p) × IsInRange zs.rows × HasIntegers zs.rows n × (storage_of (type_of zs.dtype.now) ≡ storage.Integers p)
 
--- the decimal at row i without its point, or 0 past the last one
+-- the decimal at row i without its point, 0 past the last one
 abbrev pub unscaled_at : DecimalRows → ℕ → ℤ
 unscaled_at (decimal_rows.Rows ds) i = slice_index_or (numbers_of ds.now) i (pos 0)
 unscaled_at (decimal_rows.Value z) i = z
@@ -78,16 +78,16 @@ unscaled_at (decimal_rows.Value z) i = z
 abbrev pub unscaled_in : DecimalOperand → ℕ → ℤ
 unscaled_in ds = unscaled_at ds.rows
 
--- the decimal that a value is without its point, 0 for any other value
+-- the number of a decimal without its point; 0 for any other value
 abbrev pub unscaled_of : Value → ℤ
 unscaled_of (decimal z s) = z
 unscaled_of _ = pos 0
 
--- how the decimals of a type are stored
+-- the storage of a type of decimals
 abbrev pub stored_decimals : DecimalDType → Storage
 stored_decimals d = storage.Decimals d.precision d.scale
 
--- n decimals of the type; one stands for any number of them
+-- n decimals of the type; a single value stands for any number of them
 abbrev pub HasDecimals : DecimalDType → DecimalRows → ℕ → Type 0
 HasDecimals d (decimal_rows.Rows ds) n =
     (length (numbers_of ds.now) ≡ n) × (are_decimals_of (stored_decimals d) (decimal_type_of ds.now) (numbers_of ds.now) ≡ true)
@@ -104,7 +104,7 @@ bytes_at (bytes_rows.Value bs) i = bs.now
 abbrev pub bytes_in : BytesOperand → ℕ → List ℕ
 bytes_in bs = bytes_at bs.rows
 
--- n rows of bytes that are values that are stored so
+-- n rows of bytes that are values of this storage
 abbrev pub HasBytes : Storage → BytesRows → ℕ → Type 0
 HasBytes st (bytes_rows.Rows rs) n = (length rs.now ≡ n) × (are_bytes_of st rs.now ≡ true)
 HasBytes st (bytes_rows.Value bs) n = are_bytes_of st (bs.now ∷ []) ≡ true
@@ -112,7 +112,7 @@ HasBytes st (bytes_rows.Value bs) n = are_bytes_of st (bs.now ∷ []) ≡ true
 abbrev pub AreBytes : BytesOperand → ℕ → Type 0
 AreBytes bs = HasBytes bs.storage bs.rows
 
--- the value that is stored in row i, also if the row is null: a line for each storage
+-- the value that row i stores, also if the row is null: a line for each storage
 abbrev pub value_at : ArgumentRows → ℕ → Value
 value_at stored.Nulls i = null
 value_at (stored.Bits bs) i = boolean (bit_in bs i)
@@ -128,7 +128,7 @@ plain_type (stored.Integers zs) = type.primitive (ptype_in zs) NonNullable
 plain_type (stored.Decimals ds) = type.decimal ds.decimal.precision ds.decimal.scale NonNullable
 plain_type (stored.Bytes bs) = bytes_type bs.storage
 
--- the type of a column of them, by its nullability
+-- the type of a column of these rows, by its nullability
 abbrev pub type_of_rows : Nullability → ArgumentRows → DataType
 type_of_rows m stored.Nulls = type.null
 type_of_rows m (stored.Bits bs) = type.bool m
@@ -136,7 +136,7 @@ type_of_rows m (stored.Integers zs) = type_of zs.dtype.now
 type_of_rows m (stored.Decimals ds) = type.decimal ds.decimal.precision ds.decimal.scale m
 type_of_rows m (stored.Bytes bs) = with_nullability m (bytes_type bs.storage)
 
--- there are n of them, in a column of this nullability
+-- there are n rows, in a column of this nullability
 abbrev pub AreStored : Nullability → ArgumentRows → ℕ → Type 0
 AreStored m stored.Nulls n = m ≡ Nullable
 AreStored m (stored.Bits bs) n = HasBits bs n
@@ -144,7 +144,7 @@ AreStored m (stored.Integers zs) n = AreIntegers (ptype_in zs) zs n × (nullabil
 AreStored m (stored.Decimals ds) n = AreDecimals ds n
 AreStored m (stored.Bytes bs) n = AreBytes bs n
 
--- there are n of them
+-- there are n rows
 abbrev pub HasStored : ArgumentRows → ℕ → Type 0
 HasStored stored.Nulls n = Unit {0}
 HasStored (stored.Bits bs) n = HasBits bs n
@@ -152,7 +152,7 @@ HasStored (stored.Integers zs) n = AreIntegers (ptype_in zs) zs n
 HasStored (stored.Decimals ds) n = AreDecimals ds n
 HasStored (stored.Bytes bs) n = AreBytes bs n
 
--- of n rows, none of type null is valid
+-- none of n rows of type null is valid
 abbrev pub AreShown : ArgumentRows → ValidRows → ℕ → Type 0
 AreShown stored.Nulls valid n = (i : ℕ) → i < n → is_valid valid i ≡ false
 AreShown _ valid n = Unit {0}
@@ -160,7 +160,7 @@ AreShown _ valid n = Unit {0}
 abbrev pub type_of_argument : Argument → DataType
 type_of_argument a = type_of_rows (nullability_in a.valid) a.rows
 
--- it has n rows
+-- the argument has n rows
 abbrev pub IsSized : ℕ → Argument → Type 0
 IsSized n a = AreStored (nullability_in a.valid) a.rows n × HasValidity a.valid n × AreShown a.rows a.valid n
 
@@ -174,7 +174,7 @@ pub record IsArgument (c : Columnar) (a : Argument) : Type 0 where
   pub shown : (i : ℕ) → i < len (columnar_tree c) → slice_index_or (rows (columnar_tree c)) i fault ≡ cell_at a i
   pub sized : IsSized (len (columnar_tree c)) a
 
--- a has the rows r of a column t, and those that its validity v tells are valid
+-- a has the rows r of a column t, valid where its validity v says so
 pub record IsTold (t : Tree) (r : ArgumentRows) (v : Option Tree) (a : Argument) : Type 0 where
   pub rows : a.rows ≡ r
   pub told : AreTold (len t) v a.valid
@@ -185,12 +185,12 @@ pub record IsTold (t : Tree) (r : ArgumentRows) (v : Option Tree) (a : Argument)
 abbrev pub IsUnread : Tree → VortexError → Type 0
 IsUnread t e = (e ≡ OutOfMemory) ⊎ ((e ≡ Fault) × (i : ℕ) × (i < len t) × (slice_get (rows t) i ≡ Some fault))
 
--- why the validity of n rows can't
+-- why the validity of n rows can't be read
 abbrev pub AreUnread : ℕ → Option Tree → VortexError → Type 0
 AreUnread n None e = e ≡ OutOfMemory
 AreUnread n (Some t) e = (e ≡ OutOfMemory) ⊎ ((e ≡ Fault) × (i : ℕ) × (i < n) × (slice_get (rows t) i ≡ Some fault))
 
--- why one of the columns can't
+-- why one of the columns can't be read
 abbrev pub AnyUnread : List Columnar → VortexError → Type 0
 AnyUnread [] e = e ≡ OutOfMemory
 AnyUnread (c ∷ cs) e = IsUnread (columnar_tree c) e ⊎ AnyUnread cs e
@@ -208,11 +208,11 @@ types_of args = map type_of_argument args
 abbrev pub row_of : List Argument → ℕ → List Cell
 row_of args i = map (λ a. cell_at a i) args
 
--- the stored values at row i, of two arguments
+-- the values that two arguments store in row i
 abbrev pub pair_at : ArgumentRows → ArgumentRows → ℕ → List Cell
 pair_at l r i = value (value_at l i) ∷ value (value_at r i) ∷ []
 
--- of scalars
+-- the types of scalars
 abbrev pub types_of_scalars : List Typed → List DataType
 types_of_scalars ss = map (λ s. s.of_type) ss
 

@@ -20,7 +20,7 @@ abbrev pub bound_by : StrictComparison → Operator
 bound_by Strict = Lt
 bound_by NonStrict = Lte
 
--- an array and its bounds, n rows each, which are of one type; these are valid
+-- an array and its bounds, n rows of one type each, with the rows that are valid
 pub record AreBounded (array lower upper : ArgumentRows) (valid : ValidRows) (n : ℕ) : Type 0 where
   pub array_stored : HasStored array n
   pub lower_stored : HasStored lower n
@@ -34,10 +34,10 @@ abbrev pub is_between : BetweenOptions → (array lower upper : ℕ → Value) �
 is_between options array lower upper i =
     is_below options.lower_strict (value_cmp (lower i) (array i)) && is_below options.upper_strict (value_cmp (array i) (upper i))
 
--- these are the bits that it stores of n rows: false if the row is null
+-- the bits that a column of the answers stores for n rows: false if the row is null
 pub record AreBetween (options : BetweenOptions) (valid : ValidRows) (array lower upper : ArgumentRows) (n : ℕ) (bits : List Bool) : Type 0 where
   pub made : bits ≡ checked_rows (is_valid valid) (is_between options (value_at array) (value_at lower) (value_at upper)) n
 
--- the first operator holds of row i of `lower` and of `array`, and the second of row i of `array` and of `upper`
+-- `first` holds of row i of `lower` and `array`, and `second` of row i of `array` and `upper`
 abbrev pub is_bounded : (first second : Operator) → (array lower upper : ℕ → Value) → ℕ → Bool
 is_bounded first second array lower upper i = holds first (value_cmp (lower i) (array i)) && holds second (value_cmp (array i) (upper i))

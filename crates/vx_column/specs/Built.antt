@@ -1,4 +1,4 @@
--- A type and rows of it, and their column.
+-- Rows of a type, and the column that is built of them.
 use Rattle.std.specs.Prelude.{ℕ, ℤ, ◌+◌, ◌^◌, ◌++◌, ◌==◌, if◌then◌else◌, nat_lt, refl, List, length, map, Option, Some, None}
 use Rattle.std.specs.Coded.{Coded, code_by, coded×, coded_list}
 use Rattle.vx_value.specs.Types.{DataType, coded_type, nullability_of, is_nullable, same_type}
@@ -25,11 +25,11 @@ coded_rows =
     code_by (DataType × List Value) (coded× coded_type (coded_list coded_value)) (λ r. (r.of_type, r.values)) (λ p. record { of_type = p.0; values = p.1 })
     (λ _. refl)
 
--- the same with more values at the end
+-- the same rows, followed by these values
 abbrev pub appended : TypedRows → List Value → TypedRows
 appended r vs = record { of_type = r.of_type; values = r.values ++ vs }
 
--- why nothing of this type can come to them
+-- why nothing of this type can be appended
 abbrev pub type_refusal : TypedRows → DataType → Option VortexError
 type_refusal r ty = unless (same_type ty r.of_type) (InvalidArgument BadType)
 
@@ -37,7 +37,7 @@ type_refusal r ty = unless (same_type ty r.of_type) (InvalidArgument BadType)
 abbrev pub length_refusal : ℕ → ℕ → Option VortexError
 length_refusal n k = unless (nat_lt (n + k) (2 ^ 64)) (TooLong n k)
 
--- why a scalar, and k nulls, can't come to them
+-- why a scalar, or k nulls, can't be appended
 abbrev pub scalar_refusal : TypedRows → Typed → Option VortexError
 scalar_refusal r s = first_of_both (type_refusal r s.of_type) (length_refusal (length r.values) 1)
 
@@ -46,12 +46,12 @@ more_nulls_refusal r k =
     if k == 0 then None else
     first_of_both (unless (is_nullable (nullability_of r.of_type)) (InvalidArgument BadType)) (length_refusal (length r.values) k)
 
--- a decimal without its point; none for any other value
+-- the number of a decimal without its point; None for any other value
 abbrev pub without_point : Value → Option ℤ
 without_point (decimal z s) = Some z
 without_point _ = None
 
--- their column, by how the type's values are stored: a line for each storage
+-- the column of the rows, by how the type stores its values: a line for each storage
 abbrev pub built_stored : Storage → DataType → List Value → Tree
 built_stored Nulls ty vs = nulls_of (length vs)
 built_stored Bits ty vs = boolean_rows (nullability_of ty) (map boolean_in vs)

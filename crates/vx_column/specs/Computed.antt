@@ -1,4 +1,4 @@
--- What a function gives, row by row.
+-- The results of a function, row by row.
 use Rattle.std.specs.Prelude.{◌≡◌, ◌⊎◌, ℕ, List, map, Some, true}
 use Rattle.std.specs.List.{range_with_len, AllByRecursion}
 use Rattle.vx_value.specs.Types.{DataType}
@@ -15,11 +15,11 @@ use Rattle.vx_column.specs.ValidRows.{is_valid, null_unless}
 use Rattle.vx_column.specs.declared.rows.argument.Argument.{Argument}
 use Rattle.vx_column.specs.declared.rows.valid.ValidRows.{ValidRows}
 
--- f on n rows, of which row i is `row i`, with a result of type ty
+-- f applied to n rows, of which row i is `row i`, with a result of type ty
 abbrev pub cells_of : ScalarFnRef → DataType → (ℕ → List Cell) → ℕ → List Cell
 cells_of f ty row n = map (λ i. apply f ty (row i)) (range_with_len 0 n)
 
--- u has the cells of f on n rows of the types tys
+-- u has the cells of f applied to n rows of the types tys
 pub record IsResult (f : ScalarFnRef) (tys : List DataType) (row : ℕ → List Cell) (n : ℕ) (u : Tree) : Type 0 where
   pub typed : return_type f tys ≡ Some (dtype u)
   pub counted : len u ≡ n
@@ -38,7 +38,7 @@ pub record IsColumnOfCells (valid : ValidRows) (stored : ℕ → Cell) (n : ℕ)
   pub clean : AreClean (slots u)
   pub canonical : is_canonical (datum u) ≡ true
 
--- u is the canonical column of f on the arguments, n rows of each
+-- u is the canonical column of f applied to the arguments, n rows each
 pub record IsCanonicalResult (f : ScalarFnRef) (args : List Argument) (n : ℕ) (u : Tree) : Type 0 where
   pub result : IsResult f (types_of args) (row_of args) n u
   pub canonical : is_canonical (datum u) ≡ true
@@ -46,11 +46,11 @@ pub record IsCanonicalResult (f : ScalarFnRef) (args : List Argument) (n : ℕ) 
 abbrev pub HasNoCanonicalResult : ScalarFnRef → List Argument → ℕ → VortexError → Type 0
 HasNoCanonicalResult f args n e = IsNoResult f (types_of args) (row_of args) n e
 
--- f takes arguments of these types
+-- f accepts arguments of these types
 abbrev pub IsTaken : ScalarFnRef → List DataType → Type 0
 IsTaken f tys = (ty : DataType) × (return_type f tys ≡ Some ty)
 
--- f takes these arguments, n rows of each
+-- f accepts these arguments, n rows each
 pub record Takes (f : ScalarFnRef) (args : List Argument) (n : ℕ) : Type 0 where
   pub sized : AllByRecursion (IsSized n) args
   pub types : IsTaken f (types_of args)

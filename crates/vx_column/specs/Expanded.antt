@@ -1,4 +1,4 @@
--- The validity of a value that is repeated.
+-- The validity of a repeated value.
 use Rattle.std.specs.Prelude.{if◌then◌else◌}
 use Rattle.vx_value.specs.Types.{nullability_of}
 use Rattle.vx_value.specs.Typed.{Typed}

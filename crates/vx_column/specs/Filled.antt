@@ -1,4 +1,4 @@
--- What a function gives on the valid rows.
+-- The results of a function on the valid rows.
 use Rattle.std.specs.Prelude.{◌≡◌, ◌⊎◌, ℕ, List, map, Option, Some, IsSome, option_map}
 use Rattle.std.specs.List.{range_with_len}
 use Rattle.vx_value.specs.Types.{DataType}
@@ -23,7 +23,7 @@ use Rattle.vx_column.specs.Computed.{IsColumnOfCells}
 abbrev pub filled_type : ValidRows → Option DataType → Option DataType
 filled_type valid of_type = option_map (with_nullability (nullability_in valid)) of_type
 
--- f on n rows, of which row i is `row i`, with a result of type ty: null in those that aren't valid
+-- f applied to n rows, of which row i is `row i`, with a result of type ty: null in the rows that aren't valid
 abbrev pub filled_cells : ScalarFnRef → DataType → (ℕ → List Cell) → ValidRows → ℕ → List Cell
 filled_cells f ty row valid n = map (λ i. null_unless (is_valid valid i) (apply f ty (row i))) (range_with_len 0 n)
 
@@ -32,12 +32,12 @@ pub record IsRowwiseResult (f : ScalarFnRef) (of_type : Option DataType) (row : 
   pub typed : filled_type valid of_type ≡ Some (dtype u)
   pub made : IsColumnOfCells valid (λ i. apply f (dtype u) (row i)) n u
 
--- why there is none: out of memory, or one of the cells is a fault
+-- why there is no such column: out of memory, or one of the cells is a fault
 abbrev pub HasNoRowwiseResult : ScalarFnRef → Option DataType → (ℕ → List Cell) → ValidRows → ℕ → VortexError → Type 0
 HasNoRowwiseResult f of_type row valid n e =
     (e ≡ OutOfMemory) ⊎ ((e ≡ Fault) × ((ty : DataType) → filled_type valid of_type ≡ Some ty → ¬ (HasNoFault (filled_cells f ty row valid n))))
 
--- op takes the rows of two arguments of one type, n rows each, of which these are valid
+-- op accepts the rows of two arguments of one type, n rows each, with the rows that are valid
 pub record Operates (op : Operator) (lhs rhs : ArgumentRows) (valid : ValidRows) (n : ℕ) : Type 0 where
   pub left : HasStored lhs n
   pub right : HasStored rhs n
@@ -45,10 +45,10 @@ pub record Operates (op : Operator) (lhs rhs : ArgumentRows) (valid : ValidRows)
   pub taken : IsSome (operator_type op (plain_type lhs))
   pub sized : HasValidity valid n
 
--- u is the canonical column of an operator on the rows of two arguments of one type: null in those that aren't valid
+-- u is the canonical column of an operator applied to the rows of two arguments of one type: null in the rows that aren't valid
 abbrev pub IsOperatorResult : Operator → (lhs rhs : ArgumentRows) → ValidRows → ℕ → Tree → Type 0
 IsOperatorResult op lhs rhs valid n u = IsRowwiseResult (Binary op) (operator_type op (plain_type lhs)) (pair_at lhs rhs) valid n u
 
--- why there is none
+-- why there is no such column
 abbrev pub HasNoOperatorResult : Operator → (lhs rhs : ArgumentRows) → ValidRows → ℕ → VortexError → Type 0
 HasNoOperatorResult op lhs rhs valid n e = HasNoRowwiseResult (Binary op) (operator_type op (plain_type lhs)) (pair_at lhs rhs) valid n e

@@ -1,4 +1,4 @@
--- What a builder keeps of its rows: a value for each, under a null too, and which of them aren't null.
+-- The rows that a builder keeps: a value for each, also if it is null, and which of them aren't null.
 use Rattle.std.specs.Prelude.{◌≡◌, ◌⊎◌, ◌<◌, ◌≤◌, ◌-◌, ℕ, pos, Bool, true, false, if◌then◌else◌, List, [], ◌∷◌, ◌++◌, length, map, replicate}
 use Rattle.std.specs.List.{list_all}
 use Rattle.vx_value.specs.Types.{DataType, nullability_of}
@@ -23,7 +23,7 @@ use Rattle.vx_column.specs.declared.rows.valid.ValidRows.TheVariants as valid
 use Rattle.vx_column.specs.declared.builder.values.Values.{Values}
 use Rattle.vx_column.specs.declared.builder.values.Values.TheVariants.{Nulls, Bits, Integers, Decimals, Bytes}
 
--- the values that are stored: a line for each kind
+-- the values, by kind: a line for each
 abbrev pub stored_values : Values → List Value
 stored_values (Nulls n) = replicate n value.null
 stored_values (Bits bs) = map (λ b. value.boolean b) bs
@@ -31,7 +31,7 @@ stored_values (Integers zs) = map (λ z. value.integer z) zs.numbers
 stored_values (Decimals zs s) = map (λ z. value.decimal z s) zs.numbers
 stored_values (Bytes rs) = map (λ r. value.bytes r) rs
 
--- the one that stands under a null
+-- the value under a null
 abbrev pub zero_in : Values → Value
 zero_in (Nulls n) = value.null
 zero_in (Bits bs) = value.boolean false
@@ -39,7 +39,7 @@ zero_in (Integers zs) = value.integer (pos 0)
 zero_in (Decimals zs s) = value.decimal (pos 0) s
 zero_in (Bytes rs) = value.bytes []
 
--- they are stored so
+-- the values have this storage
 abbrev pub HaveStorage : Storage → Values → Type 0
 HaveStorage st (Nulls n) = st ≡ storage.Nulls
 HaveStorage st (Bits bs) = st ≡ storage.Bits
@@ -55,7 +55,7 @@ Accepts (Decimals zs s) (value.decimal z r) = (fits_width zs.kind z ≡ true) ×
 Accepts (Bytes rs) (value.bytes r) = Unit {0}
 Accepts vs v = ⊥
 
--- the bits of n rows, true past those that there are
+-- the bits of n rows, true for the rows that have none
 abbrev pub padded : ℕ → List Bool → List Bool
 padded n bits = bits ++ replicate (n - length bits) true
 
@@ -65,7 +65,7 @@ masked_by other [] vs = vs
 masked_by other (b ∷ bs) [] = []
 masked_by other (b ∷ bs) (v ∷ vs) = (if b then v else other) ∷ masked_by other bs vs
 
--- the rows, null where a bit is false
+-- the values, null where a bit is false
 abbrev pub rows_kept : Values → List Bool → List Value
 rows_kept values bits = masked_by value.null bits (stored_values values)
 
@@ -78,12 +78,12 @@ pub record IsKept (ty : DataType) (n : ℕ) (values : Values) (bits : List Bool)
   pub nullable : 0 < length bits → nullability_of ty ≡ Nullable
   pub zeros : masked_by (zero_in values) bits (stored_values values) ≡ stored_values values
 
--- the rows that aren't null by the bits of n rows: all if there are no bits
+-- the valid rows among n, by their bits: all if there are no bits
 abbrev pub told_rows : Nullability → ℕ → List Bool → ValidRows
 told_rows m n [] = valid.All m
 told_rows m n (b ∷ bits) = valid.Bits (padded n (b ∷ bits))
 
--- their column with the validity v
+-- the column of the values with the validity v
 abbrev pub IsColumnOf : Storage → Values → Validity → Tree → Type 0
 IsColumnOf st (Nulls n) v t = t ≡ nulls_of n
 IsColumnOf st (Bits bs) v t = t ≡ boolean_column bs v

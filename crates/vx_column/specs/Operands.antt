@@ -15,30 +15,30 @@ use Rattle.vx_column.specs.declared.rows.valid.ValidRows.{ValidRows}
 use Rattle.vx_column.specs.declared.functions.kernel.operand.Operand.{Operand}
 use Rattle.vx_column.specs.declared.functions.kernel.operand.Operand.TheVariants as operand
 
--- what the number at row i stands for, or 0 past the last one
+-- the integer that the number at row i stands for, 0 past the last one
 abbrev pub number_in : {T : Type 0} → (T → ℤ) → Operand T → ℕ → ℤ
 number_in read (operand.Rows xs) i = slice_index_or (map read xs.now) i (pos 0)
 number_in read (operand.Value x) i = read x
 
--- row i exists; one number stands for each
+-- row i exists; a single value stands for every row
 abbrev pub HasRow : {T : Type 0} → Operand T → ℕ → Type 0
 HasRow (operand.Rows xs) i = i < length xs.now
 HasRow (operand.Value x) i = Unit {0}
 
--- so do the first n
+-- the first n rows exist
 abbrev pub HasRows : {T : Type 0} → Operand T → ℕ → Type 0
 HasRows x n = (i : ℕ) → i < n → HasRow x i
 
--- the cell that is stored of a row: zero if it is null
+-- the cell that a row stores: zero if the row is null
 abbrev pub zero_unless : Value → Bool → Cell → Cell
 zero_unless none true c = c
 zero_unless none false c = value none
 
--- those of n rows, of which row i is `cell i`, null unless `valid i`
+-- the cells that n rows store, of which row i is `cell i`: zero unless `valid i`
 abbrev pub calculated_rows : Value → (ℕ → Bool) → (ℕ → Cell) → ℕ → List Cell
 calculated_rows none valid cell n = map (λ i. zero_unless none (valid i) (cell i)) (range_with_len 0 n)
 
--- why there are none: out of memory, or one of them is a fault
+-- why they can't be calculated: out of memory, or a valid row is a fault
 abbrev pub IsFaultyRow : (ℕ → Bool) → (ℕ → Cell) → ℕ → VortexError → Type 0
 IsFaultyRow valid cell n e = (e ≡ OutOfMemory) ⊎ ((e ≡ Fault) × (i : ℕ) × (i < n) × (valid i ≡ true) × (cell i ≡ fault))
 

@@ -1,4 +1,4 @@
--- What reading one row of a tree gives.
+-- One row of a tree, read.
 use Rattle.std.specs.Prelude.{◌≡◌, ◌⊎◌, ℕ, Some, slice_get}
 use Rattle.vx_value.specs.Typed.{Typed}
 use Rattle.vx_value.specs.Cell.{value, fault}
@@ -11,6 +11,6 @@ use Rattle.vx_tree.specs.Cells.{rows}
 abbrev pub IsRow : Tree → ℕ → Typed → Type 0
 IsRow t i s = (slice_get (rows t) i ≡ Some (value s.value)) × (s.of_type ≡ dtype t)
 
--- why row i can't be read: out of memory, or it is a fault
+-- why row i can't be read: out of memory, or the row is a fault
 abbrev pub IsUnreadRow : Tree → ℕ → VortexError → Type 0
 IsUnreadRow t i e = (e ≡ OutOfMemory) ⊎ ((e ≡ Fault) × (slice_get (rows t) i ≡ Some fault))

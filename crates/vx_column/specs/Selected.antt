@@ -23,11 +23,11 @@ selected choice x y i = if bit_in choice i then x i else y i
 abbrev pub selected_by : {A : Type 0} → List Bool → (ℕ → A) → (ℕ → A) → ℕ → A
 selected_by bits x y i = if bit_row bits i then x i else y i
 
--- n rows of them
+-- n rows chosen so
 abbrev pub selected_rows : {A : Type 0} → List Bool → (ℕ → A) → (ℕ → A) → ℕ → List A
 selected_rows bits x y n = map (selected_by bits x y) (range_with_len 0 n)
 
--- the rows of two arguments of one type, n each, of which n bits choose; these are valid
+-- two arguments of one type, n rows each, n bits that choose between them, and the rows that are valid
 pub record AreSides (bits : List Bool) (x y : ArgumentRows) (valid : ValidRows) (n : ℕ) : Type 0 where
   pub long : length bits ≡ n
   pub left : HasStored x n
@@ -35,12 +35,12 @@ pub record AreSides (bits : List Bool) (x y : ArgumentRows) (valid : ValidRows) 
   pub same : plain_type x ≡ plain_type y
   pub sized : HasValidity valid n
 
--- u is the canonical column of the stored values, null in those that aren't valid
+-- u is the canonical column of the chosen values, null in the rows that aren't valid
 pub record AreSelected (bits : List Bool) (x y : ArgumentRows) (valid : ValidRows) (n : ℕ) (u : Tree) : Type 0 where
   pub typed : dtype u ≡ with_nullability (nullability_in valid) (plain_type x)
   pub made : IsColumnOfCells valid (λ i. value (selected_by bits (value_at x) (value_at y) i)) n u
 
--- u is the canonical column of these cells, nullable if one of the two is
+-- u is the canonical column of the chosen cells, nullable if one of the two arguments is
 pub record IsSelected (choice : BitOperand) (x y : Argument) (n : ℕ) (u : Tree) : Type 0 where
   pub typed : dtype u ≡ with_nullability (union (nullability_in x.valid) (nullability_in y.valid)) (plain_type x.rows)
   pub counted : len u ≡ n

@@ -1,4 +1,4 @@
--- Columns by what they store and by their validity.
+-- Columns by the values that they store and their validity.
 use Rattle.std.specs.Prelude.{ℕ, ℤ, List, length, Bool}
 use Rattle.vx_value.specs.Types as type
 use Rattle.vx_value.specs.declared.dtype.PType.{PType}
@@ -11,7 +11,7 @@ use Rattle.vx_tree.specs.Tree.{Tree, column, bool, primitive, decimals, views}
 use Rattle.vx_tree.specs.Validities.{nullability_by, child_of}
 use Rattle.vx_tree.specs.declared.validity.Validity.{Validity}
 
--- of booleans, of integers, of decimals without their points, and of text or bytes, by how they are stored
+-- a column of booleans; of integers; of decimals without their points; of text or bytes, by its storage
 abbrev pub boolean_column : List Bool → Validity → Tree
 boolean_column bs v = column (type.bool (nullability_by v)) (length bs) (bool bs) (child_of v (length bs))
 

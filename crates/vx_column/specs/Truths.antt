@@ -1,4 +1,4 @@
--- Truth values by bits, and which of them are known.
+-- Truth values: bits, and which of them are known.
 use Rattle.std.specs.Prelude.{ℕ, Bool}
 use Rattle.vx_mask.specs.Operands.{bit_in, HasBits}
 use Rattle.vx_column.specs.ValidRows.{is_valid, HasValidity}
@@ -13,6 +13,6 @@ HasTruths t n = HasBits t.bits n × HasValidity t.valid.now n
 abbrev pub argument_in : Truths → Argument
 argument_in t = record { rows = Bits t.bits; valid = t.valid.now }
 
--- what f makes of whether row i is known and of its bit
+-- f applied to whether row i is known and to its bit
 abbrev pub row_over : (Bool → Bool → Bool) → Truths → ℕ → Bool
 row_over f t i = f (is_valid t.valid.now i) (bit_in t.bits i)

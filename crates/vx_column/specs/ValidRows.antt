@@ -1,4 +1,4 @@
--- The rows that aren't null, told by bits.
+-- The rows of a column that aren't null, as bits.
 use Rattle.std.proofs.Math.Bool.{not}
 use Rattle.std.specs.Prelude.{◌≡◌, ◌<◌, ℕ, Bool, true, false, List, length, map, Option, Some, None}
 use Rattle.vx_value.specs.Types.{bool, nullability_of}
@@ -21,7 +21,7 @@ abbrev pub is_valid : ValidRows → ℕ → Bool
 is_valid (rows_valid.All m) i = true
 is_valid (rows_valid.Bits bits) i = bit_row bits i
 
--- there are n rows; all is any number of them
+-- there are n rows; `All` stands for any number of them
 abbrev pub HasValidity : ValidRows → ℕ → Type 0
 HasValidity (rows_valid.All m) n = Unit {0}
 HasValidity (rows_valid.Bits bits) n = length bits ≡ n
@@ -40,23 +40,23 @@ child_in (rows_valid.Bits bits) = child_by bits
 abbrev pub IsValidityOf : ValidRows → ℕ → Validity → Type 0
 IsValidityOf valid n v = (nullability_by v ≡ nullability_in valid) × (child_of v n ≡ child_in valid) × HasRows v n
 
--- they are those of n rows that the tree of a column's validity tells
+-- the rows are valid if the validity t says so, row by row; all are if there is none
 abbrev pub AreTold : ℕ → Option Tree → ValidRows → Type 0
 AreTold n None valid = (i : ℕ) → is_valid valid i ≡ true
 AreTold n (Some t) valid =
     (bits : List Bool) × (length bits ≡ n) × (rows t ≡ map (λ b. value (boolean b)) bits) × ((i : ℕ) → i < n → is_valid valid i ≡ bit_row bits i)
 
--- the cell of a valid row, null of another
+-- the cell if its row is valid, else null
 abbrev pub null_unless : Bool → Cell → Cell
 null_unless true c = c
 null_unless false c = value null
 
--- a validity of this nullability tells of n rows: absent if no row is null
+-- the validity, if there is one, is a nullable column's and has n rows
 abbrev pub TellsRows : Nullability → ℕ → Option Tree → Type 0
 TellsRows m n None = Unit {0}
 TellsRows m n (Some t) = (m ≡ Nullable) × (dtype t ≡ bool NonNullable) × (len t ≡ n)
 
--- those of n rows of the scalar
+-- the valid rows of a constant of n rows
 abbrev pub IsRepeatedValidity : Typed → ℕ → ValidRows → Type 0
 IsRepeatedValidity s n valid =
     HasValidity valid n × (nullability_in valid ≡ nullability_of s.of_type) × ((i : ℕ) → is_valid valid i ≡ not (is_null s.value))

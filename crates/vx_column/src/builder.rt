@@ -1,4 +1,4 @@
-//! Columns that grow row by row.
+//! Columns built row by row.
 
 ghost use Rattle.std.specs.Prelude.{◌≡◌, ◌⊎◌, ◌↔◌, ◌+◌, ◌<◌, ◌^◌, ◌∷◌, [], true, length, map, replicate, Some, None, IsTrue, IfOk, IfErr, OnOk, OnErr, MatchResult};
 ghost use Rattle.std.specs.List.{list_all};
@@ -25,8 +25,8 @@ use vx_value::{ArgKind, DType, Scalar, VortexError, VortexResult};
 
 /// Builds a column row by row. (own)
 ///
-/// Memory is asked for as a `Vec` asks for it: for `capacity` rows up front, then for twice as many whenever they are full. Nulls take
-/// bits only from the first one on.
+/// Allocates as a `Vec` does: room for `capacity` rows up front, then for twice as many whenever it is full. Nulls take bits
+/// only from the first one on.
 #[derive(Debug, Drop)]
 pub struct Builder {
     dtype: DType,
@@ -51,8 +51,7 @@ impl Model for Builder {
 }
 
 impl Builder {
-    /// Makes a builder of a column of type `dtype` without rows, with room for `capacity` of them. Fails only with
-    /// `OutOfMemory`.
+    /// Makes a builder of an empty column of type `dtype`, with room for `capacity` rows. Fails only with `OutOfMemory`.
     pub fn with_capacity(alloc: Global, dtype: DType, capacity: usize) -> VortexResult<Builder>
         ensures ok { IfOk result (λ b. b ≡ record { of_type = type_of dtype; values = [] }) }
         ensures err { OnlyOutOfMemory result }
@@ -82,7 +81,7 @@ impl Builder {
         self.len
     }
 
-    /// Checks whether there are no rows.
+    /// Returns whether there are no rows.
     pub fn is_empty(&self) -> bool
         ensures { IsTrue result ↔ (length self.now.values ≡ 0) }
     {
@@ -91,8 +90,9 @@ impl Builder {
 
     /// Appends a row, `scalar`. The builder is unchanged after an error.
     ///
-    /// The first condition that fails gives the error: `InvalidArgument` with `BadType` exactly if `scalar` isn't of the builder's type,
-    /// nullability included, and then `TooLong` exactly if there are `usize::MAX` rows. Besides, there is `OutOfMemory`.
+    /// The first condition that fails gives the error: `InvalidArgument` with `BadType` exactly if `scalar` isn't of the
+    /// builder's type, nullability included, then `TooLong` exactly if there are `usize::MAX` rows. Otherwise the only error is
+    /// `OutOfMemory`.
     pub fn append_scalar(&mut self, scalar: &Scalar) -> VortexResult<()>
         ensures ok { OnOk result (self.new ≡ appended self.old (scalar.now.value ∷ [])) }
         ensures err { OnErr result (self.new ≡ self.old) }
@@ -111,10 +111,11 @@ impl Builder {
         }
     }
 
-    /// Appends `count` rows that are null, in one allocation. The builder is unchanged after an error.
+    /// Appends `count` nulls, in one allocation. The builder is unchanged after an error.
     ///
-    /// The first condition that fails gives the error: `InvalidArgument` with `BadType` exactly if `count` isn't 0 and the builder's type
-    /// isn't nullable, and then `TooLong` exactly if there would be more than `usize::MAX` rows. Besides, there is `OutOfMemory`.
+    /// The first condition that fails gives the error: `InvalidArgument` with `BadType` exactly if `count` isn't 0 and the
+    /// builder's type isn't nullable, then `TooLong` exactly if there would be more than `usize::MAX` rows. Otherwise the only
+    /// error is `OutOfMemory`.
     pub fn append_nulls(&mut self, count: usize) -> VortexResult<()>
         ensures ok { OnOk result (self.new ≡ appended self.old (replicate count null)) }
         ensures err { OnErr result (self.new ≡ self.old) }
@@ -142,7 +143,7 @@ impl Builder {
         }
     }
 
-    /// Checks that `count` more rows can be counted.
+    /// Checks that `count` more rows don't overflow the number of rows.
     fn check_len(&self, count: usize) -> VortexResult<()>
         ensures { MatchResult result (λ _. length_refusal (length self.now.values) count ≡ None)
             (λ e. length_refusal (length self.now.values) count ≡ Some e) }
@@ -156,7 +157,7 @@ impl Builder {
         Ok(())
     }
 
-    /// Appends `count` nulls to the rows of a nullable type. Fails only with `OutOfMemory`; the builder is then unchanged.
+    /// Appends `count` nulls. The type must be nullable. Fails only with `OutOfMemory`; the builder is then unchanged.
     fn push_nulls(&mut self, count: usize) -> VortexResult<()>
         requires nullable { nullability_of self.old.of_type ≡ Nullable }
         requires fits { length self.old.values + count < 2 ^ 64 }
@@ -179,8 +180,8 @@ impl Builder {
         Ok(())
     }
 
-    /// Returns the rows as a column, without copying them. Its validity has the one form that the rows determine: `NonNullable`
-    /// or `AllValid` if no row is null, `AllInvalid` if there is a row and all are. Fails only with `OutOfMemory`.
+    /// Returns the rows as a column, without copying them. Its validity has one form for given rows: `NonNullable` or
+    /// `AllValid` if no row is null, `AllInvalid` if there is a row and all are null. Fails only with `OutOfMemory`.
     pub fn finish(self, alloc: Global) -> VortexResult<Canonical>
         ensures ok { IfOk result (λ c. canonical_tree c ≡ built self) }
         ensures rows { IfOk result (λ c. rows (canonical_tree c) ≡ map (λ v. value v) self.values) }

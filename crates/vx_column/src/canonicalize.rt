@@ -16,8 +16,8 @@ use vx_tree::{
 };
 use vx_value::{ByteBuffer, DType, DecimalType, Scalar, Storage, VortexResult};
 
-/// Expands `array` to a canonical column. The rows take one allocation, which is made before any is written; the bytes of a
-/// text or a binary value stand once. Fails only with `OutOfMemory`.
+/// Expands `array` to a canonical column. Allocates the rows once, before any is written; the bytes of a text or a binary value
+/// are stored once. Fails only with `OutOfMemory`.
 pub fn constant_canonicalize(
     alloc: Global,
     array: ArrayView<'_, Constant>,
@@ -34,7 +34,7 @@ pub fn constant_canonicalize(
     }
 }
 
-/// Makes the column of `len` rows, each `scalar`; `false`, 0 or no bytes stand under a null. Fails only with `OutOfMemory`.
+/// Makes the column of `len` rows, each `scalar`; null rows store `false`, 0 or no bytes. Fails only with `OutOfMemory`.
 fn repeat(alloc: Global, scalar: &Scalar, len: usize) -> VortexResult<Canonical>
     ensures ok { IfOk result (λ c. KeepsExactly (constant_of scalar.now len) (canonical_tree c)) }
     ensures err { OnlyOutOfMemory result }

@@ -21,9 +21,9 @@ use vx_tree::{
 };
 use vx_value::{DType, Nullability, VortexResult};
 
-/// Returns the rows of `column` at the true bits of `mask`, which must have a bit for each row, as a column. The values share
-/// their storage with those of `column` if the true bits are consecutive, and the bytes of texts always do. Fails only with
-/// `OutOfMemory`. (own)
+/// Returns the column of the rows of `column` at the true bits of `mask`, which must have a bit for each row. Shares the
+/// storage of the values if the true bits are consecutive, and always that of the bytes of text. Fails only with `OutOfMemory`.
+/// (own)
 pub fn filter_canonical(alloc: Global, column: &Canonical, mask: &Mask) -> VortexResult<Canonical>
     requires { length (bits_in mask.now) ≡ len (canonical_tree column.now) }
     ensures ok { IfOk result (λ c. KeepsExactly (filter_of (bits_in mask.now) (canonical_tree column.now)) (canonical_tree c)) }
@@ -58,7 +58,7 @@ pub fn filter_canonical(alloc: Global, column: &Canonical, mask: &Mask) -> Vorte
     }
 }
 
-/// Returns the validity of the rows at the true bits of `mask`, from the slot of the validity of a column of this nullability.
+/// Returns the validity of the rows at the true bits of `mask`, given the slot of the validity of a column of this nullability.
 /// Fails only with `OutOfMemory`.
 fn filter_validity(
     alloc: Global,

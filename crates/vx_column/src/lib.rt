@@ -1,5 +1,5 @@
-//! Whole columns: reads their rows, filters and masks them, applies functions to them, expands constants, and builds columns row by
-//! row.
+//! Whole columns: reads their rows, filters and masks them, applies functions to them, expands constants, and builds columns
+//! row by row.
 #![tactic(auto)]
 
 mod builder;

@@ -1,4 +1,4 @@
-//! Columns with some of their rows made null.
+//! Columns with some rows made null.
 
 ghost use Rattle.std.specs.Prelude.{◌≡◌, ◌⊎◌, ◌∷◌, [], Some, true, map, IfOk, IfErr, IfSome};
 ghost use Rattle.vx_value.specs.Errors.{OnlyOutOfMemory};
@@ -24,11 +24,11 @@ use vx_tree::{ArrayKind, ArrayRef, Canonical, NullArray, Validity, and_lazily, v
 use vx_value::{DType, Nullability, VortexError, VortexResult};
 
 /// Returns the rows of `column`, null where `validity` says so, as a nullable column that shares its values. `validity` must be
-/// a nullable one with a row for each of the column's. (own)
+/// a nullable one of as many rows. (own)
 ///
 /// # Errors
 ///
-/// `OutOfMemory`; `Fault` if the column is one of nulls and a row of `validity` has no value, as there is no place for it then.
+/// `OutOfMemory`; `Fault` if `column` is a column of nulls, which can't hold a fault, and a row of `validity` has no value.
 pub fn mask_validity_canonical(
     alloc: Global,
     column: &Canonical,
@@ -46,8 +46,8 @@ pub fn mask_validity_canonical(
     mask_column(alloc, array, child)
 }
 
-/// Returns the rows of `array`, a canonical column, null where `child`, the slot of a validity, says so. `Fault` if the column is one of nulls and
-/// a row of `child` has no value.
+/// Returns the rows of `array`, a canonical column, null where `child`, the slot of a validity, says so. `Fault` if it is a
+/// column of nulls and a row of `child` has no value.
 fn mask_column(alloc: Global, array: &ArrayRef, child: Option<ArrayRef>) -> VortexResult<Canonical>
     requires canonical { is_canonical (datum array.now) ≡ true }
     requires child { TellsAll (len array.now) child }
@@ -81,7 +81,7 @@ fn mask_column(alloc: Global, array: &ArrayRef, child: Option<ArrayRef>) -> Vort
     }
 }
 
-/// Returns `len` nulls. `Fault` if a row of the validity in the slot `validity` has no value.
+/// Returns `len` nulls. `Fault` if a row of the validity in `validity` has no value.
 fn mask_nulls(alloc: Global, validity: &Option<ArrayRef>, len: usize) -> VortexResult<Canonical>
     requires { TellsAll len validity.now }
     ensures ok { IfOk result (λ c. KeepsExactly (masked_of (nulls_of len) validity.now) (canonical_tree c)) }
@@ -96,8 +96,8 @@ fn mask_nulls(alloc: Global, validity: &Option<ArrayRef>, len: usize) -> VortexR
     }
 }
 
-/// Returns the validity of a nullable column of `len` rows whose valid rows two slots of validities both tell. Fails only with
-/// `OutOfMemory`.
+/// Returns the validity of a nullable column of `len` rows that are valid if the validities in both slots say so. Fails only
+/// with `OutOfMemory`.
 fn both_valid(
     alloc: Global,
     first: &Option<ArrayRef>,
@@ -119,7 +119,7 @@ fn both_valid(
     }
 }
 
-/// Returns the validity of a nullable column of `len` rows that are valid where two arrays are both true: by words if both are
+/// Returns the validity of a nullable column of `len` rows that are valid if both arrays are true: word by word if both are
 /// columns without nulls, else by a lazy conjunction. Fails only with `OutOfMemory`.
 fn both_true(
     alloc: Global,

@@ -1,4 +1,4 @@
-//! Which rows of a column aren't null, as a column.
+//! Tests which rows of a column aren't null.
 
 ghost use Rattle.std.specs.Prelude.{◌≡◌, ◌<◌, ℕ, length, IfOk, IfErr};
 ghost use Rattle.vx_mask.specs.Logic.{bit_row};
@@ -14,7 +14,7 @@ use vx_mask::BitBuffer;
 use vx_tree::{Canonical, Columnar, Validity};
 use vx_value::VortexResult;
 
-/// Returns whether each row of `column` isn't null, as a column of non-nullable booleans. (own)
+/// Tests each row of `column` for not being null. Returns a column of non-nullable booleans. (own)
 ///
 /// # Errors
 ///
@@ -34,7 +34,7 @@ pub fn validity_canonical(alloc: Global, column: &Columnar) -> VortexResult<Cano
     }
 }
 
-/// Returns whether each of `len` rows is among the `valid` ones.
+/// Returns a bit for each of `len` rows, true if the row is `valid`.
 fn valid_bits(alloc: Global, valid: ValidRows, len: usize) -> Result<BitBuffer, AllocError>
     requires { HasValidity valid len }
     ensures sized { IfOk result (λ bits. length bits ≡ len) }

@@ -68,13 +68,13 @@ impl ExecutionCtx {
     }
 }
 
-/// Executes `array` until its root matches `M` or is canonical. A root that matches already is returned as it is, in one turn and
-/// without memory. Each call counts its turns from 0.
+/// Executes `array` until its root matches `M` or is canonical. Returns `array` unchanged, in one turn and without memory, if
+/// its root already matches. Each call counts its turns from 0.
 ///
 /// # Errors
 ///
-/// `IterationLimit` if as many turns as the limit were taken and the root isn't executed; `Fault` only if a row of
-/// `array`, or of a node in it, has no value; `OutOfMemory`.
+/// `IterationLimit` if the limit of turns was reached and the root isn't executed; `Fault` only if a row of `array`, or of a
+/// node in it, has no value; `OutOfMemory`.
 #[tactic(auto, using(crate::proofs::MovesLemmas::loop_moves, crate::proofs::MovesLemmas::executed, crate::proofs::MovesLemmas::reached_root, crate::proofs::MovesLemmas::takes_a_turn, crate::proofs::MovesLemmas::returned_as_it_is))]
 pub fn execute_until<M: Matcher>(array: ArrayRef, ctx: &mut ExecutionCtx) -> VortexResult<ArrayRef>
     ensures ok { IfOk result
@@ -105,8 +105,8 @@ pub fn execute_until<M: Matcher>(array: ArrayRef, ctx: &mut ExecutionCtx) -> Vor
     Err(VortexError::IterationLimit { limit: ctx.limit })
 }
 
-/// Executes `array` to a column of its type and length. A tree that is a constant or a canonical column already is returned as it
-/// is, in one turn and without memory.
+/// Executes `array` to a column of its type and length. Returns `array` unchanged, in one turn and without memory, if it is
+/// already a constant or a canonical column.
 ///
 /// # Errors
 ///

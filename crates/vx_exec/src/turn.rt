@@ -28,7 +28,7 @@ pub enum Turn {
     Return(ArrayRef),
 }
 
-/// Whether `current` has reached its target: the last frame's, or the root's if there is no frame. A canonical node
+/// Returns whether `current` has reached its target: the last frame's, or the root's if there is no frame. A canonical node
 /// always has.
 fn is_reached<M: Matcher>(frames: &[Frame], current: &ArrayRef) -> bool
     ensures { result ≡ is_reached M.fits frames.now current.now }
@@ -42,7 +42,7 @@ fn is_reached<M: Matcher>(frames: &[Frame], current: &ArrayRef) -> bool
     }
 }
 
-/// Takes the step of `current`, or suspends it and enters the slot that the step asks for.
+/// Takes the step of `current`, or suspends it and enters the slot that the step requests.
 #[tactic(auto, using(crate::proofs::MovesLemmas::open_data))]
 fn advance<M: Matcher>(
     alloc: Global,
@@ -69,8 +69,8 @@ fn advance<M: Matcher>(
     }
 }
 
-/// Takes one turn: puts `current` back if it has reached its target, or else takes its step or enters a slot. `frames`
-/// has the outermost parent first. (own)
+/// Takes one turn: puts `current` back if it has reached its target, else takes its step or enters a slot. `frames` has the
+/// outermost parent first. (own)
 ///
 /// The errors are `OutOfMemory`, and `Fault` only if a row of the whole tree, or of a node in it, has no value.
 pub fn take_turn<M: Matcher>(

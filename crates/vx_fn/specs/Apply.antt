@@ -1,4 +1,4 @@
--- What a function gives, row by row.
+-- The results of a function, row by row.
 use Rattle.std.specs.Prelude.{List, [], ◌∷◌}
 use Rattle.vx_value.specs.Types.{DataType}
 use Rattle.vx_value.specs.Values.{Value}
@@ -6,7 +6,7 @@ use Rattle.vx_value.specs.Cell.{Cell, value, fault}
 use Rattle.vx_fn.specs.Functions.{meaning}
 use Rattle.vx_fn.specs.declared.function.ScalarFnRef.{ScalarFnRef}
 
--- of values, where the result is of the type
+-- the function of values, with a result of type ty
 abbrev pub value_of : ScalarFnRef → DataType → List Value → Cell
 value_of f = (meaning f).value
 
@@ -16,6 +16,6 @@ on_values f [] = f []
 on_values f (value v ∷ cs) = on_values (λ vs. f (v ∷ vs)) cs
 on_values f (fault ∷ cs) = fault
 
--- the cell of a function's row, from those of its arguments, where the result is of the type
+-- the cell of a function's row, from the cells of its arguments, with a result of type ty
 abbrev pub apply : ScalarFnRef → DataType → List Cell → Cell
 apply f ty cs = on_values (value_of f ty) cs

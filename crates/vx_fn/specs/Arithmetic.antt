@@ -1,4 +1,4 @@
--- Arithmetic on two numbers, in whole numbers without bounds: the types that it takes, and the results.
+-- Arithmetic on two unbounded whole numbers: the types that it accepts, and the results.
 use Rattle.std.specs.Prelude.{◌≡◌, FitsSigned, ℤ, pos, ◌+ℤ◌, ◌-ℤ◌, ◌*ℤ◌, int_div, if◌then◌else◌, Option, Some, None}
 use Rattle.std.specs.Ordering.{int_cmp, is_eq}
 use Rattle.std.specs.Int.{w128}
@@ -17,12 +17,12 @@ summed_type (primitive p n) = Some (primitive p NonNullable)
 summed_type (decimal p s n) = Some (decimal p s NonNullable)
 summed_type _ = None
 
--- integers alone are multiplied and divided
+-- only integers are multiplied and divided
 abbrev pub multiplied_type : DataType → Option DataType
 multiplied_type (primitive p n) = Some (primitive p NonNullable)
 multiplied_type _ = None
 
--- the number, a fault if the type doesn't have it
+-- the number; a fault if it is out of the type's range
 abbrev pub number : PType → ℤ → Cell
 number p z = if in_range p z then value (integer z) else fault
 
@@ -30,7 +30,7 @@ number p z = if in_range p z then value (integer z) else fault
 abbrev pub divided : (ℤ → Cell) → ℤ → ℤ → Cell
 divided fit x y = if is_eq (int_cmp y (pos 0)) then fault else fit (int_div x y)
 
--- the result, which `fit` makes a value if the type has it: a line for each operator; the others give no number
+-- the result, a value if it fits the type, as `fit` says: a line for each operator; the others don't calculate
 abbrev pub calculated_by : Operator → (ℤ → Cell) → ℤ → ℤ → Cell
 calculated_by operator.Add fit x y = fit (x +ℤ y)
 calculated_by operator.Sub fit x y = fit (x -ℤ y)
@@ -44,6 +44,6 @@ quotient p = divided (number p)
 abbrev pub calculated : Operator → PType → ℤ → ℤ → Cell
 calculated op p = calculated_by op (number p)
 
--- each number that 128 bits don't hold is a fault
+-- each number that doesn't fit 128 bits is a fault
 abbrev pub IsBounded : (ℤ → Cell) → Type 0
 IsBounded fit = (z : ℤ) → ¬ FitsSigned w128 z → fit z ≡ fault

@@ -1,7 +1,7 @@
 -- Functions of exactly one, two or three arguments, on a list of them.
 use Rattle.std.specs.Prelude.{List, [], ◌∷◌}
 
--- `rule` says what an argument makes of the answer, as a null one may. `other` is the answer for another number of arguments.
+-- `rule` adjusts the result for an argument, as for a null one. `other` is the result for another number of arguments.
 abbrev pub of_one : {A B : Type 0} → (A → B → B) → B → (A → B) → List A → B
 of_one rule other f (x ∷ []) = rule x (f x)
 of_one rule other f _ = other

@@ -1,4 +1,4 @@
--- Functions of so many arguments answer only to so many.
+-- Functions of a fixed number of arguments accept only that number.
 use Rattle.std.proofs.Common.{◌≡◌, List, [], ◌∷◌, length, Option, Some, None, refl}
 use Rattle.vx_fn.specs.Arity.{of_one, of_two, of_three}
 

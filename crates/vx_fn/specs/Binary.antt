@@ -1,4 +1,4 @@
--- The binary operators: the types that they take, and the results.
+-- The binary operators: the types that they accept, and the results.
 use Rattle.std.specs.Prelude.{Bool, true, false, if◌then◌else◌, Option, Some, None, codes}
 use Rattle.vx_value.specs.Types.{DataType, bool, primitive, decimal}
 use Rattle.vx_value.specs.Nullabilities.{same_but_nullability}
@@ -15,7 +15,7 @@ use Rattle.vx_fn.specs.Logic.{both, either}
 use Rattle.vx_fn.specs.declared.function.Operator.{Operator}
 use Rattle.vx_fn.specs.declared.function.Operator.TheVariants as operator
 
--- the operators that give a boolean, whatever they compare
+-- the comparisons, whose result is a boolean
 abbrev pub is_comparison : Operator → Bool
 is_comparison operator.Eq = true
 is_comparison operator.NotEq = true
@@ -25,7 +25,7 @@ is_comparison operator.Lt = true
 is_comparison operator.Lte = true
 is_comparison _ = false
 
--- the operators that take booleans, null among them
+-- the operators that join booleans, null among them
 abbrev pub is_logical : Operator → Bool
 is_logical operator.And = true
 is_logical operator.Or = true
@@ -35,7 +35,7 @@ abbrev pub logical_type : DataType → Option DataType
 logical_type (bool n) = Some (bool NonNullable)
 logical_type _ = None
 
--- of two arguments of one type: a line for each operator
+-- the result's type for two arguments of one type: a line for each operator
 abbrev pub operator_type : Operator → DataType → Option DataType
 operator_type operator.Eq t = Some (bool NonNullable)
 operator_type operator.NotEq t = Some (bool NonNullable)
@@ -53,20 +53,20 @@ operator_type operator.Or t = logical_type t
 abbrev pub binary_type : Operator → DataType → DataType → Option DataType
 binary_type op s t = if same_but_nullability s t then operator_type op s else None
 
--- if the result is a boolean: logic joins the values, the others compare them
+-- the result, if it is a boolean: logical operators join the values, the others compare them
 abbrev pub decided : Operator → Value → Value → Cell
 decided operator.And v w = both v w
 decided operator.Or v w = either v w
 decided op v w = compared op v w
 
--- by the type of the result: a boolean comes of any values, a number of numbers
+-- the result, by its type: a boolean from any values, a number from numbers
 abbrev pub operated : Operator → DataType → Value → Value → Cell
 operated op (bool n) v w = decided op v w
 operated op (primitive p n) (integer x) (integer y) = calculated op p x y
 operated op (decimal p s n) (value.decimal x q) (value.decimal y r) = calculated_by op (sized p s) x y
 operated op _ _ _ = fault
 
--- to logic null is a truth value; any other result of null is null
+-- logical operators take null as a truth value; any other result for null is null
 abbrev pub null_rule : Bool → Value → Cell → Cell
 null_rule true = as_given
 null_rule false = null_through

@@ -5,7 +5,7 @@ use Rattle.vx_value.specs.Casts.{has_cast, cast_to}
 use Rattle.vx_value.specs.declared.id.Id.TheVariants as id
 use Rattle.vx_fn.specs.Meanings.{Meaning, taking_one, as_given}
 
--- the target, where there is a cast to it
+-- the target, if there is a cast to it
 abbrev pub cast_type : DataType → DataType → Option DataType
 cast_type target s = if has_cast s target then Some target else None
 

@@ -23,7 +23,7 @@ is_ordered (type.binary n) = true
 abbrev pub ordered_type : DataType → Option DataType
 ordered_type t = if is_ordered t then Some (type.bool NonNullable) else None
 
--- whether it holds of two values that compare so: a line for each operator that compares; the others hold of none
+-- whether the operator holds for two values with this ordering: a line for each comparison; the other operators never hold
 abbrev pub holds : Operator → Ordering → Bool
 holds operator.Eq o = is_eq o
 holds operator.NotEq o = is_ne o

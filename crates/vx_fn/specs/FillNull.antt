@@ -1,4 +1,4 @@
--- The first value, the second where that is null.
+-- The first value, or the second if the first is null.
 use Rattle.std.specs.Prelude.{if◌then◌else◌, Option, Some, None, codes}
 use Rattle.vx_value.specs.Types.{DataType}
 use Rattle.vx_value.specs.Nullabilities.{same_but_nullability}

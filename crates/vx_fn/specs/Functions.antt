@@ -1,4 +1,4 @@
--- The functions: what each is, their ids, how many arguments they take, what these are called, and the code of a function.
+-- The functions: the meaning of each, its id, the number and the names of its arguments, and its code.
 use Rattle.std.specs.Prelude.{ℕ, List, length}
 use Rattle.std.specs.Coded.{Coded}
 use denote.Enum.Declared.{row}
@@ -9,7 +9,7 @@ use Rattle.vx_fn.specs.declared.function.ScalarFnRef.{ScalarFnRef}
 use Rattle.vx_fn.specs.declared.function.ScalarFnRef.TheVariants as function
 use Rattle.vx_fn.specs.contracts.function.ScalarFnRef.{the_type as the_function}
 
--- what each is: a line for each function
+-- the meaning: a line for each function
 abbrev pub meaning : ScalarFnRef → Meaning
 meaning (function.Binary op) = Rattle.vx_fn.specs.Binary.binary op
 meaning (function.Between options) = Rattle.vx_fn.specs.Between.between options
@@ -27,10 +27,10 @@ function_id f = (meaning f).id
 abbrev pub argument_names : ScalarFnRef → List (List ℕ)
 argument_names f = (meaning f).names
 
--- how many arguments it takes: each has a name
+-- the number of arguments: each has a name
 abbrev pub arity : ScalarFnRef → ℕ
 arity f = length (argument_names f)
 
--- the code of a function: of the enum as it is declared, whatever its variants hold
+-- the code of a function: that of the enum as declared, whatever its variants hold
 abbrev pub coded_function : Coded ScalarFnRef
 coded_function = (row the_function).coded

@@ -11,7 +11,7 @@ use Rattle.vx_fn.specs.Meanings.{Meaning, taking_one, as_given}
 use Rattle.vx_fn.specs.declared.functions.is_null.NullTest.{NullTest}
 use Rattle.vx_fn.specs.declared.functions.is_null.NullTest.TheVariants as test
 
--- values of every type are tested
+-- values of any type can be tested
 abbrev pub test_type : DataType → Option DataType
 test_type s = Some (bool NonNullable)
 

@@ -1,4 +1,4 @@
--- Logic with null as the unknown truth value.
+-- Logic in which null is the unknown truth value.
 use Rattle.std.specs.Prelude.{Bool, true, false, Option, Some, None}
 use Rattle.std.proofs.Math.Bool.{not}
 use Rattle.vx_value.specs.Values.{Value, null, boolean}

@@ -1,4 +1,4 @@
--- A value where the mask is true, null where it is false.
+-- The value if the mask is true, null if it is false.
 use Rattle.std.specs.Prelude.{true, Option, Some, None, codes}
 use Rattle.vx_value.specs.Types.{DataType, bool}
 use Rattle.vx_value.specs.Nullabilities.{with_nullability}

@@ -1,4 +1,4 @@
--- What a function means, and the functions of one, two and three arguments.
+-- The meaning of a function, and the functions of one, two and three arguments.
 use Rattle.std.specs.Prelude.{◌≡◌, Bool, true, false, ℕ, List, [], ◌∷◌, length, Option, Some, None, option_map}
 use Rattle.vx_value.specs.Types.{DataType, nullability_of}
 use Rattle.vx_value.specs.Nullabilities.{with_nullability, union}
@@ -10,8 +10,8 @@ use Rattle.vx_value.specs.declared.id.Id.TheVariants as id
 use Rattle.vx_fn.specs.Arity.{of_one, of_two, of_three}
 use Rattle.vx_fn.specs.ArityLaws.{on_one, on_two, on_three}
 
--- what a function is: its id, what its arguments are called, the type of its result by theirs, and its value by theirs, where the
--- result is of the type; it takes as many arguments as have names
+-- what a function is: its id, the names of its arguments, its result's type from the arguments' types, and its value from the arguments' values and that type;
+-- it accepts as many arguments as have names
 pub record Meaning : Type 0 where
   pub id : Id
   pub names : List (List ℕ)
@@ -19,7 +19,7 @@ pub record Meaning : Type 0 where
   pub value : DataType → List Value → Cell
   pub taken : (tys : List DataType) (ty : DataType) → types tys ≡ Some ty → length tys ≡ length names
 
--- whether the result, or its type, is the clone of an argument's or of the function's own: no other function wants memory
+-- whether the result, or its type, is a clone of an argument's or of the function's own; no other function takes memory
 abbrev pub clones : Id → Bool
 clones id.Mask = true
 clones id.Zip = true
@@ -27,21 +27,21 @@ clones id.FillNull = true
 clones id.Cast = true
 clones _ = false
 
--- ---- what an argument makes of the answer
+-- ---- how an argument changes the result
 
--- the result is nullable where the argument is
+-- the result is nullable if the argument is
 abbrev pub widen : DataType → DataType → DataType
 widen s t = with_nullability (union (nullability_of s) (nullability_of t)) t
 
 abbrev pub widened : DataType → Option DataType → Option DataType
 widened s answer = option_map (widen s) answer
 
--- a null argument gives null
+-- a null argument makes the result null
 abbrev pub null_through : Value → Cell → Cell
 null_through null c = cell.value null
 null_through _ c = c
 
--- nothing
+-- the result is unchanged
 abbrev pub as_given : {A B : Type 0} → A → B → B
 as_given x answer = answer
 

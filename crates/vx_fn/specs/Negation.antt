@@ -8,7 +8,7 @@ use Rattle.vx_value.specs.declared.dtype.Nullability.TheVariants.{NonNullable}
 use Rattle.vx_value.specs.declared.id.Id.TheVariants as id
 use Rattle.vx_fn.specs.Meanings.{Meaning, taking_one, widened, null_through}
 
--- a boolean is negated
+-- only booleans are negated
 abbrev pub not_type : DataType → Option DataType
 not_type (bool n) = Some (bool NonNullable)
 not_type _ = None

@@ -1,4 +1,4 @@
--- The first value where the mask is true, else the second.
+-- The first value if the mask is true, else the second.
 use Rattle.std.specs.Prelude.{true, if◌then◌else◌, Option, Some, None, codes}
 use Rattle.vx_value.specs.Types.{DataType, bool, nullability_of}
 use Rattle.vx_value.specs.Nullabilities.{with_nullability, union, same_but_nullability}
@@ -7,7 +7,7 @@ use Rattle.vx_value.specs.Cell.{Cell, value}
 use Rattle.vx_value.specs.declared.id.Id.TheVariants as id
 use Rattle.vx_fn.specs.Meanings.{Meaning, taking_three, as_given}
 
--- of the two values, nullable where one of them is
+-- the type of the two values, nullable if one of them is
 abbrev pub chosen_type : DataType → DataType → Option DataType
 chosen_type s t = if same_but_nullability s t then Some (with_nullability (union (nullability_of s) (nullability_of t)) s) else None
 

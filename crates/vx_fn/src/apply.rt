@@ -1,4 +1,4 @@
-//! Applying functions to a row.
+//! Applies functions to a row.
 
 ghost use Rattle.std.specs.Prelude.{◌≡◌, ◌⊎◌, map, IfOk, IfErr, IsSome, Some, true};
 ghost use Rattle.vx_value.specs.Types.{DataType};
@@ -15,8 +15,8 @@ use vx_value::{Scalar, VortexError, VortexResult};
 
 /// Applies `function` to `arguments`, one row of each. The function must accept their types. No text or bytes are copied.
 ///
-/// Returns `Fault` exactly if the row has no value: the result is out of its type's range, a divisor is 0, or a cast has no value.
-/// Returns `OutOfMemory` only of a function that clones: `Mask`, `Zip`, `FillNull` and `Cast`. (own)
+/// Returns `Fault` exactly if the row has no value: the result is out of its type's range, a divisor is 0, or a cast has no
+/// value. Returns `OutOfMemory` only for a function that clones: `Mask`, `Zip`, `FillNull` and `Cast`. (own)
 pub fn apply_row(function: &ScalarFnRef, arguments: &[Scalar]) -> VortexResult<Scalar>
     requires { IsSome (return_type function.now (map (λ s. s.of_type) arguments.now)) }
     ensures typed { IfOk result (λ s. return_type function.now (map (λ s. s.of_type) arguments.now) ≡ Some s.of_type) }

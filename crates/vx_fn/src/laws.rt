@@ -9,8 +9,8 @@ ghost use Rattle.vx_fn.specs.Apply.{apply};
 ghost use Rattle.vx_fn.specs.declared.function.Operator.TheVariants.{And, Or};
 ghost use Rattle.vx_fn.specs.declared.function.ScalarFnRef.TheVariants.{Binary, Not};
 
-/// States that `And` and `Or` commute, whatever their arguments; that `Not` turns each into the other; and that this is what the
-/// functions make of truth values, null included. (own)
+/// States that `And` and `Or` commute, whatever their arguments; that `Not` turns each into the other; and that the functions
+/// do this on truth values, null included. (own)
 pub fn logic_laws()
     ensures and_commutes { (ty : DataType) (c d : Cell) → apply (Binary And) ty (c ∷ d ∷ []) ≡ apply (Binary And) ty (d ∷ c ∷ []) }
     ensures or_commutes { (ty : DataType) (c d : Cell) → apply (Binary Or) ty (c ∷ d ∷ []) ≡ apply (Binary Or) ty (d ∷ c ∷ []) }

@@ -14,11 +14,11 @@ use vx_value::{ArgKind, DType, VortexError, VortexResult};
 impl ScalarFnRef {
     /// Returns the type of the result if the arguments have the types `arguments`.
     ///
-    /// Types that differ in nullability alone count as one type. Unless a function says otherwise, the result is nullable if
-    /// an argument is.
+    /// Types that differ only in nullability count as one type. Unless a function says otherwise, the result is nullable if an
+    /// argument is.
     ///
-    /// Returns `InvalidArgument` with `NoRow` exactly if the function doesn't accept these arguments, or
-    /// `OutOfMemory`, and that only of a function that clones a type: `Mask`, `Zip`, `FillNull` and `Cast`.
+    /// Returns `InvalidArgument` with `NoRow` exactly if the function doesn't accept these arguments. Returns `OutOfMemory`
+    /// only for a function that clones a type: `Mask`, `Zip`, `FillNull` and `Cast`.
     pub fn return_dtype(&self, arguments: &[DType]) -> VortexResult<DType>
         ensures ok { IfOk result (λ t. return_type self.now (map type_of arguments.now) ≡ Some (type_of t)) }
         ensures refused { IfErr result (λ e. (e ≡ VortexError.OutOfMemory)

@@ -1,4 +1,4 @@
-//! What every scalar function is, whichever it is.
+//! What all scalar functions have in common.
 
 ghost use Rattle.std.specs.Prelude.{◌≡◌, ◌⊎◌, map, option_map, IfOk, IfErr, IsSome, Some, true};
 ghost use Rattle.vx_value.specs.Types.{DataType};

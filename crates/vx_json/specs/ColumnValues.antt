@@ -34,14 +34,14 @@ count_of (Integers v) = length (values_of v)
 count_of (Decimals v) = length (numbers_of v)
 count_of (Views rows) = length rows
 
--- why no column of these values has the type and the validity
+-- why no column of these values has this type and validity
 abbrev pub values_refusal : DataType → ColumnValues → Validity → Option VortexError
 values_refusal ty (Bits bits) w = flat_refusal (type.bool NonNullable) ty (length bits) w
 values_refusal ty (Integers v) w = flat_refusal (type.primitive (ptype_of v) NonNullable) ty (length (values_of v)) w
 values_refusal ty (Decimals v) w = decimal_refusal ty (decimal_type_of v) (numbers_of v) w
 values_refusal ty (Views rows) w = bytes_refusal ty rows w
 
--- the list spells rows of these values, stored so: a line for each storage
+-- the list spells rows of these values, in this storage: a line for each storage
 abbrev pub AreReadAs : Nullability → Storage → Items → ColumnValues → List Bool → Type 0
 AreReadAs m storage.Bits ds (Bits bits) valid = AreRead m false as_bool ds bits valid
 AreReadAs m (storage.Integers p) ds (Integers v) valid = (ptype_of v ≡ p) × AreRead m (pos 0) (integer_spelled p) ds (values_of v) valid
@@ -52,7 +52,7 @@ AreReadAs m storage.Text ds (Views rows) valid =
 AreReadAs m storage.Bytes ds (Views rows) valid = AreRead m [] (bytes_spelled storage.Bytes) ds rows valid
 AreReadAs m _ ds v valid = ⊥
 
--- the list spells no rows that are stored so
+-- the list doesn't spell rows in this storage
 abbrev pub AreUnread : Nullability → Storage → Items → Type 0
 AreUnread m storage.Nulls ds = Unit {0}
 AreUnread m storage.Bits ds = all_read (or_null m as_bool) ds ≡ None

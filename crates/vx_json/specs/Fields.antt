@@ -12,7 +12,7 @@ abbrev pub member_count : Data → ℕ
 member_count (object ms) = members_count ms
 member_count _ = 0
 
--- the answer for an object of exactly n keys
+-- `answer` if the object has exactly n keys, else None
 abbrev pub keyed : {A : Type 0} → ℕ → Data → Option A → Option A
 keyed n d answer = if member_count d == n then answer else None
 

@@ -20,7 +20,7 @@ line text = text ++ 10 ∷ []
 abbrev pub head_lines : DataType → Id → List ℕ
 head_lines ty id = line (codes "type " ++ type_text ty) ++ line (codes "encoding " ++ id_text id)
 
--- those, and a line for each value
+-- the head, and a line for each value
 abbrev pub output : DataType → Id → List Value → List ℕ
 output ty id values = head_lines ty id ++ flat_map (λ v. line (row_text ty v)) values
 

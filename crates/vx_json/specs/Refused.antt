@@ -4,10 +4,10 @@ use Rattle.vx_value.specs.declared.error.VortexError.{VortexError}
 use Rattle.vx_value.specs.declared.error.VortexError.TheVariants.{OutOfMemory, InvalidArgument}
 use Rattle.vx_value.specs.declared.error.ArgKind.TheVariants.{BadValue}
 
--- out of memory, or a bad value, for which the fact holds
+-- out of memory, or a bad value and the fact holds
 abbrev pub IsRefused : Type 0 → VortexError → Type 0
 IsRefused fact e = (e ≡ OutOfMemory) ⊎ ((e ≡ InvalidArgument BadValue) × fact)
 
--- what is spelled is read, and a value that spells nothing is refused
+-- the result is what is spelled; if nothing is, the value is refused
 abbrev pub IsRead : {A : Type 0} → Option A → Result A VortexError → Type 0
 IsRead spelled result = MatchResult result (λ a. spelled ≡ Some a) (IsRefused (spelled ≡ None))

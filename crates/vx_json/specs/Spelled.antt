@@ -30,7 +30,7 @@ named_nodes d child children =
 abbrev pub node_named : Data → (List ℕ → Option Tree) → (List ℕ → Option (List Tree)) → List ℕ → Option Tree
 node_named d child children name = option_flatten (lookup (bytes_eq name) (named_nodes d child children))
 
--- the one named under `enc`
+-- the node of the encoding that is named under `enc`
 abbrev pub node_of : Data → (List ℕ → Option Tree) → (List ℕ → Option (List Tree)) → Option Tree
 node_of d child children = option_and_then (node_named d child children) (text_at (codes "enc") d)
 

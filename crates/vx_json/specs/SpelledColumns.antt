@@ -20,7 +20,7 @@ use Rattle.vx_json.specs.SpelledTypes.{type_at}
 use Rattle.vx_json.specs.SpelledValues.{integer_spelled, decimal_spelled, bytes_spelled, or_null, all_read}
 use Rattle.vx_json.specs.declared.nulls.Nulls.{Nulls}
 
--- `{"enc":"col","type":T,"rows":[..]}`: a column of the rows, null among them if the type is nullable; a line for each storage
+-- `{"enc":"col","type":T,"rows":[..]}`: a column of the rows, which may be null if the type is nullable; a line for each storage
 abbrev pub rows_stored : Nullability → Storage → Items → Option Tree
 rows_stored m storage.Nulls ds = option_map (λ rows. nulls_of (length rows)) (all_read as_null ds)
 rows_stored m Bits ds = option_map (boolean_rows m) (all_read (or_null m as_bool) ds)
@@ -35,8 +35,7 @@ column_of_rows ty = rows_stored (nullability_of ty) (storage_of ty)
 abbrev pub col_spelled : Data → Option Tree
 col_spelled d = keyed 3 d (option_and_then (λ ty. option_and_then (column_of_rows ty) (items_at (codes "rows") d)) (type_at d))
 
--- `{"enc":"flat","type":T,"values":[..]}`, or with `"validity"` too: a column of the values, never null; a line for each storage
--- that is spelled
+-- `{"enc":"flat","type":T,"values":[..]}`, or with `"validity"` too: a column of the values, never null; a line for each storage that has a spelling
 abbrev pub flat_of : DataType → ℕ → enc.Data → Nulls → Option Tree
 flat_of ty n values nulls = option_map (λ v. column ty n values (child_of v n)) (validity_spelled (nullability_of ty) n nulls)
 

@@ -22,7 +22,7 @@ use Rattle.vx_json.specs.SpelledTypes.{is_decimal, is_decimal_Decides, type_at}
 abbrev pub without_options : ScalarFnRef → Data → Option ScalarFnRef
 without_options f d = keyed 3 d (Some f)
 
--- `between` has two more: true for `<`, and false for `<=`
+-- `between` has two more keys, each true for `<` and false for `<=`
 abbrev pub strictness : Bool → StrictComparison
 strictness true = Strict
 strictness false = NonStrict
@@ -38,7 +38,7 @@ between_options d =
 abbrev pub between : Data → Option ScalarFnRef
 between d = keyed 5 d (option_map function.Between (between_options d))
 
--- the decimal type of the program of so many digits, if there is one
+-- the program's decimal type of this precision and scale, if there is one
 abbrev pub dtype_if : (precision scale : ℕ) (b : Bool) → (b ≡ true → IsDecimal precision scale) → Option DecimalDType
 dtype_if precision scale true holds = Some (record { precision = precision; scale = scale; is_decimal = holds refl })
 dtype_if precision scale false holds = None
@@ -46,7 +46,7 @@ dtype_if precision scale false holds = None
 abbrev pub decimal_dtype : ℕ → ℕ → Option DecimalDType
 decimal_dtype precision scale = dtype_if precision scale (is_decimal precision scale) (is_decimal_Decides precision scale).0
 
--- the type of the program that a type is: a line for each kind
+-- the program's type for a type: a line for each kind
 abbrev pub declared : DataType → Option DType
 declared type.null = Some dtype.Null
 declared (type.bool m) = Some (dtype.Bool m)
@@ -103,6 +103,6 @@ function_by d name None = other_named d name
 abbrev pub function_named : Data → List ℕ → Option ScalarFnRef
 function_named d name = function_by d name (operator_named name)
 
--- the one named under `fn`, if the object has exactly its keys
+-- the function that is named under `fn`, if the object has exactly its keys
 abbrev pub function_at : Data → Option ScalarFnRef
 function_at d = option_and_then (function_named d) (text_at (codes "fn") d)

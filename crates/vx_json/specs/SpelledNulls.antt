@@ -13,7 +13,7 @@ use Rattle.vx_tree.specs.declared.validity.Validity.TheVariants as validity
 use Rattle.vx_json.specs.declared.nulls.Nulls.{Nulls}
 use Rattle.vx_json.specs.declared.nulls.Nulls.TheVariants.{Absent, EveryRow, Told}
 
--- by what stands under `validity` and the tree that it spells: none without the key, each for `false`
+-- the null rows, from what is under `validity` and the tree that it spells: none without the key, every row for `false`
 abbrev pub nulls_spelled : Option Data → Option Tree → Option Nulls
 nulls_spelled None tree = Some Absent
 nulls_spelled (Some (boolean false)) tree = Some EveryRow
@@ -22,16 +22,16 @@ nulls_spelled (Some d) tree = option_map Told tree
 abbrev pub nulls_at : Data → Option Tree → Option Nulls
 nulls_at d = nulls_spelled (get (codes "validity") d)
 
--- how many keys spell it
+-- the number of keys that spell them
 abbrev pub null_keys : Nulls → ℕ
 null_keys Absent = 0
 null_keys _ = 1
 
--- the tree is_validity_tree which of n rows are null: it has n rows, of non-nullable booleans
+-- the tree can say which of n rows are null: it has n rows, of non-nullable booleans
 abbrev pub is_validity_tree : ℕ → Tree → Bool
 is_validity_tree n t = same_type (dtype t) (type.bool NonNullable) && (len t == n)
 
--- the validity of n rows: only a nullable type has the key, and a constant tree is read back
+-- the validity of n rows: only a nullable type may have the key, and a constant tree is read back
 abbrev pub validity_spelled : Nullability → ℕ → Nulls → Option Validity
 validity_spelled m n Absent = Some (without_nulls m)
 validity_spelled NonNullable n nulls = None

@@ -33,22 +33,22 @@ named_types =
 abbrev pub type_named : List ℕ → Nullability → Option DataType
 type_named name m = option_map (λ of. of m) (lookup (bytes_eq name) named_types)
 
--- a text ends with the mark `?`, and what stands in front of its last byte
+-- whether a text ends with the mark `?`, and the text in front of the mark
 abbrev pub is_marked : List ℕ → Bool
 is_marked text = bytes_eq (drop (length text - 1) text) (codes "?")
 
 abbrev pub unmarked : List ℕ → List ℕ
 unmarked text = take (length text - 1) text
 
--- the name of a type, and behind it the mark if the type is nullable; type null always is, and takes no mark
+-- the name of a type, followed by the mark if the type is nullable; type null is always nullable, and takes no mark
 abbrev pub type_spelled : List ℕ → Option DataType
 type_spelled text =
     if bytes_eq text (codes "null") then Some null
     else (if is_marked text then type_named (unmarked text) Nullable else type_named text NonNullable)
 
--- ---- `{"decimal":[P,S]}`, or with `"null"` too: a type of decimals of P digits, S of them behind the point
+-- ---- `{"decimal":[P,S]}`, or with `"null"` too: the type of decimals of precision P and scale S
 
--- there is such a type: of 1 to 38 digits, at most all of them behind the point
+-- there is such a type: the precision is from 1 to 38, and the scale at most the precision
 abbrev pub is_decimal : ℕ → ℕ → Bool
 is_decimal precision scale = nat_le 1 precision && nat_le precision 38 && nat_le scale precision
 
@@ -63,12 +63,12 @@ is_decimal_Decides p s =
 abbrev pub decimal_sized : Nullability → ℕ → ℕ → Option DataType
 decimal_sized m precision scale = if is_decimal precision scale then Some (decimal precision scale m) else None
 
--- by a list of the two numbers
+-- the type whose precision and scale are listed
 abbrev pub decimal_listed : Nullability → Items → Option DataType
 decimal_listed m (item p (item s no_items)) = option_and_then (λ precision. option_and_then (decimal_sized m precision) (whole_number s)) (whole_number p)
 decimal_listed m _ = None
 
--- by what stands under `null`: nullable for `true`, and non-nullable for `false` or without the key
+-- the nullability, from what is under `null`: nullable for `true`, non-nullable for `false` or without the key
 abbrev pub nullable_if : Bool → Nullability
 nullable_if true = Nullable
 nullable_if false = NonNullable
@@ -77,7 +77,7 @@ abbrev pub nullability_spelled : Option Data → Option Nullability
 nullability_spelled None = Some NonNullable
 nullability_spelled (Some d) = option_map nullable_if (as_bool d)
 
--- how many keys spell the type
+-- the number of keys that spell the type
 abbrev pub decimal_keys : Option Data → ℕ
 decimal_keys under = if is_some under then 2 else 1
 

@@ -27,30 +27,30 @@ within p z = if in_range p z then Some z else None
 abbrev pub integer_spelled : PType → Data → Option ℤ
 integer_spelled p d = option_and_then (within p) (option_and_then as_integer (as_number d))
 
--- z, if it has at most p digits and the text is what a row has for it: without `+`, leading zeros or `-0`
+-- z, if it has at most p digits and the text is its decimal form: without `+`, leading zeros or `-0`
 abbrev pub written_so : ℕ → List ℕ → ℤ → Option ℤ
 written_so p text z = if has_digits p z && bytes_eq (signed_decimal z) text then Some z else None
 
--- the number that the digits of the text write
+-- the number that the text spells in decimal
 abbrev pub decimal_in : ℕ → List ℕ → Option ℤ
 decimal_in p text = written_so p text (signed_digits_value 10 text)
 
--- a string of it: the unscaled integer of a decimal
+-- the unscaled integer of a decimal, from a string
 abbrev pub decimal_spelled : ℕ → Data → Option ℤ
 decimal_spelled p d = option_and_then (decimal_in p) (as_str d)
 
--- the bytes of two hexadecimal digits each, whose letters are lower-case
+-- the bytes of lower-case hex, two digits each
 abbrev pub hex_bytes : List ℕ → Option (List ℕ)
 hex_bytes digits = if list_any is_ascii_uppercase digits then None else result_ok (decode_of digits)
 
--- the bytes of a string: of a text its own, of other bytes those of its digits; a line for each storage of bytes
+-- the bytes of a string: its own for text, those of its hex for bytes; a line for each storage of bytes
 abbrev pub bytes_spelled : Storage → Data → Option (List ℕ)
 bytes_spelled Text d = as_str d
 bytes_spelled Bytes d = option_and_then hex_bytes (as_str d)
 bytes_spelled _ d = None
 
--- `true` or `false` for a boolean, a whole number for an integer, a string for a decimal, text and bytes: a line for each storage
--- that is spelled; of type null there is none
+-- `true` or `false` for a boolean, a whole number for an integer, a string for a decimal, text and bytes: a line for each storage that has a spelling; type
+-- null has none
 abbrev pub value_stored : Storage → Data → Option Value
 value_stored Bits d = option_map boolean (as_bool d)
 value_stored (Integers p) d = option_map integer (integer_spelled p d)
@@ -62,7 +62,7 @@ value_stored _ d = None
 abbrev pub is_null : Data → Bool
 is_null d = is_some (as_null d)
 
--- null if the type has it, as None, and else what is read
+-- None for null, if the type is nullable; else what is read
 abbrev pub or_null : {A : Type 0} → Nullability → (Data → Option A) → Data → Option (Option A)
 or_null m read d = if is_nullable m && is_null d then Some None else option_map Some (read d)
 

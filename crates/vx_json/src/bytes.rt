@@ -17,7 +17,7 @@ use std::alloc::Global;
 use vx_tree::{BinaryBuilder, BinaryViews};
 use vx_value::{ByteBuffer, Storage, VortexResult};
 
-/// Checks whether there is a capital letter among `digits`.
+/// Returns whether `digits` has a capital letter.
 fn has_capitals(digits: &str) -> bool
     ensures { result ≡ list_any is_ascii_uppercase digits.now }
 {
@@ -27,8 +27,7 @@ fn has_capitals(digits: &str) -> bool
         .any(|digit| digit.is_ascii_uppercase())
 }
 
-/// Puts the bytes of which `digits` has two hexadecimal digits each, without capital letters, into `decoded`, whose memory is used
-/// again. `InvalidArgument(BadValue)` if it hasn't.
+/// Decodes lower-case hex into `decoded`, reusing its memory. `InvalidArgument(BadValue)` if `digits` isn't lower-case hex.
 #[tactic(auto, using(crate::proofs::SpelledBytesLemmas::halved))]
 fn decode(digits: &str, decoded: &mut Vec<u8>) -> VortexResult<()>
     ensures ok { OnOk result (hex_bytes digits.now ≡ Some decoded.new.items) }
@@ -46,8 +45,8 @@ fn decode(digits: &str, decoded: &mut Vec<u8>) -> VortexResult<()>
     }
 }
 
-/// Reads the bytes of a value that is stored so: those of a string, or those of its digits, which are put into `decoded`.
-/// `InvalidArgument(BadValue)` if it isn't one.
+/// Reads a value of text or bytes; `storage` says which. Text is the string itself; bytes are hex, decoded into `decoded`.
+/// `InvalidArgument(BadValue)` if it isn't such a value.
 #[tactic(auto, using(vx_value::proofs::BytesLemmas::is_text))]
 fn bytes<'v>(storage: Storage, value: &'v Value, decoded: &'v mut Vec<u8>) -> VortexResult<&'v [u8]>
     ensures ok { IfOk result (λ bytes. bytes_spelled storage (view value.now) ≡ Some bytes.now) }
@@ -67,7 +66,7 @@ fn bytes<'v>(storage: Storage, value: &'v Value, decoded: &'v mut Vec<u8>) -> Vo
     }
 }
 
-/// Reads the bytes of a value that is stored so, as `bytes` does, into a buffer of their own.
+/// Reads a value of text or bytes, as `bytes` does, into a buffer of its own.
 pub(crate) fn byte_buffer(
     alloc: Global,
     storage: Storage,
@@ -82,7 +81,7 @@ pub(crate) fn byte_buffer(
     Ok(ByteBuffer::copy_from(alloc, bytes)?)
 }
 
-/// Reads the bytes of a value that is stored so, as `bytes` does, or returns none for a null row.
+/// Reads a value of text or bytes, as `bytes` does; returns empty bytes for a null row.
 #[tactic(auto, using(crate::proofs::SpelledBytesLemmas::typed_none))]
 #[inline]
 fn bytes_or_none<'v>(
@@ -102,8 +101,8 @@ fn bytes_or_none<'v>(
     }
 }
 
-/// Reads a list of values that are stored so, and tells `nulls` which rows aren't null. Returns their bytes, none for null.
-/// `InvalidArgument(BadValue)` if an item is neither such a value nor a null row.
+/// Reads a list of values of text or bytes; `storage` says which. Records in `nulls` which rows aren't null. Returns the bytes,
+/// empty for null. `InvalidArgument(BadValue)` if an item is neither such a value nor a null row.
 pub(crate) fn byte_rows<N: RowNulls>(
     alloc: Global,
     storage: Storage,

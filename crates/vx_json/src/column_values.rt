@@ -47,8 +47,8 @@ impl ColumnValues {
     }
 }
 
-/// Reads a list of values of `dtype`, and tells `nulls` which rows aren't null. `InvalidArgument(BadValue)` if an item is neither such
-/// a value nor a null row, or if `dtype` is `Null`.
+/// Reads a list of values of `dtype`, and records in `nulls` which rows aren't null. `InvalidArgument(BadValue)` if an item is
+/// neither such a value nor a null row, or if `dtype` is `Null`.
 pub(crate) fn column_values<N: RowNulls>(
     alloc: Global,
     dtype: &DType,

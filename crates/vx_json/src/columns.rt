@@ -39,7 +39,7 @@ pub(crate) fn col(alloc: Global, value: &Value) -> VortexResult<ArrayRef>
     column_of_rows(alloc, dtype, list)
 }
 
-/// Reads a column of `dtype` with the rows in `list`, null among them if the type is nullable.
+/// Reads a column of `dtype` with the rows in `list`, which may be null if the type is nullable.
 fn column_of_rows(alloc: Global, dtype: DType, list: &Vec<Value>) -> VortexResult<ArrayRef>
     ensures { IsRead (column_of_rows (type_of dtype) (items_view list.now.items)) result }
 {
@@ -49,7 +49,7 @@ fn column_of_rows(alloc: Global, dtype: DType, list: &Vec<Value>) -> VortexResul
     }
 }
 
-/// Reads a nullable column with the rows in `list`, null among them.
+/// Reads a nullable column with the rows in `list`, which may be null.
 fn nullable_column(alloc: Global, dtype: DType, list: &Vec<Value>) -> VortexResult<ArrayRef>
     requires { nullability_of (type_of dtype) ≡ Nullability.Nullable }
     ensures { IsRead (column_of_rows (type_of dtype) (items_view list.now.items)) result }
@@ -68,7 +68,7 @@ fn nullable_column(alloc: Global, dtype: DType, list: &Vec<Value>) -> VortexResu
     }
 }
 
-/// Makes the validity of rows that aren't null where `bits` is true. Fails only with `OutOfMemory`.
+/// Makes the validity of rows that are null where `bits` is false. Fails only with `OutOfMemory`.
 fn bits_validity(alloc: Global, bits: BitBuilder) -> VortexResult<Validity>
     ensures ok { IfOk result (λ v. child_of v (length bits) ≡ child_by bits) }
     ensures nullable { IfOk result (λ v. nullability_by v ≡ Nullability.Nullable) }
@@ -89,7 +89,7 @@ fn null_column(alloc: Global, list: &Vec<Value>) -> VortexResult<ArrayRef>
     }
 }
 
-/// Reads a column by its values, which are never null, and by `nulls`, which is what its `validity` spells.
+/// Reads a column by its values, which are never null, and by `nulls`, which `validity` spells.
 pub(crate) fn flat(alloc: Global, value: &Value, nulls: &Nulls) -> VortexResult<ArrayRef>
     ensures { IsRead (flat_spelled (view value.now) nulls.now) result }
 {

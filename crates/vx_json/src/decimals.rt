@@ -18,8 +18,7 @@ use std::alloc::Global;
 use vx_tree::{DecimalValues, NativeDecimalType, narrowed};
 use vx_value::{DecimalDType, DecimalType, DecimalValue, Digits, VortexResult};
 
-/// Reads the number that `text` is the decimal form of: without `+`, without a leading zero and not `-0`. It must be one of
-/// `digits`.
+/// Reads a number in decimal, without `+`, leading zeros or `-0`. `None` unless `text` is such a number and is within `digits`.
 #[tactic(auto, using(crate::proofs::SpelledDecimalsLemmas::unparsed, crate::proofs::SpelledDecimalsLemmas::unwritten))]
 fn unscaled(text: &str, digits: Digits) -> Option<i128>
     ensures value { result ≡ decimal_in digits.precision text.now }
@@ -35,7 +34,7 @@ fn unscaled(text: &str, digits: Digits) -> Option<i128>
     }
 }
 
-/// Reads a number without its point. It must be one of `digits`.
+/// Reads a number without its point, from a string. `None` unless it is within `digits`.
 fn decimal(digits: Digits, value: &Value) -> Option<i128>
     ensures value { result ≡ decimal_spelled digits.precision (view value.now) }
     ensures digits { IfSome result (λ z. has_digits digits.precision z ≡ true) }
@@ -56,7 +55,7 @@ pub(crate) fn decimal_value(dtype: &DecimalDType, value: &Value) -> VortexResult
     Ok(DecimalValue { unscaled, scale })
 }
 
-/// Reads numbers without their points, which must be among the digits, in the narrowest integers that hold all of these.
+/// Reads numbers without their points, which must be within the digits, as integers of the narrowest width that holds them all.
 impl<T: NativeDecimalType> NumberReader<T> for Digits {
     ghost fits = { λ digits. T.kind ≡ smallest_width digits.precision };
 
@@ -67,8 +66,9 @@ impl<T: NativeDecimalType> NumberReader<T> for Digits {
     }
 }
 
-/// Reads a list of numbers of type `decimal`, without their points, and tells `nulls` which rows aren't null. Returns the numbers in the
-/// narrowest integers that hold all of the type, 0 for null. `InvalidArgument(BadValue)` if an item is neither such a number nor a null row.
+/// Reads a list of numbers of type `decimal`, without their points, and records in `nulls` which rows aren't null. Returns the
+/// numbers as integers of the narrowest width that holds all of the type, 0 for null. `InvalidArgument(BadValue)` if an item is
+/// neither such a number nor a null row.
 pub(crate) fn decimals<N: RowNulls>(
     alloc: Global,
     decimal: &DecimalDType,

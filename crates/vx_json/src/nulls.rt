@@ -21,7 +21,7 @@ pub(crate) enum Nulls {
 }
 
 impl Nulls {
-    /// Returns the number of keys that spell it: 0 without `validity`, else 1.
+    /// Returns the number of keys that spell the nulls: 0 without `validity`, else 1.
     pub(crate) fn keys(&self) -> usize
         ensures count { result ≡ null_keys self.now }
         ensures few { result ≤ 1 }
@@ -33,7 +33,7 @@ impl Nulls {
     }
 
     /// Returns the validity of `len` rows of this nullability. A constant is read back. `InvalidArgument(BadValue)` if a
-    /// non-nullable type has a `validity`, or if the tree can't tell which rows are null.
+    /// non-nullable type has a `validity`, or if the tree isn't `len` rows of non-nullable booleans.
     #[tactic(auto, using(crate::proofs::SpelledNullsLemmas::absent_for))]
     pub(crate) fn validity(&self, nullability: Nullability, len: usize) -> VortexResult<Validity>
         ensures ok { IfOk result (λ v. validity_spelled nullability len self.now ≡ Some v) }
@@ -50,7 +50,7 @@ impl Nulls {
     }
 }
 
-/// Returns the validity that `tree` tells of `len` rows: it must have that many, of non-nullable booleans.
+/// Returns the validity of `len` rows that `tree` stands for. `tree` must have as many rows, of non-nullable booleans.
 #[tactic(auto, using(crate::proofs::SpelledNullsLemmas::told_for))]
 fn told_validity(tree: &ArrayRef, len: usize) -> VortexResult<Validity>
     ensures ok { IfOk result (λ v. validity_spelled Nullability.Nullable len (Nulls.Told tree.now) ≡ Some v) }

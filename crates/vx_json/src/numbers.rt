@@ -13,7 +13,7 @@ use vx_mask::Buffer;
 use vx_tree::{NativeKind, NativeNumber, NativeValues};
 use vx_value::VortexResult;
 
-/// How a number of the type `T` is read.
+/// Readers of numbers of type `T`.
 pub(crate) trait NumberReader<T: NativeNumber> {
     // each number that it reads is one of `T`
     ghost fits: { Self → Type 0 };
@@ -44,8 +44,8 @@ fn number_or_zero<T: NativeNumber, R: NumberReader<T>>(
     }
 }
 
-/// Reads a list of numbers by `reader`, and tells `nulls` which rows aren't null. Returns the numbers, 0 for null;
-/// `kind` must name their type. `InvalidArgument(BadValue)` if an item is neither a number nor a null row.
+/// Reads a list of numbers by `reader`, and records in `nulls` which rows aren't null. Returns the numbers, 0 for null; `kind`
+/// must name their type. `InvalidArgument(BadValue)` if an item is neither a number nor a null row.
 pub(crate) fn numbers<T: NativeNumber, K: NativeKind, R: NumberReader<T>, N: RowNulls>(
     alloc: Global,
     kind: K,

@@ -1,4 +1,4 @@
-//! Whether the rows of a list may be null, and which are.
+//! Whether the rows of a list may be null, and which are null.
 
 ghost use Rattle.std.specs.Prelude.{◌≡◌, ◌&&◌, List, [], Bool, OnOk};
 ghost use Rattle.serde_json.specs.View.{view};
@@ -12,7 +12,7 @@ use serde_json::Value;
 use std::alloc::AllocError;
 use vx_mask::BitBuilder;
 
-/// Whether the rows of a list may be null, and which of those so far are.
+/// Whether the rows of a list may be null, and which of those so far are null.
 pub(crate) trait RowNulls {
     // whether rows may be null
     ghost mode: { Nullability };
@@ -20,16 +20,16 @@ pub(crate) trait RowNulls {
     // whether each row so far isn't null, if rows may be
     ghost told: { Self → List Bool };
 
-    /// Checks whether `value` is a row that is null.
+    /// Returns whether `value` is a null row.
     fn is_null_row(value: &Value) -> bool
         ensures { result ≡ (is_nullable mode && is_null (view value.now)) };
 
-    /// Takes whether the next row isn't null.
+    /// Records whether the next row isn't null.
     fn tell(&mut self, there: bool) -> Result<(), AllocError>
         ensures { OnOk result (told self.new ≡ told_more mode (told self.old) there) };
 }
 
-/// Rows of which none may be null.
+/// Rows that can't be null.
 #[derive(Clone, Copy)]
 pub(crate) struct NoNulls;
 
@@ -49,7 +49,7 @@ impl RowNulls for NoNulls {
     }
 }
 
-/// Rows that may be null: a bit for each that isn't.
+/// Rows that may be null: a bit for each row, true if the row isn't null.
 impl RowNulls for BitBuilder {
     ghost mode = { Nullable };
 

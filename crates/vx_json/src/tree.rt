@@ -7,12 +7,12 @@
 //! `{"enc":"masked","child":{..},"validity":{..}}`, of which `validity` may be absent, `{"enc":"is_valid","child":{..}}` and
 //! `{"enc":"fn","fn":"add","args":[{..},{..}]}`.
 //!
-//! A type is a name, with `?` behind it if the type is nullable; `null` always is, and takes no `?`. A type of decimals is an object:
-//! `{"decimal":[4,2]}` has 4 digits, 2 of them behind the point, and `{"decimal":[4,2],"null":true}` is nullable.
+//! A type is a name, followed by `?` if the type is nullable; `null` is always nullable, and takes no `?`. A type of decimals
+//! is an object: `{"decimal":[4,2]}` has 4 digits, 2 of them behind the point, and `{"decimal":[4,2],"null":true}` is nullable.
 //!
-//! The only value of type `null` is `null`. A value of type `utf8` is a string, and one of type `binary` a string of two lower-case
-//! hexadecimal digits for each byte. A decimal is a string of its unscaled integer, without `+`, leading zeros or `-0`: `"4200"` for
-//! 42.00.
+//! The only value of type `null` is `null`. A value of type `utf8` is a string, and one of type `binary` a string of two
+//! lower-case hexadecimal digits for each byte. A decimal is a string of its unscaled integer, without `+`, leading zeros or
+//! `-0`: `"4200"` for 42.00.
 
 ghost use Rattle.std.specs.Prelude.{◌≡◌, ◌⊎◌, Some, None, IfOk, IfErr};
 ghost use Rattle.serde_json.specs.View.{view, items_view};
@@ -67,7 +67,7 @@ fn child(alloc: Global, value: &Value, key: Key) -> VortexResult<ArrayRef>
     }
 }
 
-/// Reads which rows are null from what stands under `validity`.
+/// Reads which rows are null, from what is under `validity`.
 #[cycle(tree_of)]
 fn nulls(alloc: Global, value: &Value) -> VortexResult<Nulls>
     ensures { IsRead (nulls_at (view value.now) (tree_at (key_text Key.Validity) (view value.now))) result }

@@ -11,7 +11,7 @@ use crate::fields::{count, items};
 use serde_json::Value;
 use vx_value::{DType, DecimalDType, Nullability, PType};
 
-/// Returns the type named `name`, of this nullability, which type null alone has not.
+/// Returns the type named `name`, with this nullability. `null` isn't among them, as it is always nullable.
 fn type_named(name: &str, nullability: Nullability) -> Option<DType>
     ensures { option_map type_of result ≡ type_named name.now nullability }
 {
@@ -32,8 +32,8 @@ fn type_named(name: &str, nullability: Nullability) -> Option<DType>
     Some(DType::Primitive(ptype, nullability))
 }
 
-/// Returns the type that `text` spells: its name, and `?` behind it if the type is nullable. Type null is always nullable, and takes
-/// no `?`.
+/// Returns the type that `text` spells: its name, followed by `?` if the type is nullable. Type null is always nullable, and
+/// takes no `?`.
 fn type_spelled(text: &str) -> Option<DType>
     ensures { option_map type_of result ≡ type_spelled text.now }
 {
@@ -46,7 +46,7 @@ fn type_spelled(text: &str) -> Option<DType>
     }
 }
 
-/// Returns the type of decimals of `precision` digits, `scale` of them behind the point.
+/// Returns the type of decimals of this precision and scale, if there is one.
 fn decimal_sized(nullability: Nullability, precision: u64, scale: u64) -> Option<DType>
     ensures { option_map type_of result ≡ decimal_sized nullability precision scale }
 {
@@ -67,7 +67,7 @@ fn decimal_listed(nullability: Nullability, list: &Vec<Value>) -> Option<DType>
     }
 }
 
-/// Returns the nullability of a type of decimals: nullable if `true` stands under `null`.
+/// Returns the nullability of a type of decimals: nullable if the value under `null` is `true`.
 fn nullability_at(value: &Value) -> Option<Nullability>
     ensures { result ≡ nullability_spelled (get (codes "null") (view value.now)) }
 {

@@ -22,7 +22,7 @@ use vx_mask::{BitBuffer, BitBuilder};
 use vx_tree::{NativeInteger, PrimitiveValues};
 use vx_value::{DType, PType, Scalar, ScalarValue, VortexResult};
 
-/// Checks whether each item of `list` is null.
+/// Returns whether each item of `list` is null.
 pub(crate) fn are_nulls(list: &Vec<Value>) -> bool
     ensures { result ≡ list_all (λ v. is_null (view v)) list.now.items }
 {
@@ -49,8 +49,8 @@ impl<T: NativeInteger> NumberReader<T> for InRange {
     }
 }
 
-/// Reads a list of integers in the range of `ptype`, and tells `nulls` which rows aren't null. Returns the integers, 0 for null.
-/// `InvalidArgument(BadValue)` if an item is neither such an integer nor a null row.
+/// Reads a list of integers in the range of `ptype`, and records in `nulls` which rows aren't null. Returns the integers, 0 for
+/// null. `InvalidArgument(BadValue)` if an item is neither such an integer nor a null row.
 pub(crate) fn integers<N: RowNulls>(
     alloc: Global,
     ptype: PType,
@@ -81,7 +81,7 @@ fn boolean_or(null: bool, value: &Value) -> Option<bool>
     if null { Some(false) } else { value.as_bool() }
 }
 
-/// Reads a list of booleans, and tells `nulls` which rows aren't null. Returns the booleans, false for null.
+/// Reads a list of booleans, and records in `nulls` which rows aren't null. Returns the booleans, false for null.
 /// `InvalidArgument(BadValue)` if an item is neither a boolean nor a null row.
 pub(crate) fn booleans<N: RowNulls>(
     alloc: Global,

@@ -1,7 +1,7 @@
 -- Counts of faults, which never fall, and the errors that raise them.
 use Rattle.std.specs.Prelude.{◌≡◌, ℕ, ◌+◌, ◌-◌, ◌≤◌, ◌^◌, min, Result, OnOk, OnErr}
 
--- the count rose, or stands at 2^64 - 1
+-- the count rose, or is at its limit of 2^64 - 1
 abbrev pub Rose : ℕ → ℕ → Type 0
 Rose before now = min (before + 1) (2 ^ 64 - 1) ≤ now
 

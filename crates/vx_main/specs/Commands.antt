@@ -8,7 +8,7 @@ use Rattle.vx_main.specs.declared.top.words.Command.TheVariants.{Run, Optimize, 
 abbrev pub texts : List (String Global) → List (List ℕ)
 texts words = map string_bytes words
 
--- the number n with the digits of cs after its own, if it is below 2^64
+-- the number n followed by the digits of cs, if it is below 2^64
 abbrev pub read_on : ℕ → List ℕ → Option ℕ
 read_on n [] = Some n
 read_on n (c ∷ cs) = if nat_le 48 c && nat_le c 57 && nat_lt (n * 10 + (c - 48)) (2 ^ 64) then read_on (n * 10 + (c - 48)) cs else None

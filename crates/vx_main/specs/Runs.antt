@@ -27,25 +27,25 @@ use Rattle.vx_main.specs.declared.top.status.Status.TheVariants.{BadInput, Fault
 abbrev pub is_column : Tree → Bool
 is_column t = is_columnar (datum t)
 
--- the tree that a command executes in the place of t: t itself, or what it is optimized to
+-- the tree that a command executes in place of t: t itself, or t optimized
 abbrev pub IsSource : Command → Tree → Tree → Type 0
 IsSource (Run limit) t u = u ≡ t
 IsSource (Optimize limit) t u = Keeps t u × Descends t u × IsOptimized t u
 IsSource _ t u = ⊥
 
--- the command rewrites t, and meets a limit: so many rewrites at one root, and so many in all
+-- the command optimizes t, and reaches a limit: `at_root` rewrites at one root, and `total` in all
 abbrev pub IsStuck : Command → Tree → ℕ → ℕ → Type 0
 IsStuck (Optimize limit) t at_root total = IsAtLimit t 0 at_root total
 IsStuck _ t at_root total = ⊥
 
--- why the command has no source for t: memory, or a limit, which a tree of weight 100 or less doesn't meet
+-- why the command has no source for t: out of memory, or a limit, which a tree of weight 100 or less doesn't reach
 abbrev pub IsUnprepared : Command → Tree → VortexError → Type 0
 IsUnprepared c t error.OutOfMemory = Unit {0}
 IsUnprepared c t (error.RewriteLimit at_root total) = IsStuck c t at_root total × (100 < weight t)
 IsUnprepared c t _ = ⊥
 
--- the bytes spell a tree; the command's source is executed to a column within its turns; the text has the tree's type, the column's
--- encoding, which is lawful, and the source's rows, which are the tree's wherever it has a value
+-- the bytes spell a tree; the command's source is executed to a column within its turns; the text has the tree's type, the column's encoding, which is lawful,
+-- and the source's rows, which are the tree's wherever the tree has a value
 pub record Answers (c : Command) (bytes : List ℕ) (text : List ℕ) : Type 0 where
   pub tree : Tree
   pub spelled : Spells bytes tree
@@ -74,7 +74,7 @@ Writes c input old new = (text : List ℕ) × Owes c input text × Appends old n
 abbrev pub WritesPrefix : Command → Option (List ℕ) → Option (List ℕ) → Option (List ℕ) → Type 0
 WritesPrefix c input old new = (text : List ℕ) × Owes c input text × AppendsPrefix old new text
 
--- the bytes spell a tree whose source costs more than the command's turns, and isn't executed after as many
+-- the bytes spell a tree whose source costs more than the command's turns, and isn't executed within them
 pub record IsCostly (c : Command) (bytes : List ℕ) : Type 0 where
   pub tree : Tree
   pub spelled : Spells bytes tree
@@ -83,7 +83,7 @@ pub record IsCostly (c : Command) (bytes : List ℕ) : Type 0 where
   pub above : limit_of c < cost source
   pub going_on : GoesOn is_column source (limit_of c)
 
--- the bytes spell a tree that meets a limit of rewrites; a tree of weight 100 or less meets none
+-- the bytes spell a tree that reaches a limit of rewrites; a tree of weight 100 or less reaches none
 pub record MeetsRewriteLimit (c : Command) (bytes : List ℕ) (at_root total : ℕ) : Type 0 where
   pub tree : Tree
   pub spelled : Spells bytes tree
@@ -96,7 +96,7 @@ pub record IsFaulty (bytes : List ℕ) : Type 0 where
   pub spelled : Spells bytes tree
   pub unclean : ¬ (IsClean tree)
 
--- why an input that was read has no answer, by the status: a line for each that there can be
+-- why an input that was read has no answer, by status: a line for each that is possible
 abbrev pub HasNoAnswer : Command → List ℕ → Status → Type 0
 HasNoAnswer c bytes Memory = Unit {0}
 HasNoAnswer c bytes BadInput = SpellsNone bytes

@@ -1,4 +1,4 @@
--- The code and the text of each status, and which may come before the input or the tree is there.
+-- The code and the text of each status, and whether it may come before there is an input or a tree.
 use Rattle.std.specs.Prelude.{ℕ, List, codes, Bool, true, false}
 use Rattle.vx_value.specs.declared.error.VortexError.{VortexError}
 use Rattle.vx_value.specs.declared.error.VortexError.TheVariants.{OutOfMemory, Fault, IterationLimit, RewriteLimit, TooLong, OutOfBounds, InvalidArgument}

@@ -16,7 +16,7 @@ const INPUT: &str =
 /// 41 bytes: eleven pieces of 4.
 const OUTPUT: &str = "type i32\nencoding vortex.primitive\n3\n4\n5\n";
 
-/// Whether the source gives `INPUT` if it doesn't fail, and is told to fail if it does.
+/// Returns whether the source gives `INPUT`, or, if `fails`, whether reading it fails.
 fn is_read<S: Source>(alloc: Global, source: &mut S, fails: bool) -> bool {
     match read_all(alloc, source) {
         Ok(bytes) => !fails && bytes.as_slice() == INPUT.as_bytes(),
@@ -24,7 +24,7 @@ fn is_read<S: Source>(alloc: Global, source: &mut S, fails: bool) -> bool {
     }
 }
 
-/// Whether the sink takes `OUTPUT` if it doesn't fail, and is told to fail if it does.
+/// Returns whether the sink takes `OUTPUT`, or, if `fails`, whether writing to it fails.
 fn is_taken<K: Sink>(sink: &mut K, fails: bool) -> bool {
     write_all(sink, OUTPUT.as_bytes()) == if fails { Err(Failed) } else { Ok(()) }
 }
@@ -68,7 +68,7 @@ fn plain_streams(rt: HostRuntime) {
     assert!(rt; sink.held() == OUTPUT.as_bytes());
 }
 
-/// A reader and a writer that fail once and would go on from there.
+/// A reader and a writer that fail once, and would then continue.
 #[derive(Drop)]
 struct FailsOnce<'a> {
     bytes: &'a [u8],

@@ -1,4 +1,4 @@
--- The true bits of a list: how many there are, where they stand, and what they choose.
+-- The true bits of a list: how many there are, their places, and the items that they choose.
 use Rattle.std.specs.Prelude.{ℕ, zero, suc, ◌<◌, ◌≤◌, ◌↔◌, ◌≡◌, Bool, true, false, List, [], ◌∷◌, Option, None, Some}
 use Rattle.std.specs.Option.{option_map}
 use Rattle.vx_mask.specs.Logic.{bit_row}

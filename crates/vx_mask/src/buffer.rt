@@ -100,7 +100,7 @@ impl<T: Drop> Clone for Buffer<T> {
     }
 }
 
-/// Prints the items as a slice's are printed.
+/// Prints the items as those of a slice.
 impl<T: fmt::Debug> fmt::Debug for Buffer<T> {
     fn fmt<W: fmt::Write>(&self, f: &mut fmt::Formatter<W>) -> fmt::Result {
         f.debug_list().entries(self.as_slice()).finish()

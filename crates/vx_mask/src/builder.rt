@@ -79,8 +79,8 @@ impl BitBuilder {
         Ok(())
     }
 
-    /// Appends the `count` lowest bits of `word`, from the lowest one on; those above must be 0. Fails only if there is no memory
-    /// for one more word.
+    /// Appends the `count` lowest bits of `word`, from the lowest one on; those above must be 0. Fails only if there is no
+    /// memory for one more word.
     #[inline]
     #[tactic(auto, using(crate::proofs::Pushes::next_fits, crate::proofs::Pushes::joined_fits, crate::proofs::Pushes::rest_fits))]
     pub(crate) fn push_bits(&mut self, word: u64, count: usize) -> Result<(), AllocError>
@@ -102,8 +102,8 @@ impl BitBuilder {
         Ok(())
     }
 
-    /// Appends `bit` `count` times, a word at a time and in one allocation. Fails only if there is no memory for the words; the bits
-    /// are then unchanged.
+    /// Appends `bit` `count` times, a word at a time and in one allocation. Fails only if there is no memory for the words; the
+    /// bits are then unchanged.
     pub fn push_copies(&mut self, bit: bool, count: usize) -> Result<(), AllocError>
         ensures ok { OnOk result (self.new ≡ self.old ++ replicate count bit) }
         ensures err { OnErr result (self.new ≡ self.old) }
@@ -122,7 +122,7 @@ impl BitBuilder {
         Ok(())
     }
 
-    /// Shortens the builder to its first `len` bits, of which there must be as many.
+    /// Keeps only the first `len` bits, which must exist.
     pub fn truncate(&mut self, len: usize)
         requires { len ≤ length self.old }
         ensures { self.new ≡ take len self.old }

@@ -116,8 +116,8 @@ impl<T: Copy> Buffer<T> {
 }
 
 impl BitBuffer {
-    /// Returns the bits at the true bits of `mask`, in order. Shares the storage if the true bits are consecutive. Fails only if
-    /// there is no memory for the bits, or if the storage can't be shared once more.
+    /// Returns the bits at the true bits of `mask`, in order. Shares the storage if the true bits are consecutive. Fails only
+    /// if there is no memory for the bits, or if the storage can't be shared once more.
     pub fn filter(&self, alloc: Global, mask: &Mask) -> Result<BitBuffer, AllocError>
         requires { length (bits_in mask.now) ≡ length self.now }
         ensures { IfOk result (λ b. b ≡ chosen (bits_in mask.now) self.now) }

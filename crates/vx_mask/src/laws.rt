@@ -6,7 +6,7 @@ ghost use Rattle.vx_mask.specs.Logic.{bit_row};
 ghost use Rattle.vx_mask.specs.Masks.{bits_in, mask_of};
 ghost use Rattle.vx_mask.specs.Places.{true_count, true_place, combined, chosen};
 
-/// States that the mask of some bits has these bits. (own)
+/// States that a mask has the bits that it was made from. (own)
 pub fn mask_laws()
     ensures bits { (bits : List Bool) → bits_in (mask_of bits) ≡ bits }
     ensures value { (bits : List Bool) (i : ℕ) → slice_get (bits_in (mask_of bits)) i ≡ slice_get bits i }

@@ -22,7 +22,7 @@ pub enum Mask {
 }
 
 impl Mask {
-    /// Makes the mask whose bits are `bits`, and counts them. Bits that are all true or all false aren't kept. (own)
+    /// Makes the mask of `bits`, and counts them. Bits that are all true or all false aren't kept. (own)
     pub fn from_bits(bits: BitBuffer) -> Mask
         ensures { result ≡ mask_of bits }
     {
@@ -118,9 +118,9 @@ impl Mask {
         }
     }
 
-    /// Returns the mask of the rows that `inner` chooses among those that `self` chooses: bit `k` of `inner` takes the place of
-    /// true bit `k` of `self`. Returns `None` if `inner` doesn't have as many rows as `self` chooses. Fails only if there is
-    /// no memory for the bits.
+    /// Returns the mask that chooses by `self`, then by `inner` among the rows chosen: bit `k` of `inner` takes the place of
+    /// true bit `k` of `self`. Returns `None` if `inner` doesn't have as many rows as `self` chooses. Fails only if there is no
+    /// memory for the bits.
     pub fn intersect_by_rank(&self, alloc: Global, inner: &Mask) -> Result<Option<Mask>, AllocError>
         ensures { let outer = bits_in self.now in let bits = bits_in inner.now in
             IfOk result (λ mask. mask ≡ (if length bits == true_count outer then Some (mask_of (combined outer bits)) else None)) }
@@ -132,7 +132,7 @@ impl Mask {
         }
     }
 
-    /// Returns the mask of the rows that `inner` chooses among those that `self` chooses.
+    /// Returns the mask that chooses by `self`, then by `inner` among the rows chosen.
     fn combined(&self, alloc: Global, inner: &Mask) -> Result<Mask, AllocError>
         requires { length (bits_in inner.now) ≡ true_count (bits_in self.now) }
         ensures { IfOk result (λ mask. mask ≡ mask_of (combined (bits_in self.now) (bits_in inner.now))) }

@@ -9,7 +9,7 @@ use std::fmt;
 use std::marker::Model;
 use std::ops::Range;
 
-/// Bits that are neither all true nor all false, with the number of true ones.
+/// Bits that are neither all true nor all false, and how many are true.
 #[derive(Drop)]
 pub struct MaskValues {
     bits: BitBuffer,

@@ -1,4 +1,4 @@
--- Calls of functions over trees: what is given, and why nothing is.
+-- Functions of trees: the results of a call, and its errors.
 use Rattle.std.specs.Prelude.{◌≡◌, ℕ, List, [], ◌∷◌, Some, None, ◌⊎◌, Result, MatchResult}
 use Rattle.vx_value.specs.Types.{DataType}
 use Rattle.vx_value.specs.View.{type_of}
@@ -12,30 +12,30 @@ use Rattle.vx_tree.specs.Calls.{called, call_refusal}
 use Rattle.vx_tree.specs.Keeps.{Keeps}
 use Rattle.vx_opt.specs.Limits.{IsLimited}
 
--- t is the node of the call, which isn't refused
+-- the call isn't refused, and t is its node
 abbrev pub IsCall : ScalarFnRef → List Tree → ℕ → Tree → Type 0
 IsCall f ts n t = (call_refusal f ts n ≡ None) × (called f ts n ≡ Some t)
 
--- why there is no node: memory, or what is refused
+-- why there is no node: out of memory, or the refusal of the call
 abbrev pub IsNoCall : ScalarFnRef → List Tree → ℕ → VortexError → Type 0
 IsNoCall f ts n e = (e ≡ OutOfMemory) ⊎ (call_refusal f ts n ≡ Some e)
 
--- the node of the call itself
+-- the result is the node of the call
 abbrev pub MakesCall : ScalarFnRef → List Tree → ℕ → Result Tree VortexError → Type 0
 MakesCall f ts n r = MatchResult r (IsCall f ts n) (IsNoCall f ts n)
 
--- what may stand for the node of the call
+-- u may stand for the node of the call
 abbrev pub IsCalled : ScalarFnRef → List Tree → ℕ → Tree → Type 0
 IsCalled f ts n u = (t : Tree) × IsCall f ts n t × Keeps t u
 
--- why nothing may: there is no node, or a limit in optimizing it
+-- why there is no such tree: there is no node, or optimizing it fails
 abbrev pub IsUncalled : ScalarFnRef → List Tree → ℕ → VortexError → Type 0
 IsUncalled f ts n e = IsNoCall f ts n e ⊎ ((t : Tree) × IsCall f ts n t × IsLimited t 0 e)
 
--- the call, optimized
+-- the result is the node of the call, optimized
 abbrev pub Calls : ScalarFnRef → List Tree → ℕ → Result Tree VortexError → Type 0
 Calls f ts n r = MatchResult r (IsCalled f ts n) (IsUncalled f ts n)
 
--- a cast to the type
+-- the result is the cast to the type, optimized
 abbrev pub Casts : DataType → Tree → Result Tree VortexError → Type 0
 Casts ty t r = (target : DType) × (type_of target ≡ ty) × Calls (fn_of.Cast target) (t ∷ []) (len t) r

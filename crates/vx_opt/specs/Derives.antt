@@ -1,4 +1,4 @@
--- Many rewrites, and where they were made.
+-- Sequences of rewrites, each with its place.
 use Rattle.std.specs.Prelude.{◌≡◌, ℕ, zero, suc, ◌+◌, ◌≤◌, List, [], ◌∷◌, length, Bool, true, false, cond, ◌==◌, ◌&&◌}
 use Rattle.vx_tree.specs.Tree.{Tree}
 use Rattle.vx_tree.specs.Slots.{HasSlot, put}
@@ -6,13 +6,13 @@ use Rattle.vx_tree.specs.Keeps.{Keeps}
 use Rattle.vx_tree.specs.Weight.{weight}
 use Rattle.vx_rule.specs.Rules.{Rewrites}
 
--- A rewrite: its place, that is the slot numbers from the root, and what it spent.
--- A row of the table spends nothing; the answer of an entry that was handed in spends 1 and its weight.
+-- A rewrite: its place, as the slot numbers from the root, and what it spent.
+-- A row of the table spends nothing; the answer of an entry that was handed in spends 1 plus its weight.
 pub record Step : Type 0 where
   pub place : List ℕ
   pub spent : ℕ
 
--- u is t with the child in slot i replaced by one that relates to it so
+-- u is t with the child in slot i replaced by one for which the relation holds
 abbrev pub InSlot : ℕ → (Tree → Tree → Type 0) → Tree → Tree → Type 0
 InSlot i relates t u = (c : Tree) × (d : Tree) × HasSlot i c t × relates c d × (u ≡ put i d t)
 
@@ -27,7 +27,7 @@ abbrev pub Derives : Tree → Tree → List Step → Type 0
 Derives t u [] = t ≡ u
 Derives t u (step ∷ steps) = (v : Tree) × Replaces step.place step.spent t v × Derives v u steps
 
--- a row of the table, at the root
+-- the step of a row of the table at the root
 abbrev pub at_here : Step
 at_here = record { place = []; spent = 0 }
 
@@ -39,7 +39,7 @@ abbrev pub below_all : ℕ → List Step → List Step
 below_all i [] = []
 below_all i (s ∷ ss) = below i s ∷ below_all i ss
 
--- what the steps spent in all
+-- what the steps spent in total
 abbrev pub spent_by : List Step → ℕ
 spent_by [] = 0
 spent_by (s ∷ ss) = s.spent + spent_by ss
@@ -50,12 +50,12 @@ same_place [] (j ∷ q) = false
 same_place (i ∷ p) [] = false
 same_place (i ∷ p) (j ∷ q) = (i == j) && same_place p q
 
--- how many of the rewrites were made at one place
+-- the number of the rewrites at one place
 abbrev pub count_at : List ℕ → List Step → ℕ
 count_at place [] = 0
 count_at place (s ∷ ss) = cond (same_place place s.place) 1 0 + count_at place ss
 
--- u comes from t and may stand for it; where nothing was spent, it weighs less by at least the number of rewrites
+-- u comes from t and may stand for it; if nothing was spent, it weighs less by at least the number of rewrites
 pub record Reaches (t u : Tree) (steps : List Step) : Type 0 where
   pub derives : Derives t u steps
   pub keeps : Keeps t u

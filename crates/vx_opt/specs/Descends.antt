@@ -6,7 +6,7 @@ use Rattle.vx_rule.specs.Rules.{IsSettled}
 use Rattle.vx_opt.specs.Derives.{Step, Derives, InSlot}
 use Rattle.vx_opt.specs.Limits.{IsRewrittenBelow}
 
--- t derives a settled tree, and the second tree is that one with each slot descended from the slot there
+-- t derives a settled tree, and the second tree is the settled one with each slot descended
 abbrev mutual
   pub Descends : Tree → Tree → Type 0
   Descends t (node ty n d us) =
@@ -23,7 +23,7 @@ abbrev mutual
   DescendSlots (absent rs) (slot d us) = ⊥
   DescendSlots (slot c rs) (slot d us) = Descends c d × DescendSlots rs us
 
--- the slots below i have descended, and the others are as they were
+-- the slots before i have descended, and the others are unchanged
 abbrev pub DescendsUpTo : ℕ → Slots → Slots → Type 0
 DescendsUpTo zero rs us = rs ≡ us
 DescendsUpTo (suc i) no_slots no_slots = Unit {0}
@@ -39,15 +39,15 @@ DescendsUpTo (suc i) (slot c rs) (slot d us) = Descends c d × DescendsUpTo i rs
 abbrev pub IsDescended : ℕ → Tree → Tree → Type 0
 IsDescended i (node ty n d rs) (node uy m e us) = (ty ≡ uy) × (n ≡ m) × (d ≡ e) × DescendsUpTo i rs us
 
--- the node of t, with each slot descended
+-- the root of t, with each slot descended
 abbrev pub HaveDescended : Tree → Tree → Type 0
 HaveDescended (node ty n d rs) (node uy m e us) = (ty ≡ uy) × (n ≡ m) × (d ≡ e) × DescendSlots rs us
 
--- slot i of t has descended, if it is there
+-- slot i of t has descended, if it holds a tree
 abbrev pub IsSunk : ℕ → Tree → Tree → Type 0
 IsSunk i t u = ((IsPresent i t → ⊥) × (u ≡ t)) ⊎ InSlot i Descends t u
 
--- what the loop over the slots keeps
+-- the invariant of the loop over the slots
 pub record IsSinking (i : ℕ) (t u : Tree) (before after : ℕ) : Type 0 where
   pub below : IsRewrittenBelow t u before after
   pub sunk : IsDescended i t u

@@ -1,4 +1,4 @@
--- Choosing rows: what is given, and why nothing is.
+-- Slices and filters: their conditions, and their errors.
 use Rattle.std.specs.Prelude.{◌≡◌, ℕ, ◌≤◌, List, length, Bool, ◌⊎◌}
 use Rattle.vx_value.specs.declared.error.VortexError.{VortexError}
 use Rattle.vx_value.specs.declared.error.VortexError.TheVariants.{OutOfMemory, OutOfBounds, InvalidArgument}
@@ -6,15 +6,15 @@ use Rattle.vx_value.specs.declared.error.ArgKind.TheVariants.{MaskLen}
 use Rattle.vx_tree.specs.Tree.{Tree, len, slice_of, filter_of}
 use Rattle.vx_opt.specs.Limits.{IsLimited}
 
--- in order, and in bounds
+-- the range is in order and in bounds
 abbrev pub IsRange : ℕ → ℕ → Tree → Type 0
 IsRange a b t = (a ≤ b) × (b ≤ len t)
 
--- a bit for each row
+-- the mask has a bit for each row
 abbrev pub IsMaskOf : List Bool → Tree → Type 0
 IsMaskOf bits t = length bits ≡ len t
 
--- why nothing is given: memory, the condition that is broken, or a limit in optimizing the node
+-- why there is no tree: out of memory, the condition doesn't hold, or optimizing the node fails
 abbrev pub IsRefused : Type 0 → VortexError → Tree → VortexError → Type 0
 IsRefused holds refusal made e = (e ≡ OutOfMemory) ⊎ ((holds → ⊥) × (e ≡ refusal)) ⊎ (holds × IsLimited made 0 e)
 

@@ -13,11 +13,11 @@ use vx_fn::{BetweenOptions, Operator, ScalarFnRef};
 use vx_tree::{ArrayRef, ConstantArray, IntoArray, ScalarFnArray};
 use vx_value::{DType, Scalar, VortexResult};
 
-/// The functions as methods. Each makes the node of its function over the array, and optimizes it, but for `zip`.
+/// The functions as methods. Each makes the node of its function over the array and optimizes it; only `zip` doesn't optimize.
 ///
 /// # Errors
 ///
-/// Those of `ScalarFnArray::try_new_with_len` for as many rows as the array has, then those of `ArrayOptimizer::optimize`.
+/// Those of `ScalarFnArray::try_new_with_len` for the array's length, then those of `ArrayOptimizer::optimize`.
 pub trait ArrayBuiltins: Sized {
     // the tree that is the function's argument
     ghost tree: { Self → Tree };
@@ -49,15 +49,16 @@ pub trait ArrayBuiltins: Sized {
     fn not(&self, alloc: Global) -> VortexResult<ArrayRef>
         ensures { Calls fn_of.Not (tree self.now ∷ []) (len (tree self.now)) result };
 
-    /// Returns the rows of `if_true` for which the array is true, and those of `if_false` elsewhere. The node isn't optimized.
+    /// Returns the rows of `if_true` for which the array is true, and the rows of `if_false` elsewhere. The node isn't
+    /// optimized.
     fn zip(&self, alloc: Global, if_true: ArrayRef, if_false: ArrayRef) -> VortexResult<ArrayRef>
         ensures { MakesCall fn_of.Zip (if_true ∷ if_false ∷ tree self.now ∷ []) (len (tree self.now)) result };
 
-    /// Returns `operator` of the array and `rhs`.
+    /// Returns `operator` applied to the array and `rhs`.
     fn binary(&self, alloc: Global, rhs: ArrayRef, operator: Operator) -> VortexResult<ArrayRef>
         ensures { Calls (fn_of.Binary operator) (tree self.now ∷ rhs ∷ []) (len (tree self.now)) result };
 
-    /// Returns whether each row lies between those of `lower` and `upper`.
+    /// Returns whether each row lies between the rows of `lower` and `upper`.
     fn between(
         &self,
         alloc: Global,

@@ -1,4 +1,4 @@
-//! Optimizing a tree at each place.
+//! Optimizes a tree at every node.
 
 ghost use Rattle.std.specs.Prelude.{◌<◌, IfOk};
 ghost use Rattle.vx_opt.specs.Limits.{call_limit, GoesWithin, GoesBelow};
@@ -10,8 +10,8 @@ use std::alloc::Global;
 use vx_tree::ArrayRef;
 use vx_value::{VortexError, VortexResult};
 
-/// Optimizes the root of `array`, `depth` nodes below the root of the call, and then each slot so. A depth that no stack holds counts as
-/// want of memory.
+/// Optimizes the root of `array`, `depth` nodes below the root of the call, then every slot. A depth of `u64::MAX` is
+/// `OutOfMemory`.
 #[cycle(descend)]
 pub(crate) fn descend(
     alloc: Global,
@@ -30,7 +30,7 @@ pub(crate) fn descend(
     descend_slots(alloc, root, depth + 1, total)
 }
 
-/// Optimizes the children of `array` so.
+/// Optimizes every child of `array` in the same way.
 #[cycle(descend)]
 fn descend_slots(
     alloc: Global,
@@ -49,7 +49,7 @@ fn descend_slots(
     Ok(current)
 }
 
-/// Optimizes the child in `slot`, counted from 0, so, if there is one.
+/// Optimizes the child in `slot`, counted from 0, in the same way, if there is one.
 #[cycle(descend)]
 #[tactic(auto, using(crate::proofs::LimitsLemmas::at_slot, crate::proofs::LimitsLemmas::below_refl))]
 fn descend_slot(

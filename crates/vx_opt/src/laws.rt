@@ -11,7 +11,8 @@ ghost use Rattle.vx_rule.specs.Rules.{Rewrites};
 ghost use Rattle.vx_opt.specs.Select.{IsRange, IsMaskOf};
 ghost use Rattle.vx_opt.specs.Derives.{Step, Reaches, at_here, below_all};
 
-/// States how rewrites compose: one at the root, one after another, those below a slot, and an answer that isn't a row's. (own)
+/// States how rewrites compose: one at the root, one after another, those below a slot, and an answer that isn't from a row.
+/// (own)
 pub fn deriving_laws()
     ensures row { (t u : Tree) (os : List ℕ) → IsWell t → Rewrites t u os → Reaches t u (at_here ∷ []) }
     ensures after { (t u v : Tree) (ps qs : List Step) → Reaches t u ps → Reaches u v qs → Reaches t v (ps ++ qs) }
@@ -19,8 +20,8 @@ pub fn deriving_laws()
     ensures handed_in { (t u : Tree) → Keeps t u → Reaches t u (record { place = []; spent = suc (weight u) } ∷ []) }
 {}
 
-/// States that a slice of a slice may stand for the one slice, and a filter of a filter for the filter by the combined mask, whatever
-/// stood for the choices in between. (own)
+/// States that a slice of a tree that may stand for a slice may stand for the one slice, and a filter of a tree that may stand
+/// for a filter may stand for the filter by the combined mask. (own)
 pub fn selecting_laws()
     ensures slices { (t u v : Tree) (a b c d : ℕ) → IsRange a b t → IsRange c d (slice_of a b t)
         → Keeps (slice_of a b t) u → Keeps (slice_of c d u) v → Keeps (slice_of (a + c) (a + d) t) v }

@@ -1,4 +1,4 @@
-//! The optimizer: applies the table of rewrite rules until no row of it fits.
+//! The optimizer: applies the table of rewrite rules until no row fits.
 #![tactic(auto)]
 
 mod builtins;

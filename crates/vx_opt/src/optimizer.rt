@@ -15,29 +15,30 @@ use std::alloc::Global;
 use vx_tree::ArrayRef;
 use vx_value::VortexResult;
 
-/// Rewrites trees by the table of rewrite rules. Each answer may stand for the tree, and weighs less by at least one for each rewrite.
+/// Rewrites trees by the table of rewrite rules. Each result may stand for the tree, and weighs less by at least one for each
+/// rewrite.
 ///
 /// # Errors
 ///
-/// `RewriteLimit` at the 101st rewrite at one root or the 4,194,304th of the call, even if no row fits after it, and never for a tree of
-/// weight 100 or less; `OutOfMemory`.
+/// `RewriteLimit` at the 101st rewrite at one root or the 4,194,304th of the call, even if no row fits after it, and never for
+/// a tree of weight 100 or less; `OutOfMemory`.
 pub trait ArrayOptimizer: Sized {
     // the tree that is optimized
     ghost tree: { Self → Tree };
 
-    /// Rewrites the root until no row fits. The slots that an answer names are optimized likewise before the next pass.
+    /// Rewrites the root until no row fits. The slots that an answer names are optimized in the same way before the next pass.
     fn optimize(self, alloc: Global) -> VortexResult<ArrayRef>
         ensures settled { IfOk result (IsSettledFrom (tree self)) }
         ensures limited { IfErr result (IsLimited (tree self) 0) }
         ensures never_if_light { weight (tree self) ≤ 100 → OnlyOutOfMemory result };
 
-    /// Rewrites the root likewise, also by the entries of `rules`.
+    /// Rewrites the root in the same way, also by the entries of `rules`, of which there are none yet.
     fn optimize_ctx(self, alloc: Global, rules: &mut RuleRegistry) -> VortexResult<ArrayRef>
         ensures settled { IfOk result (IsSettledFrom (tree self)) }
         ensures limited { IfErr result (IsLimited (tree self) 0) }
         ensures never_if_light { weight (tree self) ≤ 100 → OnlyOutOfMemory result };
 
-    /// Rewrites the root likewise, and then each slot so, in order. The root isn't visited again.
+    /// Rewrites the root in the same way, then every slot in order. The root isn't visited again.
     fn optimize_recursive(self, alloc: Global, rules: &mut RuleRegistry) -> VortexResult<ArrayRef>
         ensures keeps { IfOk result (Keeps (tree self)) }
         ensures descends { IfOk result (Descends (tree self)) }

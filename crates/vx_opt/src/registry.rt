@@ -1,4 +1,4 @@
-//! Rules that a caller registers.
+//! Rules registered by a caller.
 
 ghost use Rattle.std.specs.Prelude.{◌≡◌};
 
@@ -14,8 +14,8 @@ impl RuleRegistry {
         RuleRegistry {}
     }
 
-    /// Returns the number of entries for a child with the id `child` in a parent with the id `parent`. A pass asks them after the
-    /// parent's own rows and before the child's, in order of registration.
+    /// Returns the number of entries for a child with the id `child` in a parent with the id `parent`: 0, since there are none
+    /// yet.
     pub fn find(&self, _parent: Id, _child: Id) -> usize
         ensures { result ≡ 0 }
     {

@@ -1,4 +1,4 @@
-//! Optimizing a root.
+//! Optimizes a root.
 
 ghost use Rattle.std.specs.Prelude.{◌<◌, ℕ, IfOk};
 ghost use Rattle.vx_tree.specs.Slots.{IsPresent};
@@ -13,14 +13,14 @@ use vx_rule::RawNode;
 use vx_tree::ArrayRef;
 use vx_value::{VortexError, VortexResult};
 
-/// The rewrites that one root may take.
+/// The number of rewrites that one root may take.
 const MAX_OPTIMIZER_REWRITE_PASS: u32 = 100;
 
 /// The rewrite at which a call gives up. (own)
 const MAX_OPTIMIZER_REWRITES: u32 = 4_194_304;
 
-/// Rewrites the root of `array` until no row fits. The slots that an answer names are optimized before the next pass. `total` counts the
-/// rewrites of the call.
+/// Rewrites the root of `array` until no row fits. The slots that an answer names are optimized before the next pass. `total`
+/// counts the rewrites of the call.
 #[cycle(optimize)]
 pub(crate) fn optimize_root(
     alloc: Global,

@@ -1,4 +1,4 @@
-//! Choosing rows of an array.
+//! Slices and filters of an array.
 
 ghost use Rattle.std.specs.Prelude.{◌≡◌, ◌≤◌, ◌<◌, IfOk, IfErr, OnOk};
 ghost use Rattle.vx_mask.specs.Masks.{bits_in};
@@ -14,7 +14,7 @@ use vx_mask::Mask;
 use vx_tree::{ArrayRef, Canonical, FilterArray, IntoArray, SliceArray};
 use vx_value::VortexResult;
 
-/// Lazy choices of rows, optimized. (own)
+/// Lazy slices and filters, optimized. (own)
 ///
 /// # Errors
 ///
@@ -23,8 +23,8 @@ pub trait ArraySelect: Sized {
     // the tree whose rows are chosen
     ghost tree: { Self → Tree };
 
-    /// Returns the rows in `range`: the array itself if these are all rows, and the empty column if there are none. `OutOfBounds` exactly
-    /// unless start <= end <= the array's length.
+    /// Returns the rows in `range`: the array itself if these are all rows, the empty column if there are none. `OutOfBounds`
+    /// exactly unless start <= end <= the array's length.
     fn slice(&self, alloc: Global, range: Range<usize>) -> VortexResult<ArrayRef>
         ensures keeps { IfOk result (Keeps (slice_of range.start range.end (tree self.now))) }
         ensures whole { range.start ≡ 0 → range.end ≡ len (tree self.now) → IfOk result (λ t. t ≡ tree self.now) }

@@ -1,4 +1,4 @@
--- What a rule answers.
+-- The answers of rules.
 use Rattle.std.specs.Prelude.{◌≡◌, ℕ, Option, Some, None, Result, Ok, Err}
 use Rattle.vx_value.specs.declared.error.VortexError.{VortexError}
 use Rattle.vx_value.specs.declared.error.VortexError.TheVariants.{OutOfMemory}
@@ -11,17 +11,17 @@ use Rattle.vx_rule.specs.declared.raw_node.RawNode.{RawNode}
 abbrev pub HoldsWith : Data → Tree → ℕ → Tree → Type 0
 HoldsWith d c i t = (d ≡ datum c) × HasSlot i c t
 
--- a row of the table, or nothing if no row fits
+-- the answer is that of a row of the table, or None if no row fits
 abbrev pub IsAnswer : Option ℕ → Tree → Option RawNode → Type 0
 IsAnswer w t None = IsQuiet w t
 IsAnswer w t (Some r) = Row w t r.tree r.optimize.items
 
--- such an answer, and no error but out of memory
+-- the same, and the only error is out of memory
 abbrev pub Answers : Option ℕ → Tree → Result (Option RawNode) VortexError → Type 0
 Answers w t (Ok o) = IsAnswer w t o
 Answers w t (Err e) = e ≡ OutOfMemory
 
--- an answer that is the tree u, all of whose slots are to be optimized, and no error but out of memory
+-- the answer is the tree u, with all its slots to be optimized, and the only error is out of memory
 abbrev pub IsRaw : Tree → Result (Option RawNode) VortexError → Type 0
 IsRaw u (Ok None) = ⊥
 IsRaw u (Ok (Some r)) = (r.tree ≡ u) × (r.optimize.items ≡ present_from 0 (slots u))

@@ -23,23 +23,23 @@ abbrev pub data_value : Data → Option Typed
 data_value (constant v) = Some v
 data_value _ = None
 
--- of the constant in a slot
+-- the value of the constant in a slot
 abbrev pub slot_value : Option Tree → Option Typed
 slot_value None = None
 slot_value (Some t) = data_value (datum t)
 
--- a value before others, if all are there
+-- a value in front of others, if all are there
 abbrev pub with_value : Option Typed → Option (List Typed) → Option (List Typed)
 with_value (Some v) (Some vs) = Some (v ∷ vs)
 with_value _ _ = None
 
--- the values of slots each of which holds a constant
+-- the values of the slots, if each holds a constant
 abbrev pub constant_values : Slots → Option (List Typed)
 constant_values no_slots = Some []
 constant_values (absent ss) = None
 constant_values (slot t ss) = with_value (data_value (datum t)) (constant_values ss)
 
--- the constant of a function's value on such slots, if there is one
+-- the constant of the function's value on these slots, None if a slot holds no constant or the function has no value
 abbrev pub IsFolded : ScalarFnRef → DataType → ℕ → Slots → Option Tree → Type 0
 IsFolded f ty n ss None = (vs : List Typed) → constant_values ss ≡ Some vs → apply f ty (map (λ v. value v.value) vs) ≡ fault
 IsFolded f ty n ss (Some u) =

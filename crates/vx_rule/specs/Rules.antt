@@ -25,12 +25,12 @@ use Rattle.vx_tree.specs.NodeValidities.{both_of}
 abbrev pub lets_slice : Data → Bool
 lets_slice d = is_canonical d || is_slice d || is_constant d || is_function d || is_masked d
 
--- a range of k rows that has a row, but not all
+-- a range with some but not all of k rows
 pub record IsPart (a b k : ℕ) : Type 0 where
   pub some_rows : a < b
   pub not_all : b - a < k
 
--- such a range of t's rows
+-- such a range of the rows of t, in its bounds
 abbrev pub IsPartOf : ℕ → ℕ → Tree → Type 0
 IsPartOf a b t = IsPart a b (len t) × (b ≤ len t)
 
@@ -38,14 +38,14 @@ IsPartOf a b t = IsPart a b (len t) × (b ≤ len t)
 abbrev pub constants : DataType → Value → ℕ → Tree
 constants ty v n = constant_of (record { of_type = ty; value = v }) n
 
--- the validity in a masked node's second slot, as a column of n booleans: true if there is none
+-- the validity in a masked array's second slot, as a column of n booleans: true if there is none
 abbrev pub validity_column : ℕ → Slots → Tree
 validity_column n (slot t ss) = t
 validity_column n _ = truths true n
 
 -- Who answers (the node itself, or the child in a slot), the tree, the answer, and the answer's slots that are to be optimized.
 pub data Row : Option ℕ → Tree → Tree → List ℕ → Type 0 where
-  -- a filter that chooses all rows is its child, one that chooses none the empty column, one of consecutive rows a slice
+  -- a filter that chooses all rows is its child, one that chooses none is the empty column, one of consecutive rows is a slice
   F1 : (ty : DataType) (n : ℕ) (bits : List Bool) (c : Tree) → is_all_true bits ≡ true → Row None (node ty n (enc.filter bits) (slot c no_slots)) c []
   F2 : (ty : DataType) (n : ℕ) (bits : List Bool) (c : Tree) → is_all_true bits ≡ false → true_count bits ≡ 0
       → Row None (node ty n (enc.filter bits) (slot c no_slots)) (empty_of (dtype c)) []
@@ -59,7 +59,7 @@ pub data Row : Option ℕ → Tree → Tree → List ℕ → Type 0 where
       → Row None (node ty n (enc.function fn_of.IsNull) (slot c no_slots)) (truths false n) []
   N1_valid : (ty : DataType) (n : ℕ) (c : Tree) → nullability_of (dtype c) ≡ NonNullable
       → Row None (node ty n (enc.function fn_of.IsNotNull) (slot c no_slots)) (truths true n) []
-  -- S1 to S5 begin so: all rows of the child are the child, and no row is the empty column
+  -- S1 to S5 start with these: a slice of all rows is the child, and a slice of no rows is the empty column
   S_whole : (ty : DataType) (n a b : ℕ) (c : Tree) → lets_slice (datum c) ≡ true → a ≡ 0 → b ≡ len c
       → Row (Some 0) (node ty n (enc.slice a b) (slot c no_slots)) c []
   S_empty : (ty : DataType) (n a b : ℕ) (c : Tree) → lets_slice (datum c) ≡ true → a ≡ b → 0 < len c
@@ -67,32 +67,32 @@ pub data Row : Option ℕ → Tree → Tree → List ℕ → Type 0 where
   -- a slice of a slice is one slice
   S1 : (ty sty : DataType) (n a b k s t : ℕ) (c : Tree) → IsPart a b k
       → Row (Some 0) (node ty n (enc.slice a b) (slot (node sty k (enc.slice s t) (slot c no_slots)) no_slots)) (slice_of (s + a) (s + b) c) []
-  -- of a constant, a shorter one
+  -- a slice of a constant is a shorter constant
   S2 : (ty cty : DataType) (n a b k : ℕ) (v : Typed) → IsPart a b k
       → Row (Some 0) (node ty n (enc.slice a b) (slot (node cty k (enc.constant v) no_slots) no_slots)) (constant_of v (b - a)) []
-  -- of a canonical column, one of that range
+  -- a slice of a canonical column is the column of that range
   S3 : (ty cty : DataType) (n a b k : ℕ) (d : Data) (ss : Slots) → is_canonical d ≡ true → IsPart a b k
       → Row (Some 0) (node ty n (enc.slice a b) (slot (node cty k d ss) no_slots)) (column_range a b (node cty k d ss))
       (present_in (column_range a b (node cty k d ss)))
-  -- of a function, the function of slices
+  -- a slice passes below a function
   S4 : (ty fty : DataType) (n a b k : ℕ) (f : ScalarFnRef) (ss : Slots) → IsPart a b k
       → Row (Some 0) (node ty n (enc.slice a b) (slot (node fty k (enc.function f) ss) no_slots))
       (node fty (b - a) (enc.function f) (map_slots (slice_of a b) ss)) (present_from 0 (map_slots (slice_of a b) ss))
-  -- of a masked array, a masked slice
+  -- a slice passes below a masked array
   S5 : (ty mty : DataType) (n a b k : ℕ) (c : Tree) (vs : Slots) → IsPart a b k
       → Row (Some 0) (node ty n (enc.slice a b) (slot (node mty k enc.masked (slot c vs)) no_slots))
       (node mty (b - a) enc.masked (slot (slice_of a b c) (map_slots (part_of a b) vs))) (0 ∷ present_from 1 (map_slots (part_of a b) vs))
   -- a filter of a filter is one filter
   F5 : (ty fty : DataType) (n k : ℕ) (outer inner : List Bool) (c : Tree)
       → Row (Some 0) (node ty n (enc.filter inner) (slot (node fty k (enc.filter outer) (slot c no_slots)) no_slots)) (filter_of (combined outer inner) c) []
-  -- of a constant, a shorter one
+  -- a filter of a constant is a shorter constant
   F6 : (ty cty : DataType) (n k : ℕ) (bits : List Bool) (v : Typed)
       → Row (Some 0) (node ty n (enc.filter bits) (slot (node cty k (enc.constant v) no_slots) no_slots)) (constant_of v (true_count bits)) []
-  -- of a function, the function of filters
+  -- a filter passes below a function
   F7 : (ty fty : DataType) (n k : ℕ) (bits : List Bool) (f : ScalarFnRef) (ss : Slots)
       → Row (Some 0) (node ty n (enc.filter bits) (slot (node fty k (enc.function f) ss) no_slots))
       (node fty (true_count bits) (enc.function f) (map_slots (choice_of bits) ss)) (present_from 0 (map_slots (choice_of bits) ss))
-  -- of a masked array, a masked filter
+  -- a filter passes below a masked array
   F8 : (ty mty : DataType) (n k : ℕ) (bits : List Bool) (c : Tree) (vs : Slots)
       → Row (Some 0) (node ty n (enc.filter bits) (slot (node mty k enc.masked (slot c vs)) no_slots))
       (node mty (true_count bits) enc.masked (slot (filter_of bits c) (map_slots (choice_of bits) vs))) (0 ∷ present_from 1 (map_slots (choice_of bits) vs))
@@ -100,7 +100,7 @@ pub data Row : Option ℕ → Tree → Tree → List ℕ → Type 0 where
   M1 : (ty mty : DataType) (n k : ℕ) (c m : Tree) (vs : Slots)
       → Row (Some 0) (node ty n (enc.function fn_of.Mask) (slot (node mty k enc.masked (slot c vs)) (slot m no_slots)))
       (node ty n (enc.function fn_of.Mask) (slot c (slot (both_of n m (validity_column n vs)) no_slots))) []
-  -- a function of constants is a constant, if it has a value: a cast, a negation, bounds, and a filling of nulls
+  -- a cast, negation, `between` or `fill_null` of constants is a constant, if it has a value
   K1 : (ty s : DataType) (n k : ℕ) (target : DType) (v : Typed) (w : Value) → apply (fn_of.Cast target) ty (value v.value ∷ []) ≡ value w
       → Row (Some 0) (node ty n (enc.function (fn_of.Cast target)) (slot (node s k (enc.constant v) no_slots) no_slots)) (constants ty w n) []
   K2 : (ty s : DataType) (n k : ℕ) (v : Typed) (w : Value) → apply fn_of.Not ty (value v.value ∷ []) ≡ value w
@@ -114,15 +114,15 @@ pub data Row : Option ℕ → Tree → Tree → List ℕ → Type 0 where
       → Row (Some 0) (node ty n (enc.function fn_of.FillNull) (slot (node s j (enc.constant x) no_slots) (slot (node t k (enc.constant y) no_slots) no_slots)))
       (constants ty w n) []
 
--- some row of the table, with the answer's slots that are to be optimized
+-- some row of the table rewrites t to u; the answer's slots in os are to be optimized
 abbrev pub Rewrites : Tree → Tree → List ℕ → Type 0
 Rewrites t u os = (w : Option ℕ) × Row w t u os
 
--- no row for the node itself, or for the child in that slot
+-- no row fits the node itself, or the child in that slot
 abbrev pub IsQuiet : Option ℕ → Tree → Type 0
 IsQuiet w t = (u : Tree) (os : List ℕ) → Row w t u os → ⊥
 
--- no row at all
+-- no row fits at all
 abbrev pub IsSettled : Tree → Type 0
 IsSettled t = (w : Option ℕ) → IsQuiet w t
 

@@ -1,4 +1,4 @@
--- A slice passes through the encodings that say so.
+-- A slice passes through these encodings.
 use Rattle.std.proofs.Common.{◌≡◌, true, refl}
 use Rattle.std.specs.Prelude.{◌||◌}
 use Rattle.std.proofs.lemmas.Bool.{or_right}

@@ -1,11 +1,11 @@
--- Which function a node applies.
+-- The function that a node applies.
 use Rattle.std.specs.Prelude.{Bool, true, false}
 use Rattle.vx_fn.specs.declared.function.ScalarFnRef.{ScalarFnRef}
 use Rattle.vx_fn.specs.declared.function.ScalarFnRef.TheVariants as fn_of
 use Rattle.vx_tree.specs.Tree as enc
 use Rattle.vx_tree.specs.Tree.{Data}
 
--- which function it is
+-- whether it is this function
 abbrev pub is_mask : ScalarFnRef → Bool
 is_mask fn_of.Mask = true
 is_mask _ = false
@@ -26,7 +26,7 @@ abbrev pub is_fill_null : ScalarFnRef → Bool
 is_fill_null fn_of.FillNull = true
 is_fill_null _ = false
 
--- a node applies such a function
+-- the node applies a function that passes the test
 abbrev pub applies : (ScalarFnRef → Bool) → Data → Bool
 applies p (enc.function f) = p f
 applies p _ = false

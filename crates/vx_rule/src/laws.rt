@@ -8,7 +8,7 @@ ghost use Rattle.vx_tree.specs.Keeps.{Keeps};
 ghost use Rattle.vx_tree.specs.Weight.{weight};
 ghost use Rattle.vx_rule.specs.Rules.{Row, ArePresent};
 
-/// States what every row does: its answer may stand for the tree, weighs less, and is another tree. (own)
+/// States what every row does: its answer may stand for the tree, weighs less, and differs from the tree. (own)
 pub fn rule_laws()
     ensures keeps { (w : Option ℕ) (t u : Tree) (os : List ℕ) → IsWell t → Row w t u os → Keeps t u }
     ensures lighter { (w : Option ℕ) (t u : Tree) (os : List ℕ) → Row w t u os → weight u < weight t }

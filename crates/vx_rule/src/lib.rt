@@ -1,5 +1,5 @@
-//! Rewrite rules: the table of their rows with its laws, what a rule is, and the rules of each encoding, for itself and for its
-//! parents.
+//! Rewrite rules: the table of their rows with its laws, the traits of rules, and the rules of each encoding, for itself and
+//! for its parents.
 #![tactic(auto)]
 
 mod adaptors;

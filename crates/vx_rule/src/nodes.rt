@@ -1,4 +1,4 @@
-//! Nodes taken apart, and the nodes that answers are made of.
+//! Takes nodes apart, and makes the nodes of answers.
 
 ghost use Rattle.std.specs.Prelude.{◌≡◌, ◌≤◌, [], ◌∷◌, Some, IfOk, true};
 ghost use Rattle.vx_value.specs.Errors.{OnlyOutOfMemory};
@@ -32,7 +32,7 @@ pub(crate) fn function_parts(array: &ArrayRef) -> (&ScalarFnRef, &[Option<ArrayR
     (scalar_fn, slots)
 }
 
-/// Makes the node of `scalar_fn` over `slots`, `len` rows of `original`'s type, which must be well formed. Fails only with
+/// Makes the node of `scalar_fn` over `slots`, with `len` rows of `original`'s type. It must be well formed. Fails only with
 /// `OutOfMemory`.
 pub(crate) fn function_node(
     alloc: Global,
@@ -64,8 +64,8 @@ pub(crate) fn masked_parts(array: &ArrayRef) -> (&ArrayRef, &Option<ArrayRef>)
     (child, validity)
 }
 
-/// Makes the masked array of `child`, of `original`'s type, with this tree in the slot of its validity; it must be well formed.
-/// Fails only with `OutOfMemory`.
+/// Makes the masked array of `child`, of `original`'s type, with `validity` in its slot. It must be well formed. Fails only
+/// with `OutOfMemory`.
 pub(crate) fn masked_node(
     alloc: Global,
     original: &ArrayRef,
@@ -82,7 +82,7 @@ pub(crate) fn masked_node(
     Ok(Array::from_parts_unchecked(alloc, parts)?.into_array())
 }
 
-/// Returns the constant of `len` rows that has the value of `array`, which must be one. Fails only with `OutOfMemory`.
+/// Returns the constant of `len` rows with the value of `array`, which must be a constant. Fails only with `OutOfMemory`.
 pub(crate) fn constant_like(alloc: Global, array: &ArrayRef, len: usize) -> VortexResult<ArrayRef>
     requires { is_constant (datum array.now) ≡ true }
     ensures ok { IfOk result (λ t. IsConstantLike array.now len t) }

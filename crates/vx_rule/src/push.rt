@@ -1,4 +1,4 @@
-//! Slices that are pushed down.
+//! Slices pushed down.
 
 ghost use Rattle.std.specs.Prelude.{◌≡◌, ◌≤◌, ◌*◌, ◌+◌, IfOk, true, false};
 ghost use Rattle.vx_value.specs.Errors.{OnlyOutOfMemory};
@@ -16,9 +16,9 @@ use vx_tree::{AnyCanonical, ArrayKind, ArrayRef, IntoArray, SliceArray, slice_va
 use vx_value::VortexResult;
 
 /// Returns the rows of `array` in `range`, which must be in order and in bounds, with the slice pushed down as far as the rows
-/// S1 to S5 reach: all rows are the tree itself, none is the empty column, and a node that no row reaches, such as a filter, is
-/// sliced lazily. No buffer of values is copied. The only lazy slices that it adds stand above such nodes, and in the slots of
-/// validities, whose rows are sliced lazily unless they are constant. Fails only with `OutOfMemory`. (own)
+/// S1 to S5 reach. A range of all rows gives the tree itself, and one of no rows the empty column. A node that no row reaches,
+/// such as a filter, is sliced lazily. No buffer of values is copied. The only lazy slices that it adds stand above such nodes,
+/// and in the slots of validities, whose rows are sliced lazily unless they are constant. Fails only with `OutOfMemory`. (own)
 pub fn push_slice(alloc: Global, array: &ArrayRef, range: Range<usize>) -> VortexResult<ArrayRef>
     requires { (range.start ≤ range.end) × (range.end ≤ len array.now) }
     ensures ok { IfOk result (λ t. KeepsExactly (slice_of range.start range.end array.now) t) }
@@ -29,7 +29,7 @@ pub fn push_slice(alloc: Global, array: &ArrayRef, range: Range<usize>) -> Vorte
     push(alloc, array, range)
 }
 
-/// Returns the rows of `array` in `range`, by its encoding. Fails only with `OutOfMemory`.
+/// Returns the rows of `array` in `range`: a line for each encoding. Fails only with `OutOfMemory`.
 #[cycle(push)]
 fn push(alloc: Global, array: &ArrayRef, range: Range<usize>) -> VortexResult<ArrayRef>
     requires { (range.start ≤ range.end) × (range.end ≤ len array.now) }
@@ -57,8 +57,8 @@ fn push(alloc: Global, array: &ArrayRef, range: Range<usize>) -> VortexResult<Ar
     }
 }
 
-/// Returns the rows of `array`, which must apply a function, in `range`: the function of each slot's rows. Fails only with
-/// `OutOfMemory`.
+/// Returns the rows of `array`, which must be a function node, in `range`, with the slice pushed below the function. Fails only
+/// with `OutOfMemory`.
 #[cycle(push)]
 fn push_function(alloc: Global, array: &ArrayRef, range: Range<usize>) -> VortexResult<ArrayRef>
     requires function { is_function (datum array.now) ≡ true }
@@ -90,7 +90,7 @@ fn lazily(alloc: Global, array: &ArrayRef, range: Range<usize>) -> VortexResult<
     Ok(SliceArray::new(alloc, array.clone()?, range)?.into_array())
 }
 
-/// Returns the rows of `array`, which masks `child` by `validity`, in `range`; `part` has those of `child`. Fails only with
+/// Returns the rows of `array`, which masks `child` by `validity`, in `range`; `part` holds those of `child`. Fails only with
 /// `OutOfMemory`.
 #[tactic(auto, using(crate::proofs::PushLemmas::masked_pushed, crate::proofs::PushLemmas::masked_range, crate::proofs::PushLemmas::masked_well))]
 fn masked_part(

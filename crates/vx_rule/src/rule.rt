@@ -11,12 +11,12 @@ use std::marker::PhantomData;
 use vx_tree::{ArrayRef, ArrayView, Matcher, VTable};
 use vx_value::VortexResult;
 
-/// Rules of a node itself.
+/// Rules for a node itself.
 pub trait ArrayReduceRule<V: VTable> {
-    // which nodes the rule's rows are about
+    // whether the rule's rows are about this node
     ghost covers: { Tree → Bool };
 
-    /// Returns the answer of `array`, if the rule covers it: `None` exactly if no row fits. `None` if the rule doesn't cover
+    /// Returns the answer for `array` if the rule covers it: `None` exactly if no row fits. `None` if the rule doesn't cover
     /// it. Fails only with `OutOfMemory`.
     fn reduce(&self, alloc: Global, array: &ArrayView<'_, V>) -> VortexResult<Option<RawNode>>
         requires payload { V.stands_for array.now.payload.now ≡ datum array.now.array.now }
@@ -29,8 +29,8 @@ pub trait ArrayReduceRule<V: VTable> {
 pub trait ArrayParentReduceRule<V: VTable> {
     type Parent: Matcher;
 
-    /// Returns the answer of `child`, which stands in `slot` of `parent`: `None` exactly if no row fits there. `Parent` must
-    /// match `parent`. Fails only with `OutOfMemory`.
+    /// Returns the answer of `child`, which is in `slot` of `parent`: `None` exactly if no row fits there. `Parent` must match
+    /// `parent`. Fails only with `OutOfMemory`.
     fn reduce_parent(
         &self,
         alloc: Global,
@@ -43,7 +43,7 @@ pub trait ArrayParentReduceRule<V: VTable> {
         ensures { Answers (Some slot) parent.now result };
 }
 
-/// Rules of a child for any parent, with the test whether they cover it.
+/// Rules of a child for any parent, and whether they cover it.
 pub trait DynArrayParentReduceRule<V: VTable> {
     ghost covers: { Tree → Bool };
 
@@ -51,7 +51,7 @@ pub trait DynArrayParentReduceRule<V: VTable> {
     fn matches(&self, parent: &ArrayRef) -> bool
         ensures { result ≡ covers parent.now };
 
-    /// Returns the answer of `child`, which stands in `slot` of `parent`, if the rule covers `parent`: `None` exactly if no row
+    /// Returns the answer of `child`, which is in `slot` of `parent`, if the rule covers `parent`: `None` exactly if no row
     /// fits there. `None` if the rule doesn't cover `parent`. Fails only with `OutOfMemory`.
     fn reduce_parent(
         &self,
@@ -66,7 +66,7 @@ pub trait DynArrayParentReduceRule<V: VTable> {
         ensures err { OnlyOutOfMemory result };
 }
 
-/// A rule of `V` as one for any parent: it covers those that the rule's `Parent` matches.
+/// A rule of `V` as a rule for any parent: it covers those that the rule's `Parent` matches.
 #[derive(Debug, Drop)]
 pub struct ParentReduceRuleAdapter<V, R> {
     rule: R,
@@ -74,7 +74,7 @@ pub struct ParentReduceRuleAdapter<V, R> {
 }
 
 impl<V: VTable, R: ArrayParentReduceRule<V>> ParentReduceRuleAdapter<V, R> {
-    /// Returns `rule` as one for any parent.
+    /// Returns `rule` as a rule for any parent.
     pub fn new(rule: R) -> ParentReduceRuleAdapter<V, R>
         ensures { result.rule ≡ rule }
     {

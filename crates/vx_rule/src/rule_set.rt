@@ -17,7 +17,7 @@ pub trait ReduceVTable: VTable {
         requires payload { Self.stands_for array.now.payload.now ≡ datum array.now.array.now }
         ensures { Answers None array.now.array.now result };
 
-    /// Returns the answer of `child`, which stands in `slot` of `parent`: `None` exactly if no row fits there. Fails only with
+    /// Returns the answer of `child`, which is in `slot` of `parent`: `None` exactly if no row fits there. Fails only with
     /// `OutOfMemory`. (own)
     fn reduce_parent(
         alloc: Global,
@@ -66,7 +66,7 @@ impl<V: ReduceVTable> ParentRuleSet<V> {
         }
     }
 
-    /// Returns the answer of `child`, which stands in `slot` of `parent`: `None` exactly if no row fits there. Fails only with
+    /// Returns the answer of `child`, which is in `slot` of `parent`: `None` exactly if no row fits there. Fails only with
     /// `OutOfMemory`.
     pub fn evaluate(
         &self,

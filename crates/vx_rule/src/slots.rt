@@ -1,4 +1,4 @@
-//! The slots of answers, and the arguments in those of calls.
+//! The slots of answers, and the arguments of functions.
 
 ghost use Rattle.std.specs.Prelude.{◌≡◌, ◌≤◌, ◌-◌, [], ◌∷◌, length, Some, None, option_map, IfOk, IfSome, true};
 ghost use Rattle.vx_value.specs.Errors.{OnlyOutOfMemory};
@@ -15,8 +15,8 @@ use vx_mask::Mask;
 use vx_tree::{ArrayRef, ConstantArray, IntoArray, SliceArray, choose_validity};
 use vx_value::{Nullability, Scalar, VortexResult};
 
-/// Returns a lazy slice of the tree in `slot`, if it has one, which must have the rows in `range`. Fails only with
-/// `OutOfMemory`.
+/// Returns a lazy slice of the tree in `slot`, if there is one, at `range`, which must be in order and in bounds. Fails only
+/// with `OutOfMemory`.
 fn slice_slot(
     alloc: Global,
     slot: &Option<ArrayRef>,
@@ -33,8 +33,8 @@ fn slice_slot(
     }
 }
 
-/// Returns lazy slices of the trees in `slots`, which must have `len` rows each, those in `range` among them. Fails only with
-/// `OutOfMemory`.
+/// Returns lazy slices of the trees in `slots`, which must have `len` rows each, at `range`, which must be in order and in
+/// bounds. Fails only with `OutOfMemory`.
 pub(crate) fn slice_slots(
     alloc: Global,
     slots: &[Option<ArrayRef>],
@@ -55,8 +55,8 @@ pub(crate) fn slice_slots(
     Ok(slices)
 }
 
-/// Returns lazy filters of the trees in `slots`, which must have as many rows as `mask` each; of constants, shorter ones. Fails
-/// only with `OutOfMemory`.
+/// Returns lazy filters of the trees in `slots`, which must have as many rows as `mask` each; a constant becomes a shorter one.
+/// Fails only with `OutOfMemory`.
 pub(crate) fn choose_slots(
     alloc: Global,
     slots: &[Option<ArrayRef>],

@@ -1,4 +1,4 @@
-//! Asking the table.
+//! Asks the table for an answer.
 
 ghost use Rattle.std.specs.Prelude.{◌≡◌, IfOk, None, Some};
 ghost use Rattle.vx_value.specs.Errors.{OnlyOutOfMemory};
@@ -27,7 +27,7 @@ fn evaluate<V: ReduceVTable>(
     ReduceRuleSet::new().evaluate(alloc, &view)
 }
 
-/// Returns the answer of `child`, which stands in `slot` of `parent`, by the rules of `V`, its encoding, whose data is `payload`.
+/// Returns the answer of `child`, which is in `slot` of `parent`, by the rules of `V`, its encoding, whose data is `payload`.
 #[inline]
 fn evaluate_child<V: ReduceVTable>(
     alloc: Global,
@@ -56,7 +56,7 @@ pub fn reduce(alloc: Global, array: &ArrayRef) -> VortexResult<Option<RawNode>>
     by_encoding!(array.encoding(), evaluate(alloc, array))
 }
 
-/// Returns the answer of `child`, which stands in `slot` of `parent`, by the rows S1 to S5, F5 to F8, M1 and K1 to K4: `None`
+/// Returns the answer of `child`, which is in `slot` of `parent`, by the rows S1 to S5, F5 to F8, M1 and K1 to K4: `None`
 /// exactly if none of them fits there. Fails only with `OutOfMemory`.
 pub fn reduce_parent(
     alloc: Global,

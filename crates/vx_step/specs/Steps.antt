@@ -22,7 +22,7 @@ AwaitsAt g zero (slot t ss) = meets g t ≡ false
 AwaitsAt g (suc i) (absent ss) = AwaitsAt g i ss
 AwaitsAt g (suc i) (slot t ss) = (meets g t ≡ true) × AwaitsAt g i ss
 
--- slot i is executed, and the first that isn't ready
+-- slot i is executed, and is the first that isn't ready
 abbrev pub Awaits : ℕ → Tree → Type 0
 Awaits i (node ty n d ss) = (is_executed (executed d) i ≡ true) × AwaitsAt (slot_target d) i ss
 
@@ -41,7 +41,7 @@ are_constant no_slots = true
 are_constant (absent ss) = false
 are_constant (slot t ss) = is_constant (datum t) && are_constant ss
 
--- whether a node steps to a constant: a function of constants does, if there is a row
+-- whether a node steps to a constant: a function of constants does, if it has a row
 abbrev pub gives_constant : Tree → Bool
 gives_constant (node ty n d ss) = is_function d && (nat_lt 0 n && are_constant ss)
 
@@ -49,9 +49,8 @@ gives_constant (node ty n d ss) = is_function d && (nat_lt 0 n && are_constant s
 abbrev pub IsStopped : Tree → VortexError → Type 0
 IsStopped t e = (e ≡ OutOfMemory) ⊎ ((e ≡ Fault) × (¬ (IsClean t)))
 
--- what the filter of c at the true bits steps to by its mask alone, c as it stands: the column without rows if it chooses none, c if it
--- chooses all, and, if the rows that it chooses are consecutive, the slice of c, which isn't a column, pushed down: just its rows, in no more
--- turns than the slice
+-- what the filter of c at the true bits steps to by its mask alone: the empty column if it chooses no row; c itself if it chooses all; and, if the chosen rows
+-- are consecutive and c isn't canonical, the slice of c, pushed down, with just its rows and in no more turns
 abbrev pub IsShort : List Bool → Tree → Tree → Type 0
 IsShort bits c u =
     ((true_count bits ≡ 0) × (u ≡ empty_of (dtype c)))
@@ -59,14 +58,14 @@ IsShort bits c u =
     ⊎ ((is_all_true bits ≡ false) × (is_canonical (datum c) ≡ false) × (a : ℕ) × (b : ℕ) × IsRun bits a b × KeepsExactly (slice_of a b c) u
     × (cost u ≤ cost c + 3 * reach c))
 
--- only a filter does so
+-- t is a filter, and u is what it steps to by its mask alone
 abbrev pub IsShortcut : Tree → Tree → Type 0
 IsShortcut t u = (bits : List Bool) × (c : Tree) × (t ≡ filter_of bits c) × IsShort bits c u
 
 abbrev pub HasNoShortcut : Tree → Type 0
 HasNoShortcut t = (u : Tree) → ¬ (IsShortcut t u)
 
--- the slots of t are ready, and u is its column
+-- the slots of t are ready, and u is the column of t
 pub record IsColumnOf (t u : Tree) : Type 0 where
   pub direct : HasNoShortcut t
   pub ready : IsReady t

@@ -26,7 +26,7 @@ target_of t = slot_target (datum t)
 abbrev pub base_potential : Data → ℕ
 base_potential d = base_cost d
 
--- the turns left for a slot: those that the bound has for it, or none once it has reached its target
+-- the turns left for a slot: those that the bound has for it, none once it has reached its target
 abbrev pub slot_potential : Bool → ℕ → ℕ
 slot_potential true c = 0
 slot_potential false c = c

@@ -9,17 +9,17 @@ AreColumns no_slots = Unit {0}
 AreColumns (absent ss) = ⊥
 AreColumns (slot t ss) = (is_columnar (datum t) ≡ true) × AreColumns ss
 
--- one slot holds a column
+-- the slot holds a column
 abbrev pub HoldsColumn : Option Tree → Type 0
 HoldsColumn None = ⊥
 HoldsColumn (Some t) = is_columnar (datum t) ≡ true
 
--- whether one slot holds a tree that isn't a column yet
+-- whether the slot holds a tree that isn't a column yet
 abbrev pub waits : Option Tree → Bool
 waits None = false
 waits (Some t) = not (is_columnar (datum t))
 
--- the tree of one slot, if it holds one
+-- the tree in the slot, if it holds one
 abbrev pub trees_of : Option Tree → List Tree
 trees_of None = []
 trees_of (Some t) = t ∷ []

@@ -17,9 +17,9 @@ use vx_rule::push_slice;
 use vx_tree::{ArrayRef, Canonical, slice_canonical};
 use vx_value::VortexResult;
 
-/// Replaces the filter of `child` by `mask`: by the column without rows if the mask chooses none, by `child` if it chooses all,
-/// and by its slice, pushed down, if the chosen rows are consecutive. Otherwise requests `child` as a canonical column, and filters it once it
-/// is one.
+/// Replaces the filter of `child` by `mask`: by the empty column if the mask chooses no row, by `child` if it chooses all, and
+/// by the slice of `child`, pushed down, if the chosen rows are consecutive. Otherwise requests `child` as a canonical column,
+/// and filters it once it is one.
 #[tactic(auto, using(crate::proofs::FilterLemmas::nothing_done, crate::proofs::FilterLemmas::whole_done))]
 pub(crate) fn filter_or_wait(
     alloc: Global,
@@ -40,7 +40,7 @@ pub(crate) fn filter_or_wait(
     choose_or_wait(alloc, child, mask)
 }
 
-/// Takes the step of a filter whose mask chooses some rows of `child`, but not all.
+/// Takes the step of a filter whose mask chooses some but not all rows of `child`.
 #[tactic(auto, using(crate::proofs::FilterLemmas::filter_done))]
 fn choose_or_wait(alloc: Global, child: &ArrayRef, mask: &Mask) -> VortexResult<ExecutionStep>
     requires within { length (bits_in mask.now) ≡ len child.now }
@@ -56,7 +56,7 @@ fn choose_or_wait(alloc: Global, child: &ArrayRef, mask: &Mask) -> VortexResult<
     }
 }
 
-/// Chooses rows of `column`, as a range of it if they are consecutive. Fails only with `OutOfMemory`.
+/// Chooses rows of `column`, as a slice if they are consecutive. Fails only with `OutOfMemory`.
 #[tactic(auto, using(vx_rule::proofs::FiltersLemmas::run_range, crate::proofs::FilterLemmas::run_kept))]
 fn filter_column(alloc: Global, column: &Canonical, mask: &Mask) -> VortexResult<Canonical>
     requires { length (bits_in mask.now) ≡ len (canonical_tree column.now) }
@@ -70,8 +70,8 @@ fn filter_column(alloc: Global, column: &Canonical, mask: &Mask) -> VortexResult
     }
 }
 
-/// Replaces the filter of `child`, which isn't a column yet, by its slice, pushed down, if the chosen rows are consecutive. Otherwise requests
-/// `child` as a canonical column.
+/// Replaces the filter of `child`, which isn't a column yet, by its slice, pushed down, if the chosen rows are consecutive.
+/// Otherwise requests `child` as a canonical column.
 #[tactic(auto, using(vx_rule::proofs::FiltersLemmas::run_range, crate::proofs::FilterLemmas::run_done, crate::proofs::FilterLemmas::filter_waits))]
 fn slice_or_wait(alloc: Global, child: ArrayRef, mask: &Mask) -> VortexResult<ExecutionStep>
     requires within { length (bits_in mask.now) ≡ len child }

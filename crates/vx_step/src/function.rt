@@ -52,7 +52,7 @@ fn first_waiting(slots: &[Option<ArrayRef>]) -> Option<usize>
     None
 }
 
-/// Checks whether `slot` holds a tree that isn't a column yet.
+/// Returns whether `slot` holds a tree that isn't a column yet.
 fn is_waiting(slot: &Option<ArrayRef>) -> bool
     ensures { result ≡ waits slot.now }
 {

@@ -33,7 +33,7 @@ pub(crate) fn mask_or_wait(
     }
 }
 
-/// Returns the validity that the tree in `slot` tells. A constant isn't read.
+/// Returns the validity with the tree in `slot`. A constant isn't read back.
 fn told_by(slot: &Option<ArrayRef>) -> Result<Validity, AllocError>
     ensures { IfOk result (λ v. v ≡ told_by slot.now) }
 {

@@ -11,7 +11,7 @@ use vx_rule::push_slice;
 use vx_tree::{AnyCanonical, ArrayRef};
 use vx_value::VortexResult;
 
-/// Requests `child` as a canonical column; takes its range, which shares its buffers, once it is one.
+/// Requests `child` as a canonical column; slices it, sharing its buffers, once it is one.
 #[tactic(auto, using(crate::proofs::StepsLemmas::slice_waits))]
 pub(crate) fn slice_or_wait(
     alloc: Global,

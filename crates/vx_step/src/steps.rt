@@ -27,7 +27,7 @@ pub enum SlotTarget {
 }
 
 impl SlotTarget {
-    /// Checks whether `array` has this form.
+    /// Returns whether `array` has this form.
     pub fn is_met_by(self, array: &ArrayRef) -> bool
         ensures { result ≡ meets self array.now }
     {
@@ -43,12 +43,13 @@ impl SlotTarget {
 pub enum ExecutionStep {
     /// Requests that the slot, counted from 0, be executed to the target first.
     ExecuteSlot(usize, SlotTarget),
-    /// The tree that replaces the node: a column, or what a filter comes to by its mask alone.
+    /// The tree that replaces the node: a column, or the result of a filter by its mask alone.
     Done(ArrayRef),
 }
 
-/// Takes one step of `array`, whose root isn't canonical: requests the first slot that isn't ready, or returns the tree that
-/// replaces it. This is a column, or, of a filter that chooses all rows or consecutive ones, its child or the slice of it, pushed down.
+/// Takes one step of `array`, whose root must not be canonical: requests the first slot that isn't ready, or returns the tree
+/// that replaces it. This is a column, or, for a filter that chooses all rows or consecutive ones, its child or the child's
+/// slice, pushed down.
 ///
 /// # Errors
 ///

@@ -10,7 +10,7 @@ use vx_column::validity_canonical;
 use vx_tree::{ArrayRef, Columnar};
 use vx_value::VortexResult;
 
-/// Requests `child` as a column; tells which of its rows are valid once it is one.
+/// Requests `child` as a column; tests its rows for null once it is one.
 #[tactic(auto, using(crate::proofs::StepsLemmas::validity_done, crate::proofs::StepsLemmas::validity_waits, crate::proofs::StepsLemmas::unread_stopped))]
 pub(crate) fn validity_or_wait(
     alloc: Global,

@@ -1,4 +1,4 @@
--- The parts of the worked nodes: types, what their slots hold, and why they are refused.
+-- The parts of the worked nodes: types, the contents of their slots, and why they are refused.
 use Rattle.std.specs.Prelude.{ℕ, pos, [], ◌∷◌, true, Option, Some}
 use Rattle.vx_value.specs.Types as type
 use Rattle.vx_value.specs.Types.{DataType}
@@ -40,7 +40,7 @@ binary = type.binary NonNullable
 abbrev pub hundredths : DataType
 hundredths = type.decimal 5 2 NonNullable
 
--- decimals of so many digits, one of them behind the point
+-- decimals of p digits, one of them behind the point
 abbrev pub decimal : ℕ → DataType
 decimal p = type.decimal p 1 NonNullable
 

@@ -1,5 +1,5 @@
-//! Tests of the library crates, and laws that tell what their definitions come to in worked examples: what their contracts and the
-//! program don't show.
+//! Tests of the library crates, and laws that work out their definitions on examples: what their contracts and the program
+//! don't show.
 //!
 //! A crate with tests is proved once more for them, so they stand here together.
 #![tactic(auto)]

@@ -51,7 +51,7 @@ pub fn worked_columns()
     ensures nulls_fit { refusal id.Null type.null 2 nulls [] ≡ None }
 {}
 
-/// States why columns of decimals and of text are refused, whose values are looked at last.
+/// States why columns of decimals and of text are refused; their values are checked last.
 pub fn worked_values()
     ensures digits { decimal_refusal (decimal 2) I16 (pos 123 ∷ pos 123 ∷ []) validity.NonNullable ≡ because BadValue }
     ensures width { decimal_refusal (decimal 5) I16 (pos 123 ∷ pos 123 ∷ []) validity.NonNullable ≡ because BadValue }
@@ -64,7 +64,7 @@ pub fn worked_values()
         (validity.Array (booleans (true ∷ []))) ≡ because (SlotLen 0) }
 {}
 
-/// States why nodes of parts that name a sum are refused, and calls of a sum.
+/// States why nodes of parts that name a sum are refused, and why calls of a sum are.
 pub fn worked_functions()
     ensures missing { refusal id.Not bool 9 (function add) (three ∷ None ∷ []) ≡ because FnSlotMissing }
     ensures missing_first { refusal id.Not bool 9 (function add) (None ∷ []) ≡ because FnSlotMissing }

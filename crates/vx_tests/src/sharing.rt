@@ -3,7 +3,7 @@
 use std::test::Fail;
 use vx_tree::NullArray;
 
-/// Checks that the parts come back, of a node that isn't shared.
+/// Checks that the parts of a node that isn't shared are returned.
 fn has_parts(nulls: NullArray) -> bool {
     nulls.try_into_parts().is_ok()
 }

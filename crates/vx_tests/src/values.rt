@@ -10,7 +10,7 @@ ghost use Rattle.vx_value.specs.IsOf.{is_of};
 ghost use Rattle.vx_value.specs.Order.{scalar_cmp};
 ghost use Rattle.vx_tests.specs.Parts.{i32, nullable, u8, text, binary, hundredths, typed};
 
-/// States of nine values whether they are of a type.
+/// States which of nine values are of a type.
 pub fn worked_types()
     ensures null_of_null { is_of type.null null ≡ true }
     ensures bytes_of_null { is_of type.null (bytes []) ≡ false }
@@ -23,7 +23,7 @@ pub fn worked_types()
     ensures any_bytes { is_of binary (bytes (255 ∷ [])) ≡ true }
 {}
 
-/// States of sixteen pairs of values which comes first, and that values of two types aren't ordered.
+/// States which of each of sixteen pairs of values comes first, and that values of two types aren't ordered.
 pub fn worked_orders()
     ensures null_first { scalar_cmp (typed nullable null) (typed nullable (integer (pos 1))) ≡ Some Less }
     ensures by_size { scalar_cmp (typed nullable (integer (pos 1))) (typed nullable (integer (negsuc 0))) ≡ Some Greater }

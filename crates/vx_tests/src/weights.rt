@@ -11,8 +11,8 @@ ghost use Rattle.vx_tree.specs.Tree.{integers, constant_of, slice_of, filter_of,
 ghost use Rattle.vx_tree.specs.Cost.{cost};
 ghost use Rattle.vx_tree.specs.Weight.{weight};
 
-/// States the weights and costs of three trees: a column of three rows, a slice of a slice of a column, and a filter of the sum of a column and a
-/// constant.
+/// States the weights and costs of three trees: a column of three rows, a slice of a slice of a column, and a filter of the sum
+/// of a column and a constant.
 pub fn worked_weights()
     ensures column { weight (integers I32 (pos 1 ∷ pos 2 ∷ pos 3 ∷ [])) ≡ 3 }
     ensures slices { weight (slice_of 1 4 (slice_of 2 8 (integers I32

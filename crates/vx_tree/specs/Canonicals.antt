@@ -24,7 +24,7 @@ encoding_in (Primitive t) = id.Primitive
 encoding_in (Decimal t) = id.Decimal
 encoding_in (VarBinView t) = id.VarBinView
 
--- the column if it has an encoding, and if it is one of nulls, of booleans, of integers, of decimals, and of text or bytes
+-- the column, if it has this encoding; then a line for each encoding
 abbrev pub column_of : Id → Canonical → Option Tree
 column_of i c = if same_id (encoding_in c) i then Some (canonical_tree c) else None
 

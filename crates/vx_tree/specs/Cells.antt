@@ -18,7 +18,7 @@ abbrev mutual
   slots_rows (absent ss) = [] ∷ slots_rows ss
   slots_rows (slot t ss) = rows t ∷ slots_rows ss
 
--- no fault among these
+-- none of these cells is a fault
 abbrev pub HasNoFault : List Cell → Type 0
 HasNoFault [] = Unit {0}
 HasNoFault (value v ∷ cs) = HasNoFault cs

@@ -10,12 +10,12 @@ use Rattle.vx_value.specs.declared.dtype.Nullability.TheVariants.{NonNullable}
 use Rattle.vx_value.specs.declared.dtype.Storage.{Storage}
 use Rattle.vx_value.specs.declared.dtype.Storage.TheVariants.{Decimals, Text}
 
--- the type of decimals that are stored so; of no other column's storage is it the type
+-- the type of the decimals of this storage; if it isn't one of decimals, a type with one digit
 abbrev pub decimal_type : Storage → DataType
 decimal_type (Decimals p s) = decimal p s NonNullable
 decimal_type _ = decimal 1 0 NonNullable
 
--- how many of their digits stand behind the point, and how wide the integers are that store them
+-- the scale of the decimals, and the width of the integers that store them
 abbrev pub scale_of : Storage → ℕ
 scale_of (Decimals p s) = s
 scale_of _ = 0
@@ -24,17 +24,17 @@ abbrev pub width_in : Storage → DecimalType
 width_in (Decimals p s) = smallest_width p
 width_in _ = I8
 
--- integers of a width are numbers of that type, without their points: the width is the narrowest, and none has more digits
+-- the integers, of width w, are numbers of that type without their points: the width is the narrowest, and none has more digits
 abbrev pub are_decimals_of : Storage → DecimalType → List ℤ → Bool
 are_decimals_of (Decimals p s) w zs = same_width w (smallest_width p) && list_all (has_digits p) zs
 are_decimals_of _ w zs = false
 
--- the type of rows of bytes: of text if that is stored, else of any bytes
+-- the type of rows of bytes: text if the storage is of text, else binary
 abbrev pub bytes_type : Storage → DataType
 bytes_type Text = utf8 NonNullable
 bytes_type _ = binary NonNullable
 
--- the rows are of that type: UTF-8 if it is text
+-- the rows are of that type: each is UTF-8 if it is text
 abbrev pub are_bytes_of : Storage → List (List ℕ) → Bool
 are_bytes_of Text rows = list_all is_utf8 rows
 are_bytes_of _ rows = true

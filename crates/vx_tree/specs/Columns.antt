@@ -30,13 +30,13 @@ canonical_id ty = stored_id (storage_of ty)
 abbrev pub IsLawful : Id → DataType → List Cell → Type 0
 IsLawful i ty cells = (i ≡ canonical_id ty) ⊎ ((i ≡ id.Constant) × (v : Value) × (cells ≡ replicate (length cells) (value v)))
 
--- what every column is: its encoding is lawful; and at most one turn is left, or two for a constant
+-- what every column is: its encoding is lawful, and at most one turn is left, or two for a constant
 pub record IsColumn (t : Tree) : Type 0 where
   pub lawful : IsLawful (id_of (datum t)) (dtype t) (rows t)
   pub settled : cost t ≤ 2
   pub canonical_settled : is_canonical (datum t) ≡ true → cost t ≡ 1
 
--- the column without rows of a type, by how its values are stored
+-- the data of a column without rows, by how its values are stored
 abbrev pub no_rows : Storage → Data
 no_rows (Integers p) = enc.primitive p []
 no_rows (Decimals p s) = enc.decimals (smallest_width p) []
@@ -61,7 +61,7 @@ count_in (enc.decimals w zs) = length zs
 count_in (enc.views rs) = length rs
 count_in d = 0
 
--- those from a to b
+-- the rows from a, inclusive, to b, exclusive
 abbrev pub data_range : ℕ → ℕ → Data → Data
 data_range a b (enc.bool bs) = enc.bool (slice_range bs a b)
 data_range a b (enc.primitive p zs) = enc.primitive p (slice_range zs a b)

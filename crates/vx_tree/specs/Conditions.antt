@@ -1,4 +1,4 @@
--- Conditions in turn: the refusal of the first that fails.
+-- Conditions in order: the refusal of the first that fails.
 use Rattle.std.specs.Prelude.{◌≡◌, Bool, true, false, Option, Some, None, Result, MatchResult}
 use Rattle.vx_value.specs.declared.error.VortexError.{VortexError}
 
@@ -7,11 +7,11 @@ abbrev pub first_of_both : Option VortexError → Option VortexError → Option 
 first_of_both None later = later
 first_of_both (Some e) later = Some e
 
--- the refusal where the test fails
+-- the refusal if the test fails
 abbrev pub unless : Bool → VortexError → Option VortexError
 unless true e = None
 unless false e = Some e
 
--- a check gives Ok if there is no refusal, else the refusal
+-- a check returns Ok if there is no refusal, else the refusal
 abbrev pub Checks : {T : Type 0} → Result T VortexError → Option VortexError → Type 0
 Checks r refused = MatchResult r (λ _. refused ≡ None) (λ e. refused ≡ Some e)

@@ -10,7 +10,7 @@ charge d = (meaning d).charge
 abbrev pub executed : Data → Executed
 executed d = (charge d).executed
 
--- whether the first of the slots is, and which of those after it
+-- whether the first slot is executed, and which of those after it are
 abbrev pub is_next : Executed → Bool
 is_next none = false
 is_next _ = true
@@ -19,12 +19,12 @@ abbrev pub after : Executed → Executed
 after all = all
 after _ = none
 
--- whether slot i is
+-- whether slot i is executed
 abbrev pub is_executed : Executed → ℕ → Bool
 is_executed e zero = is_next e
 is_executed e (suc i) = is_executed (after e) i
 
--- a number of a slot, where it counts
+-- n if it counts, else 0
 abbrev pub counted : Bool → ℕ → ℕ
 counted true n = n
 counted false n = 0
@@ -53,7 +53,7 @@ base_cost d = (charge d).own
 abbrev pub slot_cost : Data → ℕ → ℕ → ℕ
 slot_cost d c e = c + 1 + (charge d).by_reach * e
 
--- at most so many turns are taken for the tree
+-- a bound on the turns that an execution of the tree takes
 abbrev mutual
   pub cost : Tree → ℕ
   cost (node ty n d ss) = base_cost d + slots_cost d (executed d) ss

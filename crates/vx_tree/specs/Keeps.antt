@@ -4,7 +4,7 @@ use Rattle.vx_tree.specs.Tree.{Tree, dtype, len}
 use Rattle.vx_value.specs.Cell.{Cell, value, fault}
 use Rattle.vx_tree.specs.Cells.{rows, IsClean}
 
--- where the first has a value, the second has it too
+-- if the first has a value, the second has it too
 abbrev pub CellKeeps : Cell → Cell → Type 0
 CellKeeps (value v) d = d ≡ value v
 CellKeeps fault d = Unit {0}

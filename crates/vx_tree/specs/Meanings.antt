@@ -12,14 +12,14 @@ use Rattle.vx_tree.specs.SlotCells.{cells_at, valid_cells}
 use Rattle.vx_tree.specs.SlotValidities.{slot_tree, validity_of}
 use Rattle.vx_tree.specs.declared.validity.Validity.{Validity}
 
--- of a node of some type and so many rows
+-- of a node, from its type and its n rows
 pub record Meaning : Type 1 where
   pub id : Id
   -- what the slots are called, in their order
   pub names : List (List ℕ)
   -- the conditions on the node, its slots' own apart
   pub IsNode : DataType → ℕ → List (Option Shape) → Type 0
-  -- why no node is made under an id, None where one is
+  -- why no node is made under an id, None if one is
   pub refusal : Id → DataType → ℕ → List (Option Shape) → Option VortexError
   -- the cells, from those of the slots
   pub cells : DataType → ℕ → List (List Cell) → List Cell

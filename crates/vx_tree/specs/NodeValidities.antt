@@ -34,12 +34,12 @@ abbrev mutual
   first_validity (slot t ss) = node_validity t
   first_validity _ = validity.NonNullable
 
--- its array, if it has one, is clean
+-- the array of the validity, if it has one, is clean
 abbrev pub IsCleanValidity : Validity → Type 0
 IsCleanValidity (validity.Array u) = IsClean u
 IsCleanValidity _ = Unit {0}
 
--- v is a validity of t's type and length, tells of each row without a fault whether it is null, and is clean if t is
+-- v is a validity of t's type and length; it says of each row that isn't a fault whether it is null; it is clean if t is
 pub record IsValidityFor (t : Tree) (v : Validity) : Type 0 where
   pub nullable : nullability_by v ≡ nullability_of (dtype t)
   pub sized : HasRows v (len t)

@@ -1,4 +1,4 @@
--- Rows of a tree as its parent's slot holds them once they are chosen: a constant stays one, and whatever else is put off.
+-- Rows of a slot's tree, chosen with its parent's: a constant stays a constant, and anything else becomes a lazy slice or filter.
 use Rattle.std.specs.Prelude.{◌≡◌, ℕ, ◌-◌, List, Bool, Option, Some, None}
 use Rattle.vx_mask.specs.Places.{true_count}
 use Rattle.vx_tree.specs.Tree.{Tree, Data, node, constant, datum, len, constant_of, slice_of, filter_of}
@@ -21,11 +21,11 @@ choice_by _ bits t = filter_of bits t
 abbrev pub choice_of : List Bool → Tree → Tree
 choice_of bits t = choice_by (datum t) bits t
 
--- it has n rows, if it is there
+-- the tree, if there is one, has n rows
 abbrev pub HasLen : ℕ → Option Tree → Type 0
 HasLen n None = Unit {0}
 HasLen n (Some t) = n ≡ len t
 
--- a canonical column of the rows of one from a, inclusive, to b, exclusive
+-- the rows of a canonical column from a, inclusive, to b, exclusive
 abbrev pub column_range : ℕ → ℕ → Tree → Tree
 column_range a b (node ty n d ss) = node ty (b - a) (data_range a b d) (map_slots (part_of a b) ss)

@@ -1,4 +1,4 @@
--- Which integers each of the nine types has, and which types the kinds of columns name.
+-- Which integers each of the nine types has, and which of them the kinds of columns name.
 use Rattle.std.specs.Prelude.{◌≡◌, ◌↔◌, ◌^◌, ℕ, ℤ, pos, negsuc, true, refl, Bool, FitsSigned}
 use Rattle.std.specs.Int.{Width, FitsUnsignedBits, w8, w16, w32, w64, w128}
 use mir.Val.{hbits}

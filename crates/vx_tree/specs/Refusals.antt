@@ -7,7 +7,7 @@ use Rattle.vx_tree.specs.Tree.{Tree, Data, dtype, len, meaning}
 use Rattle.vx_tree.specs.Shapes.{Shape}
 pub use Rattle.vx_tree.specs.SlotRefusals.{validity_type_refusal, validity_len_refusal, column_refusal, tested_refusal, without_slots, of_child}
 
--- one slot: its type, whether it holds a tree, and whether that has so many rows
+-- of one slot: its type, whether it holds a tree, and whether that has n rows
 abbrev pub type_in : Option Tree → List DataType
 type_in None = []
 type_in (Some t) = dtype t ∷ []
@@ -19,6 +19,6 @@ abbrev pub is_long : ℕ → Option Tree → Bool
 is_long n None = true
 is_long n (Some t) = len t == n
 
--- why no node of these parts is made under the id of its tag, None where one is
+-- why no node of these parts is made under the id, None if one is
 abbrev pub refusal : Id → DataType → ℕ → Data → List (Option Shape) → Option VortexError
 refusal i ty n d ss = (meaning d).refusal i ty n ss

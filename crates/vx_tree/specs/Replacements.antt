@@ -1,4 +1,4 @@
--- A tree's slots replaced, and why they aren't: their number, which hold a tree, the trees' types, their lengths, in this order.
+-- A tree's slots replaced, and why they aren't: the number of slots, which hold a tree, the trees' types, their lengths, in this order.
 use Rattle.std.specs.Prelude.{ℕ, ◌+◌, List, ◌∷◌, length, Bool, true, false, ◌==◌, Option, Some, None, slice_get}
 use Rattle.vx_value.specs.Types.{same_type}
 use Rattle.vx_value.specs.declared.error.VortexError.{VortexError}
@@ -21,7 +21,7 @@ same_presence None None = true
 same_presence (Some s) (Some r) = true
 same_presence s r = false
 
--- two trees have one type, and one length
+-- two trees have the same type, and the same length
 abbrev pub same_dtype : Option Shape → Option Shape → Bool
 same_dtype (Some (shape s m)) (Some (shape r n)) = same_type s r
 same_dtype s r = true
@@ -30,19 +30,19 @@ abbrev pub same_len : Option Shape → Option Shape → Bool
 same_len (Some (shape s m)) (Some (shape r n)) = m == n
 same_len s r = true
 
--- the slot keeps this
+-- the slot keeps k
 abbrev pub is_kept : Kept → Option Shape → Option Shape → Bool
 is_kept Presence s r = same_presence s r
 is_kept Dtype s r = same_dtype s r
 is_kept Len s r = same_len s r
 
--- what is wrong if slot i doesn't
+-- the error if slot i doesn't
 abbrev pub wrong_in : Kept → ℕ → ArgKind
 wrong_in Presence i = SlotMissing i
 wrong_in Dtype i = SlotType i
 wrong_in Len i = SlotLen i
 
--- of slot i
+-- the refusal of slot i
 abbrev pub kept_refusal : Kept → ℕ → Option Shape → Option Shape → Option VortexError
 kept_refusal k i s r = unless (is_kept k s r) (InvalidArgument (wrong_in k i))
 
@@ -53,7 +53,7 @@ abbrev pub found_refusal : ℕ → Option (Option Shape) → Option Shape → Op
 found_refusal i None r = Some (InvalidArgument SlotCount)
 found_refusal i (Some s) r = slot_refusal i s r
 
--- of the first slot that doesn't keep this, the first of them counted from i
+-- the refusal of the first slot that doesn't keep k; the slots are numbered from i
 abbrev pub first_refusal : Kept → ℕ → List (Option Shape) → List (Option Shape) → Option VortexError
 first_refusal k i (s ∷ ss) (r ∷ rs) = first_of_both (kept_refusal k i s r) (first_refusal k (i + 1) ss rs)
 first_refusal k i ss rs = None

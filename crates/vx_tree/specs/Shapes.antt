@@ -7,7 +7,7 @@ use Rattle.vx_value.specs.declared.dtype.Nullability.{Nullability}
 use Rattle.vx_value.specs.declared.dtype.Nullability.TheVariants.{NonNullable, Nullable}
 use Rattle.vx_tree.specs.Tree.Nodes.{Tree, Slots, no_slots, absent, slot, dtype, len}
 
--- of a slot's tree, its type and its length
+-- the type and length of a slot's tree
 pub data Shape : Type 0 where
   shape : DataType → ℕ → Shape
 
@@ -25,7 +25,7 @@ IsValidity m n None = Unit {0}
 IsValidity NonNullable n (Some s) = ⊥
 IsValidity Nullable n (Some s) = s ≡ shape (type.bool NonNullable) n
 
--- a column of k values of the type, which may be null where the column's type is nullable
+-- a column of k values of the type, null only if the column's type is nullable
 abbrev pub IsFlat : DataType → ℕ → DataType → ℕ → List (Option Shape) → Type 0
 IsFlat of_type k ty n ss =
     (v : Option Shape) × (ty ≡ with_nullability (nullability_of ty) of_type) × (n ≡ k) × (ss ≡ v ∷ []) × IsValidity (nullability_of ty) n v

@@ -11,7 +11,7 @@ use Rattle.vx_value.specs.declared.error.ArgKind.TheVariants.{SlotCount, SlotMis
 use Rattle.vx_tree.specs.Shapes.{Shape, shape}
 use Rattle.vx_tree.specs.Conditions.{first_of_both, unless}
 
--- of the tree in slot i, that of a validity: its type, and its length
+-- of slot i, which holds a validity: its type, and its length
 abbrev pub validity_type_refusal : ℕ → Nullability → Option Shape → Option VortexError
 validity_type_refusal i m None = None
 validity_type_refusal i NonNullable (Some s) = Some (InvalidArgument (SlotType i))
@@ -21,7 +21,7 @@ abbrev pub validity_len_refusal : ℕ → ℕ → Option Shape → Option Vortex
 validity_len_refusal i n None = None
 validity_len_refusal i n (Some (shape s m)) = unless (m == n) (InvalidArgument (SlotLen i))
 
--- of a column of k values of the type, which may be null where the column's type is nullable
+-- of a column of k values of the type, null only if the column's type is nullable
 abbrev pub column_refusal : DataType → ℕ → DataType → ℕ → List (Option Shape) → Option VortexError
 column_refusal ty n of_type k [] = Some (InvalidArgument SlotCount)
 column_refusal ty n of_type k (s ∷ []) =
@@ -30,7 +30,7 @@ column_refusal ty n of_type k (s ∷ []) =
     (first_of_both (unless (n == k) (InvalidArgument NodeLen)) (validity_len_refusal 0 n s)))
 column_refusal ty n of_type k (s ∷ r ∷ ss) = Some (InvalidArgument SlotCount)
 
--- the same, and last that the values pass a test
+-- the same, then BadValue unless the values pass
 abbrev pub tested_refusal : DataType → ℕ → DataType → ℕ → Bool → List (Option Shape) → Option VortexError
 tested_refusal ty n of_type k pass ss = first_of_both (column_refusal ty n of_type k ss) (unless pass (InvalidArgument BadValue))
 

@@ -1,4 +1,4 @@
--- The validity that a slot tells, and what is made of one.
+-- The validity that a slot stands for, and what is built from one.
 use Rattle.std.specs.Prelude.{ℕ, zero, suc, true, false, Option, Some, None}
 use Rattle.vx_value.specs.Values.{Value, boolean}
 use Rattle.vx_value.specs.declared.dtype.Nullability.{Nullability}
@@ -15,7 +15,7 @@ slot_tree zero (slot t ss) = Some t
 slot_tree (suc i) (absent ss) = slot_tree i ss
 slot_tree (suc i) (slot t ss) = slot_tree i ss
 
--- the validity of a column of this nullability without a null
+-- the validity of a column of this nullability that has no nulls
 abbrev pub without_nulls : Nullability → Validity
 without_nulls NonNullable = validity.NonNullable
 without_nulls Nullable = validity.AllValid

@@ -1,4 +1,4 @@
--- A tree with one slot replaced, a node with a slot taken out, and what is made of every slot.
+-- A tree with one slot replaced, a node with a slot taken out, and all slots mapped.
 use Rattle.std.specs.Prelude.{◌≡◌, ℕ, zero, suc, ◌+◌, List, [], ◌∷◌}
 use Rattle.vx_tree.specs.Tree.{Tree, Slots, node, no_slots, absent, slot}
 
@@ -14,7 +14,7 @@ set_slot (suc i) t (slot s ss) = slot s (set_slot i t ss)
 abbrev pub put : ℕ → Tree → Tree → Tree
 put i t (node ty n d ss) = node ty n d (set_slot i t ss)
 
--- slot i is there, and absent
+-- slot i exists and is absent
 abbrev pub IsAbsentAt : ℕ → Slots → Type 0
 IsAbsentAt i no_slots = ⊥
 IsAbsentAt zero (absent ss) = Unit {0}
@@ -53,13 +53,13 @@ map_slots f no_slots = no_slots
 map_slots f (absent ss) = absent (map_slots f ss)
 map_slots f (slot t ss) = slot (f t) (map_slots f ss)
 
--- the numbers of the slots that hold a tree, the first of them counted from k
+-- the numbers of the slots that hold a tree, counting from k
 abbrev pub present_from : ℕ → Slots → List ℕ
 present_from k no_slots = []
 present_from k (absent ss) = present_from (k + 1) ss
 present_from k (slot t ss) = k ∷ present_from (k + 1) ss
 
--- of a tree's root
+-- the numbers of the slots that hold a tree in the root
 abbrev pub present_in : Tree → List ℕ
 present_in (node ty n d ss) = present_from 0 ss
 

@@ -1,4 +1,4 @@
--- Trees, and what each encoding makes of them: a file for each.
+-- Trees, and the meaning of each encoding: a file for each.
 pub mod Nodes
 pub mod Constant
 pub mod Slice
@@ -44,7 +44,7 @@ meaning (primitive p zs) = primitive_meaning p zs
 meaning (decimals w zs) = decimals_meaning w zs
 meaning (views rs) = views_meaning rs
 
--- the id that a node goes under
+-- the id of a node
 abbrev pub id_of : Data → Id
 id_of d = (meaning d).id
 
@@ -56,7 +56,7 @@ slot_names d = (meaning d).names
 abbrev pub is_flat : Data → prelude.Bool
 is_flat d = is_bool d || is_primitive d || is_decimals d || is_views d
 
--- each type's own encoding: those, and that of nulls
+-- the canonical encodings: those, and that of nulls
 abbrev pub is_canonical : Data → prelude.Bool
 is_canonical d = is_nulls d || is_flat d
 

@@ -1,4 +1,4 @@
--- Which rows of a column are null, and the tree that tells it.
+-- Which rows of a column are null, and the tree that stands for it.
 use Rattle.std.specs.Prelude.{◌≡◌, ◌≤◌, ℕ, ℤ, List, length, replicate, Bool, true, false, ◌==◌, if◌then◌else◌, Option, Some, None}
 use Rattle.vx_value.specs.Types.{DataType, bool, same_type}
 use Rattle.vx_value.specs.Nullabilities.{with_nullability}
@@ -31,33 +31,33 @@ nullability_by _ = Nullable
 abbrev pub truths : Bool → ℕ → Tree
 truths b n = constant_of (record { of_type = bool NonNullable; value = boolean b }) n
 
--- its tree in a column of n rows: none if no row is null
+-- the tree of a validity in a column of n rows, None if no row is null
 abbrev pub child_of : Validity → ℕ → Option Tree
 child_of validity.AllInvalid n = Some (truths false n)
 child_of (validity.Array t) n = Some t
 child_of _ n = None
 
--- the tree of the validity that a column is given by its rows, in its one form: row i is null if bit i is false
+-- the tree of the validity of these bits, in its one form: row i is null if bit i is false
 abbrev pub child_by : List Bool → Option Tree
 child_by bits = if is_all_true bits then None else (if is_all_false bits then Some (truths false (length bits)) else Some (booleans bits))
 
--- how many children tell it
+-- the number of children that stand for it
 abbrev pub count_children : Option Tree → ℕ
 count_children None = 0
 count_children (Some t) = 1
 
--- what it says of n rows: whether each isn't null
+-- whether each of n rows isn't null
 abbrev pub valid_rows : Validity → ℕ → List Cell
 valid_rows validity.AllInvalid n = replicate n (value (boolean false))
 valid_rows (validity.Array t) n = rows t
 valid_rows _ n = replicate n (value (boolean true))
 
--- it is one of n rows
+-- it is a validity of n rows
 abbrev pub HasRows : Validity → ℕ → Type 0
 HasRows (validity.Array t) n = IsWell t × (dtype t ≡ bool NonNullable) × (len t ≡ n)
 HasRows _ n = Unit {0}
 
--- why it is none of n rows
+-- why it isn't a validity of n rows
 abbrev pub array_refusal : ℕ → Validity → Option VortexError
 array_refusal n (validity.Array t) =
     first_of_both (unless (same_type (dtype t) (bool NonNullable)) (InvalidArgument (SlotType 0))) (unless (len t == n) (InvalidArgument (SlotLen 0)))
@@ -83,7 +83,7 @@ abbrev pub IsValidityPart : ℕ → ℕ → Option Tree → Option Tree → Type
 IsValidityPart a b None w = w ≡ None
 IsValidityPart a b (Some t) w = (u : Tree) × (w ≡ Some u) × KeepsExactly (slice_of a b t) u
 
--- the range is one of its rows
+-- the validity has the rows from a to b
 abbrev pub HasRange : ℕ → ℕ → Option Tree → Type 0
 HasRange a b None = Unit {0}
 HasRange a b (Some t) = (a ≤ b) × (b ≤ len t)

@@ -3,7 +3,7 @@ use Rattle.std.specs.Prelude.{ℕ, ◌+◌, ◌<◌, ◌≤◌, List, [], map, t
 use Rattle.std.specs.List.{All}
 use Rattle.vx_tree.specs.declared.views.view.View.{View}
 
--- the data buffer that a view is of, and no bytes past the last buffer
+-- the data buffer of a view; past the last buffer, no bytes
 abbrev pub buffer_of : List (List ℕ) → View → List ℕ
 buffer_of buffers v = slice_index_or buffers v.buffer []
 

@@ -56,8 +56,8 @@ pub fn weight_laws()
     ensures in_slot { (i k : ℕ) (c d t : Tree) → HasSlot i c t → k + weight d ≤ weight c → k + weight (put i d t) ≤ weight t }
 {}
 
-/// States that a slice of a slice has the rows of one slice, and a filter of a filter those of the filter by the combined mask.
-/// (own)
+/// States that a slice of a slice has the rows of one slice, and a filter of a filter has those of one filter by the combined
+/// mask. (own)
 pub fn choice_laws()
     ensures slices { (t : Tree) (a b c d : ℕ) → a ≤ b → b ≤ len t → c ≤ d → d ≤ b - a
         → rows (slice_of c d (slice_of a b t)) ≡ rows (slice_of (a + c) (a + d) t) }
@@ -69,17 +69,17 @@ pub fn refused_exactly()
     ensures { (ty : DataType) (n : ℕ) (d : Data) (ss : List (Option Shape)) → (refusal (id_of d) ty n d ss ≡ None) ↔ IsNode ty n d ss }
 {}
 
-/// States that the validity which a child tells is the one that it was made of. (own)
+/// States that the validity read back from a child is the one that the child was made from. (own)
 pub fn validity_laws()
     ensures { (v : Validity) (n : ℕ) → HasRows v n → valid_rows (validity_of (nullability_by v) (child_of v n)) n ≡ valid_rows v n }
 {}
 
-/// States that the validity of a tree tells which of its rows are null. (own)
+/// States that the validity of a tree says which of its rows are null. (own)
 pub fn node_validity_laws()
     ensures { (t : Tree) → IsWell t → IsValidityFor t (node_validity t) }
 {}
 
-/// States what every column is, and that canonical columns are columns and no constants. (own)
+/// States what every column is, and that canonical columns are columns and not constants. (own)
 pub fn column_laws()
     ensures known { (t : Tree) → IsWell t → is_columnar (datum t) ≡ true → IsColumn t }
     ensures canonical_columns { (d : Data) → is_canonical d ≡ true → is_columnar d ≡ true }

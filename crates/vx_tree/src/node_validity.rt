@@ -78,7 +78,7 @@ fn constant_validity(scalar: &Scalar) -> Validity
     }
 }
 
-/// Returns the validity that `slot` tells in a nullable column. Fails only with `OutOfMemory`.
+/// Returns the validity that `slot` stands for in a nullable column. Fails only with `OutOfMemory`.
 fn slot_validity(slot: &Option<ArrayRef>) -> VortexResult<Validity>
     ensures ok { IfOk result (λ v. v ≡ validity_of Nullability.Nullable slot.now) }
     ensures err { OnlyOutOfMemory result }
@@ -86,8 +86,8 @@ fn slot_validity(slot: &Option<ArrayRef>) -> VortexResult<Validity>
     Ok(child_to_validity(slot.as_ref(), Nullability::Nullable)?)
 }
 
-/// Returns the validity of the rows in `range`, which must be in order and in bounds, from that of all rows. Fails only with
-/// `OutOfMemory`.
+/// Returns the validity of the rows in `range`, which must be in order and in bounds; `validity` is that of all rows. Fails
+/// only with `OutOfMemory`.
 fn slice_rows(alloc: Global, validity: Validity, range: Range<usize>) -> VortexResult<Validity>
     requires order { range.start ≤ range.end }
     requires bounds { (t : Tree) → validity ≡ ValidityArray t → range.end ≤ len t }
@@ -103,7 +103,7 @@ fn slice_rows(alloc: Global, validity: Validity, range: Range<usize>) -> VortexR
     }
 }
 
-/// Returns the validity of the rows that `mask`, which must have as many rows, chooses, from that of all rows. Fails only with
+/// Returns the validity of the rows that `mask` chooses; `validity` is that of all rows, as many as `mask` has. Fails only with
 /// `OutOfMemory`.
 fn filter_rows(alloc: Global, validity: Validity, mask: &Mask) -> VortexResult<Validity>
     requires { (t : Tree) → validity ≡ ValidityArray t → length (bits_in mask.now) ≡ len t }
@@ -119,7 +119,7 @@ fn filter_rows(alloc: Global, validity: Validity, mask: &Mask) -> VortexResult<V
     }
 }
 
-/// Returns the validity of `len` rows that are null where `first` or `second` says so. Fails only with `OutOfMemory`.
+/// Returns the validity of `len` rows that are null if `first` or `second` says so. Fails only with `OutOfMemory`.
 fn join(alloc: Global, first: Validity, second: Validity, len: usize) -> VortexResult<Validity>
     requires first { HasRows first len }
     requires second { HasRows second len }

@@ -38,7 +38,7 @@ impl Kept {
         }
     }
 
-    /// Returns what is wrong if `slot` doesn't keep it.
+    /// Returns the error if `slot` doesn't keep it.
     fn wrong_in(self, slot: usize) -> ArgKind
         ensures { result ≡ wrong_in self slot }
     {
@@ -112,9 +112,9 @@ impl ArrayRef {
 
     /// Returns the tree with these slots. Copies the other parts of the root only if it is shared.
     ///
-    /// The first condition that fails gives the error, of the first slot that breaks it: `InvalidArgument` with `SlotCount` if
-    /// the number of slots differs, `SlotMissing` if one of two slots is empty and the other isn't, `SlotType` if their trees
-    /// differ in type, and `SlotLen` if they differ in length.
+    /// The first condition that fails gives the error, with the first slot that breaks it: `InvalidArgument` with `SlotCount`
+    /// if the number of slots differs, `SlotMissing` if one of two slots is empty and the other isn't, `SlotType` if their
+    /// trees differ in type, and `SlotLen` if they differ in length.
     pub fn with_slots(self, alloc: Global, slots: Vec<Option<ArrayRef>>) -> VortexResult<ArrayRef>
         ensures ok { IfOk result (λ t. t ≡ with_slots (slots_of slots.items) self) }
         ensures valid { OnOk result (with_slots_refusal (slots_of slots.items) self ≡ None) }

@@ -9,7 +9,7 @@ use std::alloc::AllocError;
 use std::marker::Model;
 use std::rc::Rc;
 
-/// A node with an empty slot, which no one else holds. It is never an `ArrayRef`. (own)
+/// A node with an empty slot. It has no other owner, and is never an `ArrayRef`. (own)
 pub struct Suspended {
     node: Rc<Node>,
 }

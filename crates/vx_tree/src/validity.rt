@@ -1,4 +1,4 @@
-//! Which rows of a column are null, and the slots that tell it.
+//! Which rows of a column are null, and the slots of validities.
 
 ghost use Rattle.std.specs.Prelude.{◌≡◌, ℕ, IfOk, length, option_map, Some};
 ghost use Rattle.vx_value.specs.Errors.{OnlyOutOfMemory};
@@ -45,7 +45,7 @@ impl Validity {
     }
 
     /// Returns the validity of a nullable column whose rows are null where `bits` is false, in its one form: `AllValid` if no
-    /// row is, `AllInvalid` if there is a row and all are. Fails only with `OutOfMemory`. (own)
+    /// row is null, `AllInvalid` if there is a row and all are null. Fails only with `OutOfMemory`. (own)
     pub fn from_bits(alloc: Global, bits: BitBuffer) -> VortexResult<Validity>
         ensures ok { IfOk result (λ v. child_of v (length bits) ≡ child_by bits) }
         ensures nullable { IfOk result (λ v. nullability_by v ≡ Nullability.Nullable) }
@@ -80,7 +80,7 @@ impl From<Nullability> for Validity {
     }
 }
 
-/// Returns the validity that `child` tells in a column of this nullability. A constant is read back: it is `AllValid` or
+/// Returns the validity that `child` stands for in a column of this nullability. A constant is read back as `AllValid` or
 /// `AllInvalid`.
 pub fn child_to_validity(
     child: Option<&ArrayRef>,
@@ -101,7 +101,7 @@ pub fn child_to_validity(
     Ok(Validity::Array(child.clone()?))
 }
 
-/// Returns the number of children that tell `validity`: 0 or 1.
+/// Returns the number of children that stand for `validity`: 0 or 1.
 pub fn validity_nchildren(validity: &Validity) -> usize
     ensures { (n : ℕ) → result ≡ count_children (child_of validity.now n) }
 {
@@ -111,7 +111,7 @@ pub fn validity_nchildren(validity: &Validity) -> usize
     }
 }
 
-/// Returns the child that tells `validity` in a column of `len` rows, or `None` if no row is null. Fails only with
+/// Returns the child that stands for `validity` in a column of `len` rows, or `None` if no row is null. Fails only with
 /// `OutOfMemory`.
 pub fn validity_to_child(
     alloc: Global,
@@ -131,7 +131,7 @@ pub fn validity_to_child(
     }
 }
 
-/// Checks that `validity` is one of `len` rows.
+/// Checks that `validity` has `len` rows.
 #[tactic(auto, using(crate::proofs::ConditionsLemmas::in_turn))]
 pub(crate) fn check_validity(validity: &Validity, len: usize) -> VortexResult<()>
     ensures { Checks result (array_refusal len validity.now) }
@@ -146,7 +146,7 @@ pub(crate) fn check_validity(validity: &Validity, len: usize) -> VortexResult<()
     check_that(array.len() == len, ArgKind::SlotLen { slot: 0 })
 }
 
-/// Returns the slot of a validity that tells the same of each of `len` rows, as `scalar` says. Fails only with `OutOfMemory`.
+/// Returns the slot of a validity that is `scalar` for each of `len` rows. Fails only with `OutOfMemory`.
 fn repeated(alloc: Global, scalar: &Scalar, len: usize) -> VortexResult<Option<ArrayRef>>
     ensures ok { IfOk result (λ w. w ≡ Some (constant_of scalar.now len)) }
     ensures err { OnlyOutOfMemory result }
@@ -154,7 +154,7 @@ fn repeated(alloc: Global, scalar: &Scalar, len: usize) -> VortexResult<Option<A
     Ok(Some(ConstantArray::new(alloc, scalar.clone()?, len)?.into_array()))
 }
 
-/// Returns the validity of the rows in `range`, which must be in order and in bounds, from the slot of their column's. A
+/// Returns the validity of the rows in `range`, which must be in order and in bounds, given the slot of the whole column's. A
 /// constant stays one. Fails only with `OutOfMemory`. (own)
 pub fn slice_validity(
     alloc: Global,
@@ -174,7 +174,7 @@ pub fn slice_validity(
     Ok(Some(SliceArray::new(alloc, child.clone()?, range)?.into_array()))
 }
 
-/// Returns the validity of the rows that `mask` chooses, from the slot of their column's, which must have as many rows as
+/// Returns the validity of the rows that `mask` chooses, given the slot of the whole column's, which must have as many rows as
 /// `mask`. A constant stays one. Fails only with `OutOfMemory`. (own)
 pub fn choose_validity(
     alloc: Global,

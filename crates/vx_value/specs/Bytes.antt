@@ -6,7 +6,7 @@ use Rattle.std.specs.Ordering.{nat_cmp}
 use Rattle.std.specs.Hash as hash
 use Rattle.std.specs.Hash.{HashWrites}
 
--- by the first byte that differs; a list comes before those that it begins
+-- by the first byte that differs; a prefix comes before the longer list
 abbrev pub bytes_cmp : List ℕ → List ℕ → Ordering
 bytes_cmp = slice_cmp nat_cmp
 
@@ -14,7 +14,7 @@ bytes_cmp = slice_cmp nat_cmp
 abbrev pub bytes_writes : List ℕ → HashWrites
 bytes_writes = hash.slice hash.u8
 
--- no bytes where there is no storage
+-- the bytes, none if there is no storage
 abbrev pub or_none : Option (List ℕ) → List ℕ
 or_none None = []
 or_none (Some bs) = bs

@@ -1,4 +1,4 @@
--- What stands in a row.
+-- The content of a row.
 use Rattle.vx_value.specs.Values.{Value}
 
 -- a value, or a fault

@@ -9,7 +9,7 @@ use base.Stored.{Gv, gnil, gnum, gcons}
 -- ---- a type by its constructors, one after the other
 
 infixr 30 ◌or◌
--- some of A's constructors: what they hold, its code, and what they make of it
+-- some of A's constructors: what they hold, its code, and the value that they make of it
 pub record Part (A : Type 0) : Type 1 where
   pub holds : Type 0
   pub coded : Coded holds
@@ -57,7 +57,7 @@ same_code_self gnil = refl
 same_code_self (gnum m) = (unsigned_Decides m m).1 refl
 same_code_self (gcons a b) = ap (λ x. x && same_code b b) (same_code_self a) ∙ same_code_self b
 
--- values of a type that has codes are the same exactly where their codes are
+-- values of a type that has codes are the same exactly if their codes are
 pub same_code_Decides : {A : Type 0} (c : Coded A) (x y : A) → Decides (same_code (c.code x) (c.code y)) (x ≡ y)
 same_code_Decides c x y =
     (λ h. c.inj x y (same_code_true (c.code x) (c.code y) h), λ e. ap (λ z. same_code (c.code x) (c.code z)) (sym e) ∙ same_code_self (c.code x))

@@ -1,4 +1,4 @@
--- Decimal types: which there are, which numbers have so many digits, and how wide an integer holds these.
+-- Decimal types: which there are, which numbers fit a precision, and how wide an integer holds these.
 use Rattle.std.specs.Prelude.{◌≡◌, ℕ, ℤ, pos, ◌≤◌, ◌^◌, Bool, true, nat_lt, nat_le, nat_abs, if◌then◌else◌, FitsSigned}
 use Rattle.std.specs.Int.{Width, w8, w16, w32, w64, w128}
 use Rattle.std.specs.Bool.{Decides}
@@ -10,15 +10,15 @@ use Rattle.vx_value.specs.contracts.decimal.DecimalType.{the_type as the_width}
 use Rattle.vx_value.specs.declared.decimal.DecimalType.{DecimalType}
 use Rattle.vx_value.specs.declared.decimal.DecimalType.TheVariants.{I8, I16, I32, I64, I128}
 
--- from 1 to 38 digits, at most all of them behind the point
+-- the precision is from 1 to 38, and the scale at most the precision
 abbrev pub IsDecimal : ℕ → ℕ → Type 0
 IsDecimal precision scale = (1 ≤ precision) × (precision ≤ 38) × (scale ≤ precision)
 
--- the number, without its point, has at most so many digits
+-- the number, without its point, has at most as many digits as the precision
 abbrev pub has_digits : ℕ → ℤ → Bool
 has_digits precision z = nat_lt (nat_abs z) (10 ^ precision)
 
--- the first number with more than so many digits, of at most 38
+-- the first number with more digits than the precision, which is at most 38
 abbrev pub IsBeyond : ℕ → ℤ → Type 0
 IsBeyond precision z = (precision ≤ 38) × (z ≡ pos (10 ^ precision))
 
@@ -29,7 +29,7 @@ width_of I32 = w32
 width_of I64 = w64
 width_of I128 = w128
 
--- to 2, 4, 9, 18 and 38 digits
+-- up to a precision of 2, 4, 9, 18 and 38
 abbrev pub smallest_width : ℕ → DecimalType
 smallest_width precision =
     if nat_le precision 2 then I8 else
@@ -38,7 +38,7 @@ smallest_width precision =
     if nat_le precision 18 then I64 else
     I128
 
--- each number of so many digits fits
+-- each number of the precision fits
 abbrev pub HoldsDigits : DecimalType → ℕ → Type 0
 HoldsDigits t precision = (z : ℤ) → has_digits precision z ≡ true → FitsSigned (width_of t) z
 

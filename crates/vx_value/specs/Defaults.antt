@@ -1,4 +1,4 @@
--- The value of a type where none is given.
+-- The zero value and the default value of a type.
 use Rattle.std.specs.Prelude.{[], false, if◌then◌else◌, pos}
 use Rattle.vx_value.specs.Types.{DataType, nullability_of, is_nullable}
 use Rattle.vx_value.specs.Values as value
@@ -7,7 +7,7 @@ use Rattle.vx_value.specs.Storage.{storage_of}
 use Rattle.vx_value.specs.declared.dtype.Storage.{Storage}
 use Rattle.vx_value.specs.declared.dtype.Storage.TheVariants.{Nulls, Bits, Integers, Decimals, Text, Bytes}
 
--- false, 0, or no bytes; null where there is nothing else
+-- false, 0, or no bytes; null if there is no other value
 abbrev pub zero_stored : Storage → Value
 zero_stored Nulls = value.null
 zero_stored Bits = value.boolean false
@@ -19,6 +19,6 @@ zero_stored Bytes = value.bytes []
 abbrev pub zero_of : DataType → Value
 zero_of t = zero_stored (storage_of t)
 
--- null where the type has it, else the zero value
+-- null if the type is nullable, else the zero value
 abbrev pub default_of : DataType → Value
 default_of t = if is_nullable (nullability_of t) then value.null else zero_of t

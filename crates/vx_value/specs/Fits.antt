@@ -1,4 +1,4 @@
--- Whether the parts of a column of so many rows can be counted.
+-- Whether the parts of a column of this many rows can be counted.
 use Rattle.std.specs.Prelude.{ℕ}
 use Rattle.vx_value.specs.Types.{DataType}
 

@@ -32,7 +32,7 @@ in_range ptype.I16 z = is_signed_below (2 ^ 15) z
 in_range ptype.I32 z = is_signed_below (2 ^ 31) z
 in_range ptype.I64 z = is_signed_below (2 ^ 63) z
 
--- null where the type has it; else a value of the kind that is stored: a line for each storage
+-- null if the type is nullable; else a value of the kind that is stored: a line for each storage
 abbrev pub is_stored : Nullability → Storage → Value → Bool
 is_stored n _ value.null = is_nullable n
 is_stored n Bits (value.boolean b) = true

@@ -6,7 +6,7 @@ use Rattle.vx_value.specs.Types.{DataType, same_type, same_type_Decides}
 use Rattle.vx_value.specs.declared.dtype.Nullability.{Nullability}
 use Rattle.vx_value.specs.declared.dtype.Nullability.TheVariants.{NonNullable, Nullable}
 
--- the type with this nullability, which null alone has not: a line for each type
+-- the type with this nullability; null is always nullable: a line for each type
 abbrev pub with_nullability : Nullability → DataType → DataType
 with_nullability n type.null = type.null
 with_nullability n (type.bool m) = type.bool n

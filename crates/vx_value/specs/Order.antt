@@ -17,7 +17,7 @@ value_kind (value.integer z) = 2
 value_kind (value.decimal z s) = 3
 value_kind (value.bytes bs) = 4
 
--- decimals by size, and then by how many digits stand behind the point: the same in all of one type
+-- decimals by size, and then by scale, which is the same in all of one type
 abbrev pub decimal_cmp : ℤ × ℕ → ℤ × ℕ → Ordering
 decimal_cmp d e = ordering_then (int_cmp d.0 e.0) (nat_cmp d.1 e.1)
 
@@ -33,7 +33,7 @@ value_cmp v w = nat_cmp (value_kind v) (value_kind w)
 abbrev pub same_value : Value → Value → Bool
 same_value v w = is_eq (value_cmp v w)
 
--- of one type, and of one value
+-- of one type and one value
 abbrev pub same_scalar : Typed → Typed → Bool
 same_scalar s t = same_type s.of_type t.of_type && same_value s.value t.value
 

@@ -36,7 +36,7 @@ by_parts_total =
     then_total (on_total integer_in (options_total int_cmp_total)) (
     on_total boolean_in (options_total bool_cmp_total))))
 
--- an order of two parts finds no difference where neither does
+-- an order of two parts finds no difference only if neither part does
 both_equal : (o p : Ordering) → is_eq (ordering_then o p) ≡ true → (is_eq o ≡ true) × (is_eq p ≡ true)
 both_equal Equal p h = (refl, h)
 both_equal Less p h = absurd (cc)

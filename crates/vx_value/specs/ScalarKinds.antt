@@ -17,7 +17,7 @@ scalar_of (kind.Decimal d ty) = record { of_type = type_of ty.now; value = value
 scalar_of (kind.Utf8 bs ty) = record { of_type = type_of ty.now; value = value.bytes bs.now }
 scalar_of (kind.Binary bs ty) = record { of_type = type_of ty.now; value = value.bytes bs.now }
 
--- its type's values are stored so
+-- the kind is that of the type's storage
 abbrev pub IsStored : ScalarKind → Type 0
 IsStored (kind.Null ty) = Unit {0}
 IsStored (kind.Bool b ty) = storage_of (type_of ty.now) ≡ Bits

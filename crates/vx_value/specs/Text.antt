@@ -23,7 +23,7 @@ ptype_text ptype.I16 = codes "i16"
 ptype_text ptype.I32 = codes "i32"
 ptype_text ptype.I64 = codes "i64"
 
--- apart from its nullability
+-- the text of a type apart from its nullability
 abbrev pub bare_text : DataType → List ℕ
 bare_text type.null = codes "null"
 bare_text (type.bool n) = codes "bool"

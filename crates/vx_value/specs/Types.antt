@@ -17,7 +17,7 @@ pub data DataType : Type 0 where
   null : DataType
   bool : Nullability → DataType
   primitive : PType → Nullability → DataType
-  -- so many digits, so many of them behind the point
+  -- the precision and the scale
   decimal : ℕ → ℕ → Nullability → DataType
   utf8 : Nullability → DataType
   binary : Nullability → DataType

@@ -9,7 +9,7 @@ pub data Value : Type 0 where
   null : Value
   boolean : Bool → Value
   integer : ℤ → Value
-  -- the number without its point, and how many of its digits stand behind it
+  -- the number without its point, and its scale
   decimal : ℤ → ℕ → Value
   bytes : List ℕ → Value
 

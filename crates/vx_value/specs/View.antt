@@ -24,12 +24,12 @@ value_of (scalar.Integer z) = value.integer z
 value_of (scalar.Decimal d) = value.decimal d.unscaled d.scale
 value_of (scalar.Bytes bs) = value.bytes bs
 
--- the value, or null where there is none
+-- the value, null if there is none
 abbrev pub cell_of : Option ScalarValue → Value
 cell_of None = value.null
 cell_of (Some v) = value_of v
 
--- the same of a value that is lent
+-- the same for a borrowed value
 abbrev pub cell_seen : Option (Bor ScalarValue) → Value
 cell_seen None = value.null
 cell_seen (Some v) = value_of v.now

@@ -142,7 +142,7 @@ impl PartialOrd for ByteBuffer {
     }
 }
 
-/// Orders buffers by the first byte that differs. A buffer comes before those that it begins.
+/// Orders buffers by the first byte that differs. A prefix comes before the longer buffer.
 impl Ord for ByteBuffer {
     ghost cmp = { bytes_cmp };
 

@@ -15,7 +15,7 @@ use crate::{
 };
 
 impl Scalar {
-    /// Returns the value as one of type `dtype`, by the first of these casts that takes the two types:
+    /// Returns the value as one of type `dtype`, by the first of these casts that accepts the two types:
     ///
     /// - to the same type, apart from nullability: the value itself;
     /// - from `Null` to any nullable type: null;
@@ -27,10 +27,10 @@ impl Scalar {
     ///
     /// Null stays null. Nothing is rounded.
     ///
-    /// Returns `InvalidArgument` with `NoRow` exactly if there is no such cast, and `Fault` exactly if there is one
-    /// and the value is null and `dtype` isn't nullable, or it isn't null and `dtype` doesn't have it: an integer out of its range;
-    /// a number with a digit other than 0 past its scale, or, written to its scale, with more digits than its precision;
-    /// bytes that aren't UTF-8.
+    /// Returns `InvalidArgument` with `NoRow` exactly if there is no such cast. Returns `Fault` exactly if there is one and the
+    /// value is null and `dtype` isn't nullable, or it isn't null and `dtype` can't hold it: an integer out of its range; a
+    /// number with a digit other than 0 past its scale, or, written to its scale, with more digits than its precision; bytes
+    /// that aren't UTF-8.
     pub fn cast(&self, dtype: &DType) -> VortexResult<Scalar>
         ensures ok { IfOk result (λ s. (s.of_type ≡ type_of dtype.now)
             × (cast_value self.now.of_type (type_of dtype.now) self.now.value ≡ cell.value s.value)) }
@@ -73,7 +73,7 @@ fn has_other_row(from: &DType, to: &DType) -> bool
     }
 }
 
-/// Casts a value of type `from`, where `None` is null.
+/// Casts a value of type `from`. `None` is null.
 #[tactic(auto, using(crate::proofs::CastsLemmas::scale_few))]
 fn cast_value(
     from: &DType,
@@ -130,7 +130,7 @@ fn to_integer(ptype: PType, number: i128) -> VortexResult<ScalarValue>
     }
 }
 
-/// Casts `number`, `scale` of whose digits stand behind the point, to the decimal type `dtype`.
+/// Casts `number`, of scale `scale`, to the decimal type `dtype`.
 fn to_decimal(dtype: DecimalDType, number: i128, scale: u8) -> VortexResult<ScalarValue>
     requires { scale ≤ 38 }
     ensures ok { IfOk result (λ v. rescaled dtype.precision dtype.scale number scale ≡ cell.value (value_of v)) }

@@ -5,7 +5,8 @@ ghost use Rattle.vx_value.specs.Decimals.{IsDecimal, has_digits, smallest_width,
 
 use crate::{ArgKind, VortexError, VortexResult};
 
-/// The precision and the scale of a decimal type: how many digits its numbers have, and how many of them stand behind the point.
+/// The precision and the scale of a decimal type: how many digits its numbers have at most, and how many of these stand behind
+/// the point.
 #[derive(Clone, Copy, Debug, PartialEq, Eq, Hash)]
 pub struct DecimalDType {
     precision: u8,
@@ -14,7 +15,7 @@ pub struct DecimalDType {
 }
 
 impl DecimalDType {
-    /// Returns the decimal type of `precision` digits, `scale` of them behind the point.
+    /// Returns the decimal type of this precision and scale: `precision` digits, `scale` of them behind the point.
     ///
     /// Returns `InvalidArgument` with `BadType` exactly unless `precision` is from 1 to 38 and `scale` at most `precision`.
     pub fn try_new(precision: u8, scale: u8) -> VortexResult<DecimalDType>
@@ -29,14 +30,14 @@ impl DecimalDType {
         }
     }
 
-    /// Returns how many digits a number has at most, from 1 to 38.
+    /// Returns the precision: how many digits a number has at most, from 1 to 38.
     pub fn precision(&self) -> u8
         ensures { result ≡ self.now.precision }
     {
         self.precision
     }
 
-    /// Returns how many of the digits stand behind the point, at most all of them.
+    /// Returns the scale: how many of the digits stand behind the point, at most all of them.
     pub fn scale(&self) -> u8
         ensures { result ≡ self.now.scale }
     {
@@ -51,7 +52,7 @@ impl DecimalDType {
     }
 }
 
-/// A decimal number: the integer that is left without its point, and how many of its digits stand behind the point. (own)
+/// A decimal number: its integer without the point, and how many of its digits stand behind the point. (own)
 ///
 /// Values of one scale are ordered by size; those of two scales compare by `unscaled` first.
 #[derive(Clone, Copy, Debug, PartialEq, Eq, PartialOrd, Ord, Hash)]
@@ -62,7 +63,7 @@ pub struct DecimalValue {
     pub scale: u8,
 }
 
-/// The integers that a decimal column is stored in, by width in bits. A decimal is stored without its point.
+/// The integers that decimals are stored as in a column, by width in bits. A decimal is stored without its point.
 #[derive(Clone, Copy, Debug, PartialEq, Eq, Hash)]
 pub enum DecimalType {
     I8,
@@ -73,7 +74,7 @@ pub enum DecimalType {
 }
 
 impl DecimalType {
-    /// Returns the narrowest integers that hold all numbers of the type: to a precision of 2, 4, 9, 18 and 38.
+    /// Returns the narrowest integers that hold all numbers of the type: up to a precision of 2, 4, 9, 18 and 38.
     pub fn smallest_decimal_value_type(decimal: &DecimalDType) -> DecimalType
         ensures value { result ≡ smallest_width decimal.now.precision }
         ensures narrowest { IsNarrowest result decimal.now.precision }

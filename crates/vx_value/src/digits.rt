@@ -1,4 +1,4 @@
-//! The numbers that have at most so many digits.
+//! The numbers that fit a precision.
 
 ghost use Rattle.std.specs.Prelude.{◌≡◌};
 ghost use Rattle.vx_value.specs.Decimals.{has_digits, IsBeyond};
@@ -15,7 +15,7 @@ pub struct Digits {
 }
 
 impl DecimalDType {
-    /// Returns the numbers that have at most as many digits as the precision. Ask for them once for all rows of a column. (own)
+    /// Returns the numbers that have at most as many digits as the precision. Compute them once for all rows of a column. (own)
     #[tactic(auto, using(crate::proofs::CastsLemmas::power_fits))]
     pub fn digits(&self) -> Digits
         ensures { result.precision ≡ self.now.precision }
@@ -29,7 +29,7 @@ impl DecimalDType {
 }
 
 impl Digits {
-    /// Returns how many digits the numbers have at most: 38 or fewer.
+    /// Returns how many digits the numbers have at most, which is 38 or fewer.
     pub fn precision(&self) -> u8
         ensures { result ≡ self.now.precision }
     {

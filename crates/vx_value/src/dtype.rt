@@ -54,13 +54,13 @@ pub enum PType {
 /// How the values of a type are stored in a column. (own)
 #[derive(Clone, Copy, Debug, PartialEq, Eq)]
 pub enum Storage {
-    /// Nothing: each row is null.
+    /// No values: each row is null.
     Nulls,
     /// A bit for each row.
     Bits,
     /// An integer of this type for each row.
     Integers(PType),
-    /// A decimal of at most `precision` digits for each row, `scale` of them behind the point: an integer, without the point.
+    /// A decimal for each row, of at most `precision` digits, `scale` of them behind the point: an integer, without the point.
     Decimals { precision: u8, scale: u8 },
     /// Bytes for each row, which are UTF-8.
     Text,
@@ -71,7 +71,7 @@ pub enum Storage {
 /// The logical type of an array's rows.
 #[derive(Debug, PartialEq, Eq, Hash, Drop)]
 pub enum DType {
-    /// Null alone, so always nullable.
+    /// Only null, so always nullable.
     Null,
     Bool(Nullability),
     Primitive(PType, Nullability),
@@ -141,8 +141,8 @@ impl DType {
         self.with_nullability(Nullability::Nullable)
     }
 
-    /// Returns the non-nullable type that is otherwise the same; `Null`, which is always nullable, stays. Fails only if there is
-    /// no memory for it.
+    /// Returns the non-nullable type that is otherwise the same; `Null`, which is always nullable, stays. Fails only if there
+    /// is no memory for it.
     pub fn as_nonnullable(&self) -> Result<DType, AllocError>
         ensures { IfOk result (λ t. type_of t ≡ with_nullability Nullability.NonNullable (type_of self.now)) }
     {

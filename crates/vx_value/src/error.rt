@@ -33,7 +33,7 @@ pub enum ArgKind {
     /// A function's node has no arguments to take its length from.
     #[error("ScalarFnArray length cannot be inferred without children")]
     NoChildren,
-    /// The mask of a filter chooses among `mask` rows, and its child has `child`.
+    /// The mask of a filter has `mask` rows, and its child has `child`.
     #[error("FilterArray array and mask lengths must match")]
     MaskLen { child: usize, mask: usize },
     /// The function doesn't accept arguments of these types.
@@ -64,8 +64,7 @@ pub enum VortexError {
     IterationLimit {
         limit: u64,
     },
-    /// An optimization wasn't done at the rewrite at which one of its limits is passed: the `at_root`th at one root, and the `total`th of
-    /// the call.
+    /// An optimization reached one of its limits: at the `at_root`th rewrite at one root, the `total`th of the call.
     #[error("Exceeded maximum optimization iterations (possible infinite loop)")]
     RewriteLimit {
         at_root: u32,
@@ -74,8 +73,8 @@ pub enum VortexError {
     /// A row has no value: a result is out of its type's range, or a divisor is 0.
     #[error("fault")]
     Fault,
-    /// The product or the sum of `len` and `factor`, rows, passes `usize::MAX`: a length and the size of a fixed list, or a length
-    /// so far and what is joined to it.
+    /// The product or the sum of `len` and `factor`, in rows, exceeds `usize::MAX`: a length times the size of a fixed list, or
+    /// a length plus the rows that are appended.
     #[error("too long")]
     TooLong {
         len: usize,

@@ -7,8 +7,8 @@ ghost use Rattle.vx_value.specs.Cell.{value};
 ghost use Rattle.vx_value.specs.IsOf.{is_of};
 ghost use Rattle.vx_value.specs.Casts.{has_cast, cast_value, cast_to};
 
-/// States that a cast to a value's own type changes nothing, that what a cast gives is of the target type, and that the target
-/// alone says what it gives. (own)
+/// States that a cast to a value's own type changes nothing, that the result of a cast is of the target type, and that it
+/// depends on the target alone. (own)
 pub fn cast_laws()
     ensures own_type { (t : DataType) → has_cast t t ≡ true }
     ensures unchanged { (t : DataType) (v : Value) → is_of t v ≡ true → cast_value t t v ≡ value v }

@@ -1,4 +1,4 @@
-//! Numbers brought to the scale of a decimal type.
+//! Numbers rescaled to a decimal type.
 
 ghost use Rattle.std.specs.Prelude.{◌≡◌, ◌≤◌, MatchOption};
 ghost use Rattle.vx_value.specs.Casts.{rescaled, sized};
@@ -8,7 +8,7 @@ ghost use Rattle.vx_value.specs.Powers.{HasPower};
 
 use crate::{DecimalDType, Digits};
 
-/// Casts numbers, `scale` of whose digits stand behind the point, to decimals of type `target`. (own)
+/// Casts numbers of scale `scale` to decimals of type `target`. (own)
 #[derive(Clone, Copy)]
 pub struct Rescaling {
     target: DecimalDType,
@@ -48,9 +48,9 @@ impl Rescaling {
         self.target
     }
 
-    /// Returns `number` as one of the type, without its point.
+    /// Returns `number` as a number of the type, without its point.
     ///
-    /// `None` exactly if the type doesn't have it: the number has a digit other than 0 past the type's scale, or, written to that
+    /// `None` exactly if the type can't hold it: the number has a digit other than 0 past the type's scale, or, written to that
     /// scale, more digits than its precision.
     #[inline]
     pub fn rescale(&self, number: i128) -> Option<i128>
@@ -66,8 +66,8 @@ impl Rescaling {
         }
     }
 
-    /// Returns `number` written to the type's scale, without its point; `None` if it has a digit other than 0 past that scale, or if
-    /// 128 bits don't hold it.
+    /// Returns `number` written to the type's scale, without its point; `None` if it has a digit other than 0 past that scale,
+    /// or if it doesn't fit 128 bits.
     #[inline]
     fn scaled(&self, number: i128) -> Option<i128>
         ensures { MatchOption result

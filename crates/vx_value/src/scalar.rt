@@ -120,8 +120,8 @@ impl Scalar {
         }
     }
 
-    /// Returns the decimal of type `dtype` that is `unscaled` without its point: a number of at most as many digits as the
-    /// precision.
+    /// Returns the decimal of type `dtype` whose number without its point is `unscaled`, which must have at most as many digits
+    /// as the precision.
     pub fn decimal(unscaled: i128, dtype: DecimalDType, nullability: Nullability) -> Scalar
         requires { has_digits dtype.precision unscaled ≡ true }
         ensures { result ≡ record { of_type = type.decimal dtype.precision dtype.scale nullability; value = decimal unscaled dtype.scale } }
@@ -267,7 +267,7 @@ impl Scalar {
     }
 }
 
-/// Returns `value`, of type `dtype`, by how it is stored.
+/// Returns `value`, of type `dtype`, by its storage.
 #[inline]
 fn kind_of<'a>(dtype: &'a DType, value: &'a ScalarValue) -> ScalarKind<'a>
     requires { is_of (type_of dtype.now) (value_of value.now) ≡ true }
@@ -288,7 +288,7 @@ fn kind_of<'a>(dtype: &'a DType, value: &'a ScalarValue) -> ScalarKind<'a>
     }
 }
 
-/// Returns the zero value of types that are stored so; `None` is null.
+/// Returns the zero value of types with this storage; `None` is null.
 fn zero_of(storage: Storage) -> Option<ScalarValue>
     ensures { cell_of result ≡ zero_stored storage }
 {

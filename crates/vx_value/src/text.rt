@@ -8,7 +8,8 @@ ghost use Rattle.vx_value.specs.Text.{type_text, bare_text, type_mark, mark, pty
 use crate::{DType, DecimalDType, Nullability, PType};
 use std::alloc::{AllocError, Global};
 
-/// Returns the text of `dtype`, for example `i32` or `decimal(10,2)`, followed by `?` if the type is nullable. `null` has no mark.
+/// Returns the text of `dtype`, for example `i32` or `decimal(10,2)`, followed by `?` if the type is nullable. `null` has no
+/// mark.
 ///
 /// Fails only if there is no memory for the text. (own)
 pub fn type_text(alloc: Global, dtype: &DType) -> Result<String, AllocError>

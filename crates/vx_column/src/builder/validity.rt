@@ -1,4 +1,4 @@
-//! Which rows of a column that grows aren't null.
+//! Which rows of a growing column aren't null.
 
 ghost use Rattle.std.specs.Prelude.{◌≡◌, ◌+◌, ◌≤◌, ◌<◌, ◌^◌, ◌++◌, [], false, IfOk, OnOk, OnErr, length, replicate, take};
 ghost use Rattle.vx_column.specs.Growing.{padded, told_rows};
@@ -9,7 +9,8 @@ use std::marker::Model;
 use vx_mask::BitBuilder;
 use vx_value::Nullability;
 
-/// Builds the validity of a column: a bit for each row up to the last null, false if the row is null. Rows past it take no memory.
+/// Builds the validity of a column: a bit for each row up to the last null, false if the row is null. Rows past it take no
+/// memory.
 #[derive(Debug, Drop)]
 pub(super) struct ValidityBuilder {
     bits: BitBuilder,
@@ -60,7 +61,7 @@ impl ValidityBuilder {
         Ok(())
     }
 
-    /// Forgets all but the first `len` rows, of which there must be as many.
+    /// Keeps only the first `len` rows, which must exist.
     pub(super) fn truncate(&mut self, len: usize)
         requires { len ≤ length self.old }
         ensures { self.new ≡ take len self.old }

@@ -1,4 +1,4 @@
-//! The values of a column that grows.
+//! The values of a growing column.
 
 ghost use Rattle.std.specs.Prelude.{◌≡◌, ◌+◌, ◌<◌, ◌^◌, ◌∷◌, [], ◌++◌, true, IfOk, OnOk, OnErr, length, replicate};
 ghost use Rattle.std.specs.List.{list_all};
@@ -17,20 +17,21 @@ use vx_mask::BitBuilder;
 use vx_tree::{BinaryBuilder, Canonical, NativeVec, NullArray, Validity};
 use vx_value::{DType, DecimalType, PType, ScalarValue, VortexResult};
 
-/// A value for each row, under a null too, by how the column's type stores them.
+/// A value for each row, also if it is null, by how the column's type stores them.
 #[derive(Debug, Drop)]
 pub(super) enum Values {
-    /// Nothing: each of this number of rows is null.
+    /// No values: each of this number of rows is null.
     Nulls(usize),
     Bits(BitBuilder),
     Integers(NativeVec<PType>),
-    /// Decimals without their points, and how many of their digits stand behind it.
+    /// Decimals without their points, and their scale.
     Decimals(NativeVec<DecimalType>, u8),
     Bytes(BinaryBuilder),
 }
 
 impl Values {
-    /// Makes the values of no rows of type `dtype`, with room for `capacity` of them. Fails only if there is no memory for them.
+    /// Makes the values of no rows of type `dtype`, with room for `capacity` of them. Fails only if there is no memory for
+    /// them.
     pub(super) fn with_capacity(
         alloc: Global,
         dtype: &DType,
@@ -76,8 +77,8 @@ impl Values {
         }
     }
 
-    /// Appends `count` times the value that stands under a null, in one allocation. Fails only if there is no memory for them; the
-    /// values are then unchanged.
+    /// Appends the value under a null `count` times, in one allocation. Fails only if there is no memory for them; the values
+    /// are then unchanged.
     pub(super) fn push_zeros(&mut self, count: usize) -> Result<(), AllocError>
         requires { length (stored_values self.old) + count < 2 ^ 64 }
         ensures ok { OnOk result (stored_values self.new ≡ stored_values self.old ++ replicate count (zero_in self.old)) }
@@ -96,7 +97,7 @@ impl Values {
             Values::Bytes(rows) => rows.push_empty(count),
         }
     }
-    /// Returns the column of the values, which are of type `dtype`, whose null rows `validity` tells, without copying them.
+    /// Returns the column of the values, which are of type `dtype`, without copying them; `validity` says which rows are null.
     /// Fails only with `OutOfMemory`.
     pub(super) fn finish(
         self,

@@ -18,7 +18,7 @@ use vx_mask::{BitBuffer, BitOperand};
 use vx_tree::{ArrayKind, ArrayRef, BinaryViews, Columnar, DecimalValues, PrimitiveValues};
 use vx_value::{DType, DecimalDType, PType, Scalar, Storage, VortexResult};
 
-/// An argument: its rows, and which of them aren't null.
+/// An argument: its rows, and which of them are valid.
 #[derive(Drop)]
 pub struct Argument<'a> {
     pub rows: ArgumentRows<'a>,
@@ -28,7 +28,7 @@ pub struct Argument<'a> {
 /// The rows of an argument, by how they are stored: a column, or one value for every row. Null rows store a value too.
 #[derive(Clone, Copy)]
 pub enum ArgumentRows<'a> {
-    /// Nothing: each row is null.
+    /// No values: each row is null.
     Nulls,
     Bits(BitOperand<'a>),
     Integers(IntegerOperand<'a>),
@@ -36,7 +36,7 @@ pub enum ArgumentRows<'a> {
     Bytes(BytesOperand<'a>),
 }
 
-/// Integers, and the type whose values they are.
+/// Integers, and their type.
 #[derive(Clone, Copy)]
 pub struct IntegerOperand<'a> {
     pub dtype: &'a DType,
@@ -52,7 +52,7 @@ pub enum IntegerRows<'a> {
     Value(PType, i128),
 }
 
-/// Decimals without their points, and the type whose values they are.
+/// Decimals without their points, and their type.
 #[derive(Clone, Copy)]
 pub struct DecimalOperand<'a> {
     pub decimal: DecimalDType,
@@ -68,7 +68,7 @@ pub enum DecimalRows<'a> {
     Value(i128),
 }
 
-/// Rows of bytes, and how their values are stored: as text if they are text, else as bytes.
+/// Rows of text or bytes; `storage` says which.
 #[derive(Clone, Copy)]
 pub struct BytesOperand<'a> {
     pub storage: Storage,
@@ -149,7 +149,8 @@ pub fn argument_of(alloc: Global, column: &Columnar) -> VortexResult<Argument<'_
     }
 }
 
-/// Returns `rows`, those of `column`, and which of them aren't null by its `validity`. `Fault` if that has no value in a row.
+/// Returns `rows`, those of `column`, and which of them are valid by its `validity`. `Fault` if a row of `validity` has no
+/// value.
 fn column_argument<'a>(
     alloc: Global,
     column: &Columnar,
@@ -175,28 +176,28 @@ fn column_argument<'a>(
     }
 }
 
-/// Returns `rows`, the values of type `dtype`, as those of an argument.
+/// Returns `rows`, of values of type `dtype`, as the rows of an argument.
 fn integers_of<'a>(dtype: &'a DType, rows: IntegerRows<'a>) -> ArgumentRows<'a>
     ensures { result ≡ Integers (record { dtype = dtype.entry; rows = rows.entry }) }
 {
     ArgumentRows::Integers(IntegerOperand { dtype, rows })
 }
 
-/// Returns `rows`, decimals of type `decimal` without their points, as those of an argument.
+/// Returns `rows`, decimals of type `decimal` without their points, as the rows of an argument.
 fn decimals_of(decimal: DecimalDType, rows: DecimalRows<'_>) -> ArgumentRows<'_>
     ensures { result ≡ Decimals (record { decimal = decimal; rows = rows.entry }) }
 {
     ArgumentRows::Decimals(DecimalOperand { decimal, rows })
 }
 
-/// Returns `rows`, of values that are stored so, as those of an argument.
+/// Returns `rows`, of values of this `storage`, as the rows of an argument.
 fn bytes_of(storage: Storage, rows: BytesRows<'_>) -> ArgumentRows<'_>
     ensures { result ≡ Bytes (record { storage = storage; rows = rows.entry }) }
 {
     ArgumentRows::Bytes(BytesOperand { storage, rows })
 }
 
-/// Returns the rows of a constant, each `scalar`; `false`, 0 or no bytes stand under a null. (own)
+/// Returns the rows of a constant, each `scalar`; null rows store `false`, 0 or no bytes. (own)
 #[tactic(auto, using(crate::proofs::StoredLemmas::stored_integer))]
 pub(crate) fn repeated_rows(scalar: &Scalar) -> ArgumentRows<'_>
     ensures { IsRepeated scalar.now result }
@@ -222,7 +223,7 @@ pub(crate) fn repeated_rows(scalar: &Scalar) -> ArgumentRows<'_>
     }
 }
 
-/// Returns the decimal that `scalar` is without its point, or 0 if it is no decimal. (own)
+/// Returns the number of the decimal `scalar` without its point, or 0 if it isn't a decimal. (own)
 pub(crate) fn unscaled_of(scalar: &Scalar) -> i128
     ensures { result ≡ unscaled_of scalar.now.value }
 {
@@ -248,7 +249,7 @@ fn constant_argument(alloc: Global, scalar: &Scalar, len: usize) -> VortexResult
     }
 }
 
-/// Returns `rows`, none of which is valid, as an argument of `len` rows. Fails only with `OutOfMemory`.
+/// Returns the argument of `rows`, `len` rows that are all null. Fails only with `OutOfMemory`.
 fn null_argument(alloc: Global, rows: ArgumentRows<'_>, len: usize) -> VortexResult<Argument<'_>>
     ensures ok { IfOk result (λ a. a ≡ record { rows = rows.entry; valid = Bits (replicate len false) }) }
     ensures err { OnlyOutOfMemory result }

@@ -18,7 +18,7 @@ use vx_tree::{
 };
 use vx_value::{DType, DecimalDType, Storage, VortexResult};
 
-/// Makes the column of `bits`, whose null rows `validity` tells. Fails only with `OutOfMemory`.
+/// Makes the column of `bits`; `validity` says which rows are null. Fails only with `OutOfMemory`.
 #[tactic(auto, using(crate::proofs::NullRowsLemmas::flat_taken))]
 pub(crate) fn bool_column(
     alloc: Global,
@@ -34,7 +34,7 @@ pub(crate) fn bool_column(
     Ok(Canonical::Bool(column))
 }
 
-/// Makes the column of `values`, whose null rows `validity` tells. Fails only with `OutOfMemory`.
+/// Makes the column of `values`; `validity` says which rows are null. Fails only with `OutOfMemory`.
 pub(crate) fn primitive_column(
     alloc: Global,
     values: PrimitiveValues,
@@ -49,8 +49,8 @@ pub(crate) fn primitive_column(
     Ok(Canonical::Primitive(column))
 }
 
-/// Makes the column of `values`, decimals of type `decimal` without their points, whose null rows `validity` tells. Fails only
-/// with `OutOfMemory`.
+/// Makes the column of `values`, decimals of type `decimal` without their points; `validity` says which rows are null. Fails
+/// only with `OutOfMemory`.
 #[tactic(auto, using(crate::proofs::NullRowsLemmas::decimals_taken))]
 pub(crate) fn decimal_column(
     alloc: Global,
@@ -68,7 +68,7 @@ pub(crate) fn decimal_column(
     Ok(Canonical::Decimal(column))
 }
 
-/// Makes the column of `rows`, of values that are stored so, whose null rows `validity` tells. Fails only with `OutOfMemory`.
+/// Makes the column of `rows`, of values of this `storage`; `validity` says which rows are null. Fails only with `OutOfMemory`.
 #[tactic(auto, using(crate::proofs::NullRowsLemmas::bytes_taken))]
 pub(crate) fn varbinview_column(
     alloc: Global,

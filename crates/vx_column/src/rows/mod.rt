@@ -1,5 +1,5 @@
-//! Reads the rows of trees: single rows, those that aren't null, and whole columns as the arguments of a function. Makes columns of
-//! stored values.
+//! Reads the rows of trees: single rows, the rows that are valid, and whole columns as the arguments of a function. Makes
+//! columns of stored values.
 
 mod argument;
 mod column;

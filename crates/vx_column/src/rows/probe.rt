@@ -57,7 +57,7 @@ pub fn execute_scalar(alloc: Global, array: &ArrayRef, index: usize) -> VortexRe
     }
 }
 
-/// Returns the value of row `index`, which must exist: of a column by the bits that tell its valid rows, of any other tree by
+/// Returns the value of row `index`, which must exist: for a column, by the bits of its validity; for any other tree, by
 /// recursion. It isn't inlined, so that the rows of a column without a validity take fewer instructions.
 #[inline(never)]
 fn row_at(alloc: Global, array: &ArrayRef, index: usize) -> VortexResult<Scalar>
@@ -86,8 +86,8 @@ fn row_at(alloc: Global, array: &ArrayRef, index: usize) -> VortexResult<Scalar>
     }
 }
 
-/// Returns whether row `index` of a column of type `dtype` with `validity` in its slot isn't null, if no row is or bits tell it; else
-/// `None`.
+/// Returns whether row `index` is valid in a column of type `dtype` with `validity` in its slot, if no row is null or the
+/// validity is stored as bits; else `None`.
 #[inline]
 fn stored_validity(dtype: &DType, validity: &Option<ArrayRef>, index: usize) -> Option<bool>
     requires { TellsRow (type_of dtype.now) validity.now index }
@@ -303,8 +303,8 @@ fn bytes_at(alloc: Global, rows: &BinaryViews, index: usize, dtype: &DType) -> V
     Ok(Scalar::new_unchecked(dtype, Some(ScalarValue::Bytes(bytes))))
 }
 
-/// Returns the rows of `array`, which must be non-nullable booleans. Shares those of a column without a validity, repeats a constant, and
-/// cuts and chooses those of slices and filters of such a column by words. `Fault` if a row has no value.
+/// Returns the rows of `array`, which must be non-nullable booleans. Shares stored bits; repeats a constant; takes slices and
+/// filters of stored bits word by word; reads others row by row. `Fault` if a row has no value.
 pub(crate) fn truths_in(alloc: Global, array: &ArrayRef) -> VortexResult<BitBuffer>
     requires { dtype array.now ≡ type.bool Nullability.NonNullable }
     ensures ok { IfOk result (λ bits. rows array.now ≡ map (λ b. value (boolean b)) bits) }
@@ -321,8 +321,8 @@ pub(crate) fn truths_in(alloc: Global, array: &ArrayRef) -> VortexResult<BitBuff
     }
 }
 
-/// Returns the rows of `array` if it is a column of booleans without a validity, or slices and filters of one; else `None`. Fails only if
-/// there is no memory for them.
+/// Returns the rows of `array` if it is a column of booleans without a validity, or slices and filters of one; else `None`.
+/// Fails only if there is no memory for them.
 #[tactic(auto, using(crate::proofs::CellsLemmas::bits_long, crate::proofs::SliceLemmas::slice_told, crate::proofs::FilterLemmas::filter_told))]
 #[cycle(stored_truths)]
 fn stored_truths(alloc: Global, array: &ArrayRef) -> Result<Option<BitBuffer>, AllocError>

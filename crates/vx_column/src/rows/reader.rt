@@ -1,4 +1,4 @@
-//! Columns that were opened once, read row by row.
+//! Opened columns, read row by row.
 
 ghost use Rattle.std.specs.Prelude.{◌≡◌, ◌<◌, ℕ, true, IfOk};
 ghost use Rattle.vx_value.specs.Errors.{OnlyOutOfMemory};

@@ -22,7 +22,7 @@ pub enum ValidRows {
 }
 
 impl ValidRows {
-    /// Returns the rows of a nullable column that are at the true bits of `bits`: all if every bit is true.
+    /// Returns the rows of a nullable column at the true bits of `bits`: `All` if every bit is true.
     #[tactic(auto, using(crate::proofs::ValidRowsLemmas::counted_row))]
     pub fn from_bits(bits: BitBuffer) -> ValidRows
         ensures rows { (i : ℕ) → i < length bits → is_valid result i ≡ bit_row bits i }
@@ -36,7 +36,7 @@ impl ValidRows {
         }
     }
 
-    /// Checks whether row `index`, which must exist, is valid. (own)
+    /// Returns whether row `index`, which must exist, is valid. (own)
     #[inline]
     pub fn is_valid(&self, index: usize) -> bool
         requires { (n : ℕ) × (index < n) × HasValidity self.now n }
@@ -59,7 +59,7 @@ impl ValidRows {
         }
     }
 
-    /// Returns the rows that are valid in both of two columns, `len` rows each.
+    /// Returns the rows that are valid in both of two columns of `len` rows.
     pub fn and(&self, alloc: Global, other: &ValidRows, len: usize) -> Result<ValidRows, AllocError>
         requires first { HasValidity self.now len }
         requires second { HasValidity other.now len }
@@ -82,7 +82,7 @@ impl ValidRows {
         }
     }
 
-    /// Returns the validity of a column of `len` rows of which these are valid. Fails only with `OutOfMemory`.
+    /// Returns the validity of a column of `len` rows that are valid as these are. Fails only with `OutOfMemory`.
     #[tactic(auto, using(crate::proofs::KeepsLemmas::any_rows, crate::proofs::ValidRowsLemmas::bits_rows))]
     pub fn validity(&self, alloc: Global, len: usize) -> VortexResult<Validity>
         requires { HasValidity self.now len }

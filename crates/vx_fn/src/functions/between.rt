@@ -15,7 +15,7 @@ use std::alloc::AllocError;
 use std::cmp::Ordering;
 use vx_value::{DType, Id, Nullability, Scalar, VortexResult};
 
-/// Whether a bound is below the values that it bounds, or may be one of them.
+/// Whether a bound must be below the values that it bounds, or may be equal to them.
 #[derive(Clone, Copy, Debug, PartialEq, Eq, Hash)]
 pub enum StrictComparison {
     /// `<`.
@@ -72,7 +72,7 @@ fn nullability_between(array: &DType, lower: &DType, upper: &DType) -> Option<Nu
     }
 }
 
-/// Checks whether a value lies between two others; null if one of the three is.
+/// Returns whether a value lies between two others, null if one of the three is null.
 fn lies_between(options: BetweenOptions, array: &Scalar, lower: &Scalar, upper: &Scalar) -> Scalar
     requires { IsSome ((between options).types (array.now.of_type ∷ lower.now.of_type ∷ upper.now.of_type ∷ [])) }
     ensures typed { (between options).types (array.now.of_type ∷ lower.now.of_type ∷ upper.now.of_type ∷ []) ≡ Some result.of_type }
@@ -91,7 +91,7 @@ fn lies_between(options: BetweenOptions, array: &Scalar, lower: &Scalar, upper: 
     }
 }
 
-/// Checks whether the first of two values that compare as `ordering` is below the other, or may be the same.
+/// Returns whether the first of two values that compare as `ordering` is below the second, or may be equal to it.
 fn is_below(comparison: StrictComparison, ordering: Ordering) -> bool
     ensures { result ≡ is_below comparison ordering }
 {

@@ -53,7 +53,7 @@ fn binary_type(operator: Operator, lhs: &DType, rhs: &DType) -> Option<DType>
     }
 }
 
-/// Returns the type of an operator's result on two arguments of type `dtype`, or `None` if it doesn't accept them. The result
+/// Returns the type of an operator's result for two arguments of type `dtype`, or `None` if it doesn't accept them. The result
 /// has nullability `nullability`.
 fn operator_type(operator: Operator, dtype: &DType, nullability: Nullability) -> Option<DType>
     ensures { option_map type_of result ≡ option_map (with_nullability nullability) (operator_type operator (type_of dtype.now)) }
@@ -112,8 +112,8 @@ fn join(operator: Operator, lhs: Option<bool>, rhs: Option<bool>) -> Option<bool
     }
 }
 
-/// Applies `operator`, which isn't logical, to two values that aren't null. The result is of type `dtype`; `Fault` if there
-/// is none.
+/// Applies `operator`, which isn't logical, to two values that aren't null. The result is of type `dtype`; `Fault` if there is
+/// none.
 fn operate_values(
     operator: Operator,
     dtype: DType,
@@ -142,7 +142,7 @@ fn operate_values(
     fitted(dtype, Some(value))
 }
 
-/// Returns `value`, where `None` is null, as a scalar of type `dtype`; `Fault` if the type doesn't have it.
+/// Returns `value` as a scalar of type `dtype`; `None` is null. `Fault` if the type can't hold it.
 fn fitted(dtype: DType, value: Option<ScalarValue>) -> VortexResult<Scalar>
     ensures ok { IfOk result (λ s. (s.of_type ≡ type_of dtype) × (s.value ≡ cell_of value) × (is_of (type_of dtype) (cell_of value) ≡ true)) }
     ensures fault { IfErr result (λ e. (e ≡ VortexError.Fault) × (is_of (type_of dtype) (cell_of value) ≡ false)) }
@@ -150,7 +150,7 @@ fn fitted(dtype: DType, value: Option<ScalarValue>) -> VortexResult<Scalar>
     Scalar::try_new(dtype, value).map_err(|_| VortexError::Fault)
 }
 
-/// Checks whether a comparison holds of two values that compare as `ordering`.
+/// Returns whether a comparison holds for two values that compare as `ordering`.
 fn holds(operator: Operator, ordering: Ordering) -> bool
     ensures { result ≡ holds operator ordering }
 {
@@ -165,7 +165,7 @@ fn holds(operator: Operator, ordering: Ordering) -> bool
     }
 }
 
-/// Applies `operator` to two integers; `Fault` if no type has the result.
+/// Applies `operator` to two integers; `Fault` if there is no result, or no type can hold it.
 fn exactly(operator: Operator, x: i128, y: i128) -> VortexResult<i128>
     ensures ok { IfOk result (λ z. (fit : ℤ → Cell) → calculated_by operator fit x y ≡ fit z) }
     ensures fault { IfErr result (λ e. (e ≡ VortexError.Fault) × ((fit : ℤ → Cell) → IsBounded fit → calculated_by operator fit x y ≡ fault)) }

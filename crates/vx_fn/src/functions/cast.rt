@@ -1,4 +1,4 @@
-//! Casts, by their target.
+//! Casts, by their target type.
 
 ghost use Rattle.std.specs.Prelude.{◌≡◌, ◌⊎◌, IfOk, IfErr, IsSome, Some};
 ghost use Rattle.vx_value.specs.Types.{DataType};
@@ -33,7 +33,7 @@ impl RowFunction for DType {
     }
 }
 
-/// Casts `input` to `target`, to which there must be a cast. `Fault` if the target doesn't have the value; `OutOfMemory`.
+/// Casts `input` to `target`, to which there must be a cast. `Fault` if `target` can't hold the value; `OutOfMemory`.
 fn converted(input: &Scalar, target: &DType) -> VortexResult<Scalar>
     requires { IsSome (cast_type (type_of target.now) input.now.of_type) }
     ensures typed { IfOk result (λ s. cast_type (type_of target.now) input.now.of_type ≡ Some s.of_type) }

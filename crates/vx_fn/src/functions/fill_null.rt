@@ -1,4 +1,4 @@
-//! Values in place of nulls.
+//! Replaces nulls.
 
 ghost use Rattle.std.specs.Prelude.{◌≡◌, IfOk, IsSome, Some, ◌∷◌, [], option_map};
 ghost use Rattle.vx_value.specs.Errors.{OnlyOutOfMemory};

@@ -1,4 +1,4 @@
-//! A value where a mask is true, null where it is false.
+//! The value if a mask is true, null if it is false.
 
 ghost use Rattle.std.specs.Prelude.{◌≡◌, ◌⊎◌, IfOk, IfErr, IsSome, Some, ◌∷◌, [], option_map};
 ghost use Rattle.vx_value.specs.View.{type_of};

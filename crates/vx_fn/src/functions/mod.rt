@@ -9,7 +9,8 @@ pub(crate) mod mask;
 pub(crate) mod not;
 pub(crate) mod zip;
 
-/// Evaluates one expression over the function that a `ScalarFnRef` names: `by_function!(self, function => function.signature())`.
+/// Evaluates one expression over the function that a `ScalarFnRef` names:
+/// `by_function!(self, function => function.signature())`.
 macro_rules! by_function {
     ($named:expr, $function:ident => $body:expr) => {
         match $named {

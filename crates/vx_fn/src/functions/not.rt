@@ -34,7 +34,7 @@ impl RowFunction for Not {
     }
 }
 
-/// Returns the type of the negation of a value of type `input`, or `None` if it has none.
+/// Returns the type of the negation of a value of type `input`, or `None` if there is none.
 fn not_type(input: &DType) -> Option<DType>
     ensures { option_map type_of result ≡ negation.types (type_of input.now ∷ []) }
 {

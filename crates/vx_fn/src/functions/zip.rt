@@ -1,4 +1,4 @@
-//! One value where a mask is true, another where it is false.
+//! One value if a mask is true, another if it is false or null.
 
 ghost use Rattle.std.specs.Prelude.{◌≡◌, ◌⊎◌, IfOk, IsSome, Some, ◌∷◌, [], option_map};
 ghost use Rattle.vx_value.specs.Errors.{OnlyOutOfMemory};

@@ -17,7 +17,7 @@ use vx_mask::Mask;
 use vx_tree::{ArrayRef, FilterArray, IntoArray};
 use vx_value::VortexResult;
 
-/// Reads the mask of a lazy filter of `child`, a list of as many booleans as `child` has rows.
+/// Reads the mask of a lazy filter of `child`: a list of booleans, one for each row of `child`.
 fn filter_mask(alloc: Global, value: &Value, child: &ArrayRef) -> VortexResult<Mask>
     ensures ok { IfOk result (λ mask. filter_spelled (view value.now) child.now ≡ Some (filter_of (bits_in mask) child.now)) }
     ensures rows { IfOk result (λ mask. length (bits_in mask) ≡ len child.now) }

@@ -14,7 +14,7 @@ use std::alloc::Global;
 use vx_tree::{ArrayRef, IntoArray, MaskedArray, Validity};
 use vx_value::{Nullability, VortexResult};
 
-/// Reads which rows of a masked array of `child` are valid, as `nulls` says.
+/// Reads the validity of a masked array of `child`, from `nulls`.
 fn masked_validity(value: &Value, child: &ArrayRef, nulls: &Nulls) -> VortexResult<Validity>
     ensures ok { IfOk result (λ v. masked_spelled (view value.now) child.now nulls.now ≡ Some (masked_of child.now (child_of v (len child.now)))) }
     ensures nullability { IfOk result (λ v. nullability_by v ≡ Nullability.Nullable) }

@@ -14,7 +14,7 @@ use std::ops::Range;
 use vx_tree::{ArrayRef, IntoArray, SliceArray};
 use vx_value::VortexResult;
 
-/// Reads the rows of a lazy slice of `child`, which must be in order and within it.
+/// Reads the range of a lazy slice of `child`, which must be in order and in bounds.
 fn slice_rows(value: &Value, child: &ArrayRef) -> VortexResult<Range<usize>>
     ensures ok { IfOk result (λ rows. slice_spelled (view value.now) child.now ≡ Some (slice_of rows.start rows.end child.now)) }
     ensures within { IfOk result (λ rows. (rows.start ≤ rows.end) × (rows.end ≤ len child.now)) }

@@ -25,8 +25,8 @@ fn head_text(alloc: Global, array: &ArrayRef) -> Result<String, AllocError>
     Ok(text)
 }
 
-/// Returns the lines of the type and the encoding, and a line for each row. `Fault` only if a row has no value, as its validity
-/// may have none; `OutOfMemory`.
+/// Returns the lines of the type and the encoding, and a line for each row. `Fault` only if a row has no value, because its
+/// validity has none; `OutOfMemory`.
 pub fn column_text(alloc: Global, column: &Columnar) -> VortexResult<String>
     ensures ok { IfOk result (λ s. Shows (dtype (columnar_tree column.now)) (id_of (datum (columnar_tree column.now))) (rows (columnar_tree column.now))
         (string_bytes s)) }

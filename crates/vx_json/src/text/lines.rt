@@ -45,7 +45,7 @@ trait TextRows {
         ensures err { OnlyOutOfMemory result };
 }
 
-/// The texts of a column of booleans, without a look at which rows are null.
+/// The texts of a column of booleans, as if no row were null.
 impl TextRows for BitBuffer {
     ghost has_row = { λ bits i. i < length bits };
 
@@ -64,7 +64,7 @@ struct Integers<'a, T> {
     values: &'a [T],
 }
 
-/// Their texts, without a look at which rows are null.
+/// The texts of the integers, as if no row were null.
 impl<'a, T: PrintedNumber> TextRows for Integers<'a, T> {
     ghost has_row = { λ s i. i < length s.values.now };
 
@@ -82,7 +82,7 @@ struct Decimals<'a, T> {
     numbers: &'a [T],
 }
 
-/// Their texts, without a look at which rows are null.
+/// The texts of the decimals, as if no row were null.
 impl<'a, T: PrintedNumber> TextRows for Decimals<'a, T> {
     ghost has_row = { λ s i. i < length s.numbers.now };
 
@@ -100,7 +100,7 @@ struct Texts<'a> {
     rows: &'a BinaryViews,
 }
 
-/// Their texts, without a look at which rows are null.
+/// The texts of the rows, as if no row were null.
 impl TextRows for Texts<'_> {
     ghost has_row = { λ s i. (i < length s.rows.now) × (is_utf8 (slice_index_or s.rows.now i []) ≡ true) };
 
@@ -118,7 +118,7 @@ struct ByteRows<'a> {
     rows: &'a BinaryViews,
 }
 
-/// Their texts, without a look at which rows are null.
+/// The texts of the rows, as if no row were null.
 impl TextRows for ByteRows<'_> {
     ghost has_row = { λ s i. i < length s.rows.now };
 
@@ -130,7 +130,7 @@ impl TextRows for ByteRows<'_> {
     }
 }
 
-/// The texts of any column, by a scalar for each row.
+/// The texts of any column, with a scalar for each row.
 impl TextRows for Argument<'_> {
     ghost has_row = { λ a i. (n : ℕ) × (i < n) × IsSized n a };
 
@@ -143,8 +143,8 @@ impl TextRows for Argument<'_> {
     }
 }
 
-/// Appends a line for each of `len` rows: its text, or `null` unless it is `valid`. Fails only with `OutOfMemory`; some of the
-/// lines may have been appended.
+/// Appends a line for each of `len` rows: its text if the row is `valid`, else `null`. Fails only with `OutOfMemory`; some of
+/// the lines may have been appended.
 fn push_lines<R: TextRows>(
     text: &mut String,
     rows: &R,
@@ -167,7 +167,7 @@ fn push_lines<R: TextRows>(
     Ok(())
 }
 
-/// Appends a line for each of `values`, which must be of the type `T`, or `null` unless it is `valid`.
+/// Appends a line for each of `values`, which must be of type `T`: the text if the row is `valid`, else `null`.
 fn push_natives<T: NativeInteger + PrintedNumber>(
     text: &mut String,
     values: &PrimitiveValues,
@@ -185,7 +185,7 @@ fn push_natives<T: NativeInteger + PrintedNumber>(
     Ok(())
 }
 
-/// Appends a line for each of `values`, or `null` unless it is `valid`.
+/// Appends a line for each of `values`: the text if the row is `valid`, else `null`.
 fn push_integers(text: &mut String, values: &PrimitiveValues, valid: &ValidRows) -> VortexResult<()>
     requires { HasValidity valid.now (length (values_of values.now)) }
     ensures ok { OnOk result (string_bytes text.new ≡ string_bytes text.old ++ integer_lines valid.now (values_of values.now)) }
@@ -194,7 +194,8 @@ fn push_integers(text: &mut String, values: &PrimitiveValues, valid: &ValidRows)
     by_type!(values.ptype(), push_natives(text, values, valid))
 }
 
-/// Appends a line for each of `values`, decimals without their points in integers of type `T`, or `null` unless it is `valid`.
+/// Appends a line for each of `values`, decimals without their points as integers of type `T`: the text if the row is `valid`,
+/// else `null`.
 fn push_native_decimals<T: NativeDecimalType + PrintedNumber>(
     text: &mut String,
     values: &DecimalValues,
@@ -212,7 +213,7 @@ fn push_native_decimals<T: NativeDecimalType + PrintedNumber>(
     Ok(())
 }
 
-/// Appends a line for each of `values`, decimals without their points, or `null` unless it is `valid`.
+/// Appends a line for each of `values`, decimals without their points: the text if the row is `valid`, else `null`.
 fn push_decimals(text: &mut String, values: &DecimalValues, valid: &ValidRows) -> VortexResult<()>
     requires { HasValidity valid.now (length (numbers_of values.now)) }
     ensures ok { OnOk result (string_bytes text.new ≡ string_bytes text.old ++ decimal_lines valid.now (numbers_of values.now)) }
@@ -224,7 +225,8 @@ fn push_decimals(text: &mut String, values: &DecimalValues, valid: &ValidRows) -
     )
 }
 
-/// Appends a line for each of `rows`, which must be `len` rows of text if `storage` says so, or `null` unless it is `valid`.
+/// Appends a line for each of `rows`, `len` rows of text or bytes (`storage` says which): the text if the row is `valid`, else
+/// `null`.
 fn push_bytes(
     text: &mut String,
     storage: Storage,

@@ -1,4 +1,4 @@
-//! Native numbers that are printed in decimal.
+//! Native numbers printed in decimal.
 
 ghost use Rattle.std.specs.Prelude.{◌≡◌};
 ghost use Rattle.std.specs.Fmt.{signed_decimal};

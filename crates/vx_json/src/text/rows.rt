@@ -15,9 +15,9 @@ use serde_json::Value;
 use std::alloc::{AllocError, Global};
 use vx_value::{DType, Scalar, ScalarValue, VortexResult};
 
-/// Appends the text of a row: `null`, `true`, `false`, an integer in decimal, or a string. The string of a decimal is its unscaled
-/// integer, as `"4200"` for 42.00; that of a binary value has two lower-case hexadecimal digits for each byte. If memory runs out,
-/// part of it may have been appended. (own)
+/// Appends the text of a row: `null`, `true`, `false`, an integer in decimal, or a string. The string of a decimal is its
+/// unscaled integer, as `"4200"` for 42.00; that of a binary value has two lower-case hexadecimal digits for each byte. If
+/// memory runs out, part of it may have been appended. (own)
 pub(crate) fn push_row(text: &mut String, scalar: &Scalar) -> Result<(), AllocError>
     ensures { OnOk result (string_bytes text.new ≡ string_bytes text.old ++ row_text scalar.now.of_type scalar.now.value) }
 {
@@ -60,7 +60,7 @@ fn push_quoted(text: &mut String, inner: &str) -> Result<(), AllocError>
     text.push_str("\"")
 }
 
-/// Appends `bytes`, which must be UTF-8, as a JSON string. One without an escape is written as it is.
+/// Appends `bytes`, which must be UTF-8, as a JSON string. Text without escapes is copied unchanged.
 pub(crate) fn push_utf8(text: &mut String, bytes: &[u8]) -> Result<(), AllocError>
     requires { is_utf8 bytes.now ≡ true }
     ensures { OnOk result (string_bytes text.new ≡ string_bytes text.old ++ compact_text (string bytes.now)) }
@@ -82,7 +82,7 @@ fn push_escaped(text: &mut String, utf8: &str) -> Result<(), AllocError>
     text.push_str(value.to_string(alloc)?.as_str())
 }
 
-/// Checks whether a JSON string of `bytes` has an escape: for a quotation mark, a backslash or a control character.
+/// Returns whether a JSON string of `bytes` has an escape: for a quotation mark, a backslash or a control character.
 fn has_escapes(bytes: &[u8]) -> bool
     ensures { result ≡ list_any has_escape bytes.now }
 {

@@ -13,7 +13,7 @@ use vx_opt::{ArrayOptimizer, RuleRegistry};
 use vx_tree::ArrayRef;
 use vx_value::VortexResult;
 
-/// Executes the tree in `bytes` to a column, as `command`, one that reads a tree, says, and returns the column's text.
+/// Executes the tree in `bytes` to a column by `command`, which must read a tree. Returns the column's text.
 pub(crate) fn answer(alloc: Global, bytes: &[u8], command: Command) -> Result<String, Status>
     requires { reads_tree (Some command) ≡ true }
     ensures ok { IfOk result (λ text. Answers command bytes.now (string_bytes text)) }
@@ -27,7 +27,7 @@ pub(crate) fn answer(alloc: Global, bytes: &[u8], command: Command) -> Result<St
     Ok(column_text(alloc, &column)?)
 }
 
-/// Returns the tree that `command`, one that reads a tree, executes in the place of `array`.
+/// Returns the tree that `command`, which must read a tree, executes in place of `array`.
 fn prepare(alloc: Global, array: ArrayRef, command: Command) -> VortexResult<ArrayRef>
     requires { reads_tree (Some command) ≡ true }
     ensures ok { IfOk result (IsSource command array) }

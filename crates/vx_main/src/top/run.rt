@@ -18,8 +18,8 @@ use crate::top::status::Status;
 use crate::top::words::{Command, HELP, VERSION, read_command};
 use std::alloc::Global;
 
-/// Runs the command in `words`: reads the tree in `source`, rewrites it if the command is `optimize`, executes it to a column and writes
-/// the column's text into `sink`.
+/// Runs the command in `words`: reads the tree in `source`, rewrites it if the command is `optimize`, executes it to a column
+/// and writes the column's text into `sink`.
 ///
 /// The text is complete before the first write. `source` and `sink` count their own faults. (own)
 pub fn run<S: Source, K: Sink>(
@@ -54,7 +54,7 @@ pub fn run<S: Source, K: Sink>(
         → Rose (K.faults sink.old) (K.faults sink.new) × WritesPrefix c (S.left source.old) (K.held sink.old) (K.held sink.new) }
     ensures memory { result ≡ Status.Memory → reads_tree (command_of (texts words.now.items)) ≡ true }
 
-    // And each cause has its status, unless one that comes before it.
+    // And each cause gives its status, unless an earlier cause gives another.
     ensures too_large_comes { reads_tree (command_of (texts words.now.items)) ≡ true
         → IfSome (S.left source.old) (λ bytes. input_limit < length bytes → has_no_input result ≡ true) }
     ensures bad_input_comes { reads_tree (command_of (texts words.now.items)) ≡ true
@@ -92,7 +92,7 @@ pub fn run<S: Source, K: Sink>(
     }
 }
 
-/// Writes the whole of `text`, which takes no memory.
+/// Writes the whole of `text`. Takes no memory.
 fn finish<K: Sink>(sink: &mut K, text: &[u8]) -> Status
     ensures done { result ≡ Status.Done → Appends (K.held sink.old) (K.held sink.new) text.now }
     ensures fault { result ≡ Status.WriteFault

@@ -1,6 +1,6 @@
 //! The session of a run.
 
-/// The entries that rewriting and execution look up. There are none so far.
+/// The entries that rewriting and execution look up. There are none yet.
 #[derive(Debug, Drop)]
 pub struct VortexSession {}
 

@@ -26,9 +26,9 @@ pub const VERSION: &str = "vx 0.1.0\n";
 /// A command of the program. (own)
 #[derive(Clone, Copy, Debug, PartialEq, Eq)]
 pub enum Command {
-    /// Executes the tree, in at most `limit` turns, and prints the column.
+    /// Executes the tree in at most `limit` turns, and prints the column.
     Run { limit: u64 },
-    /// Rewrites the tree first, and then does the same.
+    /// Rewrites the tree, then executes it in at most `limit` turns and prints the column.
     Optimize { limit: u64 },
     /// Prints `HELP`.
     Help,

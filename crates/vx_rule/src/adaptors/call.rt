@@ -1,4 +1,4 @@
-//! Functions that are applied to a child first: the rows M1 and K1 to K4.
+//! Functions whose first argument is the child: the rows M1 and K1 to K4.
 
 ghost use Rattle.std.specs.Prelude.{◌≡◌, Some, ◌∷◌, []};
 ghost use Rattle.vx_fn.specs.declared.function.ScalarFnRef.TheVariants as fn_of;
@@ -15,9 +15,9 @@ use vx_fn::{BetweenOptions, ScalarFnRef};
 use vx_tree::{ArrayKind, ArrayRef, ArrayView, VTable};
 use vx_value::{DType, VortexResult};
 
-/// Encodings that have a row for a mask of them.
+/// Encodings that have a row for a mask above them.
 pub trait MaskReduce: VTable {
-    /// Returns what stands for `parent`, the mask of `array` by `mask`: `None` exactly if no row fits. Fails only with
+    /// Returns the answer for `parent`, the mask of `array` by `mask`: `None` exactly if no row fits. Fails only with
     /// `OutOfMemory`.
     fn mask(
         alloc: Global,
@@ -30,9 +30,9 @@ pub trait MaskReduce: VTable {
         ensures { Answers (Some 0) parent.now result };
 }
 
-/// Encodings that have a row for a cast of them.
+/// Encodings that have a row for a cast above them.
 pub trait CastReduce: VTable {
-    /// Returns what stands for `parent`, the cast of `array` to `dtype`: `None` exactly if no row fits. Fails only with
+    /// Returns the answer for `parent`, the cast of `array` to `dtype`: `None` exactly if no row fits. Fails only with
     /// `OutOfMemory`.
     fn cast(
         alloc: Global,
@@ -45,9 +45,9 @@ pub trait CastReduce: VTable {
         ensures { Answers (Some 0) parent.now result };
 }
 
-/// Encodings that have a row for a negation of them.
+/// Encodings that have a row for a negation above them.
 pub trait NotReduce: VTable {
-    /// Returns what stands for `parent`, the negation of `array`: `None` exactly if no row fits. Fails only with `OutOfMemory`.
+    /// Returns the answer for `parent`, the negation of `array`: `None` exactly if no row fits. Fails only with `OutOfMemory`.
     fn invert(
         alloc: Global,
         array: &ArrayView<'_, Self>,
@@ -58,9 +58,9 @@ pub trait NotReduce: VTable {
         ensures { Answers (Some 0) parent.now result };
 }
 
-/// Encodings that have a row for bounds of them.
+/// Encodings that have a row for a `between` above them.
 pub trait BetweenReduce: VTable {
-    /// Returns what stands for `parent`, whether `array` lies between `lower` and `upper`: `None` exactly if no row fits. Fails
+    /// Returns the answer for `parent`, whether `array` lies between `lower` and `upper`: `None` exactly if no row fits. Fails
     /// only with `OutOfMemory`.
     fn between(
         alloc: Global,
@@ -75,9 +75,9 @@ pub trait BetweenReduce: VTable {
         ensures { Answers (Some 0) parent.now result };
 }
 
-/// Encodings that have a row for a filling of their nulls.
+/// Encodings that have a row for a `fill_null` above them.
 pub trait FillNullReduce: VTable {
-    /// Returns what stands for `parent`, the filling of nulls of `array` by `fill_value`: `None` exactly if no row fits. Fails
+    /// Returns the answer for `parent`, `array` with its nulls replaced by `fill_value`: `None` exactly if no row fits. Fails
     /// only with `OutOfMemory`.
     fn fill_null(
         alloc: Global,
@@ -90,8 +90,8 @@ pub trait FillNullReduce: VTable {
         ensures { Answers (Some 0) parent.now result };
 }
 
-/// Evaluates to `$answer`, with the function of `$parent` and the slots of its arguments bound, if `$slot` is that of the first argument;
-/// returns `Ok(None)` from the function for a later one.
+/// Evaluates to `$answer`, with the function of `$parent` and the slots of its arguments bound, if `$slot` is that of the first
+/// argument. For a later one, returns `Ok(None)` from the function.
 macro_rules! for_first_argument {
     ($parent:expr, $slot:expr; $function:pat, $slots:pat => $answer:expr) => {{
         let ArrayKind::ScalarFn($function, $slots) = $parent.kind() else {
@@ -104,7 +104,7 @@ macro_rules! for_first_argument {
     }};
 }
 
-/// The rule of `V` for a mask of it. It answers for the first argument alone.
+/// The rule of `V` for a mask above it. Answers only for the first argument.
 #[derive(Debug, Default, Drop)]
 pub struct MaskReduceAdaptor<V>(pub V);
 
@@ -123,7 +123,7 @@ impl<V: MaskReduce> ArrayParentReduceRule<V> for MaskReduceAdaptor<V> {
     }
 }
 
-/// The rule of `V` for a cast of it.
+/// The rule of `V` for a cast above it.
 #[derive(Debug, Default, Drop)]
 pub struct CastReduceAdaptor<V>(pub V);
 
@@ -142,7 +142,7 @@ impl<V: CastReduce> ArrayParentReduceRule<V> for CastReduceAdaptor<V> {
     }
 }
 
-/// The rule of `V` for a negation of it.
+/// The rule of `V` for a negation above it.
 #[derive(Debug, Default, Drop)]
 pub struct NotReduceAdaptor<V>(pub V);
 
@@ -161,7 +161,7 @@ impl<V: NotReduce> ArrayParentReduceRule<V> for NotReduceAdaptor<V> {
     }
 }
 
-/// The rule of `V` for bounds of it. It answers for the first argument alone.
+/// The rule of `V` for a `between` above it. Answers only for the first argument.
 #[derive(Debug, Default, Drop)]
 pub struct BetweenReduceAdaptor<V>(pub V);
 
@@ -183,7 +183,7 @@ impl<V: BetweenReduce> ArrayParentReduceRule<V> for BetweenReduceAdaptor<V> {
     }
 }
 
-/// The rule of `V` for a filling of its nulls. It answers for the first argument alone.
+/// The rule of `V` for a `fill_null` above it. Answers only for the first argument.
 #[derive(Debug, Default, Drop)]
 pub struct FillNullReduceAdaptor<V>(pub V);
 

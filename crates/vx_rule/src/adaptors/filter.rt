@@ -14,7 +14,7 @@ use vx_value::VortexResult;
 
 /// Encodings that have a row for a filter.
 pub trait FilterReduce: VTable {
-    /// Returns what stands for the filter of `array` by `mask`, which must have as many rows: `None` exactly if no row fits.
+    /// Returns the answer for the filter of `array` by `mask`, which must have as many rows: `None` exactly if no row fits.
     /// Fails only with `OutOfMemory`.
     fn filter(
         alloc: Global,
@@ -26,7 +26,7 @@ pub trait FilterReduce: VTable {
         ensures { Answers (Some 0) (filter_of (bits_in mask.now) array.now.array.now) result };
 }
 
-/// The rule of `V` for a filter of it.
+/// The rule of `V` for a filter above it.
 #[derive(Debug, Default, Drop)]
 pub struct FilterReduceAdaptor<V>(pub V);
 

@@ -1,4 +1,4 @@
-//! What an encoding answers for parents of one kind, a trait for each, and the rules that ask it.
+//! The answers of encodings for parents of one kind, a trait for each kind, and the rules that ask for them.
 
 mod call;
 mod filter;

@@ -15,7 +15,7 @@ use vx_value::VortexResult;
 
 /// Encodings through which a slice passes.
 pub trait SliceReduce: VTable {
-    /// Returns what stands for the slice of `array` at `range`, which must be in bounds and have rows, but not all: `None`
+    /// Returns the answer for the slice of `array` at `range`, which must be in bounds and have some but not all rows: `None`
     /// exactly if no row fits. Fails only with `OutOfMemory`.
     fn slice(
         alloc: Global,
@@ -30,7 +30,8 @@ pub trait SliceReduce: VTable {
     ghost lets: { (d : Data) → Self.is_kind d ≡ true → lets_slice d ≡ true };
 }
 
-/// The rule of `V` for a slice of it: all rows are the child, none is the empty column, and for the others `V` is asked.
+/// The rule of `V` for a slice above it. A slice of all rows is the child, a slice of no rows is the empty column, and `V`
+/// answers for the rest.
 #[derive(Debug, Default, Drop)]
 pub struct SliceReduceAdaptor<V>(pub V);
 
@@ -51,8 +52,8 @@ impl<V: SliceReduce> ArrayParentReduceRule<V> for SliceReduceAdaptor<V> {
     }
 }
 
-/// Returns what stands for the slice of `child` at `range`, which must be in order and in bounds: `None` exactly if no row
-/// fits. Fails only with `OutOfMemory`.
+/// Returns the answer for the slice of `child` at `range`, which must be in order and in bounds: `None` exactly if no row fits.
+/// Fails only with `OutOfMemory`.
 fn slice_of_child<V: SliceReduce>(
     alloc: Global,
     child: &ArrayView<'_, V>,
@@ -71,7 +72,7 @@ fn slice_of_child<V: SliceReduce>(
     V::slice(alloc, child, range)
 }
 
-/// The head of each row: a slice of all rows is the child.
+/// The start of rows S1 to S5: a slice of all rows is the child.
 #[tactic(auto, using(crate::proofs::FitsLemmas::fit_S_whole))]
 fn whole(alloc: Global, child: &ArrayRef, range: Range<usize>) -> VortexResult<Option<RawNode>>
     requires lets { lets_slice (datum child.now) ≡ true }
@@ -81,7 +82,7 @@ fn whole(alloc: Global, child: &ArrayRef, range: Range<usize>) -> VortexResult<O
     Ok(Some(RawNode::done(alloc, child.clone()?)))
 }
 
-/// The head of each row: a slice without rows is the empty column.
+/// The start of rows S1 to S5: a slice of no rows is the empty column.
 #[tactic(auto, using(crate::proofs::FitsLemmas::fit_S_empty))]
 fn empty(alloc: Global, child: &ArrayRef, range: Range<usize>) -> VortexResult<Option<RawNode>>
     requires lets { lets_slice (datum child.now) ≡ true }

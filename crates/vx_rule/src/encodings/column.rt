@@ -1,4 +1,4 @@
-//! The rules of canonical columns, which are the same for all of them.
+//! The rules of canonical columns, which they all share.
 
 ghost use Rattle.std.specs.Prelude.{◌≡◌, Some, None, true};
 ghost use Rattle.vx_tree.specs.Tree.{Data, datum, slice_of, is_canonical};
@@ -71,7 +71,7 @@ impl<V: CanonicalEncoding> SliceReduce for V {
     ghost lets = { λ d k. column_lets d (V.canonical d k) };
 }
 
-/// Row S3: a slice of a canonical column is one of its range, which shares its buffers.
+/// Row S3: a slice of a canonical column is the column of its range, which shares its buffers.
 fn slice_of_column(
     alloc: Global,
     array: &ArrayRef,

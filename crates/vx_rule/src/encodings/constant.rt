@@ -91,7 +91,7 @@ impl NotReduce for Constant {
 }
 
 impl BetweenReduce for Constant {
-    /// Row K3: bounds of a constant by two constants are a constant.
+    /// Row K3: a `between` of constants is a constant.
     fn between(
         alloc: Global,
         _array: &ArrayView<'_, Constant>,
@@ -105,7 +105,7 @@ impl BetweenReduce for Constant {
 }
 
 impl FillNullReduce for Constant {
-    /// Row K4: a constant whose nulls a constant fills is a constant.
+    /// Row K4: a `fill_null` of constants is a constant.
     fn fill_null(
         alloc: Global,
         _array: &ArrayView<'_, Constant>,
@@ -116,7 +116,7 @@ impl FillNullReduce for Constant {
     }
 }
 
-/// Row S2: a slice of a constant is a shorter one.
+/// Row S2: a slice of a constant is a shorter constant.
 #[tactic(auto, using(crate::proofs::FitsLemmas::fit_S2))]
 fn slice_of_constant(
     alloc: Global,
@@ -131,7 +131,7 @@ fn slice_of_constant(
     Ok(Some(RawNode::done(alloc, constant)))
 }
 
-/// Row F6: a filter of a constant is a shorter one.
+/// Row F6: a filter of a constant is a shorter constant.
 #[tactic(auto, using(crate::proofs::FitsLemmas::fit_F6))]
 fn filter_of_constant(alloc: Global, child: &ArrayRef, mask: &Mask) -> VortexResult<Option<RawNode>>
     requires { is_constant (datum child.now) ≡ true }
@@ -142,7 +142,8 @@ fn filter_of_constant(alloc: Global, child: &ArrayRef, mask: &Mask) -> VortexRes
 }
 
 /// Rows K1 to K4: a function of constants is a constant, if it has a value. `parent` must apply one of the functions that are
-/// folded; the answer is `None` exactly if a slot holds no constant, or if the row has no value. Fails only with `OutOfMemory`.
+/// folded. The answer is `None` exactly if a slot holds no constant, or the function has no value. Fails only with
+/// `OutOfMemory`.
 fn fold_constants(alloc: Global, parent: &ArrayRef) -> VortexResult<Option<RawNode>>
     requires { applies folds (datum parent.now) ≡ true }
     ensures { Answers (Some 0) parent.now result }
@@ -161,7 +162,7 @@ fn fold_constants(alloc: Global, parent: &ArrayRef) -> VortexResult<Option<RawNo
     }
 }
 
-/// Returns the scalars of the constants in `slots`: `None` exactly if one holds no constant.
+/// Returns the scalars of the constants in `slots`: `None` exactly if one of them holds no constant.
 fn constants(alloc: Global, slots: &[Option<ArrayRef>]) -> VortexResult<Option<Vec<Scalar>>>
     ensures none { IfOk result (λ o. IfNone o (constant_values (slots_of slots.now) ≡ None)) }
     ensures values { IfOk result (λ o. IfSome o (λ v. constant_values (slots_of slots.now) ≡ Some v.items)) }
@@ -177,7 +178,7 @@ fn constants(alloc: Global, slots: &[Option<ArrayRef>]) -> VortexResult<Option<V
     Ok(Some(scalars))
 }
 
-/// Returns the scalar of the constant in `slot`: `None` exactly if it holds none.
+/// Returns the scalar of the constant in `slot`: `None` exactly if it holds no constant.
 fn constant_in(slot: &Option<ArrayRef>) -> VortexResult<Option<Scalar>>
     ensures ok { IfOk result (λ o. o ≡ slot_value slot.now) }
     ensures err { OnlyOutOfMemory result }

@@ -74,7 +74,7 @@ impl ArrayReduceRule<Filter> for TrivialFilterRule {
     }
 }
 
-/// Row F5: a filter of a filter is the filter by the combined mask.
+/// Row F5: a filter of a filter is one filter, by the combined mask.
 #[tactic(auto, using(crate::proofs::FitsLemmas::fit_F5))]
 fn filter_of_filter(alloc: Global, child: &ArrayRef, mask: &Mask) -> VortexResult<Option<RawNode>>
     requires filter { is_filter (datum child.now) ≡ true }
@@ -89,8 +89,8 @@ fn filter_of_filter(alloc: Global, child: &ArrayRef, mask: &Mask) -> VortexResul
     Ok(Some(RawNode::done(alloc, filter.into_array())))
 }
 
-/// Returns the mask of the rows that `inner`, which must have as many rows as `outer` chooses, chooses among those. Fails only
-/// with `OutOfMemory`.
+/// Returns the mask that chooses by `outer`, then by `inner` among the rows chosen. `inner` must have as many rows as `outer`
+/// chooses. Fails only with `OutOfMemory`.
 fn combine(alloc: Global, outer: &Mask, inner: &Mask) -> VortexResult<Mask>
     requires { length (bits_in inner.now) ≡ true_count (bits_in outer.now) }
     ensures ok { IfOk result (λ m. bits_in m ≡ combined (bits_in outer.now) (bits_in inner.now)) }

@@ -80,7 +80,7 @@ impl MaskReduce for Masked {
     }
 }
 
-/// Row S5: a slice of a masked array is a masked slice.
+/// Row S5: a slice passes below a masked array.
 fn slice_of_masked(
     alloc: Global,
     child: &ArrayRef,
@@ -98,7 +98,7 @@ fn slice_of_masked(
     RawNode::raw(alloc, masked)
 }
 
-/// Row F8: a filter of a masked array is a masked filter.
+/// Row F8: a filter passes below a masked array.
 fn filter_of_masked(alloc: Global, child: &ArrayRef, mask: &Mask) -> VortexResult<Option<RawNode>>
     requires masked { is_masked (datum child.now) ≡ true }
     requires long { length (bits_in mask.now) ≡ len child.now }

@@ -10,7 +10,8 @@ mod slice;
 
 pub use column::CanonicalEncoding;
 
-/// Evaluates to `Ok(None)`; returns from the function with the answer of the first of `$rule` that has one for `$array`.
+/// Returns from the function with the answer of the first `$rule` that has one for `$array`; evaluates to `Ok(None)` if none
+/// has.
 macro_rules! own_rules {
     ($alloc:expr, $array:expr; $($rule:expr),+) => {{
         $(
@@ -22,7 +23,7 @@ macro_rules! own_rules {
     }};
 }
 
-/// Evaluates to `Ok(None)`; returns from the function with the answer of the first of `$rule` that covers `$parent`.
+/// Returns from the function with the answer of the first `$rule` that covers `$parent`; evaluates to `Ok(None)` if none does.
 macro_rules! parent_rules {
     ($encoding:ident, $alloc:expr, $child:expr, $parent:expr, $slot:expr; $($rule:ident),+) => {{
         $(

@@ -109,7 +109,7 @@ impl ArrayReduceRule<ScalarFn> for TrivialNullTestRule {
     }
 }
 
-/// Row S4: a slice of a function is the function of slices.
+/// Row S4: a slice passes below a function.
 fn slice_of_function(
     alloc: Global,
     child: &ArrayRef,
@@ -126,7 +126,7 @@ fn slice_of_function(
     RawNode::raw(alloc, call)
 }
 
-/// Row F7: a filter of a function is the function of filters.
+/// Row F7: a filter passes below a function.
 fn filter_of_function(alloc: Global, child: &ArrayRef, mask: &Mask) -> VortexResult<Option<RawNode>>
     requires function { is_function (datum child.now) ≡ true }
     requires long { length (bits_in mask.now) ≡ len child.now }
@@ -155,7 +155,8 @@ fn cast_to_own_type(
     Ok(Some(RawNode::done(alloc, child.clone()?)))
 }
 
-/// Row N1: a test for null of a non-nullable argument is the constant `value`, which is false for `IsNull` and true for `IsNotNull`.
+/// Row N1: a test for null of a non-nullable argument is the constant `value`, which is false for `IsNull` and true for
+/// `IsNotNull`.
 #[tactic(auto, using(crate::proofs::FitsLemmas::fit_N1, crate::proofs::QuietLemmas::null_test_quiet))]
 fn null_test_of_non_nullable(
     alloc: Global,

@@ -1,4 +1,4 @@
--- Masked trees: the rows of a child, null where a validity says so.
+-- Masked arrays: the rows of a child, null where a validity says so.
 use Rattle.std.specs.Prelude.{◌≡◌, ℕ, List, [], ◌∷◌, Bool, true, false, ◌==◌, Option, Some, None, codes}
 use Rattle.vx_value.specs.Types.{DataType, bool, same_type}
 use Rattle.vx_value.specs.Nullabilities.{with_nullability}
@@ -22,7 +22,7 @@ use Rattle.vx_tree.specs.Meanings.{Meaning}
 use Rattle.vx_tree.specs.declared.validity.Validity.{Validity}
 use Rattle.vx_tree.specs.declared.validity.Validity.TheVariants as validity
 
--- the rows of t, null where the validity says so; none is if it is absent
+-- the rows of t, null where the validity says so; if it is absent, none is made null
 abbrev pub masked_of : Tree → Option Tree → Tree
 masked_of t validity = node (with_nullability Nullable (dtype t)) (len t) masked (slots_of (Some t ∷ validity ∷ []))
 
@@ -34,7 +34,7 @@ is_masked _ = false
 abbrev pub IsMasked : DataType → ℕ → List (Option Shape) → Type 0
 IsMasked ty n ss = (s : DataType) × (v : Option Shape) × (ss ≡ Some (shape s n) ∷ v ∷ []) × (ty ≡ with_nullability Nullable s) × IsValidity Nullable n v
 
--- of a masked node: its child, and its validity in slot 1
+-- of a masked array: its child, and its validity in slot 1
 abbrev pub mask_refusal : DataType → ℕ → Option Shape → Option Shape → Option VortexError
 mask_refusal ty n None v = Some (InvalidArgument (SlotMissing 0))
 mask_refusal ty n (Some (shape s m)) v =
@@ -50,7 +50,7 @@ masked_refusal ty n _ = Some (InvalidArgument SlotCount)
 abbrev pub both_of : ℕ → Tree → Tree → Tree
 both_of n t u = call_of (Binary And) (bool NonNullable) n (t ∷ u ∷ [])
 
--- the validity of n rows that are null where one of the two says so
+-- the validity of n rows that are null if either says so
 abbrev pub joined : ℕ → Validity → Validity → Validity
 joined n validity.AllInvalid w = validity.AllInvalid
 joined n v validity.AllInvalid = validity.AllInvalid

@@ -23,16 +23,16 @@ pub data Data : Type 0 where
   nulls : Data
   bool : List Bool → Data
   primitive : PType → List ℤ → Data
-  -- decimals of the column's type, without their points, in integers of this width
+  -- decimals of the column's type, without their points, as integers of this width
   decimals : DecimalType → List ℤ → Data
-  -- rows of text or of bytes, each as its bytes
+  -- rows of text or bytes, each the list of its bytes
   views : List (List ℕ) → Data
 
 mutual
   pub data Tree : Type 0 where
     node : DataType → ℕ → Data → Slots → Tree
 
-  -- a slot that may be left out, or that was taken out, is absent
+  -- a slot that is left out, or taken out, is absent
   pub data Slots : Type 0 where
     no_slots : Slots
     absent : Slots → Slots
@@ -70,11 +70,11 @@ datum (node ty n d ss) = d
 abbrev pub slots : Tree → Slots
 slots (node ty n d ss) = ss
 
--- a column: rows of its own, and the validity, absent as long as no row may be null
+-- a column: its data, and its validity, absent if no row may be null
 abbrev pub column : DataType → ℕ → Data → Option Tree → Tree
 column ty n d validity = node ty n d (slots_of (validity ∷ []))
 
--- ---- the code of a tree: of node data, a line for each encoding in each of two tables
+-- ---- the code of a tree: for node data, a line per encoding in each of two tables
 
 abbrev pub data_parts : Part Data
 data_parts =

@@ -21,7 +21,7 @@ use Rattle.vx_tree.specs.Charges.{all, deeper, added}
 use Rattle.vx_tree.specs.Meanings.{Meaning}
 use Rattle.vx_tree.specs.declared.validity.Validity.TheVariants as validity
 
--- f on the rows of the trees, n of each
+-- f applied to the rows of the trees, n of each
 abbrev pub call_of : ScalarFnRef → DataType → ℕ → List Tree → Tree
 call_of f ty n ts = node ty n (function f) (filled_slots ts)
 
@@ -29,7 +29,7 @@ abbrev pub is_function : Data → Bool
 is_function (function f) = true
 is_function _ = false
 
--- each slot holds a tree; the types of those that do; and whether these have so many rows
+-- each slot holds a tree; the types of those that do; whether each has n rows
 abbrev pub all_present : List (Option Shape) → Bool
 all_present [] = true
 all_present (None ∷ ss) = false
@@ -45,16 +45,16 @@ all_long n [] = true
 all_long n (None ∷ ss) = all_long n ss
 all_long n (Some (shape s m) ∷ ss) = (m == n) && all_long n ss
 
--- of so many arguments
+-- the function doesn't take k arguments
 abbrev pub arity_refusal : ScalarFnRef → ℕ → Option VortexError
 arity_refusal f k = unless (k == arity f) (InvalidArgument (Arity (arity f) k))
 
--- where the function gives no type, or another one
+-- the function has no result type, or another one
 abbrev pub result_refusal : DataType → Option DataType → Option VortexError
 result_refusal ty None = Some (InvalidArgument NoRow)
 result_refusal ty (Some s) = unless (same_type ty s) (InvalidArgument NodeType)
 
--- of a function: its slots, its types where the node is to go by the id, and its lengths
+-- of a function node: its slots; its types, if its id is the function's; its lengths
 abbrev pub slots_refusal : ScalarFnRef → List (Option Shape) → Option VortexError
 slots_refusal f ss = first_of_both (unless (all_present ss) (InvalidArgument FnSlotMissing)) (arity_refusal f (length ss))
 

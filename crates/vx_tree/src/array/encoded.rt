@@ -19,7 +19,7 @@ pub trait Encoded {
 
 /// Encodings whose data a variant of `Encoding` holds. (own)
 pub trait EncodingVariant: Encoded {
-    // what its typed data stands for, and which node data are of the encoding
+    // the data that its typed data stands for, and whether data is of the encoding
     ghost stands_for: { Self.TypedArrayData → Data };
 
     ghost is_kind: { Data → Bool };
@@ -38,7 +38,7 @@ pub trait EncodingVariant: Encoded {
         ensures which { is_some result ≡ is_kind (data_of encoding) }
         ensures value { IfSome result (λ d. stands_for d ≡ data_of encoding) };
 
-    // what it stands for is of the encoding
+    // the data that it stands for is of the encoding
     ghost kind_of: { (d : Self.TypedArrayData) → is_kind (stands_for d) ≡ true };
 }
 

@@ -73,8 +73,9 @@ impl ArrayRef {
         &self.node.slots
     }
 
-    /// Returns the name of the root's slot `index`, counted from 0. A node with one child has `child`, a masked array has `child` and
-    /// `validity`, a column has `validity`, and a function node has the names of its arguments. `None` if there is no such slot.
+    /// Returns the name of the root's slot `index`, counted from 0. A node with one child has `child`, a masked array has
+    /// `child` and `validity`, a column has `validity`, and a function node has the names of its arguments. `None` if there is
+    /// no such slot.
     pub fn slot_name(&self, index: usize) -> Option<&'static str>
         ensures { option_map (λ s. s.now) result ≡ slice_get (slot_names (datum self.now)) index }
     {

@@ -25,7 +25,7 @@ pub enum ArrayKind<'a> {
     Filter(&'a ArrayRef, &'a Mask),
     /// The child, and the slot of the validity that makes rows of it null.
     Masked(&'a ArrayRef, &'a Option<ArrayRef>),
-    /// The child whose validity is told.
+    /// The child whose rows are tested for null.
     ScalarFnValidity(&'a ArrayRef),
     /// The function, and the slots of its arguments. Each slot has a tree.
     ScalarFn(&'a ScalarFnRef, &'a [Option<ArrayRef>]),

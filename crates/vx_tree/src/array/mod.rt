@@ -1,4 +1,5 @@
-//! Arrays: shared nodes, the untyped references to them, typed handles and views, and what generic code can do with an encoding.
+//! Arrays: shared nodes, the untyped references to them, typed handles and views, and what generic code can do with an
+//! encoding.
 
 mod encoded;
 mod erased;

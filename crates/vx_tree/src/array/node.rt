@@ -50,14 +50,14 @@ pub struct Node {
     pub slots: Vec<Option<ArrayRef>>,
 }
 
-/// A shared, immutable and well-formed tree. A clone copies the reference alone.
+/// A shared, immutable and well-formed tree. Cloning copies only the reference.
 #[cycle(tree)]
 #[derive(Debug)]
 pub struct ArrayRef {
     pub(crate) node: Rc<Node>,
 }
 
-// by hand: each crate that lets an array go would prove a derived drop again, and those of all encodings with it
+// by hand: a crate that drops an array would prove a derived drop again, and those of all encodings with it
 impl Drop for ArrayRef {
     #[cycle(tree)]
     fn drop(self) {

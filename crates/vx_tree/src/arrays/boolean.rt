@@ -85,11 +85,11 @@ impl VTable for Bool {
 }
 
 impl BoolArray {
-    /// Makes the column of `bits`, whose null rows `validity` tells. What a null row's bit is doesn't count.
+    /// Makes the column of `bits`; `validity` says which rows are null. The bits of null rows are ignored.
     ///
-    /// The first condition that fails gives the error: `InvalidArgument` with `BadType` exactly if `dtype` isn't `bool` with the
-    /// nullability of `validity`, with `SlotType` exactly if the validity's array isn't one of non-nullable booleans, and with
-    /// `SlotLen` exactly if it hasn't as many rows as there are bits.
+    /// The first condition that fails gives the error: `InvalidArgument` with `BadType` exactly if `dtype` isn't `bool` with
+    /// the nullability of `validity`, with `SlotType` exactly if the validity's array doesn't hold non-nullable booleans, and
+    /// with `SlotLen` exactly if it doesn't have as many rows as there are bits.
     pub fn try_new(
         alloc: Global,
         dtype: DType,

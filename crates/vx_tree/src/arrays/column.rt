@@ -17,7 +17,7 @@ use crate::validity::{Validity, check_validity, validity_to_child};
 use std::alloc::Global;
 use vx_value::{ArgKind, DType, Nullability, VortexError, VortexResult};
 
-/// Checks that `parts` make a column of `values` values of type `of_type`, whose nullability doesn't count.
+/// Checks that `parts` make a column of `values` values of type `of_type`, whose nullability is ignored.
 #[tactic(auto, using(crate::proofs::RefusalsLemmas::column_slot_count, crate::proofs::RefusalsLemmas::the_slot, crate::proofs::RefusalsLemmas::column_by_slot))]
 pub(crate) fn check_column<V: Encoded>(
     parts: &ArrayParts<V>,
@@ -83,8 +83,8 @@ pub(crate) fn check_validity_len(
 
 /// Checks that a column of `len` values of the non-nullable type `of_type` may have the type `dtype` and this validity.
 ///
-/// `dtype` must be that type with the nullability of `validity`, else `InvalidArgument` with `BadType`; then `validity` must be one
-/// of `len` rows, else `InvalidArgument` with `SlotType` or `SlotLen`.
+/// `dtype` must be that type with the nullability of `validity`, else `InvalidArgument` with `BadType`; then `validity` must be
+/// one of `len` rows, else `InvalidArgument` with `SlotType` or `SlotLen`.
 #[tactic(auto, using(crate::proofs::ConditionsLemmas::in_turn))]
 pub(crate) fn check_flat_column(
     dtype: &DType,
@@ -122,8 +122,8 @@ pub(crate) fn flat_column<V: VTable>(
     flat_unchecked(alloc, dtype, len, payload, validity)
 }
 
-/// Makes the column of `payload`, `len` values, which may have the type `dtype` and this validity. Checks nothing. Fails only with
-/// `OutOfMemory`.
+/// Makes the column of `payload`, `len` values, which may have the type `dtype` and this validity. Checks nothing. Fails only
+/// with `OutOfMemory`.
 pub(crate) fn flat_unchecked<V: VTable>(
     alloc: Global,
     dtype: DType,

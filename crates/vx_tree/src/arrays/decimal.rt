@@ -35,8 +35,8 @@ impl EncodingKind for Decimal {
     }
 }
 
-/// The data of a column of decimals: an integer for each row, its number without the point, also if the row is null. The
-/// integers are as narrow as the precision of the column's type allows.
+/// The data of a column of decimals: for each row, also a null one, its number without the point, as an integer. The integers
+/// are as narrow as the precision of the column's type allows.
 #[derive(Clone, Debug, Drop)]
 pub struct DecimalData {
     pub values: DecimalValues,
@@ -88,8 +88,8 @@ impl VTable for Decimal {
     }
 }
 
-/// Returns the non-nullable type of the decimals of type `dtype`. For a type that isn't one of decimals, it is one that has a
-/// single digit, so never `dtype`. (own)
+/// Returns the non-nullable type of the decimals of `dtype`. If `dtype` isn't a type of decimals, returns one with a single
+/// digit, which is never `dtype`. (own)
 fn decimal_type(dtype: &DType) -> DType
     ensures { type_of result ≡ decimal_type (storage_of (type_of dtype.now)) }
 {
@@ -116,13 +116,13 @@ fn are_decimals_of(dtype: &DType, values: &DecimalValues) -> bool
 }
 
 impl DecimalArray {
-    /// Makes the column of `values`, numbers of type `dtype` without their points, whose null rows `validity` tells. What a null row's
-    /// number is doesn't count, but that it is one of the type.
+    /// Makes the column of `values`, numbers of type `dtype` without their points; `validity` says which rows are null. The
+    /// numbers of null rows are ignored, except that they must be of the type.
     ///
-    /// The first condition that fails gives the error: `InvalidArgument` with `BadType` exactly if `dtype` isn't one of decimals
-    /// with the nullability of `validity`, with `SlotType` exactly if the validity's array isn't one of non-nullable booleans,
-    /// with `SlotLen` exactly if it hasn't as many rows as there are values, and with `BadValue` exactly if the values aren't as
-    /// narrow as the precision allows, or one has more digits.
+    /// The first condition that fails gives the error: `InvalidArgument` with `BadType` exactly if `dtype` isn't a type of
+    /// decimals with the nullability of `validity`, with `SlotType` exactly if the validity's array doesn't hold non-nullable
+    /// booleans, with `SlotLen` exactly if it doesn't have as many rows as there are values, and with `BadValue` exactly if the
+    /// values aren't as narrow as the precision allows, or one has more digits.
     #[tactic(auto, using(crate::proofs::ConditionsLemmas::in_turn))]
     pub fn try_new(
         alloc: Global,

@@ -103,7 +103,7 @@ impl EncodingVariant for Filter {
     ghost kind_of = { λ d. refl };
 }
 
-/// A lazy choice of its child's rows.
+/// A lazy filter of its child.
 pub type FilterArray = Array<Filter>;
 
 impl VTable for Filter {

@@ -1,4 +1,4 @@
-//! Arrays some of whose rows are made null.
+//! Arrays with some rows made null.
 
 ghost use Rattle.std.specs.Prelude.{refl, ◌≡◌, ℕ, ◌∷◌, [], MatchResult, IfOk, Some, option_map};
 ghost use Rattle.vx_value.specs.Errors.{OnlyOutOfMemory};
@@ -104,8 +104,8 @@ fn child_and_validity(slots: &[Option<ArrayRef>]) -> VortexResult<(&ArrayRef, &O
 }
 
 impl MaskedArray {
-    /// Makes the array of `child`'s rows that is null where `validity`, which must be a nullable one of as many rows, says so.
-    /// Its child may have nulls too; a row that is null in either is null. Fails only with `OutOfMemory`.
+    /// Makes the array of `child`'s rows that is null where `validity` says so. `validity` must be a nullable one of as many
+    /// rows. `child` may have nulls too; a row that is null in either is null. Fails only with `OutOfMemory`.
     pub fn new_unchecked(
         alloc: Global,
         child: ArrayRef,

@@ -14,7 +14,7 @@ pub mod scalar_fn_validity;
 pub mod slice;
 pub mod varbinview;
 
-/// Evaluates to the data of a borrowed `Encoding` of this variant, `Some(data)`; to `None` if it is of another.
+/// Evaluates to `Some(data)`, the data of a borrowed `Encoding` of this variant, or to `None` if it is another variant.
 macro_rules! payload {
     ($encoding:expr, $variant:ident) => {
         match $encoding {
@@ -24,8 +24,8 @@ macro_rules! payload {
     };
 }
 
-/// Evaluates to the data of an owned `Encoding` of this variant, `Some(data)`; to `None` if it is of another, which is dropped
-/// whole.
+/// Evaluates to `Some(data)`, the data of an owned `Encoding` of this variant, or to `None` if it is another variant, which is
+/// dropped whole.
 macro_rules! into_payload {
     ($encoding:expr, $variant:ident) => {
         match $encoding {

@@ -83,11 +83,11 @@ impl VTable for Primitive {
 }
 
 impl PrimitiveArray {
-    /// Makes the column of `values`, whose null rows `validity` tells. What a null row's value is doesn't count.
+    /// Makes the column of `values`; `validity` says which rows are null. The values of null rows are ignored.
     ///
-    /// The first condition that fails gives the error: `InvalidArgument` with `BadType` exactly if `dtype` isn't the values' type
-    /// with the nullability of `validity`, with `SlotType` exactly if the validity's array isn't one of non-nullable booleans,
-    /// and with `SlotLen` exactly if it hasn't as many rows as there are values.
+    /// The first condition that fails gives the error: `InvalidArgument` with `BadType` exactly if `dtype` isn't the values'
+    /// type with the nullability of `validity`, with `SlotType` exactly if the validity's array doesn't hold non-nullable
+    /// booleans, and with `SlotLen` exactly if it doesn't have as many rows as there are values.
     pub fn try_new(
         alloc: Global,
         dtype: DType,

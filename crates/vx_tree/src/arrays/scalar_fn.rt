@@ -176,7 +176,7 @@ fn push_type(types: &mut Vec<DType>, slot: &Option<ArrayRef>) -> Result<(), Allo
     }
 }
 
-/// Checks that `tag` is the function's id, and that `function` gives `dtype` on arguments of the slots' types.
+/// Checks that `tag` is the function's id, and that `function` has the result type `dtype` for arguments of the slots' types.
 #[tactic(auto, using(crate::proofs::ConditionsLemmas::in_turn))]
 fn check_types(
     alloc: Global,
@@ -194,7 +194,7 @@ fn check_types(
     check_result(function, dtype, types.as_slice())
 }
 
-/// Checks that `function` gives `dtype` on arguments of these types.
+/// Checks that `function` has the result type `dtype` for arguments of these types.
 fn check_result(function: &ScalarFnRef, dtype: &DType, types: &[DType]) -> VortexResult<()>
     ensures valid { OnOk result (result_refusal (type_of dtype.now) (return_type function.now (map type_of types.now)) ≡ None) }
     ensures refused { IfErr result (λ e. (e ≡ VortexError.OutOfMemory)
@@ -241,8 +241,8 @@ impl ScalarFnArray {
 
     /// Makes a node that applies `scalar_fn` to `children`, with `len` rows.
     ///
-    /// The first condition that fails gives the error: `InvalidArgument` with `Arity` if the function takes another number
-    /// of arguments, `ChildLen` if a child doesn't have `len` rows, and `NoRow` if the function takes no such types.
+    /// The first condition that fails gives the error: `InvalidArgument` with `Arity` if the function takes another number of
+    /// arguments, `ChildLen` if a child doesn't have `len` rows, and `NoRow` if the function takes no arguments of their types.
     #[tactic(auto, using(crate::proofs::CallsLemmas::calls))]
     pub fn try_new_with_len(
         alloc: Global,

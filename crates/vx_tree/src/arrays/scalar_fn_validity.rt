@@ -17,7 +17,7 @@ use std::alloc::Global;
 use std::fmt;
 use vx_value::{ArgKind, DType, Id, Nullability, VortexResult};
 
-/// The tag of the encoding that tells the validity of its child.
+/// The tag of the encoding that tests its child's rows for null.
 #[derive(Clone, Copy, Debug)]
 pub struct ScalarFnValidity;
 
@@ -27,7 +27,7 @@ impl EncodingKind for ScalarFnValidity {
     }
 }
 
-/// The data of such a node: none.
+/// The data of a test for null: none.
 #[derive(Clone, Copy, Debug, Default)]
 pub struct EmptyArrayData;
 
@@ -62,7 +62,7 @@ impl EncodingVariant for ScalarFnValidity {
     ghost kind_of = { λ d. refl };
 }
 
-/// Whether each row of its child is valid, that is, not null.
+/// A lazy test of its child's rows: true if the row is valid, that is, not null.
 pub type ScalarFnValidityArray = Array<ScalarFnValidity>;
 
 impl VTable for ScalarFnValidity {
@@ -85,7 +85,7 @@ impl VTable for ScalarFnValidity {
 }
 
 impl ScalarFnValidityArray {
-    /// Makes the node that tells which rows of `child` are valid. Fails only with `OutOfMemory`. (own)
+    /// Makes the lazy test of which rows of `child` are valid. Fails only with `OutOfMemory`. (own)
     pub fn new(alloc: Global, child: ArrayRef) -> VortexResult<ScalarFnValidityArray>
         ensures ok { IfOk result (λ a. a ≡ validity_in child) }
         ensures err { OnlyOutOfMemory result }

@@ -103,7 +103,7 @@ fn plain_type(storage: Storage) -> DType
     bytes_type(storage, Nullability::NonNullable)
 }
 
-/// Returns whether `rows` are values that are stored so: whether each is UTF-8 if they are text.
+/// Returns whether `rows` are values of `storage`: if it is text, whether each is UTF-8.
 fn are_bytes_of(storage: Storage, rows: &BinaryViews) -> bool
     ensures { result ≡ are_bytes_of storage rows.now }
 {
@@ -114,13 +114,13 @@ fn are_bytes_of(storage: Storage, rows: &BinaryViews) -> bool
 }
 
 impl VarBinViewArray {
-    /// Makes the column of `rows`, whose null rows `validity` tells. What a null row's bytes are doesn't count, but that those of
-    /// text are UTF-8.
+    /// Makes the column of `rows`; `validity` says which rows are null. The bytes of null rows are ignored, except that those
+    /// of text must be UTF-8.
     ///
-    /// The first condition that fails gives the error: `InvalidArgument` with `BadType` exactly if `dtype` isn't one of text or
-    /// bytes with the nullability of `validity`, with `SlotType` exactly if the validity's array isn't one of non-nullable
-    /// booleans, with `SlotLen` exactly if it hasn't as many rows as there are rows of bytes, and with `BadValue` exactly if
-    /// `dtype` is one of text and a row isn't UTF-8.
+    /// The first condition that fails gives the error: `InvalidArgument` with `BadType` exactly if `dtype` isn't a type of text
+    /// or bytes with the nullability of `validity`, with `SlotType` exactly if the validity's array doesn't hold non-nullable
+    /// booleans, with `SlotLen` exactly if it doesn't have as many rows as there are rows of bytes, and with `BadValue` exactly
+    /// if `dtype` is a type of text and a row isn't UTF-8.
     #[tactic(auto, using(crate::proofs::ConditionsLemmas::in_turn))]
     pub fn try_new(
         alloc: Global,

@@ -17,7 +17,7 @@ use crate::canonical::flat::flat_empty;
 use std::alloc::Global;
 use vx_value::{DType, VortexResult};
 
-/// Evaluates to the column of a borrowed `Canonical` of this variant, `Some(column)`; to `None` if it is of another.
+/// Evaluates to `Some(column)`, the column of a borrowed `Canonical` of this variant, or to `None` if it is another variant.
 macro_rules! variant {
     ($canonical:expr, $variant:ident) => {
         match $canonical {
@@ -27,8 +27,8 @@ macro_rules! variant {
     };
 }
 
-/// Evaluates to the column of an owned `Canonical` of this variant, `Some(column)`; to `None` if it is of another, which is dropped
-/// whole.
+/// Evaluates to `Some(column)`, the column of an owned `Canonical` of this variant, or to `None` if it is another variant,
+/// which is dropped whole.
 macro_rules! into_variant {
     ($canonical:expr, $variant:ident) => {
         match $canonical {
@@ -120,7 +120,7 @@ impl Canonical {
         self.as_array().dtype()
     }
 
-    /// Returns the column if it is one of nulls, else `None`.
+    /// Returns the column if it is a column of nulls, else `None`.
     pub fn as_null(&self) -> Option<&NullArray>
         ensures { option_map (λ c. c.now) result ≡ null_column self.now }
     {
@@ -141,21 +141,21 @@ impl Canonical {
         variant!(self, Primitive)
     }
 
-    /// Returns the column if it is one of decimals, else `None`.
+    /// Returns the column if it is a column of decimals, else `None`.
     pub fn as_decimal(&self) -> Option<&DecimalArray>
         ensures { option_map (λ c. c.now) result ≡ decimal_column self.now }
     {
         variant!(self, Decimal)
     }
 
-    /// Returns the column if it is one of text or bytes, else `None`.
+    /// Returns the column if it is a column of text or bytes, else `None`.
     pub fn as_varbinview(&self) -> Option<&VarBinViewArray>
         ensures { option_map (λ c. c.now) result ≡ varbinview_column self.now }
     {
         variant!(self, VarBinView)
     }
 
-    /// Returns the column by value if it is one of nulls, else `None`.
+    /// Returns the column by value if it is a column of nulls, else `None`.
     pub fn into_null(self) -> Option<NullArray>
         ensures { result ≡ null_column self }
     {
@@ -176,14 +176,14 @@ impl Canonical {
         into_variant!(self, Primitive)
     }
 
-    /// Returns the column by value if it is one of decimals, else `None`.
+    /// Returns the column by value if it is a column of decimals, else `None`.
     pub fn into_decimal(self) -> Option<DecimalArray>
         ensures { result ≡ decimal_column self }
     {
         into_variant!(self, Decimal)
     }
 
-    /// Returns the column by value if it is one of text or bytes, else `None`.
+    /// Returns the column by value if it is a column of text or bytes, else `None`.
     pub fn into_varbinview(self) -> Option<VarBinViewArray>
         ensures { result ≡ varbinview_column self }
     {

@@ -1,4 +1,4 @@
-//! Columns that hold the values of their rows themselves: ranges of their rows, and those without rows.
+//! Slices of flat columns, and empty ones.
 
 ghost use Rattle.std.specs.Prelude.{◌≡◌, ◌≢◌, ◌≤◌, true, [], ◌∷◌, IfOk};
 ghost use Rattle.vx_value.specs.Errors.{OnlyOutOfMemory};
@@ -17,14 +17,15 @@ use std::alloc::{AllocError, Global};
 use std::ops::Range;
 use vx_value::{DType, VortexResult};
 
-/// Encodings of columns that hold the values of their rows themselves, and have one slot, for their validity. (own)
+/// Encodings of flat columns: they hold the values of their rows themselves, and have one slot, for their validity. (own)
 pub(crate) trait FlatEncoding: VTable {
     /// Returns no values of type `dtype`, whose canonical encoding must be this one.
     fn no_values(alloc: Global, dtype: &DType) -> Result<Self::TypedArrayData, AllocError>
         requires { Self.is_kind (no_rows (storage_of (type_of dtype.now))) ≡ true }
         ensures { IfOk result (λ none. Self.stands_for none ≡ no_rows (storage_of (type_of dtype.now))) };
 
-    /// Returns the values of the rows in `range`, which must be in order and in bounds. They share their storage with `payload`.
+    /// Returns the values of the rows in `range`, which must be in order and in bounds. They share their storage with
+    /// `payload`.
     fn slice_values(
         payload: &Self::TypedArrayData,
         range: Range<usize>,
@@ -68,7 +69,7 @@ pub(crate) fn flat_slice<V: FlatEncoding>(
     Array::over(alloc, dtype, end - start, payload, validity)
 }
 
-/// Returns the slot of the validity of `column`, and states that it is one of values and well formed.
+/// Returns the slot of the validity of `column`, its only one; states that `column` is flat and well formed.
 fn flat_validity<V: FlatEncoding>(column: &Array<V>) -> &Option<ArrayRef>
     ensures slot { slots column.now ≡ slots_of (result.now ∷ []) }
     ensures flat { is_flat (datum column.now) ≡ true }

@@ -1,4 +1,4 @@
-//! Columns in the canonical encoding of their type, and ranges of them that share their storage.
+//! Columns in the canonical encoding of their type, and slices of them that share their storage.
 
 mod canonical;
 mod columnar;

@@ -1,4 +1,4 @@
-//! Ranges of canonical columns.
+//! Slices of canonical columns.
 
 ghost use Rattle.std.specs.Prelude.{◌≡◌, ◌≤◌, IfOk};
 ghost use Rattle.vx_value.specs.Errors.{OnlyOutOfMemory};

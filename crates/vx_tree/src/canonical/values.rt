@@ -1,4 +1,4 @@
-//! The values of columns, encoding by encoding: those in a range, and none.
+//! The values of columns, encoding by encoding: slices, and empty ones.
 
 ghost use Rattle.std.specs.Prelude.{refl};
 

@@ -25,7 +25,7 @@ pub enum NativeBuffer {
 }
 
 impl NativeBuffer {
-    /// Returns `len` times the number `wide`, which must be one of the type's. Takes one allocation.
+    /// Returns `len` copies of `wide`, which must fit the type. Takes one allocation.
     pub(crate) fn repeat(
         alloc: Global,
         native: NativeType,

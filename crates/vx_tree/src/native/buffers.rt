@@ -1,4 +1,4 @@
-//! Buffers of numbers, as lists of the integers that these stand for.
+//! Buffers of numbers, as lists of the integers that they stand for.
 
 ghost use Rattle.std.specs.Prelude.{◌≡◌, ◌<◌, ◌≤◌, map, length, IfOk, Some, true, slice_get, slice_range, replicate};
 ghost use Rattle.vx_tree.specs.Buffers.{native_in, numbers_in};
@@ -29,7 +29,7 @@ pub(crate) fn number_at<K: NativeKind, T: NativeNumber>(
     buffer.as_slice()[index].widened()
 }
 
-/// Returns the numbers of `range`, which must be in order and in bounds. They share their storage with these.
+/// Returns the numbers in `range`, which must be in order and in bounds. Shares their storage.
 #[tactic(auto, using(crate::proofs::NativesLemmas::map_part))]
 pub(crate) fn part_of<K: NativeKind, T: NativeNumber>(
     kind: K,
@@ -44,8 +44,8 @@ pub(crate) fn part_of<K: NativeKind, T: NativeNumber>(
     Ok(NativeValues::new(kind, buffer.slice(range)?))
 }
 
-/// Returns the numbers at the true bits of `mask`, in order; it must have a bit for each number. They share their storage with these
-/// if the true bits are consecutive.
+/// Returns the numbers at the true bits of `mask`, in order; it must have a bit for each number. Shares their storage if the
+/// true bits are consecutive.
 #[tactic(auto, using(vx_mask::proofs::ChosenLemmas::chosen_map))]
 pub(crate) fn chosen_of<K: NativeKind, T: NativeNumber>(
     kind: K,
@@ -72,7 +72,7 @@ pub(crate) fn shared_of<K: NativeKind, T: NativeNumber>(
     Ok(NativeValues::new(kind, Buffer::from_vec(alloc, values)?))
 }
 
-/// Returns `len` times the number `wide`, which must be one of the type's. Takes one allocation.
+/// Returns `len` copies of `wide`, which must fit the type. Takes one allocation.
 pub(crate) fn copies_of<T: NativeNumber>(
     alloc: Global,
     wide: i128,
@@ -87,7 +87,7 @@ pub(crate) fn copies_of<T: NativeNumber>(
     Ok(T::into_native(Buffer::from_vec(alloc, values)?))
 }
 
-/// Returns the same numbers, in the storage that `buffer` shares.
+/// Returns the same numbers, in the storage of `buffer`.
 pub(crate) fn clone_of<T: NativeNumber>(buffer: &Buffer<T>) -> Result<NativeBuffer, AllocError>
     ensures native { IfOk result (λ copy. native_in copy ≡ T.native) }
     ensures numbers { IfOk result (λ copy. numbers_in copy ≡ map T.value buffer.now) }

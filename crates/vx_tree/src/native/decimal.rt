@@ -53,7 +53,7 @@ pub trait NativeDecimalType: NativeNumber {
     }
 }
 
-/// Returns `wide` in the type, which it must fit. (own)
+/// Returns `wide` as a `T`, which it must fit. (own)
 pub fn narrowed<T: NativeDecimalType>(wide: i128) -> T
     requires { fits_width T.kind wide ≡ true }
     ensures { T.value result ≡ wide }

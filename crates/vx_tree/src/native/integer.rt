@@ -69,7 +69,7 @@ pub trait NativeInteger: NativeNumber {
     }
 }
 
-/// Returns `wide` in the type, which must have it in its range. (own)
+/// Returns `wide` as a `T`, which it must fit. (own)
 pub fn native_of<T: NativeInteger>(wide: i128) -> T
     requires { in_range T.kind wide ≡ true }
     ensures { T.value result ≡ wide }

@@ -22,8 +22,8 @@ macro_rules! by_type {
     };
 }
 
-/// Calls a generic function at the type that a `DecimalType` names: `by_decimal_type!(width, read(list))` calls `read::<i8>(list)`
-/// at `I8`.
+/// Calls a generic function at the type that a `DecimalType` names: `by_decimal_type!(width, read(list))` calls
+/// `read::<i8>(list)` at `I8`.
 #[macro_export]
 macro_rules! by_decimal_type {
     ($decimal_type:expr, $function:ident($($argument:expr),* $(,)?)) => {
@@ -35,7 +35,8 @@ macro_rules! by_decimal_type {
     };
 }
 
-/// Evaluates one expression over the numbers in a `NativeBuffer`, whichever their type: `by_native!(buffer, |numbers| sum(numbers))`.
+/// Evaluates one expression over the numbers in a `NativeBuffer`, whatever their type:
+/// `by_native!(buffer, |numbers| sum(numbers))`.
 #[macro_export]
 macro_rules! by_native {
     ($buffer:expr, |$numbers:ident| $body:expr) => {
@@ -67,14 +68,15 @@ macro_rules! for_integers {
     };
 }
 
-/// Calls one of the macros below for the variants of the five types that decimals are stored in, which come first among its arguments.
+/// Calls one of the macros below for the variants of the five types that decimals are stored in, which come first among its
+/// arguments.
 macro_rules! for_decimals {
     ($macro:ident!($($argument:tt)*)) => {
         $macro!([I8, I16, I32, I64, I128] $($argument)*)
     };
 }
 
-/// Evaluates one expression over what an enum holds, whichever of these variants it is of.
+/// Evaluates one expression over the payload of an enum, whichever of these variants it is.
 macro_rules! over {
     ([$($variant:ident),*] $values:expr, $enum:ident($value:ident) => $body:expr) => {
         match $values {
@@ -92,7 +94,7 @@ macro_rules! named {
     };
 }
 
-/// Makes an enum `$to` out of the result of `$body`, of the variant that a kind names.
+/// Makes an enum `$to` from the result of `$body`, of the variant that a kind names.
 macro_rules! made {
     ([$($variant:ident),*] $kind:expr, $kinds:ident => $to:ident, $body:expr) => {
         match $kind {

@@ -1,4 +1,4 @@
-//! The native integer types, and what names some of them.
+//! The native integer types, and the kinds that name some of them.
 
 ghost use Rattle.std.specs.Prelude.{◌≡◌, ℤ, Bool};
 ghost use Rattle.vx_value.specs.IsOf.{in_range};
@@ -23,7 +23,7 @@ pub enum NativeType {
     I128,
 }
 
-/// What names some of the native types: `PType` the eight of integers, `DecimalType` the five that decimals are stored in. (own)
+/// Names some of the native types: `PType` the eight of integers, `DecimalType` the five that decimals are stored in. (own)
 pub trait NativeKind: Copy {
     // the type that it names
     ghost native: { Self → NativeTypeOf };

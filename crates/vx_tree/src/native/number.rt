@@ -29,7 +29,7 @@ pub trait NativeNumber: Copy + Integral + Zero + FromPrimitive {
         requires { native ≡ native_in buffer.now }
         ensures { map Self.value result.now ≡ numbers_in buffer.now };
 
-    /// Returns the numbers as those of their type. Shares their storage.
+    /// Returns `numbers` as a `NativeBuffer`. Shares their storage.
     fn into_native(numbers: Buffer<Self>) -> NativeBuffer
         ensures of_type { native_in result ≡ native }
         ensures same { numbers_in result ≡ map Self.value numbers };
@@ -49,7 +49,7 @@ pub trait NativeNumber: Copy + Integral + Zero + FromPrimitive {
     }
 }
 
-/// Returns `wide` in the type, which must have it.
+/// Returns `wide` as a `T`, which it must fit.
 pub(crate) fn fitted<T: NativeNumber>(wide: i128) -> T
     requires { in_native T.native wide ≡ true }
     ensures { T.value result ≡ wide }

@@ -23,7 +23,7 @@ pub struct NativeValues<K: NativeKind> {
     buffer: NativeBuffer,
 }
 
-// by hand: where values are let go, a derived drop would be proved with all nine buffers
+// by hand: a derived drop would be proved with all nine buffers wherever values are dropped
 impl<K: NativeKind> Drop for NativeValues<K> {
     fn drop(self) {
         let NativeValues { kind: _, buffer } = self;
@@ -74,7 +74,7 @@ impl<K: NativeKind> NativeValues<K> {
         T::of_native(&self.buffer)
     }
 
-    /// Returns the values as numbers of whichever type their kind names. (own)
+    /// Returns the numbers, whatever type the kind names. (own)
     pub fn buffer(&self) -> &NativeBuffer
         ensures { numbers_in result.now ≡ self.now.numbers }
     {
@@ -97,7 +97,7 @@ impl<K: NativeKind> NativeValues<K> {
         by_native!(&self.buffer, |numbers| number_at(self.kind, numbers, index))
     }
 
-    /// Returns the values of `range`, which must be in order and in bounds. They share their storage with these.
+    /// Returns the values in `range`, which must be in order and in bounds. Shares their storage.
     pub fn slice(&self, range: Range<usize>) -> Result<NativeValues<K>, AllocError>
         requires order { range.start ≤ range.end }
         requires bounds { range.end ≤ length self.now.numbers }
@@ -106,8 +106,8 @@ impl<K: NativeKind> NativeValues<K> {
         by_native!(&self.buffer, |numbers| part_of(self.kind, numbers, range))
     }
 
-    /// Returns the values at the true bits of `mask`, in order; it must have a bit for each value. They share their storage with
-    /// these if the true bits are consecutive.
+    /// Returns the values at the true bits of `mask`, in order; it must have a bit for each value. Shares their storage if the
+    /// true bits are consecutive.
     pub fn filter(&self, alloc: Global, mask: &Mask) -> Result<NativeValues<K>, AllocError>
         requires { length (bits_in mask.now) ≡ length self.now.numbers }
         ensures { IfOk result (λ kept. kept ≡ record { kind = self.now.kind; numbers = chosen (bits_in mask.now) self.now.numbers }) }
@@ -118,7 +118,7 @@ impl<K: NativeKind> NativeValues<K> {
         )
     }
 
-    /// Returns `len` times the number `wide`, which must be one of the type that `kind` names. Takes one allocation. (own)
+    /// Returns `len` copies of `wide`, which must fit the type that `kind` names. Takes one allocation. (own)
     pub fn repeat(
         alloc: Global,
         kind: K,

@@ -82,8 +82,8 @@ fn any_with_capacity(
 }
 
 impl<K: NativeKind> NativeVec<K> {
-    /// Makes an empty vector of numbers of the type that `kind` names, with room for `capacity` of them. Fails only if there is no
-    /// memory for them.
+    /// Makes an empty vector of numbers of the type that `kind` names, with room for `capacity` of them. Fails only if there is
+    /// no memory for them.
     pub fn with_capacity(
         alloc: Global,
         kind: K,
@@ -95,8 +95,7 @@ impl<K: NativeKind> NativeVec<K> {
         Ok(NativeVec { kind, values })
     }
 
-    /// Appends `wide`, which must be one of the type's numbers. Fails only if there is no memory for it; the numbers are then
-    /// unchanged.
+    /// Appends `wide`, which must fit the type. Fails only if there is no memory for it; the numbers are then unchanged.
     pub fn push(&mut self, wide: i128) -> Result<(), AllocError>
         requires { K.has self.old.kind wide ≡ true }
         ensures ok { OnOk result (self.new ≡ record { kind = self.old.kind; numbers = self.old.numbers ++ wide ∷ [] }) }

@@ -91,7 +91,7 @@ impl BinaryViews {
         self.views.len()
     }
 
-    /// Checks whether there are no rows.
+    /// Returns whether there are no rows.
     pub fn is_empty(&self) -> bool
         ensures { IsTrue result ↔ (length self.now ≡ 0) }
     {
@@ -127,7 +127,7 @@ impl BinaryViews {
         (self.views.as_slice(), self.buffers.as_slice())
     }
 
-    /// Checks whether the bytes of each row are UTF-8. (own)
+    /// Returns whether the bytes of each row are UTF-8. (own)
     pub fn is_utf8(&self) -> bool
         ensures { IsTrue result ↔ AllPass is_utf8 self.now }
     {
@@ -139,7 +139,7 @@ impl BinaryViews {
         true
     }
 
-    /// Returns the rows at `range`, which share the views and the data. Fails only if they can't be shared once more.
+    /// Returns the rows in `range`, which share the views and the data. Fails only if they can't be shared once more.
     #[tactic(auto, using(crate::proofs::ViewsLemmas::rows_part, crate::proofs::ViewsLemmas::lie_in_part))]
     pub fn slice(&self, range: Range<usize>) -> Result<BinaryViews, AllocError>
         requires order { range.start ≤ range.end }

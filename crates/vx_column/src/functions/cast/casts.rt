@@ -30,8 +30,8 @@ use vx_mask::Buffer;
 use vx_tree::{Canonical, NativeInteger, NativeNumber, PrimitiveValues, by_native, by_type};
 use vx_value::{DType, Nullability, PType, Scalar, Storage, VortexError, VortexResult};
 
-/// Casts `input`, `len` rows, to `target`: shares its values if they are stored the same, and casts no value under a null.
-/// `Fault` if `target` doesn't have the value of a row. (own)
+/// Casts `input`, `len` rows, to `target`. Shares the values if both types store them the same; casts no value under a null.
+/// `Fault` if a row has no value in `target`. (own)
 #[tactic(auto, using(crate::proofs::KernelArgumentsLemmas::has_stored))]
 pub(crate) fn cast(
     alloc: Global,
@@ -47,7 +47,8 @@ pub(crate) fn cast(
     cast_rows(alloc, target, input.rows, &valid, len)
 }
 
-/// Returns `valid`, of `len` rows, as the rows of a column of this nullability. `Fault` if a row is null and can't be.
+/// Returns `valid`, of `len` rows, as the rows of a column of this nullability. `Fault` if a row is null and the column isn't
+/// nullable.
 fn cast_valid_rows(
     valid: &ValidRows,
     nullability: Nullability,
@@ -73,8 +74,8 @@ fn cast_valid_rows(
     }
 }
 
-/// Casts the `valid` rows of `rows`, `len` rows, to `target`; the others are null. `Fault` if `target` doesn't have the value of
-/// one.
+/// Casts the `valid` rows of `rows`, `len` rows, to `target`; the others are null. `Fault` if a valid row has no value in
+/// `target`.
 fn cast_rows(
     alloc: Global,
     target: &DType,
@@ -134,8 +135,8 @@ fn cast_nulls(
     stored_column(alloc, repeated_rows(&null), valid, len)
 }
 
-/// Casts the `valid` rows of `integers`, `len` rows, to integers of type `target`; the others are null. `Fault` if one is out of
-/// its range.
+/// Casts the `valid` rows of `integers`, `len` rows, to integers of type `target`; the others are null. `Fault` if a valid row
+/// is out of range.
 #[tactic(auto, using(crate::proofs::ValidRowsLemmas::counted))]
 fn cast_integers(
     alloc: Global,
@@ -162,7 +163,7 @@ fn cast_integers(
     convert(alloc, &conversion)
 }
 
-/// Makes the column of `integers`, `len` rows, that are null unless they are `valid`: shares their buffer. Fails only with
+/// Makes the column of `integers`, `len` rows, null in each row that isn't `valid`. Shares their buffer. Fails only with
 /// `OutOfMemory`.
 fn keep_integers(
     alloc: Global,
@@ -188,8 +189,8 @@ fn know_integers(integers: IntegerOperand<'_>, len: usize)
     by_type!(integers.ptype(), know_ranges(integers, len))
 }
 
-/// States that `integers`, `len` rows, which must be of the type `T`, are in its range. The loop computes nothing, so the compiler
-/// leaves it out.
+/// States that `integers`, `len` rows, which must be of the type `T`, are in its range. The loop computes nothing, so the
+/// compiler leaves it out.
 fn know_ranges<T: NativeInteger>(integers: IntegerOperand<'_>, len: usize)
     requires { AreIntegers T.kind integers len }
     ensures { (i : ℕ) → i < len → in_range T.kind (integer_in integers.entry i) ≡ true }
@@ -200,7 +201,7 @@ fn know_ranges<T: NativeInteger>(integers: IntegerOperand<'_>, len: usize)
     }
 }
 
-/// A conversion of integers to the type `target`, in a column of `len` rows that are null unless they are `valid`.
+/// A conversion of integers to the type `target`, in a column of `len` rows, null in each row that isn't `valid`.
 #[derive(Drop)]
 struct Conversion<'a> {
     target: PType,
@@ -234,8 +235,8 @@ fn convert_into<U: NativeInteger>(
     )
 }
 
-/// Makes the column of `conversion`, whose target must be `U` and whose values must be those of `buffer`. `Fault` if a valid row
-/// is out of range.
+/// Makes the column of `conversion`, whose target must be `U` and whose values must be those in `buffer`. `Fault` if a valid
+/// row is out of range.
 fn convert_buffer<T: NativeNumber, U: NativeInteger>(
     alloc: Global,
     conversion: &Conversion<'_>,
@@ -252,7 +253,7 @@ fn convert_buffer<T: NativeNumber, U: NativeInteger>(
     calculated_column::<U, Converted<'_, T>>(alloc, &calculation, conversion.valid, conversion.len)
 }
 
-/// Numbers of the type `T` that are converted.
+/// Numbers of type `T` that are converted.
 #[derive(Clone, Copy)]
 struct Converted<'a, T> {
     numbers: Operand<'a, T>,

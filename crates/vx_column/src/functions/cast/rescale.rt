@@ -22,8 +22,8 @@ use vx_tree::{
 };
 use vx_value::{DecimalDType, DecimalType, Rescaling, VortexError, VortexResult};
 
-/// Casts the `valid` rows of `integers`, `len` rows, to decimals of type `target`; the others are null. `Fault` if the type doesn't
-/// have one.
+/// Casts the `valid` rows of `integers`, `len` rows, to decimals of type `target`; the others are null. `Fault` if a valid row
+/// has no value in `target`.
 #[tactic(auto, using(crate::proofs::ValidRowsLemmas::counted))]
 pub(crate) fn integers_to_decimals(
     alloc: Global,
@@ -42,8 +42,8 @@ pub(crate) fn integers_to_decimals(
     rescale_numbers(alloc, rescaling, values.buffer(), valid, len)
 }
 
-/// Casts the `valid` rows of `decimals`, `len` rows, to decimals of type `target`; the others are null. Shares their numbers if they are
-/// of that type. `Fault` if the type doesn't have one.
+/// Casts the `valid` rows of `decimals`, `len` rows, to decimals of type `target`; the others are null. Shares the numbers if
+/// they are of that type. `Fault` if a valid row has no value in `target`.
 #[tactic(auto, using(crate::proofs::ValidRowsLemmas::counted))]
 pub(crate) fn cast_decimals(
     alloc: Global,
@@ -67,7 +67,7 @@ pub(crate) fn cast_decimals(
     rescale_numbers(alloc, rescaling, values.buffer(), valid, len)
 }
 
-/// Casts the `valid` rows of `numbers`, `len` rows; the others are null. `Fault` if the type doesn't have one.
+/// Casts the `valid` rows of `numbers`, `len` rows; the others are null. `Fault` if a valid row has no value in the type.
 fn rescale_numbers(
     alloc: Global,
     rescaling: Rescaling,
@@ -84,8 +84,8 @@ fn rescale_numbers(
     by_decimal_type!(width, rescale_into(alloc, rescaling, numbers, valid, len))
 }
 
-/// Casts the `valid` rows of `numbers`, `len` rows, to decimals that must be stored in the width of `U`; the others are null. `Fault`
-/// if the type doesn't have one.
+/// Casts the `valid` rows of `numbers`, `len` rows, to decimals that must be stored in the width of `U`; the others are null.
+/// `Fault` if a valid row has no value in the type.
 fn rescale_into<U: NativeDecimalType>(
     alloc: Global,
     rescaling: Rescaling,
@@ -105,8 +105,8 @@ fn rescale_into<U: NativeDecimalType>(
     )
 }
 
-/// Casts the `valid` rows of `buffer`, `len` rows, to decimals that must be stored in the width of `U`; the others are null. `Fault`
-/// if the type doesn't have one.
+/// Casts the `valid` rows of `buffer`, `len` rows, to decimals that must be stored in the width of `U`; the others are null.
+/// `Fault` if a valid row has no value in the type.
 fn rescale_buffer<T: NativeNumber, U: NativeDecimalType>(
     alloc: Global,
     rescaling: Rescaling,

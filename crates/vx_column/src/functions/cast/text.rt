@@ -22,8 +22,8 @@ use std::alloc::Global;
 use vx_tree::{BinaryBuilder, BinaryViews, Canonical};
 use vx_value::{Storage, VortexError, VortexResult, is_text};
 
-/// Casts the `valid` rows of `bytes`, `len` rows, to text; the others are null. Shares the rows if each of them is UTF-8. `Fault` if a
-/// valid one isn't.
+/// Casts the `valid` rows of `bytes`, `len` rows, to text; the others are null. Shares the rows if every row is UTF-8. `Fault`
+/// if a valid one isn't.
 #[tactic(auto, using(crate::proofs::ValidRowsLemmas::counted))]
 pub(crate) fn cast_to_text(
     alloc: Global,
@@ -48,7 +48,7 @@ pub(crate) fn cast_to_text(
     valid_bytes(alloc, Storage::Text, rows, valid, len)
 }
 
-/// Checks whether each row of `bytes` is UTF-8.
+/// Returns whether each row of `bytes` is UTF-8.
 fn are_text(bytes: BytesOperand<'_>) -> bool
     ensures { (n : ℕ) → AreBytes bytes.entry n → IsTrue result ↔ HasBytes Storage.Text bytes.entry.rows n }
 {
@@ -59,7 +59,8 @@ fn are_text(bytes: BytesOperand<'_>) -> bool
     }
 }
 
-/// Returns the `valid` rows of `bytes`, `len` rows, with no bytes in place of the others. `Fault` if a valid one isn't UTF-8.
+/// Returns the `valid` rows of `bytes`, `len` rows, with empty bytes in place of the others. `Fault` if a valid one isn't
+/// UTF-8.
 fn text_rows(
     alloc: Global,
     bytes: BytesOperand<'_>,
@@ -82,7 +83,7 @@ fn text_rows(
     Ok(rows.finish(alloc)?)
 }
 
-/// Returns the bytes of row `index`, which must exist, or no bytes if it isn't valid. `None` if it is valid and isn't UTF-8.
+/// Returns the bytes of row `index`, which must exist, or empty bytes if it isn't valid. `None` if it is valid and isn't UTF-8.
 fn text_at<'a>(bytes: &'a BytesOperand<'_>, valid: &ValidRows, index: usize) -> Option<&'a [u8]>
     requires { (n : ℕ) × (index < n) × AreBytes bytes.now n × HasValidity valid.now n }
     ensures { MatchOption result

@@ -1,4 +1,4 @@
-//! Columns of integers and of decimals that are calculated row by row.
+//! Columns of integers and of decimals, calculated row by row.
 
 ghost use Rattle.std.specs.Prelude.{◌≡◌, ◌<◌, ℕ, ℤ, pos, true, map, length, IfOk, IfErr, IfNone, MatchOption};
 ghost use Rattle.vx_value.specs.Decimals.{has_digits, smallest_width};
@@ -54,8 +54,8 @@ pub(crate) trait DecimalCalculation<U: NativeDecimalType>: Calculation<U> {
             → has_digits (of_type self.now).precision z ≡ true };
 }
 
-/// Makes the column of `calculation`, `len` rows, that are null unless they are `valid`; only valid rows are calculated. `Fault`
-/// if one has no value. (own)
+/// Makes the column of `calculation`, `len` rows, null in each row that isn't `valid`. Calculates only valid rows; `Fault` if
+/// one has no value. (own)
 pub(crate) fn calculated_column<U: NativeInteger, C: IntegerCalculation<U>>(
     alloc: Global,
     calculation: &C,
@@ -73,8 +73,8 @@ pub(crate) fn calculated_column<U: NativeInteger, C: IntegerCalculation<U>>(
     valid_integers(alloc, values, valid, len)
 }
 
-/// Makes the column of `calculation`, `len` rows of decimals, which must be stored in the width of `U`. The rows are null unless
-/// they are `valid`; only valid rows are calculated. `Fault` if one has no value. (own)
+/// Makes the column of `calculation`, `len` rows of decimals, which must be stored in the width of `U`; null in each row that
+/// isn't `valid`. Calculates only valid rows; `Fault` if one has no value. (own)
 pub(crate) fn calculated_decimals<U: NativeDecimalType, C: DecimalCalculation<U>>(
     alloc: Global,
     calculation: &C,
@@ -93,7 +93,7 @@ pub(crate) fn calculated_decimals<U: NativeDecimalType, C: DecimalCalculation<U>
     valid_decimals(alloc, decimal, values, valid, len)
 }
 
-/// Calculates the `valid` rows of `calculation`, `len` rows; 0 stands for the others. `Fault` if a row has no value.
+/// Calculates the `valid` rows of `calculation`, `len` rows; the others are 0. `Fault` if a valid row has no value.
 fn calculate_rows<U: NativeNumber, C: Calculation<U>>(
     alloc: Global,
     calculation: &C,
@@ -133,7 +133,7 @@ fn calculate_all<U: NativeNumber, C: Calculation<U>>(
     Ok(numbers)
 }
 
-/// Calculates the rows at the true bits of `valid`, `len` rows; 0 stands for the others. `Fault` if a row has no value.
+/// Calculates the rows at the true bits of `valid`, `len` rows; the others are 0. `Fault` if a valid row has no value.
 fn calculate_valid<U: NativeNumber, C: Calculation<U>>(
     alloc: Global,
     calculation: &C,

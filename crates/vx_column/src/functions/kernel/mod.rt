@@ -1,5 +1,5 @@
-//! What the functions of columns share: the operands of a kernel, the columns that are calculated row by row, and those of stored
-//! and of valid rows.
+//! What the functions of columns share: the operands of a kernel, columns that are calculated row by row, columns of stored
+//! rows, and columns of valid rows.
 
 mod calculation;
 mod operand;

@@ -1,4 +1,4 @@
-//! Columns that store the rows of an argument.
+//! Columns of the rows that an argument stores.
 
 ghost use Rattle.std.specs.Prelude.{◌≡◌, true, map, IfOk};
 ghost use Rattle.std.specs.List.{range_with_len};
@@ -25,7 +25,7 @@ use vx_mask::{BitBuffer, BitOperand};
 use vx_tree::{BinaryViews, Canonical, DecimalValues, NullArray, PrimitiveValues};
 use vx_value::{ByteBuffer, DecimalType, VortexResult};
 
-/// Returns `bits` as `len` rows: shares a buffer, and writes out one bit. (own)
+/// Returns `bits` as `len` rows: shares a buffer, repeats a single bit. (own)
 pub(crate) fn bit_rows(
     alloc: Global,
     bits: BitOperand<'_>,
@@ -40,7 +40,7 @@ pub(crate) fn bit_rows(
     }
 }
 
-/// Returns `integers` as `len` rows: shares a buffer, and writes out one integer. (own)
+/// Returns `integers` as `len` rows: shares a buffer, repeats a single integer. (own)
 pub(crate) fn integer_rows(
     alloc: Global,
     integers: IntegerOperand<'_>,
@@ -56,7 +56,7 @@ pub(crate) fn integer_rows(
     }
 }
 
-/// Returns `decimals` as `len` rows: shares a buffer, and writes out one number. (own)
+/// Returns `decimals` as `len` rows: shares a buffer, repeats a single number. (own)
 pub(crate) fn decimal_rows(
     alloc: Global,
     decimals: DecimalOperand<'_>,
@@ -75,7 +75,7 @@ pub(crate) fn decimal_rows(
     }
 }
 
-/// Returns `bytes` as `len` rows: shares a column, and copies the bytes of one value once. (own)
+/// Returns `bytes` as `len` rows: shares a column, copies the bytes of a single value once. (own)
 pub(crate) fn byte_rows(
     alloc: Global,
     bytes: BytesOperand<'_>,
@@ -93,8 +93,8 @@ pub(crate) fn byte_rows(
     }
 }
 
-/// Makes the column of `rows`, `len` rows, that are null unless they are `valid`. Shares the buffer of `rows`, and writes out
-/// one value. Fails only with `OutOfMemory`. (own)
+/// Makes the column of `rows`, `len` rows, null in each row that isn't `valid`. Shares the buffer of `rows`, or repeats a
+/// single value. Fails only with `OutOfMemory`. (own)
 pub(crate) fn stored_column(
     alloc: Global,
     rows: ArgumentRows<'_>,

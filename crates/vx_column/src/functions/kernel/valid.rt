@@ -1,4 +1,4 @@
-//! Columns of stored values that are null unless their rows are valid.
+//! Columns of stored values, null in each row that isn't valid.
 
 ghost use Rattle.std.specs.Prelude.{◌≡◌, [], ◌&&◌, true, pos, map, length, slice_index_or, IfOk};
 ghost use Rattle.std.specs.List.{range_with_len};
@@ -24,7 +24,7 @@ use vx_mask::{BitAnd, BitBuffer, BitOperand};
 use vx_tree::{BinaryViews, Canonical, DecimalValues, PrimitiveValues};
 use vx_value::{DecimalDType, Storage, VortexResult};
 
-/// Makes the column of `bits`, `len` rows, that are null unless they are `valid`. Fails only with `OutOfMemory`. (own)
+/// Makes the column of `bits`, `len` rows, null in each row that isn't `valid`. Fails only with `OutOfMemory`. (own)
 pub(crate) fn valid_bools(
     alloc: Global,
     bits: BitBuffer,
@@ -41,7 +41,7 @@ pub(crate) fn valid_bools(
     bool_column(alloc, bits, &validity)
 }
 
-/// Makes the column of `values`, `len` rows, that are null unless they are `valid`. Fails only with `OutOfMemory`. (own)
+/// Makes the column of `values`, `len` rows, null in each row that isn't `valid`. Fails only with `OutOfMemory`. (own)
 pub(crate) fn valid_integers(
     alloc: Global,
     values: PrimitiveValues,
@@ -58,7 +58,7 @@ pub(crate) fn valid_integers(
     primitive_column(alloc, values, &validity)
 }
 
-/// Makes the column of `values`, `len` decimals of type `decimal` without their points, that are null unless they are `valid`.
+/// Makes the column of `values`, `len` decimals of type `decimal` without their points, null in each row that isn't `valid`.
 /// Fails only with `OutOfMemory`. (own)
 pub(crate) fn valid_decimals(
     alloc: Global,
@@ -78,7 +78,7 @@ pub(crate) fn valid_decimals(
     decimal_column(alloc, decimal, values, &validity)
 }
 
-/// Makes the column of `rows`, `len` rows of values that are stored so, that are null unless they are `valid`. Fails only with
+/// Makes the column of `rows`, `len` values of this `storage`, null in each row that isn't `valid`. Fails only with
 /// `OutOfMemory`. (own)
 pub(crate) fn valid_bytes(
     alloc: Global,

@@ -29,7 +29,7 @@ pub(crate) trait Arithmetic {
     // its variant of `Operator`
     ghost operator: { OperatorOf };
 
-    /// Computes one row; `None` if `T` doesn't have its value, or the divisor is 0.
+    /// Computes one row; `None` if `T` can't hold the result, or the divisor is 0.
     fn calculate_row<T: CheckedNumber>(lhs: T, rhs: T) -> Option<T>
         ensures calculated { (fit : ℤ → Cell) → IsWithin T.fits fit → MatchOption result
             (calculated_by operator fit (T.value lhs) (T.value rhs) ≡ fault)
@@ -114,8 +114,8 @@ impl<'a, T: NativeInteger + CheckedNumber, A: Arithmetic> IntegerCalculation<T>
     fn are_integers(&self) {}
 }
 
-/// Applies `A` to the `valid` rows of `lhs` and `rhs`, `len` rows each, which must be of the type `T`; the other rows are null.
-/// `Fault` if a row has no value.
+/// Applies `A` to the `valid` rows of `lhs` and `rhs`, `len` rows each, which must be of type `T`; the other rows are null.
+/// `Fault` if a valid row has no value.
 pub(crate) fn calculate<T: NativeInteger + CheckedNumber, A: Arithmetic>(
     alloc: Global,
     lhs: IntegerOperand<'_>,

@@ -1,4 +1,4 @@
-//! Functions of booleans.
+//! Operators on booleans, and negation.
 
 ghost use Rattle.std.specs.Prelude.{◌≡◌, ◌∷◌, [], map, Some, IfOk, IsSome};
 ghost use Rattle.std.specs.List.{range_with_len};
@@ -52,8 +52,7 @@ pub(crate) fn operate_bits(
     }
 }
 
-/// Applies `operator`, which must take booleans, to the `valid` rows, and returns a column in which the others are null. Fails
-/// only with `OutOfMemory`.
+/// Applies `operator`, which must take booleans, to the `valid` rows; the others are null. Fails only with `OutOfMemory`.
 #[tactic(auto, using(crate::proofs::ValidRowsLemmas::counted))]
 pub(crate) fn operate_bools(
     alloc: Global,
@@ -84,8 +83,7 @@ pub(crate) fn negate(alloc: Global, input: &Argument<'_>, len: usize) -> VortexR
     negate_bits(alloc, bits, &input.valid, len)
 }
 
-/// Negates the `valid` rows of `input`, `len` booleans, and returns a column in which the others are null. Fails only with
-/// `OutOfMemory`.
+/// Negates the `valid` rows of `input`, `len` booleans; the others are null. Fails only with `OutOfMemory`.
 #[tactic(auto, using(crate::proofs::ValidRowsLemmas::counted))]
 fn negate_bits(
     alloc: Global,

@@ -50,7 +50,7 @@ pub(crate) fn between(
     valid_bools(alloc, bits, &valid, len)
 }
 
-/// Checks the `valid` rows, `len` rows each, which must be of one type that has an order; `false` stands for the others.
+/// Checks the `valid` rows, `len` rows each, which must be of one type that has an order; the other bits are `false`.
 fn between_rows(
     alloc: Global,
     options: BetweenOptions,
@@ -85,7 +85,7 @@ fn between_rows(
     }
 }
 
-/// Returns the operator by which a bound is compared.
+/// Returns the operator that compares with a bound.
 fn bound_operator(comparison: StrictComparison) -> Operator
     ensures { result ≡ bound_by comparison }
 {
@@ -95,7 +95,7 @@ fn bound_operator(comparison: StrictComparison) -> Operator
     }
 }
 
-/// Checks the `valid` rows of booleans, `len` rows each, by words; `false` stands for the others.
+/// Checks the `valid` rows of booleans, `len` rows each, word by word; the other bits are `false`.
 #[tactic(auto, using(crate::proofs::ValidRowsLemmas::counted))]
 fn between_bits(
     alloc: Global,
@@ -128,7 +128,7 @@ fn between_bits(
     keep_valid(alloc, bits, valid, len)
 }
 
-/// Checks the `valid` rows of integers, `len` rows each, which must be of one type; `false` stands for the others.
+/// Checks the `valid` rows of integers, `len` rows each, which must be of one type; the other bits are `false`.
 fn between_integers(
     alloc: Global,
     options: BetweenOptions,
@@ -147,7 +147,7 @@ fn between_integers(
     )
 }
 
-/// Checks the `valid` rows of integers, `len` rows each, which must be of the type `T`; `false` stands for the others.
+/// Checks the `valid` rows of integers, `len` rows each, which must be of type `T`; the other bits are `false`.
 fn between_natives<T: NativeInteger>(
     alloc: Global,
     options: BetweenOptions,
@@ -166,7 +166,7 @@ fn between_natives<T: NativeInteger>(
     between_ordered(alloc, options, array, lower, upper, valid, len)
 }
 
-/// Checks the `valid` rows of decimals, `len` rows each, which must be of one type; `false` stands for the others.
+/// Checks the `valid` rows of decimals, `len` rows each, which must be of one type; the other bits are `false`.
 fn between_decimals(
     alloc: Global,
     options: BetweenOptions,
@@ -185,8 +185,8 @@ fn between_decimals(
     )
 }
 
-/// Checks the `valid` rows of decimals, `len` rows each, which must be of one type and stored in the width of `T`: numbers of one
-/// scale are ordered as without their points. `false` stands for the other rows.
+/// Checks the `valid` rows of decimals, `len` rows each, which must be of one type and stored in the width of `T`. Decimals of
+/// one scale are ordered as their numbers without the points. The other bits are `false`.
 fn between_unscaled<T: NativeDecimalType>(
     alloc: Global,
     options: BetweenOptions,
@@ -205,7 +205,7 @@ fn between_unscaled<T: NativeDecimalType>(
     between_ordered(alloc, options, array, lower, upper, valid, len)
 }
 
-/// Checks the `valid` rows, `len` rows each; `false` stands for the others.
+/// Checks the `valid` rows, `len` rows each; the other bits are `false`.
 fn between_ordered<R: OrderedRows>(
     alloc: Global,
     options: BetweenOptions,
@@ -258,7 +258,7 @@ fn between_ordered<R: OrderedRows>(
     }
 }
 
-/// A comparison of the rows of `lower` and `array` by `L`, and of those of `array` and `upper` by `U`.
+/// A comparison of `lower` and `array` by `L`, and of `array` and `upper` by `U`, row by row.
 #[derive(Drop)]
 struct Bounded<R, L, U> {
     array: R,

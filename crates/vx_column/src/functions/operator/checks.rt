@@ -1,4 +1,4 @@
-//! Checks of rows, whose answers are bits.
+//! Checks of rows, whose results are bits.
 
 ghost use Rattle.std.specs.Prelude.{◌≡◌, ◌<◌, ◌&&◌, ℕ, Bool, true, length, IfOk};
 ghost use Rattle.vx_mask.specs.Logic.{bit_row};
@@ -14,7 +14,7 @@ pub(crate) trait RowCheck: Drop {
     // row i exists
     ghost has_row: { Self → ℕ → Type 0 };
 
-    // the answer at row i
+    // the result at row i
     ghost answer: { Self → ℕ → Bool };
 
     /// Checks row `index`, which must exist.
@@ -23,7 +23,7 @@ pub(crate) trait RowCheck: Drop {
         ensures { result ≡ answer self.now index };
 }
 
-/// Makes the bits of `check`, `len` rows; `false` stands for those that aren't `valid`, which aren't checked.
+/// Checks the `valid` rows of `check`, `len` rows; the other bits are `false`, without a check.
 pub(crate) fn check_rows<C: RowCheck>(
     alloc: Global,
     check: C,
@@ -53,7 +53,7 @@ fn check_all<C: RowCheck>(alloc: Global, check: C, len: usize) -> Result<BitBuff
     bits.finish(alloc)
 }
 
-/// Checks the rows at the true bits of `valid`, `len` rows; `false` stands for the others.
+/// Checks the rows at the true bits of `valid`, `len` rows; the other bits are `false`.
 fn check_valid<C: RowCheck>(
     alloc: Global,
     check: C,
@@ -72,7 +72,7 @@ fn check_valid<C: RowCheck>(
     bits.finish(alloc)
 }
 
-/// Checks row `index`, which must exist: `false` if it isn't valid, without a call of `check`.
+/// Checks row `index`, which must exist, or returns `false` if it isn't valid, without calling `check`.
 #[inline]
 fn check_unless_null<C: RowCheck>(check: &C, index: usize, is_valid: bool) -> bool
     requires { C.has_row check.now index }

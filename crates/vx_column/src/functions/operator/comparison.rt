@@ -31,7 +31,7 @@ use vx_mask::BitBuffer;
 use vx_tree::{Canonical, NativeNumber};
 use vx_value::VortexResult;
 
-/// A comparison operator: `>` and `>=` are `<` and `<=` of swapped operands.
+/// A comparison operator: `>` and `>=` are `<` and `<=` with swapped operands.
 pub(crate) trait Comparison {
     // its variant of `Operator`
     ghost operator: { OperatorOf };
@@ -40,7 +40,7 @@ pub(crate) trait Comparison {
     fn compare_row<T: NativeNumber>(lhs: T, rhs: T) -> bool
         ensures { result ≡ holds operator (int_cmp (T.value lhs) (T.value rhs)) };
 
-    /// Compares bytes by the first that differs; bytes come before those that they begin.
+    /// Compares bytes by the first byte that differs; a prefix comes before the longer bytes.
     fn compare_bytes(lhs: &[u8], rhs: &[u8]) -> bool
         ensures { result ≡ holds operator (bytes_cmp lhs.now rhs.now) };
 }
@@ -208,8 +208,8 @@ pub(crate) fn compare_ordered<R: OrderedRows>(
     valid_bools(alloc, bits, valid, len)
 }
 
-/// Compares the `valid` rows of `left` and `right`, `len` rows each, by `operator`, which must be a comparison; `false` stands
-/// for the others.
+/// Compares the `valid` rows of `left` and `right`, `len` rows each, by `operator`, which must be a comparison; the other bits
+/// are `false`.
 fn compare_rows<R: OrderedRows>(
     alloc: Global,
     operator: Operator,

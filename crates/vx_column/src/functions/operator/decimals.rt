@@ -25,8 +25,9 @@ use vx_fn::Operator;
 use vx_tree::{Canonical, NativeDecimalType, narrowed};
 use vx_value::{DecimalDType, VortexResult};
 
-/// Applies `operator` to the `valid` rows of `lhs` and `rhs`, `len` rows each, which must be of one type and stored in the width
-/// of `T`: numbers of one scale are ordered as without their points. The other rows are null. `Fault` if a row has no value.
+/// Applies `operator` to the `valid` rows of `lhs` and `rhs`, `len` rows each, which must be of one type and stored in the
+/// width of `T`. Decimals of one scale are ordered as their numbers without the points. The other rows are null. `Fault` if a
+/// valid row has no value.
 pub(crate) fn operate_decimals<T: NativeDecimalType + CheckedNumber>(
     alloc: Global,
     operator: Operator,
@@ -50,7 +51,7 @@ pub(crate) fn operate_decimals<T: NativeDecimalType + CheckedNumber>(
     }
 }
 
-/// The least and the greatest number of so many digits.
+/// The least and the greatest number of a precision.
 #[derive(Clone, Copy)]
 struct DigitLimits<T> {
     least: T,
@@ -70,7 +71,7 @@ impl<T: NativeDecimalType> DigitLimits<T> {
         }
     }
 
-    /// Checks whether `number` is within the limits.
+    /// Returns whether `number` is within the limits.
     #[inline]
     fn contains(&self, number: T) -> bool
         ensures { result ≡ is_within (T.value self.now.least) (T.value self.now.greatest) (T.value number) }
@@ -120,8 +121,8 @@ impl<'a, T: NativeDecimalType + CheckedNumber, A: Arithmetic> DecimalCalculation
     }
 }
 
-/// Applies `A` to the `valid` rows of `lhs` and `rhs`, `len` rows each, which must be of one type and stored in the width of `T`.
-/// The other rows are null. `Fault` if a row has no value.
+/// Applies `A` to the `valid` rows of `lhs` and `rhs`, `len` rows each, which must be of one type and stored in the width of
+/// `T`; the other rows are null. `Fault` if a valid row has no value.
 fn calculate_decimals<T: NativeDecimalType + CheckedNumber, A: Arithmetic>(
     alloc: Global,
     lhs: DecimalOperand<'_>,

@@ -1,4 +1,4 @@
-//! Logic on booleans, null among them.
+//! Logic on booleans that may be null.
 
 ghost use Rattle.std.specs.Prelude.{◌≡◌, ◌∷◌, [], true, map, IfOk};
 ghost use Rattle.std.specs.List.{range_with_len};
@@ -44,7 +44,7 @@ pub(crate) fn truths_of<'a>(argument: &'a Argument<'_>) -> Truths<'a>
     }
 }
 
-/// Joins `lhs` and `rhs`, `len` rows each, by `operator`, which must be logical: in one pass if no row of either is null. Fails
+/// Joins `lhs` and `rhs`, `len` rows each, by `operator`, which must be logical; in one pass if neither has a null row. Fails
 /// only with `OutOfMemory`.
 #[tactic(auto, using(crate::proofs::ValidRowsLemmas::counted))]
 pub(crate) fn join(
@@ -70,7 +70,7 @@ pub(crate) fn join(
 }
 
 /// Joins `lhs` and `rhs`, `len` rows each, of which one is nullable, by `operator`, which must be logical. A row of the result
-/// is known if what is sure of it is all that is possible. Fails only with `OutOfMemory`.
+/// is known if it is the same with unknown rows taken as false and as true. Fails only with `OutOfMemory`.
 #[tactic(auto, using(crate::proofs::ValidRowsLemmas::counted))]
 fn join_nullable(
     alloc: Global,
@@ -93,8 +93,8 @@ fn join_nullable(
     valid_bools(alloc, sure, &ValidRows::Bits(known), len)
 }
 
-/// Joins `lhs` and `rhs`, `len` rows each, by `operator`, which must be logical: of each side, what `N` makes of whether the row is
-/// known and of its bit.
+/// Joins `lhs` and `rhs`, `len` rows each, by `operator`, which must be logical. The bits joined are those of `N` applied to
+/// whether a row is known and to its bit.
 #[tactic(auto, using(crate::proofs::ValidRowsLemmas::counted))]
 fn join_over<N: BitOperation>(
     alloc: Global,

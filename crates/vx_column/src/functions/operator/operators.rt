@@ -41,8 +41,8 @@ pub(crate) fn operate(
     operate_rows(alloc, operator, lhs.rows, rhs.rows, &valid, len)
 }
 
-/// Applies `operator` to the `valid` rows of `lhs` and `rhs`, `len` rows each, which must be of one type; none of type null may be
-/// valid. The other rows are null. `Fault` if a row has no value.
+/// Applies `operator` to the `valid` rows of `lhs` and `rhs`, `len` rows each, which must be of one type; rows of type null
+/// must not be valid. The other rows are null. `Fault` if a valid row has no value.
 fn operate_rows(
     alloc: Global,
     operator: Operator,
@@ -83,8 +83,8 @@ fn operate_rows(
     }
 }
 
-/// Applies `operator` to the `valid` rows of `lhs` and `rhs`, `len` rows each, which must be of the type `T`. `Fault` if a row
-/// has no value.
+/// Applies `operator` to the `valid` rows of `lhs` and `rhs`, `len` rows each, which must be of type `T`. `Fault` if a valid
+/// row has no value.
 fn operate_natives<T: NativeInteger + CheckedNumber>(
     alloc: Global,
     operator: Operator,

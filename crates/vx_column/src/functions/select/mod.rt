@@ -1,4 +1,4 @@
-//! Applies to whole columns the functions that choose rows, and those of which values are null.
+//! Applies to whole columns the functions that choose rows, test for null, and mask.
 
 mod nulls;
 mod select;

@@ -1,4 +1,4 @@
-//! Functions of which values are null.
+//! Tests for null, and masks.
 
 ghost use Rattle.std.specs.Prelude.{◌≡◌, ◌∷◌, [], IfOk};
 ghost use Rattle.vx_value.specs.Errors.{OnlyOutOfMemory};
@@ -14,7 +14,7 @@ use vx_mask::{BitAnd, BitBuffer, BitNotEq, BitOperand};
 use vx_tree::Canonical;
 use vx_value::{Nullability, VortexResult};
 
-/// Checks of each row of `input`, `len` rows, whether it is null. Fails only with `OutOfMemory`. (own)
+/// Tests each row of `input`, `len` rows, for null. Fails only with `OutOfMemory`. (own)
 #[tactic(auto, using(crate::proofs::ValidRowsLemmas::counted))]
 pub(crate) fn is_null(alloc: Global, input: &Argument<'_>, len: usize) -> VortexResult<Canonical>
     requires { IsSized len input.now }
@@ -26,8 +26,8 @@ pub(crate) fn is_null(alloc: Global, input: &Argument<'_>, len: usize) -> Vortex
     valid_bools(alloc, bits, &ValidRows::All(Nullability::NonNullable), len)
 }
 
-/// Checks of each row of `input`, `len` rows, whether it isn't null: shares the bits that tell it. Fails only with
-/// `OutOfMemory`. (own)
+/// Tests each row of `input`, `len` rows, for not being null. Shares the bits of its validity. Fails only with `OutOfMemory`.
+/// (own)
 #[tactic(auto, using(crate::proofs::ValidRowsLemmas::counted))]
 pub(crate) fn is_not_null(
     alloc: Global,
@@ -42,8 +42,8 @@ pub(crate) fn is_not_null(
     valid_bools(alloc, bits, &ValidRows::All(Nullability::NonNullable), len)
 }
 
-/// Returns the rows of `input` for which `mask` is true, null in place of the others, `len` rows each: only the validity is
-/// computed. Fails only with `OutOfMemory`. (own)
+/// Returns `input` with null in each row for which `mask` isn't true, `len` rows each. Computes only the validity. Fails only
+/// with `OutOfMemory`. (own)
 #[tactic(auto, using(crate::proofs::ValidRowsLemmas::counted, crate::proofs::KernelArgumentsLemmas::has_stored))]
 pub(crate) fn mask(
     alloc: Global,

@@ -30,7 +30,7 @@ use vx_tree::{
 };
 use vx_value::{DecimalType, Nullability, VortexResult};
 
-/// Chooses `if_true` where `mask` is true, and `if_false` where it is false or null, `len` rows each. Fails only with
+/// Chooses `if_true` if `mask` is true, and `if_false` if it is false or null, row by row, `len` rows each. Fails only with
 /// `OutOfMemory`. (own)
 #[tactic(auto, using(crate::proofs::ValidRowsLemmas::counted))]
 pub(crate) fn zip(
@@ -56,7 +56,7 @@ pub(crate) fn zip(
     }
 }
 
-/// Puts `fill_value` in place of the nulls of `input`, `len` rows each. Fails only with `OutOfMemory`. (own)
+/// Replaces each null of `input` by the row of `fill_value`, `len` rows each. Fails only with `OutOfMemory`. (own)
 pub(crate) fn fill_null(
     alloc: Global,
     input: &Argument<'_>,
@@ -74,8 +74,8 @@ pub(crate) fn fill_null(
     select(alloc, input.valid.as_operand(), &values, fill_value, len)
 }
 
-/// Chooses `if_true` where `choice` is true, else `if_false`, `len` rows each, whose values must be of one type; if one side is
-/// chosen whole, its rows are shared. Fails only with `OutOfMemory`.
+/// Chooses `if_true` if `choice` is true, else `if_false`, row by row, `len` rows each, whose values must be of one type.
+/// Shares the rows of one side if `choice` is a single bit. Fails only with `OutOfMemory`.
 fn select(
     alloc: Global,
     choice: BitOperand<'_>,
@@ -133,8 +133,8 @@ fn select_valid(
     }
 }
 
-/// Makes the column of `if_true` at the true bits of `choice`, else `if_false`, `len` rows each, which must be of one type; its
-/// `valid` rows aren't null. Fails only with `OutOfMemory`.
+/// Makes the column of `if_true` at the true bits of `choice`, else `if_false`, `len` rows each, which must be of one type;
+/// null in each row that isn't `valid`. Fails only with `OutOfMemory`.
 #[tactic(auto, using(crate::proofs::ValidRowsLemmas::counted))]
 fn select_rows(
     alloc: Global,
@@ -174,7 +174,7 @@ fn select_rows(
     }
 }
 
-/// Chooses among bits, by words; if one side is chosen whole, its bits are shared.
+/// Chooses between bits, word by word; shares those of one side if `choice` is a single bit.
 #[tactic(auto, using(crate::proofs::ValidRowsLemmas::counted))]
 fn select_bits(
     alloc: Global,
@@ -201,8 +201,8 @@ fn select_bits(
     }
 }
 
-/// Makes the column of `if_true` at the true bits of `choice`, else `if_false`, `len` rows each, which must be of the type `T`;
-/// its `valid` rows aren't null. Fails only with `OutOfMemory`.
+/// Makes the column of `if_true` at the true bits of `choice`, else `if_false`, `len` rows each, which must be of type `T`;
+/// null in each row that isn't `valid`. Fails only with `OutOfMemory`.
 fn select_natives<T: NativeInteger>(
     alloc: Global,
     choice: &BitBuffer,
@@ -222,7 +222,7 @@ fn select_natives<T: NativeInteger>(
 }
 
 /// Makes the column of `if_true` at the true bits of `choice`, else `if_false`, `len` rows each, which must be of one type and
-/// stored in the width of `T`; its `valid` rows aren't null. Fails only with `OutOfMemory`.
+/// stored in the width of `T`; null in each row that isn't `valid`. Fails only with `OutOfMemory`.
 fn select_unscaled<T: NativeDecimalType>(
     alloc: Global,
     choice: &BitBuffer,
@@ -280,7 +280,7 @@ fn select_row<T: NativeNumber>(
     if choice { first } else { second }
 }
 
-/// Chooses `left` at the true bits of `choice`, else `right`, `len` rows each: copies the bytes of each row once.
+/// Chooses `left` at the true bits of `choice`, else `right`, `len` rows each. Copies the bytes of each row once.
 fn select_views(
     alloc: Global,
     choice: &BitBuffer,
