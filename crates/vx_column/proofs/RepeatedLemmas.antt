@@ -1,5 +1,5 @@
 -- A column of one value, repeated.
-use Rattle.std.proofs.Common.{◌≡◌, ◌⊎◌, ℕ, zero, suc, ℤ, pos, Bool, true, false, List, [], ◌∷◌, length, map, replicate, Result, IfOk, refl, sym, ◌∙◌, ap, subst}
+use Rattle.std.proofs.Common.{◌≡◌, ◌⊎◌, inl, inr, ◌==◌, ℕ, zero, suc, ℤ, pos, Bool, true, false, List, [], ◌∷◌, length, map, replicate, Result, IfOk, refl, sym, ◌∙◌, ap, subst}
 use Rattle.std.specs.Prelude.{unwrap_or, if◌then◌else◌}
 use Rattle.std.proofs.lemmas.List.{length-replicate}
 use Rattle.std.proofs.lemmas.Result.{IfOk-weaker}
@@ -37,7 +37,7 @@ use Rattle.vx_tree.proofs.NativesLemmas.{map_copies}
 use Rattle.vx_column.specs.Stored.{boolean_column, integer_column, bytes_column, decimal_column}
 use Rattle.vx_column.proofs.KeepsLemmas.{same_exactly, any_rows, copies_clean}
 use Rattle.vx_column.proofs.StoredLemmas.{column_of_bytes, stored_boolean, stored_number, stored_as_bytes, stored_decimal}
-use Rattle.vx_column.specs.Expanded.{repeated_validity}
+use Rattle.vx_column.specs.Expanded.{repeated_validity, expanded, expanded_stored}
 use Rattle.vx_value.specs.declared.decimal.DecimalDType.{DecimalDType}
 use Rattle.vx_value.specs.declared.decimal.DecimalType.{DecimalType}
 use Rattle.vx_column.specs.Arguments.{stored_decimals, unscaled_of}
@@ -162,3 +162,16 @@ all_copies p (suc n) x h = and_from (p x) _ h (all_copies p n x h)
 pub bytes_copies : (st : Storage) (n : ℕ) (x : List ℕ) → are_bytes_of st (x ∷ []) ≡ true → are_bytes_of st (replicate n x) ≡ true
 bytes_copies Text n x h = all_copies is_utf8 n x (first_so (is_utf8 x) true h)
 bytes_copies _ n x h = refl
+
+-- ---- the layout
+
+pub bytes_expanded : (s : Typed) (n : ℕ) (st : Storage) → (st ≡ Text) ⊎ (st ≡ Bytes)
+    → expanded_stored st s n ≡ bytes_column st (replicate n (unwrap_or (bytes_in s.value) [])) (repeated_validity s)
+bytes_expanded s n Text h = refl
+bytes_expanded s n Bytes h = refl
+bytes_expanded s n _ (inl e) = absurd (cc)
+bytes_expanded s n _ (inr e) = absurd (cc)
+
+pub some_expanded : (s : Typed) (n : ℕ) → (n == 0) ≡ false → expanded_stored (storage_of s.of_type) s n ≡ expanded s n
+some_expanded s zero h = absurd (cc)
+some_expanded s (suc n) h = refl

@@ -1,12 +1,36 @@
--- The validity of a repeated value.
-use Rattle.std.specs.Prelude.{if◌then◌else◌}
+-- The canonical column of a constant.
+use Rattle.std.specs.Prelude.{ℕ, zero, suc, pos, [], replicate, false, unwrap_or, if◌then◌else◌}
 use Rattle.vx_value.specs.Types.{nullability_of}
 use Rattle.vx_value.specs.Typed.{Typed}
 use Rattle.vx_value.specs.IsOf.{is_null}
+use Rattle.vx_value.specs.Parts.{boolean_in, integer_in, bytes_in}
+use Rattle.vx_value.specs.Storage.{storage_of}
+use Rattle.vx_value.specs.Decimals.{smallest_width}
+use Rattle.vx_value.specs.declared.dtype.Storage.{Storage}
+use Rattle.vx_value.specs.declared.dtype.Storage.TheVariants.{Nulls, Bits, Integers, Decimals, Text, Bytes}
+use Rattle.vx_tree.specs.Tree.{Tree, nulls_of}
+use Rattle.vx_tree.specs.Columns.{empty_of}
 use Rattle.vx_tree.specs.Validities.{without_nulls}
 use Rattle.vx_tree.specs.declared.validity.Validity.{Validity}
 use Rattle.vx_tree.specs.declared.validity.Validity.TheVariants.{AllInvalid}
+use Rattle.vx_column.specs.Arguments.{unscaled_of}
+use Rattle.vx_column.specs.Stored.{boolean_column, integer_column, decimal_column, bytes_column}
 
 -- every row is null if the value is, else none
 abbrev pub repeated_validity : Typed → Validity
 repeated_validity s = if is_null s.value then AllInvalid else without_nulls (nullability_of s.of_type)
+
+-- n rows of the scalar, by how its type's values are stored; under null stand false, 0 or no bytes
+abbrev pub expanded_stored : Storage → Typed → ℕ → Tree
+expanded_stored Nulls s n = nulls_of n
+expanded_stored Bits s n = boolean_column (replicate n (unwrap_or (boolean_in s.value) false)) (repeated_validity s)
+expanded_stored (Integers p) s n = integer_column p (replicate n (unwrap_or (integer_in s.value) (pos 0))) (repeated_validity s)
+expanded_stored (Decimals p k) s n =
+    decimal_column (record { precision = p; scale = k }) (smallest_width p) (replicate n (unscaled_of s.value)) (repeated_validity s)
+expanded_stored Text s n = bytes_column Text (replicate n (unwrap_or (bytes_in s.value) [])) (repeated_validity s)
+expanded_stored Bytes s n = bytes_column Bytes (replicate n (unwrap_or (bytes_in s.value) [])) (repeated_validity s)
+
+-- n rows of the scalar; without rows, the empty column of its type
+abbrev pub expanded : Typed → ℕ → Tree
+expanded s zero = empty_of s.of_type
+expanded s (suc n) = expanded_stored (storage_of s.of_type) s (suc n)

@@ -2,10 +2,11 @@
 
 ghost use Rattle.std.specs.Prelude.{◌≡◌, IfOk};
 ghost use Rattle.vx_value.specs.Errors.{OnlyOutOfMemory};
-ghost use Rattle.vx_tree.specs.Tree.{datum, constant, constant_of};
+ghost use Rattle.vx_value.specs.Storage.{storage_of};
+ghost use Rattle.vx_tree.specs.Tree.{datum, len, constant, constant_of};
 ghost use Rattle.vx_tree.specs.Canonicals.{canonical_tree};
 ghost use Rattle.vx_tree.specs.Keeps.{KeepsExactly};
-ghost use Rattle.vx_column.specs.Expanded.{repeated_validity};
+ghost use Rattle.vx_column.specs.Expanded.{repeated_validity, expanded, expanded_stored};
 
 use crate::rows::{bool_column, decimal_column, primitive_column, unscaled_of, varbinview_column};
 use std::alloc::Global;
@@ -24,6 +25,7 @@ pub fn constant_canonicalize(
 ) -> VortexResult<Canonical>
     requires payload { constant array.payload.now.scalar ≡ datum array.array.now }
     ensures ok { IfOk result (λ c. KeepsExactly array.entry.array.now (canonical_tree c)) }
+    ensures layout { IfOk result (λ c. canonical_tree c ≡ expanded array.entry.payload.now.scalar (len array.entry.array.now)) }
     ensures err { OnlyOutOfMemory result }
 {
     array.array.well_formed_tree();
@@ -37,6 +39,7 @@ pub fn constant_canonicalize(
 /// Makes the column of `len` rows, each `scalar`; null rows store `false`, 0 or no bytes. Fails only with `OutOfMemory`.
 fn repeat(alloc: Global, scalar: &Scalar, len: usize) -> VortexResult<Canonical>
     ensures ok { IfOk result (λ c. KeepsExactly (constant_of scalar.now len) (canonical_tree c)) }
+    ensures layout { IfOk result (λ c. canonical_tree c ≡ expanded_stored (storage_of scalar.now.of_type) scalar.now len) }
     ensures err { OnlyOutOfMemory result }
 {
     let validity = repeated_validity(scalar);

@@ -41,6 +41,10 @@ child_of _ n = None
 abbrev pub child_by : List Bool → Option Tree
 child_by bits = if is_all_true bits then None else (if is_all_false bits then Some (truths false (length bits)) else Some (booleans bits))
 
+-- the validity of a nullable column by its rows, in its one form
+abbrev pub validity_by : List Bool → Validity
+validity_by bits = if is_all_true bits then validity.AllValid else (if is_all_false bits then validity.AllInvalid else validity.Array (booleans bits))
+
 -- the number of children that stand for it
 abbrev pub count_children : Option Tree → ℕ
 count_children None = 0

@@ -2,7 +2,7 @@
 
 ghost use Rattle.std.specs.Prelude.{◌≡◌, ℕ, IfOk, length, option_map, Some};
 ghost use Rattle.vx_value.specs.Errors.{OnlyOutOfMemory};
-ghost use Rattle.vx_tree.specs.Validities.{nullability_by, without_nulls, child_of, child_by, count_children, validity_of, array_refusal, HasRange};
+ghost use Rattle.vx_tree.specs.Validities.{nullability_by, without_nulls, child_of, child_by, validity_by, count_children, validity_of, array_refusal, HasRange};
 ghost use Rattle.vx_mask.specs.Masks.{bits_in};
 ghost use Rattle.vx_tree.specs.Tree.{constant_of};
 ghost use Rattle.vx_tree.specs.Parts.{part_of, choice_of, HasLen};
@@ -47,6 +47,7 @@ impl Validity {
     /// Returns the validity of a nullable column whose rows are null where `bits` is false, in its one form: `AllValid` if no
     /// row is null, `AllInvalid` if there is a row and all are null. Fails only with `OutOfMemory`. (own)
     pub fn from_bits(alloc: Global, bits: BitBuffer) -> VortexResult<Validity>
+        ensures form { IfOk result (λ v. v ≡ validity_by bits) }
         ensures ok { IfOk result (λ v. child_of v (length bits) ≡ child_by bits) }
         ensures nullable { IfOk result (λ v. nullability_by v ≡ Nullability.Nullable) }
         ensures err { OnlyOutOfMemory result }

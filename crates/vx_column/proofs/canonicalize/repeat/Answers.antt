@@ -1,4 +1,4 @@
-use Rattle.std.proofs.Common.{◌≡◌, [], ◌∷◌, FitsSigned, pos, replicate, sym, ap, ◌∙◌, rules}
+use Rattle.std.proofs.Common.{◌≡◌, [], ◌∷◌, FitsSigned, pos, replicate, sym, ap, ◌∙◌, rules, false}
 use Rattle.std.specs.Prelude.{unwrap_or}
 use Rattle.std.proofs.Math.Facts.{to_z-of_z}
 use Rattle.std.specs.Int.{w128}
@@ -6,11 +6,14 @@ use Rattle.vx_value.specs.Storage.{storage_of}
 use Rattle.vx_value.specs.declared.dtype.Storage.TheVariants.{Nulls, Bits, Integers}
 use Rattle.vx_value.specs.Types.{nullability_of}
 use Rattle.vx_value.specs.IsOf.{is_stored, in_range}
-use Rattle.vx_value.specs.Parts.{bytes_in}
+use Rattle.vx_value.specs.Parts.{boolean_in, bytes_in}
+use Rattle.vx_column.specs.Expanded.{expanded_stored}
+use Rattle.vx_column.specs.Stored.{boolean_column, integer_column, decimal_column, bytes_column}
+use Rattle.std.proofs.lemmas.Result.{IfOk-weaker}
 use Rattle.vx_tree.specs.ColumnTypes.{are_bytes_of}
 use Rattle.vx_column.proofs.StoredLemmas.{stored_integer, bytes_kept, decimal_kept}
 use Rattle.vx_tree.specs.Natives.{values_of, ptype_of}
-use Rattle.vx_column.proofs.RepeatedLemmas.{repeated_has, bools_repeated, integers_repeated, bytes_repeated, bytes_copies, decimals_repeated, all_copies}
+use Rattle.vx_column.proofs.RepeatedLemmas.{repeated_has, bools_repeated, integers_repeated, bytes_repeated, bytes_copies, bytes_expanded, decimals_repeated, all_copies}
 use Rattle.vx_column.proofs.NullsLemmas.{nulls_repeated}
 use Rattle.vx_column.proofs.canonicalize.repeat.Goals as goal
 use Rattle.vx_value.specs.View.{type_of}
@@ -39,6 +42,64 @@ returns-in-Integers-clause-ok c =
     integers_repeated s c.args.len typed c.repeated_validity-validity.result c.repeated_validity-validity.ensures c.primitive_column.result
     c.in-Integers.ptype (ptype_of made.values) c.unwrap_or-wide.result (values_of made.values) stored (cc) (ap (λ v. v.kind) made.ensures)
     (ap (λ v. v.numbers) made.ensures ∙ ap (replicate c.args.len) (to_z-of_z fits)) c.primitive_column.ensures.ok
+
+pub returns-in-Bits-clause-layout : goal.returns-in-Bits-clause-layout
+returns-in-Bits-clause-layout c =
+    let s = c.args.scalar.now in
+    let n = c.args.len in
+    let stored : storage_of s.of_type ≡ Bits = ap storage_of (sym c.dtype.ensures.dtype) ∙ sym c.storage-storage.ensures ∙ c.in-Bits.is in
+    let bit : c.unwrap_or-bit.result ≡ unwrap_or (boolean_in s.value) false = cc in
+    let bits = c.in_ok-bits-in-Bits.ensures ∙ ap (replicate n) bit in
+    IfOk-weaker c.bool_column.result _ _
+    (λ u e. e ∙ (λ i. boolean_column (bits i) (c.repeated_validity-validity.ensures i)) ∙ sym (ap (λ st. expanded_stored st s n) stored))
+    c.bool_column.ensures.ok
+
+pub returns-in-Integers-clause-layout : goal.returns-in-Integers-clause-layout
+returns-in-Integers-clause-layout c =
+    let s = c.args.scalar.now in
+    let n = c.args.len in
+    let made = c.in_ok-values-in-Integers in
+    let stored : storage_of s.of_type ≡ Integers c.in-Integers.ptype =
+    ap storage_of (sym c.dtype.ensures.dtype) ∙ sym c.storage-storage.ensures ∙ c.in-Integers.is in
+    let fits : FitsSigned w128 c.unwrap_or-wide.result = search rules in
+    let wide = c.unwrap_or-wide.ensures ∙ ap (λ o. unwrap_or o (pos 0)) c.as_integer.ensures in
+    let numbers = ap (λ v. v.numbers) made.ensures ∙ ap (replicate n) (to_z-of_z fits ∙ wide) in
+    let kind = ap (λ v. v.kind) made.ensures in
+    IfOk-weaker c.primitive_column.result _ _
+    (λ u e. e ∙ (λ i. integer_column (kind i) (numbers i) (c.repeated_validity-validity.ensures i)) ∙ sym (ap (λ st. expanded_stored st s n) stored))
+    c.primitive_column.ensures.ok
+
+pub returns-in-Decimals-clause-layout : goal.returns-in-Decimals-clause-layout
+returns-in-Decimals-clause-layout c =
+    let s = c.args.scalar.now in
+    let n = c.args.len in
+    let d = c.in-Decimal.decimal in
+    let made = c.in_ok-values-in-Decimals in
+    let fits : FitsSigned w128 c.unscaled_of.result = search rules in
+    let typed = sym c.dtype-in-Decimals.ensures.dtype ∙ ap type_of c.in-Decimal.is in
+    let width = ap (λ v. v.kind) made.ensures ∙ c.smallest_decimal_value_type-width.ensures.value in
+    let numbers = ap (λ v. v.numbers) made.ensures ∙ ap (replicate n) (to_z-of_z fits ∙ c.unscaled_of.ensures) in
+    IfOk-weaker c.decimal_column.result _ _
+    (λ u e. e ∙ (λ i. decimal_column d (width i) (numbers i) (c.repeated_validity-validity.ensures i))
+    ∙ sym (ap (λ ty. expanded_stored (storage_of ty) s n) typed)) c.decimal_column.ensures.ok
+
+pub returns-in-Text-clause-layout : goal.returns-in-Text-clause-layout
+returns-in-Text-clause-layout c =
+    let s = c.args.scalar.now in
+    let n = c.args.len in
+    let st = c.storage-storage.result in
+    let valued : c.in_ok-bytes-in-Text.bytes ≡ unwrap_or (bytes_in s.value) [] = search rules in
+    let made = c.in_ok-rows-in-Text.ensures ∙ ap (replicate n) valued in
+    let stored : storage_of s.of_type ≡ st = ap storage_of (sym c.dtype.ensures.dtype) ∙ sym c.storage-storage.ensures in
+    IfOk-weaker c.varbinview_column.result _ _
+    (λ u e. e ∙ (λ i. bytes_column st (made i) (c.repeated_validity-validity.ensures i)) ∙ sym (bytes_expanded s n st c.in-Text.is)
+    ∙ sym (ap (λ x. expanded_stored x s n) stored)) c.varbinview_column.ensures.ok
+
+pub returns-clause-layout : goal.returns-clause-layout
+returns-clause-layout c =
+    let s = c.args.scalar.now in
+    let stored : storage_of s.of_type ≡ Nulls = ap storage_of (sym c.dtype.ensures.dtype) ∙ sym c.storage-storage.ensures ∙ c.in-Nulls.is in
+    c.in_ok-new-in-Nulls.ensures.ok ∙ sym (ap (λ st. expanded_stored st s c.args.len) stored)
 
 pub decimal_column-requires-clause-stored : goal.decimal_column-requires-clause-stored
 decimal_column-requires-clause-stored c =
