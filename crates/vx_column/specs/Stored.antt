@@ -18,8 +18,11 @@ boolean_column bs v = column (type.bool (nullability_by v)) (length bs) (bool bs
 abbrev pub integer_column : PType → List ℤ → Validity → Tree
 integer_column p zs v = column (type.primitive p (nullability_by v)) (length zs) (primitive p zs) (child_of v (length zs))
 
+abbrev pub scaled_column : ℕ → ℕ → DecimalType → List ℤ → Validity → Tree
+scaled_column p k w zs v = column (type.decimal p k (nullability_by v)) (length zs) (decimals w zs) (child_of v (length zs))
+
 abbrev pub decimal_column : DecimalDType → DecimalType → List ℤ → Validity → Tree
-decimal_column d w zs v = column (type.decimal d.precision d.scale (nullability_by v)) (length zs) (decimals w zs) (child_of v (length zs))
+decimal_column d = scaled_column d.precision d.scale
 
 abbrev pub bytes_column : Storage → List (List ℕ) → Validity → Tree
 bytes_column st rs v = column (with_nullability (nullability_by v) (bytes_type st)) (length rs) (views rs) (child_of v (length rs))

@@ -1,7 +1,7 @@
 -- The stack of frames: what a push and a pop at its inner end make of it, a node replaced under it, and a fault below it.
-use Rattle.std.proofs.Common.{◌≡◌, inl, inr, ℕ, zero, suc, ◌+◌, List, [], ◌∷◌, ◌++◌, Some, None, refl, sym, ap, subst, arith}
+use Rattle.std.proofs.Common.{◌≡◌, inl, inr, ℕ, zero, suc, ◌+◌, List, [], ◌∷◌, ◌++◌, Some, None, refl, sym, ◌∙◌, ap, subst, arith}
 use Rattle.vx_value.specs.declared.error.VortexError.{VortexError}
-use Rattle.vx_value.specs.declared.error.VortexError.TheVariants.{OutOfMemory}
+use Rattle.vx_value.specs.declared.error.VortexError.TheVariants.{OutOfMemory, Fault}
 use Rattle.vx_tree.specs.Tree.{Tree, Slots, node, no_slots, absent, slot}
 use Rattle.vx_tree.specs.Well.{IsNode, IsNodeOf, shape_of, shapes}
 use Rattle.vx_tree.specs.Cells.{IsClean, AreClean}
@@ -9,7 +9,7 @@ use Rattle.vx_tree.specs.Slots.{set_slot, put, IsAbsentAt, IsHole}
 use Rattle.vx_tree.specs.Keeps.{KeepsExactly}
 use Rattle.vx_tree.proofs.KeepsLemmas.{put_exactly}
 use Rattle.vx_step.specs.Turns.{node_potential}
-use Rattle.vx_step.specs.Steps.{IsStopped}
+use Rattle.vx_step.specs.Steps.{IsStopped, IsDue, IsFailed}
 use Rattle.vx_exec.specs.Frames.{filled, IsFrame, AreFrames, frames_top}
 use Rattle.vx_exec.specs.declared.turn.Frame.{Frame}
 
@@ -89,6 +89,16 @@ stopped_inside fs t e h (inl m) = inl m
 stopped_inside fs t e h (inr k) = inr (k.0, λ clean. k.1 (clean_inside fs t h clean))
 
 -- a tree that stands for another exactly has no fault where that has none
+-- what stops a step stops the turn
+pub failed_stopped : (t : Tree) (e : VortexError) → IsFailed t e → IsStopped t e
+failed_stopped t e (inl m) = inl m
+failed_stopped t e (inr h) = inr (h.0, h.1)
+
+-- a fault comes from a step that is due
+pub failed_fault : (t : Tree) (e : VortexError) → e ≡ Fault → IsFailed t e → IsDue t × (¬ (IsClean t))
+failed_fault t e same (inl m) = absurd (cc (sym m ∙ same))
+failed_fault t e same (inr h) = (h.2, h.1)
+
 pub stopped_before : (t u : Tree) (e : VortexError) → KeepsExactly t u → IsStopped u e → IsStopped t e
 stopped_before t u e h (inl m) = inl m
 stopped_before t u e h (inr k) = inr (k.0, λ clean. k.1 (h.keeps.still_clean clean))

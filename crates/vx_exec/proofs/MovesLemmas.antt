@@ -11,7 +11,7 @@ use Rattle.vx_tree.proofs.ColumnsLemmas.{canonical_columnar}
 use Rattle.vx_step.specs.Turns.{data_meets, meets, target_of, node_potential}
 use Rattle.vx_exec.specs.Frames.{filled, IsFrame, AreFrames, frames_top}
 use Rattle.vx_step.specs.Steps.{HasNoShortcut, Awaits, AwaitsAt, IsDone}
-use Rattle.vx_exec.specs.Moves.{IsOneMove, IsMove, is_awaited, is_reached, Reaches, GoesOn, IsExecuted}
+use Rattle.vx_exec.specs.Moves.{IsFaulty, FaultsIn, IsOneMove, IsMove, is_awaited, is_reached, Reaches, GoesOn, IsExecuted}
 use Rattle.vx_step.specs.declared.steps.SlotTarget.{SlotTarget}
 use Rattle.vx_step.specs.declared.steps.SlotTarget.TheVariants.{Canonical, Columnar}
 use Rattle.vx_exec.specs.declared.turn.Frame.{Frame}
@@ -219,3 +219,8 @@ pub returned_as_it_is : (fits : Tree → Bool) (t : Tree) (n : ℕ) (fs : List F
     → is_reached fits [] v ≡ true → fits t ≡ true → v ≡ t
 returned_as_it_is fits t n fs u v moved bare same reached h =
     as_it_is fits t (n + 1) v h (executed fits t n fs u v moved bare same reached)
+
+pub faults_in : (fits : Tree → Bool) (root : Tree) (fs : List Frame) (t : Tree) (n : ℕ) → IsLoop fits root fs t n → IsFaulty fits fs t
+    → FaultsIn fits root (n + 1)
+unfolding FaultsIn
+faults_in fits root fs t n now faulty = rw add-one (fs, t, now.moved, faulty)

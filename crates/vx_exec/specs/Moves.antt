@@ -1,10 +1,11 @@
 -- One move of the executor, and an execution by moves.
 use Rattle.std.specs.Prelude.{◌≡◌, ◌⊎◌, ℕ, zero, suc, ◌+◌, ◌<◌, List, [], ◌∷◌, ◌++◌, Bool, true, false, ◌||◌}
 use Rattle.vx_tree.specs.Tree.{Tree, datum, is_canonical}
+use Rattle.vx_tree.specs.Cells.{IsClean}
 use Rattle.vx_tree.specs.Keeps.{KeepsExactly}
 use Rattle.vx_tree.specs.Slots.{put, IsHole}
 use Rattle.vx_step.specs.Turns.{meets, target_of, node_potential}
-use Rattle.vx_step.specs.Steps.{HasNoShortcut, Awaits, IsDone}
+use Rattle.vx_step.specs.Steps.{HasNoShortcut, Awaits, IsDone, IsDue}
 use Rattle.vx_exec.specs.Frames.{filled, AreFrames, frames_top}
 use Rattle.vx_exec.specs.declared.turn.Frame.{Frame}
 use Rattle.vx_exec.specs.declared.turn.Turn.{Turn}
@@ -73,3 +74,12 @@ GoesOn fits t n = (fs : List Frame) × (u : Tree) × Reaches fits t n fs u
 unfoldable pub IsExecuted : (Tree → Bool) → Tree → ℕ → Tree → Type 0
 IsExecuted fits t zero u = ⊥
 IsExecuted fits t (suc n) u = Reaches fits t n [] u × (is_reached fits [] u ≡ true)
+
+-- the node t hasn't reached its target, its step is due, and one of its nodes has a fault
+abbrev pub IsFaulty : (Tree → Bool) → List Frame → Tree → Type 0
+IsFaulty fits fs t = (is_reached fits fs t ≡ false) × IsDue t × (¬ (IsClean t))
+
+-- the execution of t fails in turn n at such a node: each turn before is one move
+unfoldable pub FaultsIn : (Tree → Bool) → Tree → ℕ → Type 0
+FaultsIn fits t zero = ⊥
+FaultsIn fits t (suc n) = (fs : List Frame) × (u : Tree) × Reaches fits t n fs u × IsFaulty fits fs u

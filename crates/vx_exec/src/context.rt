@@ -6,7 +6,7 @@ ghost use Rattle.vx_tree.specs.Keeps.{KeepsExactly};
 ghost use Rattle.vx_tree.specs.Cost.{cost};
 ghost use Rattle.vx_tree.specs.Canonicals.{columnar_tree};
 ghost use Rattle.vx_step.specs.Steps.{IsStopped};
-ghost use Rattle.vx_exec.specs.Moves.{IsExecuted, GoesOn};
+ghost use Rattle.vx_exec.specs.Moves.{IsExecuted, GoesOn, FaultsIn};
 ghost use Rattle.vx_exec.specs.Limits.{default_turns};
 
 use crate::turn::{Frame, Turn, take_turn};
@@ -88,6 +88,7 @@ pub fn execute_until<M: Matcher>(array: ArrayRef, ctx: &mut ExecutionCtx) -> Vor
         → (l ≡ ctx.old.limit) × (ctx.new.turns ≡ l) × (l < cost array) × GoesOn M.fits array l }
     ensures err { IfErr result
         (λ e. (e ≡ VortexError.IterationLimit ctx.old.limit) ⊎ IsStopped array e) }
+    ensures fault { result ≡ Err VortexError.Fault → FaultsIn M.fits array ctx.new.turns }
     ensures told { ctx.new.turns ≤ ctx.old.limit }
     ensures kept { ctx.new.limit ≡ ctx.old.limit }
 {
@@ -122,6 +123,7 @@ pub fn execute(array: ArrayRef, ctx: &mut ExecutionCtx) -> VortexResult<Columnar
         → (l ≡ ctx.old.limit) × (ctx.new.turns ≡ l) × (l < cost array) × GoesOn (λ t. is_columnar (datum t)) array l }
     ensures err { IfErr result
         (λ e. (e ≡ VortexError.IterationLimit ctx.old.limit) ⊎ IsStopped array e) }
+    ensures fault { result ≡ Err VortexError.Fault → FaultsIn (λ t. is_columnar (datum t)) array ctx.new.turns }
     ensures told { ctx.new.turns ≤ ctx.old.limit }
     ensures kept { ctx.new.limit ≡ ctx.old.limit }
 {

@@ -1,14 +1,15 @@
 //! One turn of the executor.
 
-ghost use Rattle.std.specs.Prelude.{◌≡◌, [], IsOk, IfOk, IfErr, true, false};
-ghost use Rattle.vx_step.specs.Steps.{IsStopped};
+ghost use Rattle.std.specs.Prelude.{◌≡◌, [], IsOk, IfOk, IfErr, Err, true, false};
+ghost use Rattle.vx_tree.specs.Cells.{IsClean};
+ghost use Rattle.vx_step.specs.Steps.{IsStopped, IsDue};
 ghost use Rattle.vx_exec.specs.Frames.{filled, AreFrames};
-ghost use Rattle.vx_exec.specs.Moves.{is_reached, IsMove, IsTurned};
+ghost use Rattle.vx_exec.specs.Moves.{is_reached, IsMove, IsTurned, IsFaulty};
 
 use std::alloc::Global;
 use vx_step::{ExecutionStep, SlotTarget, Suspended, step};
 use vx_tree::{AnyCanonical, ArrayRef, Matcher};
-use vx_value::VortexResult;
+use vx_value::{VortexError, VortexResult};
 
 /// A suspended parent, and what its open slot is executed to. (own)
 #[derive(Drop)]
@@ -53,6 +54,7 @@ fn advance<M: Matcher>(
     requires open { is_reached M.fits frames.old.items current ≡ false }
     ensures ok { IfOk result (λ u. IsMove M.fits frames.old.items current frames.new.items u) }
     ensures err { IfErr result (IsStopped (filled frames.old.items current)) }
+    ensures fault { result ≡ Err VortexError.Fault → IsDue current × (¬ (IsClean current)) }
 {
     match step(alloc, &current) {
         Ok(ExecutionStep::Done(next)) => Ok(next),
@@ -81,6 +83,7 @@ pub fn take_turn<M: Matcher>(
     requires { AreFrames frames.old.items current }
     ensures ok { IfOk result (λ r. IsTurned M.fits frames.old.items current frames.new.items r) }
     ensures err { IfErr result (IsStopped (filled frames.old.items current)) }
+    ensures fault { result ≡ Err VortexError.Fault → IsFaulty M.fits frames.old.items current }
     ensures returns { frames.old.items ≡ [] → is_reached M.fits [] current ≡ true → IsOk result }
 {
     if is_reached::<M>(frames, &current) {

@@ -14,9 +14,9 @@ use Rattle.vx_tree.specs.Well.{shape, shape_of, IsWell, IsValidity}
 use Rattle.vx_tree.specs.Columns.{IsColumn}
 use Rattle.vx_tree.specs.Keeps.{KeepsExactly}
 use Rattle.vx_tree.specs.Validities.{HasRows, nullability_by, child_of}
-use Rattle.vx_step.specs.Steps.{IsDone, IsStopped}
+use Rattle.vx_step.specs.Steps.{IsDone, IsDue, IsFailed}
 use Rattle.vx_step.specs.Told.{told_by}
-use Rattle.vx_step.proofs.StepsLemmas.{masked_done}
+use Rattle.vx_step.proofs.StepsLemmas.{masked_done, unless_filter}
 
 pub told_nullable : (v : Option Tree) → nullability_by (told_by v) ≡ Nullable
 told_nullable None = refl
@@ -44,14 +44,22 @@ told_done c t s u v shown same whole known canonical exactly =
     let child = subst (λ x. KeepsExactly (masked_of x v) u) same (subst (λ x. KeepsExactly (masked_of s x) u) (told_child v (len s)) exactly) in
     masked_done c t u v shown (subst (λ x. is_canonical (datum x) ≡ true) same whole) known canonical (subst (λ x. KeepsExactly x u) (sym shown) child)
 
--- a fault in the validity is one in the node
-unread_stopped : (c t : Tree) (v : Option Tree) (n : ℕ) (e : VortexError) → t ≡ masked_of c v → AreUnread n v e → IsStopped t e
-unread_stopped c t None n e shown m = inl m
-unread_stopped c t (Some u) n e shown (inl m) = inl m
-unread_stopped c t (Some u) n e shown (inr f) =
-    inr (f.0, λ clean. let parts = subst IsClean shown clean in no_fault_at (rows u) f.1 (whole u parts.1.1.0) f.3)
+-- a masked node is due once its child is canonical
+masked_due : (c t : Tree) (v : Option Tree) → t ≡ masked_of c v → is_canonical (datum c) ≡ true → IsDue t
+masked_due c t None shown whole = subst IsDue (sym shown) (unless_filter (masked_of c None) refl, ((λ h. whole), tt))
+masked_due c t (Some v) shown whole =
+    subst IsDue (sym shown) (unless_filter (masked_of c (Some v)) refl, ((λ h. whole), ((λ h. absurd (cc)), tt)))
 
-pub told_stopped : (c t s : Tree) (v : Option Tree) (e : VortexError) → t ≡ masked_of c v
-    → (e ≡ OutOfMemory) ⊎ ((dtype s ≡ null) × AreUnread (len s) (child_of (told_by v) (len s)) e) → IsStopped t e
-told_stopped c t s v e shown (inl m) = inl m
-told_stopped c t s v e shown (inr h) = unread_stopped c t v (len s) e shown (subst (λ x. AreUnread (len s) x e) (told_child v (len s)) h.1)
+-- a fault in the validity is one in the node
+unread_failed : (c t : Tree) (v : Option Tree) (n : ℕ) (e : VortexError) → t ≡ masked_of c v → IsDue t → AreUnread n v e → IsFailed t e
+unread_failed c t None n e shown due m = inl m
+unread_failed c t (Some u) n e shown due (inl m) = inl m
+unread_failed c t (Some u) n e shown due (inr f) =
+    inr (f.0, (λ clean. let parts = subst IsClean shown clean in no_fault_at (rows u) f.1 (whole u parts.1.1.0) f.3), due)
+
+pub told_failed : (c t s : Tree) (v : Option Tree) (e : VortexError) → t ≡ masked_of c v → s ≡ c → is_canonical (datum s) ≡ true
+    → (e ≡ OutOfMemory) ⊎ ((dtype s ≡ null) × AreUnread (len s) (child_of (told_by v) (len s)) e) → IsFailed t e
+told_failed c t s v e shown same canonical (inl m) = inl m
+told_failed c t s v e shown same canonical (inr h) =
+    let due = masked_due c t v shown (subst (λ x. is_canonical (datum x) ≡ true) same canonical) in
+    unread_failed c t v (len s) e shown due (subst (λ x. AreUnread (len s) x e) (told_child v (len s)) h.1)

@@ -17,7 +17,7 @@ use Rattle.vx_tree.specs.Well.{IsNode, IsWell, shapes}
 use Rattle.vx_tree.specs.Keeps.{KeepsExactly}
 use Rattle.vx_tree.proofs.CallsLemmas.{filled_types}
 use Rattle.vx_tree.proofs.RefusalsLemmas.{types_back, present_types}
-use Rattle.vx_step.specs.Steps.{HasNoShortcut, IsStep, AwaitsAt, IsDone, IsReady, IsStopped, AreReady, are_constant, gives_constant}
+use Rattle.vx_step.specs.Steps.{HasNoShortcut, IsStep, AwaitsAt, IsDone, IsReady, IsDue, IsFailed, AreReady, are_constant, gives_constant}
 use Rattle.vx_step.specs.Waiting.{AreColumns}
 use Rattle.vx_step.specs.declared.steps.ExecutionStep.TheVariants.{ExecuteSlot}
 use Rattle.vx_step.specs.declared.steps.SlotTarget.TheVariants.{Canonical, Columnar}
@@ -100,9 +100,13 @@ validity_waits c t shown unready =
     subst (λ x. IsStep x (ExecuteSlot 0 Columnar)) (sym shown) (unless_filter (validity_in c) refl, (refl, unready), refl)
 
 -- a row of the child that is a fault is one of the node's
-pub unread_stopped : (c t : Tree) (e : VortexError) → t ≡ validity_in c → IsUnread c e → IsStopped t e
-unread_stopped c t e shown (inl m) = inl m
-unread_stopped c t e shown (inr h) = inr (h.0, λ clean. no_fault_at (rows c) h.1 (child_clean c (subst IsClean shown clean)) h.3)
+pub unread_failed : (c t : Tree) (e : VortexError) → t ≡ validity_in c → is_columnar (datum c) ≡ true → IsUnread c e → IsFailed t e
+unread_failed c t e shown whole (inl m) = inl m
+unread_failed c t e shown whole (inr h) = inr (
+  h.0,
+  (λ clean. no_fault_at (rows c) h.1 (child_clean c (subst IsClean shown clean)) h.3),
+  subst IsDue (sym shown) (unless_filter (validity_in c) refl, ((λ h. whole), tt)),
+)
   where
     child_clean : (c : Tree) → IsClean (validity_in c) → HasNoFault (rows c)
     child_clean (node ty n d ss) k = k.1.0.0
@@ -161,9 +165,13 @@ module _ (f : ScalarFnRef) (t : Tree) (ss : Slots) (ts : List Tree) (shown : t �
       column_done t u known (subst HasNoShortcut (sym shown) (unless_filter (node (dtype t) (len t) (function f) ss) refl)) (ready columns)
       (subst (λ x. KeepsExactly x u) same h.exactly) c (h.constant_kept ∙ sym gives) (omega (arith, known.settled, own))
 
-  pub unapplied_stopped : (e : VortexError) → IsUnapplied f ts (len t) e → IsStopped t e
-  unapplied_stopped e (inl m) = inl m
-  unapplied_stopped e (inr h) = inr (h.0, λ clean. h.1 (dtype t) typed (no_fault (subst IsClean (sym whole) clean)))
+  due : AreColumns ss → IsDue t
+  due columns = (subst HasNoShortcut (sym shown) (unless_filter (node (dtype t) (len t) (function f) ss) refl), ready columns)
+
+  pub unapplied_failed : AreColumns ss → (e : VortexError) → IsUnapplied f ts (len t) e → IsFailed t e
+  unapplied_failed columns e (inl m) = inl m
+  unapplied_failed columns e (inr h) =
+      inr (h.0, (λ clean. h.1 (dtype t) typed (no_fault (subst IsClean (sym whole) clean))), due columns)
     where
       no_fault : IsClean (call_of f (dtype t) (len t) ts) → HasNoFault (rows (call_of f (dtype t) (len t) ts))
       no_fault c = c.0

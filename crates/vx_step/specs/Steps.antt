@@ -45,7 +45,7 @@ are_constant (slot t ss) = is_constant (datum t) && are_constant ss
 abbrev pub gives_constant : Tree → Bool
 gives_constant (node ty n d ss) = is_function d && (nat_lt 0 n && are_constant ss)
 
--- why a step, a turn or an execution of the tree fails: out of memory, or a fault in one of its nodes
+-- why a turn or an execution of the tree fails: out of memory, or a fault in one of its nodes
 abbrev pub IsStopped : Tree → VortexError → Type 0
 IsStopped t e = (e ≡ OutOfMemory) ⊎ ((e ≡ Fault) × (¬ (IsClean t)))
 
@@ -64,6 +64,14 @@ IsShortcut t u = (bits : List Bool) × (c : Tree) × (t ≡ filter_of bits c) ×
 
 abbrev pub HasNoShortcut : Tree → Type 0
 HasNoShortcut t = (u : Tree) → ¬ (IsShortcut t u)
+
+-- the step of t needs no slot to be executed first
+abbrev pub IsDue : Tree → Type 0
+IsDue t = HasNoShortcut t × IsReady t
+
+-- why a step of t fails: out of memory, or, once it is due, a fault in one of its nodes
+abbrev pub IsFailed : Tree → VortexError → Type 0
+IsFailed t e = (e ≡ OutOfMemory) ⊎ ((e ≡ Fault) × (¬ (IsClean t)) × IsDue t)
 
 -- the slots of t are ready, and u is the column of t
 pub record IsColumnOf (t u : Tree) : Type 0 where

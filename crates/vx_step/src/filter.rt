@@ -7,7 +7,7 @@ ghost use Rattle.vx_mask.specs.Places.{true_count};
 ghost use Rattle.vx_tree.specs.Tree.{len, datum, is_canonical, filter_of};
 ghost use Rattle.vx_tree.specs.Canonicals.{canonical_tree};
 ghost use Rattle.vx_tree.specs.Keeps.{KeepsExactly};
-ghost use Rattle.vx_step.specs.Steps.{IsStep, IsStopped};
+ghost use Rattle.vx_step.specs.Steps.{IsStep, IsFailed};
 
 use crate::steps::{ExecutionStep, SlotTarget, done};
 use std::alloc::Global;
@@ -28,7 +28,7 @@ pub(crate) fn filter_or_wait(
 ) -> VortexResult<ExecutionStep>
     requires { length (bits_in mask.now) ≡ len child.now }
     ensures ok { IfOk result (IsStep (filter_of (bits_in mask.now) child.now)) }
-    ensures err { IfErr result (IsStopped (filter_of (bits_in mask.now) child.now)) }
+    ensures err { IfErr result (IsFailed (filter_of (bits_in mask.now) child.now)) }
 {
     child.well_formed_tree();
     if mask.true_count() == 0 {
@@ -47,7 +47,7 @@ fn choose_or_wait(alloc: Global, child: &ArrayRef, mask: &Mask) -> VortexResult<
     requires some { 0 < true_count (bits_in mask.now) }
     requires not_all { is_all_true (bits_in mask.now) ≡ false }
     ensures ok { IfOk result (IsStep (filter_of (bits_in mask.now) child.now)) }
-    ensures err { IfErr result (IsStopped (filter_of (bits_in mask.now) child.now)) }
+    ensures err { IfErr result (IsFailed (filter_of (bits_in mask.now) child.now)) }
 {
     child.well_formed_tree();
     match Canonical::try_from_array_ref(child.clone()?) {
@@ -79,7 +79,7 @@ fn slice_or_wait(alloc: Global, child: ArrayRef, mask: &Mask) -> VortexResult<Ex
     requires not_all { is_all_true (bits_in mask.now) ≡ false }
     requires unready { is_canonical (datum child) ≡ false }
     ensures ok { IfOk result (IsStep (filter_of (bits_in mask.now) child)) }
-    ensures err { IfErr result (IsStopped (filter_of (bits_in mask.now) child)) }
+    ensures err { IfErr result (IsFailed (filter_of (bits_in mask.now) child)) }
 {
     child.well_formed_tree();
     match mask.contiguous_range() {

@@ -5,7 +5,7 @@ ghost use Rattle.vx_tree.specs.Tree.{Tree, dtype, len, datum, node, function, sl
 ghost use Rattle.vx_tree.specs.Well.{IsNode, shapes};
 ghost use Rattle.vx_tree.specs.Canonicals.{columnar_tree};
 ghost use Rattle.vx_step.specs.Waiting.{AreColumns, HoldsColumn, waits, trees_of};
-ghost use Rattle.vx_step.specs.Steps.{IsStep, IsStopped, AwaitsAt};
+ghost use Rattle.vx_step.specs.Steps.{IsStep, IsFailed, AwaitsAt};
 ghost use Rattle.vx_step.specs.declared.steps.SlotTarget.TheVariants as target;
 
 use crate::steps::{ExecutionStep, SlotTarget};
@@ -16,7 +16,7 @@ use vx_tree::{AnyColumnar, ArrayRef, Columnar, IntoArray};
 use vx_value::VortexResult;
 
 /// Requests the first slot that isn't a column yet; applies `scalar_fn` once all are.
-#[tactic(auto, using(crate::proofs::StepsLemmas::slots_present, crate::proofs::StepsLemmas::may_call, crate::proofs::StepsLemmas::applied_done, crate::proofs::StepsLemmas::unapplied_stopped))]
+#[tactic(auto, using(crate::proofs::StepsLemmas::slots_present, crate::proofs::StepsLemmas::may_call, crate::proofs::StepsLemmas::applied_done, crate::proofs::StepsLemmas::unapplied_failed))]
 pub(crate) fn apply_or_wait(
     alloc: Global,
     array: &ArrayRef,
@@ -26,7 +26,7 @@ pub(crate) fn apply_or_wait(
     requires shape { array.now ≡ node (dtype array.now) (len array.now) (function scalar_fn.now) (slots_of slots.now) }
     requires well { IsNode (dtype array.now) (len array.now) (function scalar_fn.now) (shapes (slots_of slots.now)) }
     ensures ok { IfOk result (λ s. IsStep array.now s) }
-    ensures err { IfErr result (IsStopped array.now) }
+    ensures err { IfErr result (IsFailed array.now) }
 {
     match first_waiting(slots) {
         Some(slot) => Ok(ExecutionStep::ExecuteSlot(slot, SlotTarget::Columnar)),

@@ -2,7 +2,7 @@
 
 ghost use Rattle.std.specs.Prelude.{◌≡◌, IfOk, IfErr};
 ghost use Rattle.vx_tree.specs.Tree.{masked_of};
-ghost use Rattle.vx_step.specs.Steps.{IsStep, IsStopped};
+ghost use Rattle.vx_step.specs.Steps.{IsStep, IsFailed};
 ghost use Rattle.vx_step.specs.Told.{told_by};
 
 use crate::steps::{ExecutionStep, SlotTarget, done};
@@ -12,7 +12,7 @@ use vx_tree::{ArrayRef, Canonical, Validity};
 use vx_value::VortexResult;
 
 /// Requests `child` as a canonical column; joins its validity with `validity` once it is one.
-#[tactic(auto, using(crate::proofs::MaskedLemmas::told_rows, crate::proofs::MaskedLemmas::told_nullable, crate::proofs::MaskedLemmas::told_done, crate::proofs::MaskedLemmas::told_stopped, crate::proofs::StepsLemmas::masked_waits))]
+#[tactic(auto, using(crate::proofs::MaskedLemmas::told_rows, crate::proofs::MaskedLemmas::told_nullable, crate::proofs::MaskedLemmas::told_done, crate::proofs::MaskedLemmas::told_failed, crate::proofs::StepsLemmas::masked_waits))]
 pub(crate) fn mask_or_wait(
     alloc: Global,
     array: &ArrayRef,
@@ -21,7 +21,7 @@ pub(crate) fn mask_or_wait(
 ) -> VortexResult<ExecutionStep>
     requires { array.now ≡ masked_of child.now validity.now }
     ensures ok { IfOk result (λ s. IsStep array.now s) }
-    ensures err { IfErr result (IsStopped array.now) }
+    ensures err { IfErr result (IsFailed array.now) }
 {
     array.well_formed_tree();
     match Canonical::try_from_array_ref(child.clone()?) {

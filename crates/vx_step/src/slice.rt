@@ -2,7 +2,7 @@
 
 ghost use Rattle.std.specs.Prelude.{◌≡◌, ◌≤◌, IfOk, IfErr};
 ghost use Rattle.vx_tree.specs.Tree.{len, slice_of};
-ghost use Rattle.vx_step.specs.Steps.{IsStep, IsStopped};
+ghost use Rattle.vx_step.specs.Steps.{IsStep, IsFailed};
 
 use crate::steps::{ExecutionStep, SlotTarget};
 use std::alloc::Global;
@@ -22,7 +22,7 @@ pub(crate) fn slice_or_wait(
     requires shape { array.now ≡ slice_of range.start range.end child.now }
     requires within { (range.start ≤ range.end) × (range.end ≤ len child.now) }
     ensures ok { IfOk result (λ s. IsStep array.now s) }
-    ensures err { IfErr result (IsStopped array.now) }
+    ensures err { IfErr result (IsFailed array.now) }
 {
     if !child.is::<AnyCanonical>() {
         return Ok(ExecutionStep::ExecuteSlot(0, SlotTarget::Canonical));

@@ -5,7 +5,7 @@ ghost use Rattle.vx_tree.specs.Tree.{datum, is_canonical};
 ghost use Rattle.vx_tree.specs.Columns.{IsColumn};
 ghost use Rattle.vx_tree.specs.Canonicals.{canonical_tree};
 ghost use Rattle.vx_step.specs.Turns.{meets};
-ghost use Rattle.vx_step.specs.Steps.{IsStep, IsStopped};
+ghost use Rattle.vx_step.specs.Steps.{IsStep, IsFailed};
 
 use crate::filter::filter_or_wait;
 use crate::function::apply_or_wait;
@@ -58,7 +58,7 @@ pub enum ExecutionStep {
 pub fn step(alloc: Global, array: &ArrayRef) -> VortexResult<ExecutionStep>
     requires { is_canonical (datum array.now) ≡ false }
     ensures ok { IfOk result (λ s. IsStep array.now s) }
-    ensures err { IfErr result (IsStopped array.now) }
+    ensures err { IfErr result (IsFailed array.now) }
 {
     match array.kind() {
         ArrayKind::Constant(_) => {

@@ -2,7 +2,7 @@
 
 ghost use Rattle.std.specs.Prelude.{◌≡◌, IfOk, IfErr};
 ghost use Rattle.vx_tree.specs.Tree.{validity_in};
-ghost use Rattle.vx_step.specs.Steps.{IsStep, IsStopped};
+ghost use Rattle.vx_step.specs.Steps.{IsStep, IsFailed};
 
 use crate::steps::{ExecutionStep, SlotTarget, done};
 use std::alloc::Global;
@@ -11,7 +11,7 @@ use vx_tree::{ArrayRef, Columnar};
 use vx_value::VortexResult;
 
 /// Requests `child` as a column; tests its rows for null once it is one.
-#[tactic(auto, using(crate::proofs::StepsLemmas::validity_done, crate::proofs::StepsLemmas::validity_waits, crate::proofs::StepsLemmas::unread_stopped))]
+#[tactic(auto, using(crate::proofs::StepsLemmas::validity_done, crate::proofs::StepsLemmas::validity_waits, crate::proofs::StepsLemmas::unread_failed))]
 pub(crate) fn validity_or_wait(
     alloc: Global,
     array: &ArrayRef,
@@ -19,7 +19,7 @@ pub(crate) fn validity_or_wait(
 ) -> VortexResult<ExecutionStep>
     requires { array.now ≡ validity_in child.now }
     ensures ok { IfOk result (λ s. IsStep array.now s) }
-    ensures err { IfErr result (IsStopped array.now) }
+    ensures err { IfErr result (IsFailed array.now) }
 {
     match Columnar::try_from_array_ref(child.clone()?) {
         Ok(column) => match validity_canonical(alloc, &column) {

@@ -1,7 +1,8 @@
-use Rattle.std.proofs.Common.{subst}
+use Rattle.std.proofs.Common.{◌≡◌, subst}
+use Rattle.vx_value.specs.declared.error.VortexError.TheVariants.{Fault}
 use Rattle.vx_step.specs.Steps.{IsStep}
 use Rattle.vx_exec.proofs.MovesLemmas.{move_done, move_push, awaited_present}
-use Rattle.vx_exec.proofs.FramesLemmas.{stopped_inside}
+use Rattle.vx_exec.proofs.FramesLemmas.{stopped_inside, failed_stopped, failed_fault}
 use Rattle.vx_exec.proofs.turn.advance.Goals as goal
 
 pub take_slot-requires : goal.take_slot-requires
@@ -24,4 +25,7 @@ returns-in_ok-push-in-Ok-ExecuteSlot-clause-ok g c =
 
 pub returns-in-Err-clause-err : goal.returns-in-Err-clause-err
 returns-in-Err-clause-err g c =
-    stopped_inside c.args.frames.now.items c.args.current c.in-Err.e c.requires.frames c.in-Err.ensures.err
+    stopped_inside c.args.frames.now.items c.args.current c.in-Err.e c.requires.frames (failed_stopped c.args.current c.in-Err.e c.in-Err.ensures.err)
+
+pub returns-in-Err-clause-fault : goal.returns-in-Err-clause-fault
+returns-in-Err-clause-fault g c = λ e. let same : c.in-Err.e ≡ Fault = cc in failed_fault c.args.current c.in-Err.e same c.in-Err.ensures.err

@@ -4,9 +4,9 @@ use Rattle.vx_tree.specs.Tree.{slots_of}
 use Rattle.vx_tree.specs.Canonicals.{columnar_tree}
 use Rattle.vx_tree.specs.Well.{IsWell}
 use Rattle.vx_tree.specs.declared.canonical.columnar.Columnar.{Columnar}
-use Rattle.vx_step.specs.Steps.{IsDone, IsStopped}
+use Rattle.vx_step.specs.Steps.{IsDone, IsFailed}
 use Rattle.vx_column.specs.Applied.{IsCall, IsApplied, IsUnapplied}
-use Rattle.vx_step.proofs.StepsLemmas.{function_waits, may_call, applied_done, unapplied_stopped}
+use Rattle.vx_step.proofs.StepsLemmas.{function_waits, may_call, applied_done, unapplied_failed}
 use Rattle.vx_step.proofs.function.apply_or_wait.Goals as goal
 
 pub apply_fn-requires : goal.apply_fn-requires
@@ -34,11 +34,12 @@ pub returns-in_err-column-in-None-clause-err : goal.returns-in_err-column-in-Non
 returns-in_err-column-in-None-clause-err c =
     let f = c.args.scalar_fn.now in
     let ts = map columnar_tree c.in_ok-columns-in-None.columns.items in
-    let stopped : (e : VortexError) → IsUnapplied f (map columnar_tree c.as_slice.result.now) c.len.result e → IsStopped c.args.array.now e = λ e h.
-    unapplied_stopped f c.args.array.now (slots_of c.args.slots.now) ts c.requires.shape c.requires.well c.in_ok-columns-in-None.ensures e
+    let stopped : (e : VortexError) → IsUnapplied f (map columnar_tree c.as_slice.result.now) c.len.result e → IsFailed c.args.array.now e = λ e h.
+    unapplied_failed f c.args.array.now (slots_of c.args.slots.now) ts c.requires.shape c.requires.well c.in_ok-columns-in-None.ensures
+    c.in-None.ensures e
     (subst (λ n. IsUnapplied f ts n e) c.len.ensures
     (subst (λ (xs : List Columnar). IsUnapplied f (map columnar_tree xs) c.len.result e) c.as_slice.ensures.value h)) in
-    let here : IsStopped c.args.array.now c.in_err-column-in-None.field-0.0 = stopped _ c.in_err-column-in-None.ensures.err in
+    let here : IsFailed c.args.array.now c.in_err-column-in-None.field-0.0 = stopped _ c.in_err-column-in-None.ensures.err in
     search rules
 
 pub returns-in-Some-clause-ok : goal.returns-in-Some-clause-ok
