@@ -9,7 +9,10 @@ ghost use Rattle.vx_tree.specs.Well.{IsWell};
 ghost use Rattle.vx_tree.specs.Weight.{weight};
 ghost use Rattle.vx_rule.specs.Rules.{Rewrites};
 ghost use Rattle.vx_opt.specs.Select.{IsRange, IsMaskOf};
-ghost use Rattle.vx_opt.specs.Derives.{Step, Reaches, at_here, below_all};
+ghost use Rattle.vx_opt.specs.Derives.{Step, Reaches, IsAtPlace, at_here, below_all};
+ghost use Rattle.vx_opt.specs.Pass.{Optimizes, ComesTo};
+ghost use Rattle.vx_opt.specs.Descends.{Descends, DescendsTo};
+ghost use Rattle.vx_opt.specs.Answers.{IsRewritten};
 
 /// States how rewrites compose: one at the root, one after another, those below a slot, and an answer that isn't a row's. (own)
 pub fn deriving_laws()
@@ -17,6 +20,15 @@ pub fn deriving_laws()
     ensures after { (t u v : Tree) (ps qs : List Step) → Reaches t u ps → Reaches u v qs → Reaches t v (ps ++ qs) }
     ensures inside { (i : ℕ) (c d t : Tree) (ps : List Step) → HasSlot i c t → Reaches c d ps → Reaches t (put i d t) (below_all i ps) }
     ensures handed_in { (t u : Tree) → Keeps t u → Reaches t u (record { place = []; spent = suc (weight u) } ∷ []) }
+{}
+
+/// States that passes are rewrites that were counted: what they make may stand for the tree, and they lower its weight unless an entry that was
+/// handed in answered; and the rewrite to which they come is made at one place, with at least as many before it there. (own)
+pub fn optimizing_laws()
+    ensures optimizes { (t u : Tree) (n s : ℕ) → Optimizes t u n s → IsRewritten t u n s }
+    ensures descends { (t u : Tree) (n s : ℕ) → Descends t u n s → IsRewritten t u n s }
+    ensures comes { (t : Tree) (k n s : ℕ) → ComesTo t k n s → IsAtPlace t k n s }
+    ensures descends_to { (t : Tree) (k n s : ℕ) → DescendsTo t k n s → IsAtPlace t k n s }
 {}
 
 /// States that a slice of a slice may stand for the one slice, and a filter of a filter for the filter by the combined mask, whatever
