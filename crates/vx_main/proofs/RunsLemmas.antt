@@ -23,7 +23,7 @@ use Rattle.vx_main.specs.declared.top.words.Command.TheVariants.{Run, Optimize, 
 -- a command's source may stand for the tree
 pub source_keeps : (c : Command) (t s : Tree) → IsSource c t s → Keeps t s
 source_keeps (Run limit) t s e = subst (Keeps t) (sym e) (keeps_refl t)
-source_keeps (Optimize limit) t s e = e.0
+source_keeps (Optimize limit) t s e = e.rewritten.keeps
 source_keeps Help t s e = absurd e
 source_keeps Version t s e = absurd e
 

@@ -8,7 +8,9 @@ pub use Rattle.vx_json.specs.RowText
 pub use Rattle.vx_json.specs.Spelled
 pub use Rattle.vx_exec.specs.Moves
 pub use Rattle.vx_tree.specs.Weight
+pub use Rattle.vx_opt.specs.Pass
 pub use Rattle.vx_opt.specs.Descends
+pub use Rattle.vx_opt.specs.Answers
 pub mod Commands
 pub mod Statuses
 pub mod Runs

@@ -5,9 +5,8 @@ use Rattle.vx_tree.specs.Tree.{Tree, dtype, datum, id_of, is_columnar}
 use Rattle.vx_tree.specs.Cells.{rows, IsClean}
 use Rattle.vx_tree.specs.Cost.{cost}
 use Rattle.vx_tree.specs.Weight.{weight}
-use Rattle.vx_tree.specs.Keeps.{Keeps, RowsKeep}
-use Rattle.vx_opt.specs.Limits.{IsOptimized, IsAtLimit}
-use Rattle.vx_opt.specs.Descends.{Descends}
+use Rattle.vx_tree.specs.Keeps.{RowsKeep}
+use Rattle.vx_opt.specs.Answers.{IsDescended, MeetsLimitBelow}
 use Rattle.vx_main.specs.Commands.{limit_of}
 use Rattle.vx_value.specs.declared.error.VortexError.{VortexError}
 use Rattle.vx_value.specs.declared.error.VortexError.TheVariants as error
@@ -27,15 +26,15 @@ use Rattle.vx_main.specs.declared.top.status.Status.TheVariants.{BadInput, Fault
 abbrev pub is_column : Tree → Bool
 is_column t = is_columnar (datum t)
 
--- the tree that a command executes in place of t: t itself, or t optimized
+-- the tree that a command executes in the place of t: t itself, or what it is optimized to, each slot after its root, by rows of the table alone
 abbrev pub IsSource : Command → Tree → Tree → Type 0
 IsSource (Run limit) t u = u ≡ t
-IsSource (Optimize limit) t u = Keeps t u × Descends t u × IsOptimized t u
+IsSource (Optimize limit) t u = IsDescended t u 0
 IsSource _ t u = ⊥
 
--- the command optimizes t, and reaches a limit: `at_root` rewrites at one root, and `total` in all
+-- the command rewrites t so, and comes to a rewrite at a limit: it is number at_root at its root, and number total in all
 abbrev pub IsStuck : Command → Tree → ℕ → ℕ → Type 0
-IsStuck (Optimize limit) t at_root total = IsAtLimit t 0 at_root total
+IsStuck (Optimize limit) t at_root total = MeetsLimitBelow t 0 at_root total
 IsStuck _ t at_root total = ⊥
 
 -- why the command has no source for t: out of memory, or a limit, which a tree of weight 100 or less doesn't reach

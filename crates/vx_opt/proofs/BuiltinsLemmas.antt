@@ -19,13 +19,14 @@ use Rattle.vx_tree.specs.Keeps.{Keeps}
 use Rattle.vx_tree.specs.Well.{IsWell}
 use Rattle.vx_tree.proofs.ConditionsLemmas.{none_refused}
 use Rattle.vx_rule.proofs.CastsLemmas.{C1_keeps}
-use Rattle.vx_opt.specs.Limits.{IsLimited, IsSettledFrom}
-use Rattle.vx_opt.specs.Builtins.{IsCall, IsCalled, Calls}
+use Rattle.vx_opt.specs.Answers.{IsOptimized, IsLimited}
+use Rattle.vx_opt.specs.Select.{GivesJust}
+use Rattle.vx_opt.specs.Builtins.{IsCall, Calls, StandsForCall, CastsTo}
 
 -- the node, optimized
 pub calls_by : (f : ScalarFnRef) (ts : List Tree) (n : ℕ) (t : Tree) (r : Result Tree VortexError)
-    → IsCall f ts n t → IfOk r (IsSettledFrom t) → IfErr r (IsLimited t 0) → Calls f ts n r
-calls_by f ts n t (Ok u) h k l = (t, h, k.keeps)
+    → IsCall f ts n t → IfOk r (λ u. IsOptimized t u 0) → IfErr r (IsLimited t 0) → Calls f ts n r
+calls_by f ts n t (Ok u) h k l = (t, h, k)
 calls_by f ts n t (Err e) h k l = inr (t, h, l)
 
 -- ---- a cast to the tree's own type
@@ -45,10 +46,21 @@ module _ (target : DType) (t : Tree) (e : type_of target ≡ dtype t) where
   cast_made : called (fn_of.Cast target) (t ∷ []) (len t) ≡ Some (call_of (fn_of.Cast target) (type_of target) (len t) (t ∷ []))
   cast_made = ap (option_map (λ ty. call_of (fn_of.Cast target) ty (len t) (t ∷ []))) cast_given
 
-  pub same_cast : (u : Tree) → IsWell t → u ≡ t → IsCalled (fn_of.Cast target) (t ∷ []) (len t) u
+  same_cast : (u : Tree) → IsWell t → u ≡ t → StandsForCall (fn_of.Cast target) (t ∷ []) (len t) u
   same_cast u w h = (
     call_of (fn_of.Cast target) (type_of target) (len t) (t ∷ []),
     (cast_taken, cast_made),
     subst (Keeps (call_of (fn_of.Cast target) (type_of target) (len t) (t ∷ []))) (sym h)
         (C1_keeps (type_of target) (len t) target t ((dtype t ∷ [], refl, cast_given), (w, tt)) (sym e)),
   )
+
+  pub own_cast : (r : Result Tree VortexError) → IsWell t → GivesJust t r → CastsTo target t r
+  own_cast (Ok u) w h = record { keeps = same_cast u w h; same = λ same. h; other = λ differ. absurd (differ e) }
+  own_cast (Err x) w h = record { keeps = tt; same = λ same. h; other = λ differ. absurd (differ e) }
+
+-- ---- a cast to another
+
+pub other_cast : (target : DType) (t : Tree) (r : Result Tree VortexError) → (type_of target ≡ dtype t → ⊥)
+    → Calls (fn_of.Cast target) (t ∷ []) (len t) r → CastsTo target t r
+other_cast target t (Ok u) differ h = record { keeps = (h.0, h.1, h.2.rewritten.keeps); same = λ same. absurd (differ same); other = λ x. h }
+other_cast target t (Err x) differ h = record { keeps = tt; same = λ same. absurd (differ same); other = λ y. h }

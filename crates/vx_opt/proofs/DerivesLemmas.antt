@@ -12,7 +12,7 @@ use Rattle.vx_tree.proofs.SlotsLemmas.{put_same, put_twice, put_has, has_present
 use Rattle.vx_rule.specs.Rules.{Rewrites}
 use Rattle.vx_rule.proofs.KeepsLemmas.{row_keeps}
 use Rattle.vx_rule.proofs.LighterLemmas.{row_lighter}
-use Rattle.vx_opt.specs.Derives.{Step, Derives, Reaches, at_here, below_all, spent_by, count_at, same_place}
+use Rattle.vx_opt.specs.Derives.{Step, Derives, Reaches, at_here, below_all, spent_by, count_at, same_place, IsDerived, IsAtPlace}
 
 -- ---- steps
 
@@ -99,4 +99,80 @@ reaches_inside i c d t ps h r = record {
   lighter = λ z.
       let l : length ps + weight (put i d t) ≤ weight t = put_lighter i (length ps) c d t h (r.lighter (sym (below-spent i ps) ∙ z)) in
       omega (arith, below-length i ps);
+}
+
+-- ---- with their numbers
+
+pub derived_refl : (t : Tree) → IsDerived t t 0 0 0
+derived_refl t = record { steps = []; reaches = reaches_refl t; at_top = refl; counted = refl; by_answers = refl }
+
+pub derived_trans : (t u v : Tree) (x n s y m q : ℕ) → IsDerived t u x n s → IsDerived u v y m q → IsDerived t v (x + y) (n + m) (s + q)
+derived_trans t u v x n s y m q h g = record {
+  steps = h.steps ++ g.steps;
+  reaches = reaches_trans t u v h.steps g.steps h.reaches g.reaches;
+  at_top = omega (arith, count_append [] h.steps g.steps, h.at_top, g.at_top);
+  counted = omega (arith, length-append h.steps g.steps, h.counted, g.counted);
+  by_answers = omega (arith, spent-append h.steps g.steps, h.by_answers, g.by_answers);
+}
+
+pub derived_inside : (i : ℕ) (c d t : Tree) (x n s : ℕ) → HasSlot i c t → IsDerived c d x n s → IsDerived t (put i d t) 0 n s
+derived_inside i c d t x n s w h = record {
+  steps = below_all i h.steps;
+  reaches = reaches_inside i c d t h.steps w h.reaches;
+  at_top = count_below i h.steps;
+  counted = below-length i h.steps ∙ h.counted;
+  by_answers = below-spent i h.steps ∙ h.by_answers;
+}
+
+pub derived_as : (t u : Tree) (x n s y m q : ℕ) → IsDerived t u x n s → x ≡ y → n ≡ m → s ≡ q → IsDerived t u y m q
+derived_as t u x n s y m q h a b c = record {
+  steps = h.steps;
+  reaches = h.reaches;
+  at_top = h.at_top ∙ a;
+  counted = h.counted ∙ b;
+  by_answers = h.by_answers ∙ c;
+}
+
+pub place_here : (t u : Tree) (x n s : ℕ) → IsDerived t u x n s → IsAtPlace t x n s
+place_here t u x n s h = record {
+  tree = u;
+  steps = h.steps;
+  reaches = h.reaches;
+  counted = h.counted;
+  by_answers = h.by_answers;
+  place = [];
+  at_one = omega (arith, h.at_top);
+}
+
+pub place_after : (t u : Tree) (x n s k m q : ℕ) → IsDerived t u x n s → IsAtPlace u k m q → IsAtPlace t k (n + m) (s + q)
+place_after t u x n s k m q h g = record {
+  tree = g.tree;
+  steps = h.steps ++ g.steps;
+  reaches = reaches_trans t u g.tree h.steps g.steps h.reaches g.reaches;
+  counted = omega (arith, length-append h.steps g.steps, h.counted, g.counted);
+  by_answers = omega (arith, spent-append h.steps g.steps, h.by_answers, g.by_answers);
+  place = g.place;
+  at_one = omega (arith, count_append g.place h.steps g.steps, g.at_one);
+}
+
+pub place_inside : (i : ℕ) (c t : Tree) (k n s : ℕ) → HasSlot i c t → IsAtPlace c k n s → IsAtPlace t k n s
+place_inside i c t k n s w h = record {
+  tree = put i h.tree t;
+  steps = below_all i h.steps;
+  reaches = reaches_inside i c h.tree t h.steps w h.reaches;
+  counted = below-length i h.steps ∙ h.counted;
+  by_answers = below-spent i h.steps ∙ h.by_answers;
+  place = i ∷ h.place;
+  at_one = omega (arith, h.at_one, count_inside i h.place h.steps);
+}
+
+pub place_as : (t : Tree) (k n s m q : ℕ) → IsAtPlace t k n s → n ≡ m → s ≡ q → IsAtPlace t k m q
+place_as t k n s m q h b c = record {
+  tree = h.tree;
+  steps = h.steps;
+  reaches = h.reaches;
+  counted = h.counted ∙ b;
+  by_answers = h.by_answers ∙ c;
+  place = h.place;
+  at_one = h.at_one;
 }

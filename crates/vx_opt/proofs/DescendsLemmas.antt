@@ -1,67 +1,38 @@
--- Every slot, in order.
-use Rattle.std.proofs.Common.{◌≡◌, ℕ, zero, suc, ◌+◌, ◌<◌, List, arith, refl, sym, subst, inl, inr, add-one}
-use Rattle.vx_value.specs.Types.{DataType}
-use Rattle.vx_tree.specs.Tree.{Tree, Slots, Data, node, no_slots, absent, slot, slots}
-use Rattle.vx_tree.specs.Slots.{HoldsAt, set_slot, IsPresentAt, count_slots}
-use Rattle.vx_rule.specs.Rules.{IsSettled}
-use Rattle.vx_opt.specs.Derives.{Step, Derives}
-use Rattle.vx_opt.specs.Limits.{call_limit, IsRewrittenBelow}
-use Rattle.vx_opt.specs.Descends.{Descends, DescendSlots, DescendsUpTo, IsDescended, HaveDescended, IsSunk, IsSinking}
-use Rattle.vx_opt.proofs.LimitsLemmas.{below_refl, below_trans}
+-- What descending makes.
+use Rattle.std.proofs.Common.{ℕ, ◌+◌, ◌≤◌, arith, refl}
+use Rattle.vx_tree.specs.Tree.{Tree, slots}
+use Rattle.vx_tree.specs.Slots.{put, count_slots}
+use Rattle.vx_tree.specs.Keeps.{Keeps}
+use Rattle.vx_opt.specs.Limits.{root_limit}
+use Rattle.vx_opt.specs.Derives.{IsDerived, IsAtPlace}
+use Rattle.vx_opt.specs.Descends.{Descends, DescendsIn, DescendsTo, DescendsToIn, descends, first, over, into, at_root, below, in_slot}
+use Rattle.vx_opt.proofs.DerivesLemmas.{derived_refl, derived_trans, derived_inside, derived_as, place_after, place_inside}
+use Rattle.vx_opt.proofs.PassLemmas.{optimizes_rewritten, comes_at}
 
-upto_put : (i : ℕ) (rs us : Slots) (c d : Tree) → DescendsUpTo i rs us → HoldsAt i c us → Descends c d → DescendsUpTo (suc i) rs (set_slot i d us)
-upto_put i rs no_slots c d h g k = absurd g
-upto_put zero rs (absent us) c d h g k = absurd g
-upto_put zero rs (slot b us) c d h g k = subst (λ x. DescendsUpTo 1 x (slot d us)) (sym h) (subst (λ x. Descends x d) (sym g) k, refl)
-upto_put (suc i) no_slots (absent us) c d h g k = absurd h
-upto_put (suc i) (absent rs) (absent us) c d h g k = upto_put i rs us c d h g k
-upto_put (suc i) (slot a rs) (absent us) c d h g k = absurd h
-upto_put (suc i) no_slots (slot b us) c d h g k = absurd h
-upto_put (suc i) (absent rs) (slot b us) c d h g k = absurd h
-upto_put (suc i) (slot a rs) (slot b us) c d h g k = (h.0, upto_put i rs us c d h.1 g k)
+mutual
+  pub descends_rewritten : (t u : Tree) (n s : ℕ) → Descends t u n s → (k : ℕ) × IsDerived t u k n s × (k ≤ root_limit)
+  descends_rewritten _ _ _ _ (descends t r u n s m q h g) =
+      let o = optimizes_rewritten t r n s h in
+      let all : IsDerived t u (o.0 + 0) (n + m) (s + q) = derived_trans t r u o.0 n s 0 m q o.1 (descends_in_derived (count_slots (slots r)) r u m q g) in
+      (o.0, derived_as t u (o.0 + 0) (n + m) (s + q) o.0 (n + m) (s + q) all (omega arith) refl refl, o.2)
 
-upto_absent : (i : ℕ) (rs us : Slots) → DescendsUpTo i rs us → (IsPresentAt i us → ⊥) → DescendsUpTo (suc i) rs us
-upto_absent zero rs no_slots h g = subst (λ x. DescendsUpTo 1 x no_slots) (sym h) tt
-upto_absent zero rs (absent us) h g = subst (λ x. DescendsUpTo 1 x (absent us)) (sym h) refl
-upto_absent zero rs (slot b us) h g = absurd (g tt)
-upto_absent (suc i) no_slots no_slots h g = tt
-upto_absent (suc i) (absent rs) no_slots h g = absurd h
-upto_absent (suc i) (slot a rs) no_slots h g = absurd h
-upto_absent (suc i) no_slots (absent us) h g = absurd h
-upto_absent (suc i) (absent rs) (absent us) h g = upto_absent i rs us h g
-upto_absent (suc i) (slot a rs) (absent us) h g = absurd h
-upto_absent (suc i) no_slots (slot b us) h g = absurd h
-upto_absent (suc i) (absent rs) (slot b us) h g = absurd h
-upto_absent (suc i) (slot a rs) (slot b us) h g = (h.0, upto_absent i rs us h.1 g)
+  descends_in_derived : (i : ℕ) (t u : Tree) (n s : ℕ) → DescendsIn i t u n s → IsDerived t u 0 n s
+  descends_in_derived _ _ _ _ _ (first t) = derived_refl t
+  descends_in_derived _ _ _ _ _ (over i t u m q h g) = descends_in_derived i t u m q h
+  descends_in_derived _ _ _ _ _ (into i t u c d m q n s h w g) =
+      let o = descends_rewritten c d n s g in
+      derived_trans t u (put i d u) 0 m q 0 n s (descends_in_derived i t u m q h) (derived_inside i c d u o.0 n s w o.1)
 
-upto_end : (i : ℕ) (rs us : Slots) → i ≡ count_slots rs → DescendsUpTo i rs us → DescendSlots rs us
-upto_end zero no_slots us e h = subst (DescendSlots no_slots) h tt
-upto_end zero (absent rs) us e h = absurd (omega arith)
-upto_end zero (slot a rs) us e h = absurd (omega arith)
-upto_end (suc i) no_slots us e h = absurd (omega arith)
-upto_end (suc i) (absent rs) no_slots e h = absurd h
-upto_end (suc i) (absent rs) (absent us) e h = upto_end i rs us (omega arith) h
-upto_end (suc i) (absent rs) (slot b us) e h = absurd h
-upto_end (suc i) (slot a rs) no_slots e h = absurd h
-upto_end (suc i) (slot a rs) (absent us) e h = absurd h
-upto_end (suc i) (slot a rs) (slot b us) e h = (h.0, upto_end i rs us (omega arith) h.1)
+mutual
+  pub descends_at : (t : Tree) (k n s : ℕ) → DescendsTo t k n s → IsAtPlace t k n s
+  descends_at _ _ _ _ (at_root t k n s h) = comes_at t k n s h
+  descends_at _ _ _ _ (below t r k n s m q h g) =
+      let o = optimizes_rewritten t r n s h in
+      place_after t r o.0 n s k m q o.1 (descends_in_at r k m q g)
 
-upto_step : (i : ℕ) (t u v : Tree) → IsDescended i t u → IsSunk i u v → IsDescended (i + 1) t v
-upto_step i (node ty n d rs) (node uy m e us) v h (inl g) = subst (IsDescended (i + 1) (node ty n d rs)) (sym g.1)
-    (h.0, h.1, h.2, rw add-one (upto_absent i rs us h.3 g.0))
-upto_step i (node ty n d rs) (node uy m e us) v h (inr g) = subst (IsDescended (i + 1) (node ty n d rs)) (sym g.4)
-    (h.0, h.1, h.2, rw add-one (upto_put i rs us g.0 g.1 h.3 g.2 g.3))
+  descends_in_at : (t : Tree) (k n s : ℕ) → DescendsToIn t k n s → IsAtPlace t k n s
+  descends_in_at _ _ _ _ (in_slot i t u c k m q n s h w g) =
+      place_after t u 0 m q k n s (descends_in_derived i t u m q h) (place_inside i c u k n s w (descends_at c k n s g))
 
-pub sink_start : (t : Tree) (a : ℕ) → a < call_limit → IsSinking 0 t t a a
-sink_start (node ty n d rs) a l = record { below = below_refl (node ty n d rs) a l; sunk = (refl, refl, refl, refl) }
-
-pub sink_go : (i : ℕ) (t u v : Tree) (a b c : ℕ) → IsSinking i t u a b → IsRewrittenBelow u v b c → IsSunk i u v → IsSinking (i + 1) t v a c
-sink_go i t u v a b c h m s = record { below = below_trans t u v a b c h.below m; sunk = upto_step i t u v h.sunk s }
-
-pub sink_end : (i : ℕ) (t u : Tree) → i ≡ count_slots (slots t) → IsDescended i t u → HaveDescended t u
-sink_end i (node ty n d rs) (node uy m e us) q h = (h.0, h.1, h.2, upto_end i rs us q h.3)
-
-pub descends_by : (t r u : Tree) (ps : List Step) → Derives t r ps → IsSettled r → HaveDescended r u → Descends t u
-descends_by t (node ty n d rs) (node uy m e us) ps g s h =
-    subst (λ (x : DataType). Descends t (node x m e us)) h.0
-    (subst (λ (x : ℕ). Descends t (node ty x e us)) h.1 (subst (λ (x : Data). Descends t (node ty n x us)) h.2 (rs, ps, g, s, h.3)))
+pub descends_keeps : (t u : Tree) (n s : ℕ) → Descends t u n s → Keeps t u
+descends_keeps t u n s h = (descends_rewritten t u n s h).1.reaches.keeps

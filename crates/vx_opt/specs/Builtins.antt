@@ -1,5 +1,5 @@
--- Functions of trees: the results of a call, and its errors.
-use Rattle.std.specs.Prelude.{◌≡◌, ℕ, List, [], ◌∷◌, Some, None, ◌⊎◌, Result, MatchResult}
+-- Calls of functions over trees: what is given, and why nothing is.
+use Rattle.std.specs.Prelude.{◌≡◌, ℕ, List, [], ◌∷◌, Some, None, ◌⊎◌, Result, MatchResult, IfOk}
 use Rattle.vx_value.specs.Types.{DataType}
 use Rattle.vx_value.specs.View.{type_of}
 use Rattle.vx_value.specs.declared.dtype.DType.{DType}
@@ -7,10 +7,11 @@ use Rattle.vx_value.specs.declared.error.VortexError.{VortexError}
 use Rattle.vx_value.specs.declared.error.VortexError.TheVariants.{OutOfMemory}
 use Rattle.vx_fn.specs.declared.function.ScalarFnRef.{ScalarFnRef}
 use Rattle.vx_fn.specs.declared.function.ScalarFnRef.TheVariants as fn_of
-use Rattle.vx_tree.specs.Tree.{Tree, len}
+use Rattle.vx_tree.specs.Tree.{Tree, dtype, len}
 use Rattle.vx_tree.specs.Calls.{called, call_refusal}
 use Rattle.vx_tree.specs.Keeps.{Keeps}
-use Rattle.vx_opt.specs.Limits.{IsLimited}
+use Rattle.vx_opt.specs.Answers.{IsOptimized, IsLimited}
+use Rattle.vx_opt.specs.Select.{GivesJust}
 
 -- the call isn't refused, and t is its node
 abbrev pub IsCall : ScalarFnRef → List Tree → ℕ → Tree → Type 0
@@ -24,11 +25,11 @@ IsNoCall f ts n e = (e ≡ OutOfMemory) ⊎ (call_refusal f ts n ≡ Some e)
 abbrev pub MakesCall : ScalarFnRef → List Tree → ℕ → Result Tree VortexError → Type 0
 MakesCall f ts n r = MatchResult r (IsCall f ts n) (IsNoCall f ts n)
 
--- u may stand for the node of the call
+-- what optimizing the node of the call gives
 abbrev pub IsCalled : ScalarFnRef → List Tree → ℕ → Tree → Type 0
-IsCalled f ts n u = (t : Tree) × IsCall f ts n t × Keeps t u
+IsCalled f ts n u = (t : Tree) × IsCall f ts n t × IsOptimized t u 0
 
--- why there is no such tree: there is no node, or optimizing it fails
+-- why nothing is given: there is no node, or a limit in optimizing it
 abbrev pub IsUncalled : ScalarFnRef → List Tree → ℕ → VortexError → Type 0
 IsUncalled f ts n e = IsNoCall f ts n e ⊎ ((t : Tree) × IsCall f ts n t × IsLimited t 0 e)
 
@@ -36,6 +37,16 @@ IsUncalled f ts n e = IsNoCall f ts n e ⊎ ((t : Tree) × IsCall f ts n t × Is
 abbrev pub Calls : ScalarFnRef → List Tree → ℕ → Result Tree VortexError → Type 0
 Calls f ts n r = MatchResult r (IsCalled f ts n) (IsUncalled f ts n)
 
--- the result is the cast to the type, optimized
+-- what may stand for the node of the call
+abbrev pub StandsForCall : ScalarFnRef → List Tree → ℕ → Tree → Type 0
+StandsForCall f ts n u = (t : Tree) × IsCall f ts n t × Keeps t u
+
+-- a cast: the tree itself if it has the type, and else the call, optimized
+pub record CastsTo (target : DType) (t : Tree) (r : Result Tree VortexError) : Type 0 where
+  pub keeps : IfOk r (StandsForCall (fn_of.Cast target) (t ∷ []) (len t))
+  pub same : type_of target ≡ dtype t → GivesJust t r
+  pub other : (type_of target ≡ dtype t → ⊥) → Calls (fn_of.Cast target) (t ∷ []) (len t) r
+
+-- a cast to the type
 abbrev pub Casts : DataType → Tree → Result Tree VortexError → Type 0
-Casts ty t r = (target : DType) × (type_of target ≡ ty) × Calls (fn_of.Cast target) (t ∷ []) (len t) r
+Casts ty t r = (target : DType) × (type_of target ≡ ty) × CastsTo target t r

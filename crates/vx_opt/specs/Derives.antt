@@ -60,3 +60,21 @@ pub record Reaches (t u : Tree) (steps : List Step) : Type 0 where
   pub derives : Derives t u steps
   pub keeps : Keeps t u
   pub lighter : spent_by steps ≡ 0 → length steps + weight u ≤ weight t
+
+-- u comes from t by this many steps, of which this many are at the root, and which spent this much
+pub record IsDerived (t u : Tree) (top total spent : ℕ) : Type 0 where
+  pub steps : List Step
+  pub reaches : Reaches t u steps
+  pub at_top : count_at [] steps ≡ top
+  pub counted : length steps ≡ total
+  pub by_answers : spent_by steps ≡ spent
+
+-- t derives a tree by this many steps, at least this many of them at one place, and which spent this much
+pub record IsAtPlace (t : Tree) (at_root total spent : ℕ) : Type 0 where
+  pub tree : Tree
+  pub steps : List Step
+  pub reaches : Reaches t tree steps
+  pub counted : length steps ≡ total
+  pub by_answers : spent_by steps ≡ spent
+  pub place : List ℕ
+  pub at_one : at_root ≤ count_at place steps

@@ -1,53 +1,28 @@
--- Settled at every place, each slot after its node.
-use Rattle.std.specs.Prelude.{◌≡◌, ℕ, zero, suc, List, ◌⊎◌}
-use Rattle.vx_tree.specs.Tree.{Tree, Slots, node, no_slots, absent, slot}
-use Rattle.vx_tree.specs.Slots.{IsPresent}
-use Rattle.vx_rule.specs.Rules.{IsSettled}
-use Rattle.vx_opt.specs.Derives.{Step, Derives, InSlot}
-use Rattle.vx_opt.specs.Limits.{IsRewrittenBelow}
+-- A root, and then each of its slots so, in order. A root isn't visited again after its slots.
+use Rattle.std.specs.Prelude.{ℕ, suc, ◌+◌}
+use Rattle.vx_tree.specs.Tree.{Tree, slots}
+use Rattle.vx_tree.specs.Slots.{HasSlot, IsPresent, put, count_slots}
+use Rattle.vx_opt.specs.Pass.{Optimizes, ComesTo}
 
--- t derives a settled tree, and the second tree is the settled one with each slot descended
-abbrev mutual
-  pub Descends : Tree → Tree → Type 0
-  Descends t (node ty n d us) =
-      (rs : Slots) × (steps : List Step) × Derives t (node ty n d rs) steps × IsSettled (node ty n d rs) × DescendSlots rs us
+mutual
+  -- t is optimized to a root of which each slot descends, by n rewrites in all that spent s
+  pub data Descends : Tree → Tree → ℕ → ℕ → Type 0 where
+    descends : (t r u : Tree) (n s m q : ℕ) → Optimizes t r n s → DescendsIn (count_slots (slots r)) r u m q → Descends t u (n + m) (s + q)
 
-  pub DescendSlots : Slots → Slots → Type 0
-  DescendSlots no_slots no_slots = Unit {0}
-  DescendSlots (absent rs) no_slots = ⊥
-  DescendSlots (slot c rs) no_slots = ⊥
-  DescendSlots no_slots (absent us) = ⊥
-  DescendSlots (absent rs) (absent us) = DescendSlots rs us
-  DescendSlots (slot c rs) (absent us) = ⊥
-  DescendSlots no_slots (slot d us) = ⊥
-  DescendSlots (absent rs) (slot d us) = ⊥
-  DescendSlots (slot c rs) (slot d us) = Descends c d × DescendSlots rs us
+  -- the slots of t below i have descended, in order, and an absent one is passed over
+  pub data DescendsIn : ℕ → Tree → Tree → ℕ → ℕ → Type 0 where
+    first : (t : Tree) → DescendsIn 0 t t 0 0
+    over : (i : ℕ) (t u : Tree) (m q : ℕ) → DescendsIn i t u m q → (IsPresent i u → ⊥) → DescendsIn (suc i) t u m q
+    into : (i : ℕ) (t u c d : Tree) (m q n s : ℕ) → DescendsIn i t u m q → HasSlot i c u → Descends c d n s
+        → DescendsIn (suc i) t (put i d u) (m + n) (q + s)
 
--- the slots before i have descended, and the others are unchanged
-abbrev pub DescendsUpTo : ℕ → Slots → Slots → Type 0
-DescendsUpTo zero rs us = rs ≡ us
-DescendsUpTo (suc i) no_slots no_slots = Unit {0}
-DescendsUpTo (suc i) no_slots (absent us) = ⊥
-DescendsUpTo (suc i) no_slots (slot d us) = ⊥
-DescendsUpTo (suc i) (absent rs) no_slots = ⊥
-DescendsUpTo (suc i) (absent rs) (absent us) = DescendsUpTo i rs us
-DescendsUpTo (suc i) (absent rs) (slot d us) = ⊥
-DescendsUpTo (suc i) (slot c rs) no_slots = ⊥
-DescendsUpTo (suc i) (slot c rs) (absent us) = ⊥
-DescendsUpTo (suc i) (slot c rs) (slot d us) = Descends c d × DescendsUpTo i rs us
+mutual
+  -- so descending, t comes to a rewrite that is number k at its root and number n in all, when s was spent
+  pub data DescendsTo : Tree → ℕ → ℕ → ℕ → Type 0 where
+    at_root : (t : Tree) (k n s : ℕ) → ComesTo t k n s → DescendsTo t k n s
+    below : (t r : Tree) (k n s m q : ℕ) → Optimizes t r n s → DescendsToIn r k m q → DescendsTo t k (n + m) (s + q)
 
-abbrev pub IsDescended : ℕ → Tree → Tree → Type 0
-IsDescended i (node ty n d rs) (node uy m e us) = (ty ≡ uy) × (n ≡ m) × (d ≡ e) × DescendsUpTo i rs us
-
--- the root of t, with each slot descended
-abbrev pub HaveDescended : Tree → Tree → Type 0
-HaveDescended (node ty n d rs) (node uy m e us) = (ty ≡ uy) × (n ≡ m) × (d ≡ e) × DescendSlots rs us
-
--- slot i of t has descended, if it holds a tree
-abbrev pub IsSunk : ℕ → Tree → Tree → Type 0
-IsSunk i t u = ((IsPresent i t → ⊥) × (u ≡ t)) ⊎ InSlot i Descends t u
-
--- the invariant of the loop over the slots
-pub record IsSinking (i : ℕ) (t u : Tree) (before after : ℕ) : Type 0 where
-  pub below : IsRewrittenBelow t u before after
-  pub sunk : IsDescended i t u
+  -- in one of the slots of t, those before which have descended
+  pub data DescendsToIn : Tree → ℕ → ℕ → ℕ → Type 0 where
+    in_slot : (i : ℕ) (t u c : Tree) (k m q n s : ℕ) → DescendsIn i t u m q → HasSlot i c u → DescendsTo c k n s
+        → DescendsToIn t k (m + n) (q + s)

@@ -4,9 +4,11 @@ pub use Rattle.vx_tree.specs.Slots
 pub use Rattle.vx_tree.specs.Keeps
 pub use Rattle.vx_tree.specs.Weight
 pub use Rattle.vx_rule.specs.Rules
+pub mod Limits
 pub mod Derives
 pub mod Pass
-pub mod Limits
 pub mod Descends
+pub mod Counted
+pub mod Answers
 pub mod Select
 pub mod Builtins

@@ -5,7 +5,8 @@ ghost use Rattle.vx_value.specs.Types.{nullability_of, is_nullable};
 ghost use Rattle.vx_value.specs.View.{type_of};
 ghost use Rattle.vx_tree.specs.Tree.{Tree, dtype, len, constant_of};
 ghost use Rattle.vx_fn.specs.declared.function.ScalarFnRef.TheVariants as fn_of;
-ghost use Rattle.vx_opt.specs.Builtins.{Calls, Casts, MakesCall};
+ghost use Rattle.vx_opt.specs.Select.{GivesJust};
+ghost use Rattle.vx_opt.specs.Builtins.{Calls, Casts, CastsTo, MakesCall, StandsForCall};
 
 use crate::optimizer::ArrayOptimizer;
 use std::alloc::Global;
@@ -22,16 +23,20 @@ pub trait ArrayBuiltins: Sized {
     // the tree that is the function's argument
     ghost tree: { Self → Tree };
 
-    /// Returns the array as values of type `target`: the array itself if it has that type.
+    /// Returns the array as values of type `target`: the array itself if it has that type, which meets no limit.
     fn cast(&self, alloc: Global, target: DType) -> VortexResult<ArrayRef>
-        ensures call { Calls (fn_of.Cast target) (tree self.now ∷ []) (len (tree self.now)) result }
-        ensures same { type_of target ≡ dtype (tree self.now) → IfOk result (λ t. t ≡ tree self.now) };
+        ensures keeps { IfOk result (StandsForCall (fn_of.Cast target) (tree self.now ∷ []) (len (tree self.now))) }
+        ensures same { type_of target ≡ dtype (tree self.now) → GivesJust (tree self.now) result }
+        ensures call { ¬ (type_of target ≡ dtype (tree self.now)) → Calls (fn_of.Cast target) (tree self.now ∷ []) (len (tree self.now)) result };
 
-    /// Returns the array with `fill_value` in place of each null. An array that isn't nullable is cast to `fill_value`'s type.
+    /// Returns the array with `fill_value` in place of each null. An array that isn't nullable is cast to `fill_value`'s type: it is itself if it
+    /// has that type.
     fn fill_null(&self, alloc: Global, fill_value: Scalar) -> VortexResult<ArrayRef>
         ensures filled { is_nullable (nullability_of (dtype (tree self.now))) ≡ true
             → Calls fn_of.FillNull (tree self.now ∷ constant_of fill_value (len (tree self.now)) ∷ []) (len (tree self.now)) result }
-        ensures cast { is_nullable (nullability_of (dtype (tree self.now))) ≡ false → Casts fill_value.of_type (tree self.now) result };
+        ensures cast { is_nullable (nullability_of (dtype (tree self.now))) ≡ false → Casts fill_value.of_type (tree self.now) result }
+        ensures same { is_nullable (nullability_of (dtype (tree self.now))) ≡ false → fill_value.of_type ≡ dtype (tree self.now)
+            → GivesJust (tree self.now) result };
 
     /// Returns whether each row is null.
     fn is_null(&self, alloc: Global) -> VortexResult<ArrayRef>
@@ -171,10 +176,8 @@ fn call_of_two(
 }
 
 /// Returns `array` as values of type `target`: the array itself if it has that type.
-#[tactic(auto, using(crate::proofs::BuiltinsLemmas::same_cast))]
 fn cast_to(alloc: Global, array: &ArrayRef, target: DType) -> VortexResult<ArrayRef>
-    ensures call { Calls (fn_of.Cast target) (array.now ∷ []) (len array.now) result }
-    ensures same { type_of target ≡ dtype array.now → IfOk result (λ t. t ≡ array.now) }
+    ensures { CastsTo target array.now result }
 {
     if *array.dtype() == target {
         array.well_formed_tree();

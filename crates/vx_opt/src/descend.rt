@@ -1,8 +1,8 @@
-//! Optimizes a tree at every node.
+//! Optimizing a root, and then each of its slots so.
 
-ghost use Rattle.std.specs.Prelude.{◌<◌, IfOk};
-ghost use Rattle.vx_opt.specs.Limits.{call_limit, GoesWithin, GoesBelow};
-ghost use Rattle.vx_opt.specs.Descends.{Descends, HaveDescended, IsSunk};
+ghost use Rattle.std.specs.Prelude.{◌<◌};
+ghost use Rattle.vx_opt.specs.Limits.{call_limit};
+ghost use Rattle.vx_opt.specs.Counted.{GoesDescending, GoesDescendingIn, GoesDescendingAt};
 
 use crate::root::optimize_root;
 use crate::slots::{has_child, number_of_slots};
@@ -20,8 +20,7 @@ pub(crate) fn descend(
     total: &mut u32,
 ) -> VortexResult<ArrayRef>
     requires { total.old < call_limit }
-    ensures descends { IfOk result (Descends array) }
-    ensures within { GoesWithin array total.old total.new result }
+    ensures { GoesDescending array total.old total.new result }
 {
     if depth == u64::MAX {
         return Err(VortexError::OutOfMemory);
@@ -39,8 +38,7 @@ fn descend_slots(
     total: &mut u32,
 ) -> VortexResult<ArrayRef>
     requires { total.old < call_limit }
-    ensures below { GoesBelow array total.old total.new result }
-    ensures descended { IfOk result (HaveDescended array) }
+    ensures { GoesDescendingIn array total.old total.new result }
 {
     let mut current = array;
     for slot in 0..number_of_slots(&current) {
@@ -51,7 +49,6 @@ fn descend_slots(
 
 /// Optimizes the child in `slot`, counted from 0, in the same way, if there is one.
 #[cycle(descend)]
-#[tactic(auto, using(crate::proofs::LimitsLemmas::at_slot, crate::proofs::LimitsLemmas::below_refl))]
 fn descend_slot(
     alloc: Global,
     array: ArrayRef,
@@ -60,8 +57,7 @@ fn descend_slot(
     total: &mut u32,
 ) -> VortexResult<ArrayRef>
     requires { total.old < call_limit }
-    ensures sunk { IfOk result (IsSunk slot array) }
-    ensures below { GoesBelow array total.old total.new result }
+    ensures { GoesDescendingAt slot array total.old total.new result }
 {
     if !has_child(&array, slot) {
         return Ok(array);

@@ -9,7 +9,10 @@ ghost use Rattle.vx_tree.specs.Well.{IsWell};
 ghost use Rattle.vx_tree.specs.Weight.{weight};
 ghost use Rattle.vx_rule.specs.Rules.{Rewrites};
 ghost use Rattle.vx_opt.specs.Select.{IsRange, IsMaskOf};
-ghost use Rattle.vx_opt.specs.Derives.{Step, Reaches, at_here, below_all};
+ghost use Rattle.vx_opt.specs.Derives.{Step, Reaches, IsAtPlace, at_here, below_all};
+ghost use Rattle.vx_opt.specs.Pass.{Optimizes, ComesTo};
+ghost use Rattle.vx_opt.specs.Descends.{Descends, DescendsTo};
+ghost use Rattle.vx_opt.specs.Answers.{IsRewritten};
 
 /// States how rewrites compose: one at the root, one after another, those below a slot, and an answer that isn't from a row.
 /// (own)
@@ -20,8 +23,17 @@ pub fn deriving_laws()
     ensures handed_in { (t u : Tree) → Keeps t u → Reaches t u (record { place = []; spent = suc (weight u) } ∷ []) }
 {}
 
-/// States that a slice of a tree that may stand for a slice may stand for the one slice, and a filter of a tree that may stand
-/// for a filter may stand for the filter by the combined mask. (own)
+/// States that passes are rewrites that were counted: what they make may stand for the tree, and they lower its weight unless an entry that was
+/// handed in answered; and the rewrite to which they come is made at one place, with at least as many before it there. (own)
+pub fn optimizing_laws()
+    ensures optimizes { (t u : Tree) (n s : ℕ) → Optimizes t u n s → IsRewritten t u n s }
+    ensures descends { (t u : Tree) (n s : ℕ) → Descends t u n s → IsRewritten t u n s }
+    ensures comes { (t : Tree) (k n s : ℕ) → ComesTo t k n s → IsAtPlace t k n s }
+    ensures descends_to { (t : Tree) (k n s : ℕ) → DescendsTo t k n s → IsAtPlace t k n s }
+{}
+
+/// States that a slice of a slice may stand for the one slice, and a filter of a filter for the filter by the combined mask, whatever
+/// stood for the choices in between. (own)
 pub fn selecting_laws()
     ensures slices { (t u v : Tree) (a b c d : ℕ) → IsRange a b t → IsRange c d (slice_of a b t)
         → Keeps (slice_of a b t) u → Keeps (slice_of c d u) v → Keeps (slice_of (a + c) (a + d) t) v }

@@ -12,7 +12,7 @@ mod select;
 mod slots;
 
 pub use builtins::ArrayBuiltins;
-pub use laws::{deriving_laws, selecting_laws};
+pub use laws::{deriving_laws, optimizing_laws, selecting_laws};
 pub use optimizer::ArrayOptimizer;
 pub use registry::RuleRegistry;
 pub use select::ArraySelect;

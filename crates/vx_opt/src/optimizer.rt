@@ -1,12 +1,10 @@
 //! The public calls.
 
-ghost use Rattle.std.specs.Prelude.{◌≡◌, ◌<◌, ◌≤◌, IfOk, IfErr};
+ghost use Rattle.std.specs.Prelude.{◌≡◌, ◌-◌, ◌≤◌, IfOk, IfErr};
 ghost use Rattle.vx_value.specs.Errors.{OnlyOutOfMemory};
 ghost use Rattle.vx_tree.specs.Tree.{Tree};
-ghost use Rattle.vx_tree.specs.Keeps.{Keeps};
 ghost use Rattle.vx_tree.specs.Weight.{weight};
-ghost use Rattle.vx_opt.specs.Limits.{IsOptimized, IsLimited, IsSettledFrom};
-ghost use Rattle.vx_opt.specs.Descends.{Descends};
+ghost use Rattle.vx_opt.specs.Answers.{rule_answers, IsOptimized, IsDescended, IsLimited, IsLimitedBelow};
 
 use crate::descend::descend;
 use crate::registry::RuleRegistry;
@@ -28,22 +26,20 @@ pub trait ArrayOptimizer: Sized {
 
     /// Rewrites the root until no row fits. The slots that an answer names are optimized in the same way before the next pass.
     fn optimize(self, alloc: Global) -> VortexResult<ArrayRef>
-        ensures settled { IfOk result (IsSettledFrom (tree self)) }
+        ensures optimized { IfOk result (λ u. IsOptimized (tree self) u 0) }
         ensures limited { IfErr result (IsLimited (tree self) 0) }
         ensures never_if_light { weight (tree self) ≤ 100 → OnlyOutOfMemory result };
 
     /// Rewrites the root in the same way, also by the entries of `rules`, of which there are none yet.
     fn optimize_ctx(self, alloc: Global, rules: &mut RuleRegistry) -> VortexResult<ArrayRef>
-        ensures settled { IfOk result (IsSettledFrom (tree self)) }
-        ensures limited { IfErr result (IsLimited (tree self) 0) }
+        ensures optimized { IfOk result (λ u. IsOptimized (tree self) u (rule_answers rules.new - rule_answers rules.old)) }
+        ensures limited { IfErr result (IsLimited (tree self) (rule_answers rules.new - rule_answers rules.old)) }
         ensures never_if_light { weight (tree self) ≤ 100 → OnlyOutOfMemory result };
 
     /// Rewrites the root in the same way, then every slot in order. The root isn't visited again.
     fn optimize_recursive(self, alloc: Global, rules: &mut RuleRegistry) -> VortexResult<ArrayRef>
-        ensures keeps { IfOk result (Keeps (tree self)) }
-        ensures descends { IfOk result (Descends (tree self)) }
-        ensures derives { IfOk result (IsOptimized (tree self)) }
-        ensures limited { IfErr result (IsLimited (tree self) 0) }
+        ensures descended { IfOk result (λ u. IsDescended (tree self) u (rule_answers rules.new - rule_answers rules.old)) }
+        ensures limited { IfErr result (IsLimitedBelow (tree self) (rule_answers rules.new - rule_answers rules.old)) }
         ensures never_if_light { weight (tree self) ≤ 100 → OnlyOutOfMemory result };
 }
 
@@ -54,13 +50,13 @@ impl ArrayOptimizer for ArrayRef {
         self.optimize_ctx(alloc, &mut RuleRegistry::empty())
     }
 
-    #[tactic(auto, using(crate::proofs::LimitsLemmas::settled_from, crate::proofs::LimitsLemmas::err_light))]
+    #[tactic(auto, using(crate::proofs::AnswersLemmas::optimized))]
     fn optimize_ctx(self, alloc: Global, _rules: &mut RuleRegistry) -> VortexResult<ArrayRef> {
         let mut total = 0;
         optimize_root(alloc, self, &mut total)
     }
 
-    #[tactic(auto, using(crate::proofs::LimitsLemmas::err_light))]
+    #[tactic(auto, using(crate::proofs::AnswersLemmas::descended))]
     fn optimize_recursive(
         self,
         alloc: Global,

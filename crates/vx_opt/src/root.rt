@@ -2,10 +2,9 @@
 
 ghost use Rattle.std.specs.Prelude.{◌<◌, ℕ, IfOk};
 ghost use Rattle.vx_tree.specs.Slots.{IsPresent};
-ghost use Rattle.vx_rule.specs.Rules.{IsSettled, ArePresent};
-ghost use Rattle.vx_opt.specs.Derives.{InSlot};
-ghost use Rattle.vx_opt.specs.Pass.{Optimizes, OptimizesIn};
-ghost use Rattle.vx_opt.specs.Limits.{call_limit, GoesWithin, GoesBelow};
+ghost use Rattle.vx_rule.specs.Rules.{ArePresent};
+ghost use Rattle.vx_opt.specs.Limits.{call_limit};
+ghost use Rattle.vx_opt.specs.Counted.{GoesOptimizing, GoesOptimizingIn, GoesOptimizingAt};
 
 use crate::pass::first_answer;
 use std::alloc::Global;
@@ -28,9 +27,7 @@ pub(crate) fn optimize_root(
     total: &mut u32,
 ) -> VortexResult<ArrayRef>
     requires { total.old < call_limit }
-    ensures passes { IfOk result (Optimizes array) }
-    ensures settled { IfOk result IsSettled }
-    ensures within { GoesWithin array total.old total.new result }
+    ensures { GoesOptimizing array total.old total.new result }
 {
     let mut current = array;
     let mut at_root = 0;
@@ -54,8 +51,7 @@ pub(crate) fn optimize_root(
 fn optimize_slots(alloc: Global, raw: RawNode, total: &mut u32) -> VortexResult<ArrayRef>
     requires room { total.old < call_limit }
     requires present { ArePresent raw.optimize.items raw.tree }
-    ensures passes { IfOk result (OptimizesIn raw.optimize.items raw.tree) }
-    ensures below { GoesBelow raw.tree total.old total.new result }
+    ensures { GoesOptimizingIn raw.optimize.items raw.tree total.old total.new result }
 {
     let RawNode { tree, optimize } = raw;
     let mut current = tree;
@@ -67,7 +63,6 @@ fn optimize_slots(alloc: Global, raw: RawNode, total: &mut u32) -> VortexResult<
 
 /// Optimizes the child in `slot`, counted from 0.
 #[cycle(optimize)]
-#[tactic(auto, using(crate::proofs::LimitsLemmas::at_slot))]
 fn optimize_slot(
     alloc: Global,
     array: ArrayRef,
@@ -76,9 +71,8 @@ fn optimize_slot(
 ) -> VortexResult<ArrayRef>
     requires room { total.old < call_limit }
     requires present { IsPresent slot array }
-    ensures passes { IfOk result (InSlot slot Optimizes array) }
+    ensures optimized { GoesOptimizingAt slot array total.old total.new result }
     ensures same_slots { IfOk result (λ u. (j : ℕ) → IsPresent j array → IsPresent j u) }
-    ensures below { GoesBelow array total.old total.new result }
 {
     let (parent, child) = array.take_slot(slot)?;
     let child = optimize_root(alloc, child, total)?;

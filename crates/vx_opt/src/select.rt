@@ -5,7 +5,9 @@ ghost use Rattle.vx_mask.specs.Masks.{bits_in};
 ghost use Rattle.vx_tree.specs.Tree.{Tree, dtype, len, slice_of, filter_of};
 ghost use Rattle.vx_tree.specs.Columns.{empty_of};
 ghost use Rattle.vx_tree.specs.Keeps.{Keeps};
-ghost use Rattle.vx_opt.specs.Select.{IsRange, IsMaskOf, IsNoSlice, IsNoFilter};
+ghost use Rattle.vx_rule.specs.Rules.{IsPartOf};
+ghost use Rattle.vx_opt.specs.Answers.{IsOptimized};
+ghost use Rattle.vx_opt.specs.Select.{IsRange, IsMaskOf, GivesJust, IsNoSlice, IsNoFilter};
 
 use crate::optimizer::ArrayOptimizer;
 use std::alloc::Global;
@@ -23,18 +25,22 @@ pub trait ArraySelect: Sized {
     // the tree whose rows are chosen
     ghost tree: { Self → Tree };
 
-    /// Returns the rows in `range`: the array itself if these are all rows, the empty column if there are none. `OutOfBounds`
-    /// exactly unless start <= end <= the array's length.
+    /// Returns the rows in `range`: the array itself if these are all rows, and the empty column if there are none, neither of which meets a
+    /// limit. `OutOfBounds` exactly unless start <= end <= the array's length.
     fn slice(&self, alloc: Global, range: Range<usize>) -> VortexResult<ArrayRef>
         ensures keeps { IfOk result (Keeps (slice_of range.start range.end (tree self.now))) }
-        ensures whole { range.start ≡ 0 → range.end ≡ len (tree self.now) → IfOk result (λ t. t ≡ tree self.now) }
-        ensures empty { range.start ≡ range.end → 0 < len (tree self.now) → IfOk result (λ t. t ≡ empty_of (dtype (tree self.now))) }
+        ensures whole { range.start ≡ 0 → range.end ≡ len (tree self.now) → GivesJust (tree self.now) result }
+        ensures empty { range.start ≡ range.end → range.end ≤ len (tree self.now) → 0 < len (tree self.now)
+            → GivesJust (empty_of (dtype (tree self.now))) result }
+        ensures part { IsPartOf range.start range.end (tree self.now)
+            → IfOk result (λ t. IsOptimized (slice_of range.start range.end (tree self.now)) t 0) }
         ensures valid { OnOk result (IsRange range.start range.end (tree self.now)) }
         ensures refused { IfErr result (IsNoSlice range.start range.end (tree self.now)) };
 
     /// Returns the rows that `mask` chooses. `InvalidArgument` with `MaskLen` exactly if the lengths differ.
     fn filter(&self, alloc: Global, mask: Mask) -> VortexResult<ArrayRef>
         ensures keeps { IfOk result (Keeps (filter_of (bits_in mask) (tree self.now))) }
+        ensures optimized { IfOk result (λ t. IsOptimized (filter_of (bits_in mask) (tree self.now)) t 0) }
         ensures valid { OnOk result (IsMaskOf (bits_in mask) (tree self.now)) }
         ensures refused { IfErr result (IsNoFilter (bits_in mask) (tree self.now)) };
 }

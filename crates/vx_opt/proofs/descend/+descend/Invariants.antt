@@ -1,5 +1,6 @@
 use Rattle.std.proofs.Common.{◌+◌, ◌-◌, ◌*◌, ◌^◌}
-use Rattle.vx_opt.specs.Descends.{IsSinking}
+use Rattle.vx_opt.specs.Descends.{DescendsIn}
+use Rattle.vx_opt.specs.Counted.{IsCounted}
 use Rattle.vx_opt.proofs.descend.+descend.Given as goal
 
 abbrev pub decreases-descend : goal.decreases-descend
@@ -12,4 +13,4 @@ abbrev pub decreases-descend_slots : goal.decreases-descend_slots
 decreases-descend_slots l = 3 * (2 ^ 64 - l.depth) + 2
 
 abbrev pub invariant-descend_slots-loop-slot : goal.invariant-descend_slots-loop-slot
-invariant-descend_slots-loop-slot l = IsSinking l.slot l.fn.array l.current l.fn.total l.total
+invariant-descend_slots-loop-slot l = IsCounted (λ n. DescendsIn l.slot l.fn.array l.current n 0) l.fn.total l.total

@@ -1,5 +1,6 @@
-use Rattle.std.proofs.Common.{◌+◌, ◌-◌, ◌*◌}
-use Rattle.vx_opt.specs.Limits.{call_limit, IsUnderWay, IsBetween}
+use Rattle.std.proofs.Common.{◌+◌, ◌-◌, ◌*◌, take}
+use Rattle.vx_opt.specs.Limits.{call_limit}
+use Rattle.vx_opt.specs.Counted.{IsUnderWay, IsBetween}
 use Rattle.vx_opt.proofs.root.+optimize.Given as goal
 
 abbrev pub decreases-optimize_root : goal.decreases-optimize_root
@@ -18,4 +19,4 @@ abbrev pub invariant-optimize_root-loop-current : goal.invariant-optimize_root-l
 invariant-optimize_root-loop-current l = IsUnderWay l.fn.array l.current l.fn.total l.total l.at_root
 
 abbrev pub invariant-optimize_slots-loop-i : goal.invariant-optimize_slots-loop-i
-invariant-optimize_slots-loop-i l = IsBetween l.optimize.items l.i l.fn.raw.tree l.current l.fn.total l.total
+invariant-optimize_slots-loop-i l = IsBetween l.optimize.items (take l.i l.optimize.items) l.fn.raw.tree l.current l.fn.total l.total

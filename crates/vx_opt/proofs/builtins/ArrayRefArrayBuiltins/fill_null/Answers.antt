@@ -12,7 +12,13 @@ pub returns-then-not-is_nullable-clause-cast : goal.returns-then-not-is_nullable
 returns-then-not-is_nullable-clause-cast c =
     let typed : type_of c.in_ok-target.target ≡ c.args.fill_value.of_type =
     ap type_of c.in_ok-target.ensures.cases ∙ c.dtype-then-not-is_nullable.ensures.dtype in
-    λ _. (c.in_ok-target.target, typed, c.cast_to.ensures.call)
+    λ _. (c.in_ok-target.target, typed, c.cast_to.ensures)
+
+pub returns-then-not-is_nullable-clause-same : goal.returns-then-not-is_nullable-clause-same
+returns-then-not-is_nullable-clause-same c =
+    let typed : type_of c.in_ok-target.target ≡ c.args.fill_value.of_type =
+    ap type_of c.in_ok-target.ensures.cases ∙ c.dtype-then-not-is_nullable.ensures.dtype in
+    λ _ own. c.cast_to.ensures.same (typed ∙ own)
 
 pub returns-clause-filled : goal.returns-clause-filled
 returns-clause-filled c =
@@ -23,3 +29,6 @@ returns-clause-filled c =
 
 pub returns-clause-cast : goal.returns-clause-cast
 returns-clause-cast c = λ fixed. absurd (cc)
+
+pub returns-clause-same : goal.returns-clause-same
+returns-clause-same c = λ fixed own. absurd (cc)

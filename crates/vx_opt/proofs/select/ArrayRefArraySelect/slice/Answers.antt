@@ -1,4 +1,4 @@
-use Rattle.std.proofs.Common.{◌≤◌, ap, subst, arith, ◌∙◌}
+use Rattle.std.proofs.Common.{◌≤◌, ap, subst, ◌∙◌}
 use Rattle.vx_tree.specs.Columns.{empty_of}
 use Rattle.vx_opt.proofs.SelectLemmas.{whole_keeps, empty_keeps}
 use Rattle.vx_opt.proofs.select.ArrayRefArraySelect.slice.Goals as goal
@@ -6,9 +6,6 @@ use Rattle.vx_opt.proofs.select.ArrayRefArraySelect.slice.Goals as goal
 pub returns-then-range-len-clause-keeps : goal.returns-then-range-len-clause-keeps
 returns-then-range-len-clause-keeps c =
     whole_keeps _ _ c.args.self.now _ c.well_formed_tree.ensures.formed c.if-range-eq0.true (c.if-range-len.true ∙ c.len.ensures) c.in_ok-clone.ensures.cases
-
-pub returns-then-range-len-clause-empty : goal.returns-then-range-len-clause-empty
-returns-then-range-len-clause-empty c = λ same some. absurd (omega (arith, same, some, c.if-range-eq0.true, c.if-range-len.true, c.len.ensures))
 
 pub returns-then-range-len-2-clause-keeps : goal.returns-then-range-len-2-clause-keeps
 returns-then-range-len-2-clause-keeps c =
