@@ -7,6 +7,7 @@ pub mod FunctionsLemmas
 pub mod MasksLemmas
 pub mod CastsLemmas
 pub mod KeepsLemmas
+pub mod PushedLemmas
 pub mod PushLemmas
 mod SlotsLemmas
 mod CallsLemmas
