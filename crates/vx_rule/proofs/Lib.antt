@@ -9,6 +9,7 @@ pub mod CastsLemmas
 pub mod KeepsLemmas
 pub mod PushedLemmas
 pub mod PushLemmas
+mod AnswersLemmas
 mod SlotsLemmas
 mod CallsLemmas
 mod FitsLemmas

@@ -1,5 +1,5 @@
 -- What the slice that is pushed down is, by range and by encoding.
-use Rattle.std.proofs.Common.{◌≡◌, ℕ, ◌+◌, ◌-◌, Bool, true, false, refl, sym, ◌∙◌, inl, inr, arith}
+use Rattle.std.proofs.Common.{◌≡◌, ℕ, ◌+◌, ◌-◌, Bool, true, false, refl, ◌∙◌, inl, inr, arith}
 use Rattle.std.specs.Prelude.{◌==◌, ◌&&◌, if◌then◌else◌}
 use Rattle.std.proofs.lemmas.Bool.{eq-eqb, ne_eqb}
 use Rattle.std.proofs.lemmas.Bool.Decides.{eqb_tells}
@@ -14,17 +14,17 @@ use Rattle.vx_tree.specs.Columns.{empty_of}
 use Rattle.vx_rule.specs.Rules.{lets_slice, IsPart}
 use Rattle.vx_rule.specs.Pushes.{ranged, pushed, pushed_slots}
 
-chosen_if : (test : Bool) (t u : Tree) → test ≡ true → (if test then t else u) ≡ t
+pub chosen_if : {A : Type 0} (test : Bool) (t u : A) → test ≡ true → (if test then t else u) ≡ t
 chosen_if test t u h = λ i. if h i then t else u
 
-chosen_else : (test : Bool) (t u : Tree) → test ≡ false → (if test then t else u) ≡ u
+pub chosen_else : {A : Type 0} (test : Bool) (t u : A) → test ≡ false → (if test then t else u) ≡ u
 chosen_else test t u h = λ i. if h i then t else u
 
 -- the tests for all rows
-all_rows : (a b n : ℕ) → a ≡ 0 → b ≡ n → (a == 0) && (b == n) ≡ true
+pub all_rows : (a b n : ℕ) → a ≡ 0 → b ≡ n → (a == 0) && (b == n) ≡ true
 all_rows a b n z w = λ i. eq-eqb a 0 z i && eq-eqb b n w i
 
-not_all_rows : (a b n : ℕ) → (a ≡ 0 → b ≡ n → ⊥) → (a == 0) && (b == n) ≡ false
+pub not_all_rows : (a b n : ℕ) → (a ≡ 0 → b ≡ n → ⊥) → (a == 0) && (b == n) ≡ false
 not_all_rows a b n h = elim (eqb_tells a 0) [
   | inl p ↦ λ i. p.0 i && ne_eqb b n (h p.1) i
   | inr p ↦ λ i. p.0 i && (b == n)
@@ -44,7 +44,7 @@ module _ (a b : ℕ) (t u : Tree) where
 
 -- whatever the encoding, the range comes first
 by_range : (a b : ℕ) (t : Tree) → (u : Tree) × (pushed a b t ≡ ranged a b t u)
-by_range a b (node ty n (enc.constant v) ss) = (constant_of v (b - a), refl)
+by_range a b (node ty n (enc.constant v) no_slots) = (constant_of v (b - a), refl)
 by_range a b (node ty n (enc.slice s e) (slot c no_slots)) = (pushed (s + a) (s + b) c, refl)
 by_range a b (node ty n (enc.function f) ss) = (node ty (b - a) (enc.function f) (pushed_slots a b ss), refl)
 by_range a b (node ty n enc.masked (slot c vs)) = (node ty (b - a) enc.masked (slot (pushed a b c) (map_slots (part_of a b) vs)), refl)

@@ -16,7 +16,7 @@ ranged a b t u = if (a == 0) && (b == len t) then t else (if a == b then empty_o
 -- the rows of t from a, inclusive, to b, exclusive, with the slice pushed down as far as it passes: a line for each encoding that lets it
 abbrev mutual
   pub pushed : ℕ → ℕ → Tree → Tree
-  pushed a b (node ty n (enc.constant v) ss) = ranged a b (node ty n (enc.constant v) ss) (constant_of v (b - a))
+  pushed a b (node ty n (enc.constant v) no_slots) = ranged a b (node ty n (enc.constant v) no_slots) (constant_of v (b - a))
   pushed a b (node ty n (enc.slice s e) (slot c no_slots)) = ranged a b (node ty n (enc.slice s e) (slot c no_slots)) (pushed (s + a) (s + b) c)
   pushed a b (node ty n (enc.function f) ss) = ranged a b (node ty n (enc.function f) ss) (node ty (b - a) (enc.function f) (pushed_slots a b ss))
   pushed a b (node ty n enc.masked (slot c vs)) =

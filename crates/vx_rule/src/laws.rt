@@ -1,6 +1,6 @@
 //! Laws of the table. Each is a function with an empty body, whose contract is the law.
 
-ghost use Rattle.std.specs.Prelude.{◌<◌, ℕ, List, Option, Some};
+ghost use Rattle.std.specs.Prelude.{◌≡◌, ◌<◌, ℕ, List, Option, Some};
 ghost use Rattle.vx_tree.specs.Tree.{Tree};
 ghost use Rattle.vx_tree.specs.Well.{IsWell};
 ghost use Rattle.vx_tree.specs.Slots.{IsPresent};
@@ -8,11 +8,14 @@ ghost use Rattle.vx_tree.specs.Keeps.{Keeps};
 ghost use Rattle.vx_tree.specs.Weight.{weight};
 ghost use Rattle.vx_rule.specs.Rules.{Row, ArePresent};
 
-/// States what every row does: its answer may stand for the tree, weighs less, and is another tree. (own)
+/// States what every row does: its answer may stand for the tree, weighs less, and is another tree. One who is asked has at most
+/// one answer: no two rows of the node itself fit at once, and no two of its children. (own)
 pub fn rule_laws()
     ensures keeps { (w : Option ℕ) (t u : Tree) (os : List ℕ) → IsWell t → Row w t u os → Keeps t u }
     ensures lighter { (w : Option ℕ) (t u : Tree) (os : List ℕ) → Row w t u os → weight u < weight t }
     ensures present { (w : Option ℕ) (t u : Tree) (os : List ℕ) → Row w t u os → ArePresent os u }
     ensures asked { (i : ℕ) (t u : Tree) (os : List ℕ) → Row (Some i) t u os → IsPresent i t }
+    ensures determined { (w : Option ℕ) (t u v : Tree) (os ps : List ℕ) → Row w t u os → Row w t v ps → (u ≡ v) × (os ≡ ps) }
+    ensures one_child { (i j : ℕ) (t u v : Tree) (os ps : List ℕ) → Row (Some i) t u os → Row (Some j) t v ps → i ≡ j }
     ensures moves { (w : Option ℕ) (t : Tree) (os : List ℕ) → ¬ Row w t t os }
 {}
