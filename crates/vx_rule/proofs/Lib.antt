@@ -10,6 +10,7 @@ pub mod KeepsLemmas
 pub mod PushedLemmas
 pub mod PushLemmas
 mod AnswersLemmas
+mod StopsLemmas
 mod SlotsLemmas
 mod CallsLemmas
 mod FitsLemmas

@@ -37,7 +37,7 @@ module _ (a b : ℕ) (t u : Tree) where
   ranged_empty : a ≡ b → (a ≡ 0 → b ≡ len t → ⊥) → ranged a b t u ≡ empty_of (dtype t)
   ranged_empty e some = chosen_else _ t _ (not_all_rows a b (len t) some) ∙ chosen_if _ (empty_of (dtype t)) u (eq-eqb a b e)
 
-  ranged_part : IsPart a b (len t) → ranged a b t u ≡ u
+  pub ranged_part : IsPart a b (len t) → ranged a b t u ≡ u
   ranged_part part =
       chosen_else _ t _ (not_all_rows a b (len t) (λ z w. omega (arith, part.not_all)))
       ∙ chosen_else _ (empty_of (dtype t)) u (ne_eqb a b (λ e. omega (arith, part.some_rows)))
