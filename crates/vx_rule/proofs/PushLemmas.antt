@@ -25,7 +25,7 @@ use Rattle.vx_tree.proofs.KindsLemmas.{type_in, len_in}
 use Rattle.vx_tree.proofs.SlotsLemmas.{IsBelow, slot_below, one_shape}
 use Rattle.vx_rule.specs.Rules.{lets_slice, IsPart, IsPartOf}
 use Rattle.vx_rule.specs.Pushes.{pushed, pushed_slots, IsPushed, IsColumnSlice, IsConstantLike}
-use Rattle.vx_rule.proofs.PushedLemmas.{whole_is, empty_is, constant_is, slice_is, function_is, masked_is, column_is, lazily_is}
+use Rattle.vx_rule.proofs.PushedLemmas.{whole_is, empty_is, constant_is, slice_is, function_is, masked_is, column_is, lazily_is, uncut}
 use Rattle.vx_rule.proofs.PicksLemmas.{IsSecond, masked_slots}
 use Rattle.vx_rule.proofs.RangesLemmas.{S_whole_keeps, S_empty_keeps, S1_keeps, S2_keeps, S4_keeps, S5_keeps}
 
@@ -48,14 +48,14 @@ canonical_pushed a b c u down same h = record {
 pub column_pushed : (a b : ℕ) (c u : Tree) → IsPart a b (len c) → is_canonical (datum c) ≡ true → IsColumnSlice a b c u → IsPushed a b c u
 column_pushed a b c u part h cut = canonical_pushed a b c u (cut.range ∙ sym (column_is a b c h part)) cut.exactly cut.column
 
-pub lazily_pushed : (a b : ℕ) (c u : Tree) → lets_slice (datum c) ≡ false → is_canonical (datum c) ≡ false → IsPartOf a b c → u ≡ slice_of a b c
+pub lazily_pushed : (a b : ℕ) (c u : Tree) → lets_slice (datum c) ≡ false → IsPartOf a b c → u ≡ slice_of a b c
     → IsPushed a b c u
-lazily_pushed a b c u stopped unready part e =
+lazily_pushed a b c u stopped part e =
     subst (IsPushed a b c) (sym e) (record {
-      pushed_down = sym (lazily_is a b c stopped unready part.0);
+      pushed_down = sym (lazily_is a b c stopped part.0);
       exactly = exactly_refl (slice_of a b c);
       bounded = omega arith;
-      canonical = λ h. absurd (cc (unready, h));
+      canonical = λ h. absurd (cc (uncut (datum c) stopped, h));
     })
 
 -- a range that is neither all rows nor none

@@ -1,17 +1,18 @@
 -- What the slice that is pushed down is, by range and by encoding.
 use Rattle.std.proofs.Common.{◌≡◌, ℕ, ◌+◌, ◌-◌, Bool, true, false, refl, ◌∙◌, inl, inr, arith}
 use Rattle.std.specs.Prelude.{◌==◌, ◌&&◌, if◌then◌else◌}
-use Rattle.std.proofs.lemmas.Bool.{eq-eqb, ne_eqb}
+use Rattle.std.proofs.lemmas.Bool.{eq-eqb, ne_eqb, cases_Bool}
 use Rattle.std.proofs.lemmas.Bool.Decides.{eqb_tells}
 use Rattle.vx_value.specs.Types.{DataType}
 use Rattle.vx_value.specs.Typed.{Typed}
 use Rattle.vx_fn.specs.declared.function.ScalarFnRef.{ScalarFnRef}
 use Rattle.vx_tree.specs.Tree as enc
-use Rattle.vx_tree.specs.Tree.{Tree, Slots, node, no_slots, absent, slot, dtype, len, datum, constant_of, slice_of, is_canonical}
+use Rattle.vx_tree.specs.Tree.{Tree, Data, Slots, node, no_slots, absent, slot, dtype, len, datum, constant_of, slice_of, is_canonical}
 use Rattle.vx_tree.specs.Slots.{map_slots}
 use Rattle.vx_tree.specs.Parts.{part_of, column_range}
 use Rattle.vx_tree.specs.Columns.{empty_of}
 use Rattle.vx_rule.specs.Rules.{lets_slice, IsPart}
+use Rattle.vx_rule.specs.SliceLaws.{column_lets}
 use Rattle.vx_rule.specs.Pushes.{ranged, pushed, pushed_slots}
 
 pub chosen_if : {A : Type 0} (test : Bool) (t u : A) → test ≡ true → (if test then t else u) ≡ t
@@ -56,6 +57,13 @@ whole_is a b t z w = (by_range a b t).1 ∙ ranged_whole a b t (by_range a b t).
 pub empty_is : (a b : ℕ) (t : Tree) → a ≡ b → (a ≡ 0 → b ≡ len t → ⊥) → pushed a b t ≡ empty_of (dtype t)
 empty_is a b t e some = (by_range a b t).1 ∙ ranged_empty a b t (by_range a b t).0 e some
 
+-- a canonical column lets a slice through
+pub uncut : (d : Data) → lets_slice d ≡ false → is_canonical d ≡ false
+uncut d h = elim (cases_Bool (is_canonical d)) [
+  | inl i ↦ absurd (cc (column_lets d i, h))
+  | inr i ↦ i
+]
+
 -- ---- a range of some rows, but not all: a line for each encoding that lets a slice through
 
 pub constant_is : (a b n : ℕ) (v : Typed) → IsPart a b n → pushed a b (constant_of v n) ≡ constant_of v (b - a)
@@ -83,12 +91,12 @@ column_is a b (node ty n d ss) h part =
     ranged_part a b t (if is_canonical d then column_range a b t else slice_of a b t) part ∙ chosen_if (is_canonical d) (column_range a b t) (slice_of a b t) h
 
 -- and of any other
-pub lazily_is : (a b : ℕ) (t : Tree) → lets_slice (datum t) ≡ false → is_canonical (datum t) ≡ false → IsPart a b (len t) → pushed a b t ≡ slice_of a b t
-lazily_is a b (node ty n (enc.constant v) ss) h unready part = absurd (cc (h))
-lazily_is a b (node ty n (enc.slice s e) ss) h unready part = absurd (cc (h))
-lazily_is a b (node ty n (enc.function f) ss) h unready part = absurd (cc (h))
-lazily_is a b (node ty n enc.masked ss) h unready part = absurd (cc (h))
-lazily_is a b (node ty n d ss) h unready part =
+pub lazily_is : (a b : ℕ) (t : Tree) → lets_slice (datum t) ≡ false → IsPart a b (len t) → pushed a b t ≡ slice_of a b t
+lazily_is a b (node ty n (enc.constant v) ss) h part = absurd (cc (h))
+lazily_is a b (node ty n (enc.slice s e) ss) h part = absurd (cc (h))
+lazily_is a b (node ty n (enc.function f) ss) h part = absurd (cc (h))
+lazily_is a b (node ty n enc.masked ss) h part = absurd (cc (h))
+lazily_is a b (node ty n d ss) h part =
     let t = node ty n d ss in
     ranged_part a b t (if is_canonical d then column_range a b t else slice_of a b t) part
-    ∙ chosen_else (is_canonical d) (column_range a b t) (slice_of a b t) unready
+    ∙ chosen_else (is_canonical d) (column_range a b t) (slice_of a b t) (uncut d h)

@@ -85,7 +85,6 @@ fn push_function(alloc: Global, array: &ArrayRef, range: Range<usize>) -> Vortex
 #[tactic(auto, using(crate::proofs::PushLemmas::lazily_pushed))]
 fn lazily(alloc: Global, array: &ArrayRef, range: Range<usize>) -> VortexResult<ArrayRef>
     requires stopped { lets_slice (datum array.now) ≡ false }
-    requires unready { is_canonical (datum array.now) ≡ false }
     requires part { IsPartOf range.start range.end array.now }
     ensures ok { IfOk result (λ t. IsPushed range.start range.end array.now t) }
     ensures err { OnlyOutOfMemory result }
