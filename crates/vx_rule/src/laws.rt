@@ -9,8 +9,8 @@ ghost use Rattle.vx_tree.specs.Weight.{weight};
 ghost use Rattle.vx_rule.specs.Rules.{Row, IsQuiet, IsPart, ArePresent};
 ghost use Rattle.vx_rule.specs.Pushes.{pushed};
 
-/// States what every row does: its answer may stand for the tree, weighs less, and is another tree. One who is asked has at most
-/// one answer: no two rows of the node itself fit at once, and no two of its children. (own)
+/// States what every row does: its answer may stand for the tree, weighs less, and is another tree. One who is asked, the
+/// node itself or the child in a slot, has at most one answer, and no two children have one. (own)
 pub fn rule_laws()
     ensures keeps { (w : Option ℕ) (t u : Tree) (os : List ℕ) → IsWell t → Row w t u os → Keeps t u }
     ensures lighter { (w : Option ℕ) (t u : Tree) (os : List ℕ) → Row w t u os → weight u < weight t }
