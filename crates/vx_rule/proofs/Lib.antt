@@ -7,7 +7,10 @@ pub mod FunctionsLemmas
 pub mod MasksLemmas
 pub mod CastsLemmas
 pub mod KeepsLemmas
+pub mod PushedLemmas
 pub mod PushLemmas
+mod AnswersLemmas
+mod StopsLemmas
 mod SlotsLemmas
 mod CallsLemmas
 mod FitsLemmas

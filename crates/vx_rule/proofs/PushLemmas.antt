@@ -1,5 +1,5 @@
 -- Slices that are pushed down, by encoding.
-use Rattle.std.proofs.Common.{◌≡◌, ℕ, zero, suc, ◌+◌, ◌-◌, ◌*◌, ◌<◌, ◌≤◌, List, [], ◌∷◌, length, map, take, get_or, Option, Some, None, true, false, refl, sym, ap, subst, ◌∙◌, arith}
+use Rattle.std.proofs.Common.{◌≡◌, ℕ, ◌+◌, ◌-◌, ◌*◌, ◌<◌, ◌≤◌, List, [], ◌∷◌, length, map, take, get_or, Option, Some, None, true, false, refl, sym, ap, subst, ◌∙◌, arith}
 use Rattle.std.specs.Prelude.{option_map}
 use Rattle.std.specs.List.{AllZip}
 use Rattle.std.proofs.lemmas.List.{take_all}
@@ -23,7 +23,9 @@ use Rattle.vx_tree.proofs.KeepsLemmas.{exactly_refl, exactly_trans, exactly_of_r
 use Rattle.vx_tree.proofs.PartsLemmas.{part_exact}
 use Rattle.vx_tree.proofs.KindsLemmas.{type_in, len_in}
 use Rattle.vx_tree.proofs.SlotsLemmas.{IsBelow, slot_below, one_shape}
-use Rattle.vx_rule.specs.Pushes.{IsPushed, IsConstantLike}
+use Rattle.vx_rule.specs.Rules.{lets_slice, IsPart, IsPartOf}
+use Rattle.vx_rule.specs.Pushes.{pushed, pushed_slots, IsPushed, IsColumnSlice, IsConstantLike}
+use Rattle.vx_rule.proofs.PushedLemmas.{whole_is, empty_is, constant_is, slice_is, function_is, masked_is, column_is, lazily_is, uncut}
 use Rattle.vx_rule.proofs.PicksLemmas.{IsSecond, masked_slots}
 use Rattle.vx_rule.proofs.RangesLemmas.{S_whole_keeps, S_empty_keeps, S1_keeps, S2_keeps, S4_keeps, S5_keeps}
 
@@ -35,20 +37,30 @@ empty_canonical null = refl
 empty_canonical _ = refl
 
 -- a canonical column takes one turn, however it came about
-pub column_pushed : (a b : ℕ) (c u : Tree) → KeepsExactly (slice_of a b c) u → is_canonical (datum u) ≡ true → IsPushed a b c u
-column_pushed a b c u same h = record {
+canonical_pushed : (a b : ℕ) (c u : Tree) → u ≡ pushed a b c → KeepsExactly (slice_of a b c) u → is_canonical (datum u) ≡ true → IsPushed a b c u
+canonical_pushed a b c u down same h = record {
+  pushed_down = down;
   exactly = same;
   bounded = omega (arith, canonical_cost u h, cost_positive c);
   canonical = λ e. h;
 }
 
-pub slice_pushed : (a b : ℕ) (c u : Tree) → is_canonical (datum c) ≡ false → u ≡ slice_of a b c → IsPushed a b c u
-slice_pushed a b c u unready e =
+pub column_pushed : (a b : ℕ) (c u : Tree) → IsPart a b (len c) → is_canonical (datum c) ≡ true → IsColumnSlice a b c u → IsPushed a b c u
+column_pushed a b c u part h cut = canonical_pushed a b c u (cut.range ∙ sym (column_is a b c h part)) cut.exactly cut.column
+
+pub lazily_pushed : (a b : ℕ) (c u : Tree) → lets_slice (datum c) ≡ false → IsPartOf a b c → u ≡ slice_of a b c
+    → IsPushed a b c u
+lazily_pushed a b c u stopped part e =
     subst (IsPushed a b c) (sym e) (record {
+      pushed_down = sym (lazily_is a b c stopped part.0);
       exactly = exactly_refl (slice_of a b c);
       bounded = omega arith;
-      canonical = λ h. absurd (cc (unready, h));
+      canonical = λ h. absurd (cc (uncut (datum c) stopped, h));
     })
+
+-- a range that is neither all rows nor none
+pub is_part : (a b : ℕ) (c : Tree) → (a ≤ b) × (b ≤ len c) → (a ≡ 0 → b ≡ len c → ⊥) → (a ≡ b → ⊥) → IsPartOf a b c
+is_part a b c within some_left some = (record { some_rows = grind (arith, within.0, some); not_all = grind (arith, within.0, within.1, some_left, some) }, within.1)
 
 -- rows from a to b of c
 module _ (a b : ℕ) (c : Tree) (well : IsWell c) (order : a ≤ b) (bounds : b ≤ len c) where
@@ -58,24 +70,29 @@ module _ (a b : ℕ) (c : Tree) (well : IsWell c) (order : a ≤ b) (bounds : b 
   pub whole_pushed : (u : Tree) → a ≡ 0 → b ≡ len c → u ≡ c → IsPushed a b c u
   whole_pushed u z w e =
       subst (IsPushed a b c) (sym e) (record {
+        pushed_down = sym (whole_is a b c z w);
         exactly = S_whole_keeps (dtype c) (b - a) a b c sliced z w;
         bounded = omega arith;
         canonical = λ h. h;
       })
 
-  pub empty_pushed : (u : Tree) → a ≡ b → u ≡ empty_of (dtype c) → IsPushed a b c u
-  empty_pushed u z e =
+  pub empty_pushed : (u : Tree) → a ≡ b → (a ≡ 0 → b ≡ len c → ⊥) → u ≡ empty_of (dtype c) → IsPushed a b c u
+  empty_pushed u z some e =
       subst (IsPushed a b c) (sym e)
-      (column_pushed a b c (empty_of (dtype c)) (S_empty_keeps (dtype c) (b - a) a b c sliced z) (empty_canonical (dtype c)))
+      (canonical_pushed a b c (empty_of (dtype c)) (sym (empty_is a b c z some)) (S_empty_keeps (dtype c) (b - a) a b c sliced z) (empty_canonical (dtype c)))
 
--- rows from a to b of x, which is such a tree
-module _ (a b : ℕ) (x : Tree) (well : IsWell x) (order : a ≤ b) (bounds : b ≤ len x) where
+-- some rows of x, from a to b
+module _ (a b : ℕ) (x : Tree) (well : IsWell x) (part : IsPartOf a b x) where
+  order : a ≤ b
+  order = omega (arith, part.0.some_rows)
+
   pub constant_pushed : (u : Tree) → IsConstantLike x (b - a) u → IsPushed a b x u
   constant_pushed u like =
       let v = like.0 in
       let child = constant_of v (len x) in
       subst (λ y. IsPushed a b y u) (sym like.1) (subst (IsPushed a b child) (sym like.2) (record {
-        exactly = S2_keeps v.of_type v.of_type (b - a) a b (len x) v (subst (λ y. IsWell (slice_of a b y)) like.1 (sliced a b x well order bounds));
+        pushed_down = sym (constant_is a b (len x) v part.0);
+        exactly = S2_keeps v.of_type v.of_type (b - a) a b (len x) v (subst (λ y. IsWell (slice_of a b y)) like.1 (sliced a b x well order part.1));
         bounded = omega arith;
         canonical = λ h. absurd (cc (h));
       }))
@@ -84,8 +101,9 @@ module _ (a b : ℕ) (x : Tree) (well : IsWell x) (order : a ≤ b) (bounds : b 
   inner_pushed s e c u shown h =
       let child = slice_of s e c in
       subst (λ y. IsPushed a b y u) (sym shown) (record {
+        pushed_down = h.pushed_down ∙ sym (slice_is a b s e c (subst (λ y. IsPart a b (len y)) shown part.0));
         exactly = exactly_trans (slice_of a b child) (slice_of (s + a) (s + b) c) u
-            (S1_keeps (dtype c) (dtype c) (b - a) a b (e - s) s e c (subst (λ y. IsWell (slice_of a b y)) shown (sliced a b x well order bounds))) h.exactly;
+            (S1_keeps (dtype c) (dtype c) (b - a) a b (e - s) s e c (subst (λ y. IsWell (slice_of a b y)) shown (sliced a b x well order part.1))) h.exactly;
         bounded = omega (arith, h.bounded);
         canonical = λ h. absurd (cc (h));
       })
@@ -105,6 +123,14 @@ module _ (a b : ℕ) where
   slots_shown (None ∷ xs) (y ∷ ys) h = absurd h.0
   slots_shown (Some t ∷ xs) (None ∷ ys) h = absurd h.0
   slots_shown (Some t ∷ xs) (Some u ∷ ys) h = λ i. h.0.exactly.equal i ∷ slots_shown xs ys h.1 i
+
+  slots_down : (xs ys : List (Option Tree)) → AllZip (IsSlotPushed a b) xs ys → slots_of ys ≡ pushed_slots a b (slots_of xs)
+  slots_down [] [] h = refl
+  slots_down [] (y ∷ ys) h = absurd h
+  slots_down (x ∷ xs) [] h = absurd h
+  slots_down (None ∷ xs) (y ∷ ys) h = absurd h.0
+  slots_down (Some t ∷ xs) (None ∷ ys) h = absurd h.0
+  slots_down (Some t ∷ xs) (Some u ∷ ys) h = λ i. slot (h.0.pushed_down i) (slots_down xs ys h.1 i)
 
   slots_clean : (xs ys : List (Option Tree)) → AllZip (IsSlotPushed a b) xs ys → AreClean (map_slots (slice_of a b) (slots_of xs)) → AreClean (slots_of ys)
   slots_clean [] [] h c = tt
@@ -149,28 +175,31 @@ module _ (x : Tree) (f : ScalarFnRef) (xs : List (Option Tree)) (shown : x ≡ n
 
   -- a loop over all slots pushed each
   module _ (a b k : ℕ) (ys : List (Option Tree)) (all_done : length xs ≤ k) (each : AllZip (IsSlotPushed a b) (take k xs) ys) where
-    pushed_slots : AllZip (IsSlotPushed a b) xs ys
-    pushed_slots = subst (λ zs. AllZip (IsSlotPushed a b) zs ys) (take_all k xs all_done) each
+    slots_pushed : AllZip (IsSlotPushed a b) xs ys
+    slots_pushed = subst (λ zs. AllZip (IsSlotPushed a b) zs ys) (take_all k xs all_done) each
 
     pub function_sized : IsNode (dtype x) (b - a) (enc.function f) (shapes (slots_of ys))
-    function_sized = (ok.0, slots_sized a b (len x) ok.0 xs ys pushed_slots ok.1, ok.2)
+    function_sized = (ok.0, slots_sized a b (len x) ok.0 xs ys slots_pushed ok.1, ok.2)
 
-    pub function_pushed : IsWell x → a ≤ b → b ≤ len x → (u : Tree) → u ≡ node (dtype x) (b - a) (enc.function f) (slots_of ys) → IsPushed a b x u
-    function_pushed well order bounds u e =
+    pub function_pushed : IsWell x → IsPartOf a b x → (u : Tree) → u ≡ node (dtype x) (b - a) (enc.function f) (slots_of ys) → IsPushed a b x u
+    function_pushed well part u e =
         let ty = dtype x in
         let n = len x in
         let ss = slots_of xs in
         let child = node ty n (enc.function f) ss in
         let lazily = node ty (b - a) (enc.function f) (map_slots (slice_of a b) ss) in
-        let pushed = node ty (b - a) (enc.function f) (slots_of ys) in
+        let made = node ty (b - a) (enc.function f) (slots_of ys) in
         let kept : KeepsExactly (slice_of a b child) lazily =
-        S4_keeps ty ty (b - a) a b n f ss (subst (λ y. IsWell (slice_of a b y)) shown (sliced a b x well order bounds)) in
-        let swapped : KeepsExactly lazily pushed =
+        S4_keeps ty ty (b - a) a b n f ss (subst (λ y. IsWell (slice_of a b y)) shown (sliced a b x well (order a b x well part) part.1)) in
+        let swapped : KeepsExactly lazily made =
         exactly_of_rows ty (b - a) (enc.function f) (enc.function f) (map_slots (slice_of a b) ss) (slots_of ys)
-        (ap (node_cells ty (b - a) (enc.function f)) (slots_shown a b xs ys pushed_slots)) (slots_clean a b xs ys pushed_slots) in
+        (ap (node_cells ty (b - a) (enc.function f)) (slots_shown a b xs ys slots_pushed)) (slots_clean a b xs ys slots_pushed) in
         subst (λ y. IsPushed a b y u) (sym shown) (subst (IsPushed a b child) (sym e) (record {
-          exactly = exactly_trans (slice_of a b child) lazily pushed kept swapped;
-          bounded = omega (arith, slots_bounded a b f xs ys pushed_slots);
+          pushed_down =
+              ap (node ty (b - a) (enc.function f)) (slots_down a b xs ys slots_pushed)
+              ∙ sym (function_is a b ty n f ss (subst (λ y. IsPart a b (len y)) shown part.0));
+          exactly = exactly_trans (slice_of a b child) lazily made kept swapped;
+          bounded = omega (arith, slots_bounded a b f xs ys slots_pushed);
           canonical = λ h. absurd (cc (h));
         }))
 
@@ -181,31 +210,34 @@ pub masked_mapped : (f : Tree → Tree) (c : Tree) (v : Option Tree) → slots_o
 masked_mapped f c None = refl
 masked_mapped f c (Some t) = refl
 
-module _ (a b : ℕ) (x c : Tree) (v : Option Tree) (shown : x ≡ masked_of c v) (well : IsWell x) (order : a ≤ b) (bounds : b ≤ len x) where
+module _ (a b : ℕ) (x c : Tree) (v : Option Tree) (shown : x ≡ masked_of c v) (well : IsWell x) (range : IsPartOf a b x) where
   here : IsWell (masked_of c v)
   here = subst IsWell shown well
 
   within : b ≤ len c
-  within = subst (λ y. b ≤ len y) shown bounds
+  within = subst (λ y. b ≤ len y) shown range.1
+
+  in_order : a ≤ b
+  in_order = order a b x well range
 
   second : IsSecond (len c) (slots_of (v ∷ []))
   second = (masked_slots (dtype (masked_of c v)) (len c) c (slots_of (v ∷ [])) here.0).1
 
   range_of : (v : Option Tree) → IsSecond (len c) (slots_of (v ∷ [])) → HasRange a b v
   range_of None h = tt
-  range_of (Some t) h = (order, omega (arith, within, ap len_in h))
+  range_of (Some t) h = (in_order, omega (arith, within, ap len_in h))
 
   pub masked_range : HasRange a b v
   masked_range = range_of v second
 
   -- the child's rows from a to b, and those of the validity
-  module _ (u : Tree) (w : Option Tree) (pushed : IsPushed a b c u) (part : w ≡ option_map (part_of a b) v) where
+  module _ (u : Tree) (w : Option Tree) (below : IsPushed a b c u) (part : w ≡ option_map (part_of a b) v) where
     part_is : (v : Option Tree) → AreWell (slots_of (v ∷ [])) → IsSecond (len c) (slots_of (v ∷ []))
         → IsValidity Nullable (len u) (option_map shape_of (option_map (part_of a b) v))
     part_is None g h = tt
     part_is (Some t) g h =
-        let kept = (part_exact a b t g.0 order (omega (arith, within, ap len_in h))).keeps in
-        let counted = pushed.exactly.keeps.same_len in
+        let kept = (part_exact a b t g.0 in_order (omega (arith, within, ap len_in h))).keeps in
+        let counted = below.exactly.keeps.same_len in
         let typed : dtype (part_of a b t) ≡ type.bool NonNullable = sym kept.same_type ∙ ap type_in h in
         let sized : len (part_of a b t) ≡ len u = sym kept.same_len ∙ counted in
         λ i. shape (typed i) (sized i)
@@ -215,7 +247,7 @@ module _ (a b : ℕ) (x c : Tree) (v : Option Tree) (shown : x ≡ masked_of c v
       dtype u,
       option_map shape_of w,
       ap (λ l. Some (shape_of u) ∷ l) (one_shape w),
-      ap dtype shown ∙ ap (with_nullability Nullable) pushed.exactly.keeps.same_type,
+      ap dtype shown ∙ ap (with_nullability Nullable) below.exactly.keeps.same_type,
       subst (λ y. IsValidity Nullable (len u) (option_map shape_of y)) (sym part) (part_is v here.1.1 second),
     )
 
@@ -227,14 +259,17 @@ module _ (a b : ℕ) (x c : Tree) (v : Option Tree) (shown : x ≡ masked_of c v
         let lazily = node ty (b - a) enc.masked (slot (slice_of a b c) (map_slots (part_of a b) vs)) in
         let whole = node ty (b - a) enc.masked (slot u (map_slots (part_of a b) vs)) in
         let kept : KeepsExactly (slice_of a b child) lazily =
-        S5_keeps ty ty (b - a) a b (len c) c vs (subst (λ y. IsWell (slice_of a b y)) shown (sliced a b x well order bounds)) in
-        let swapped : KeepsExactly lazily whole = put_exactly 0 (slice_of a b c) u lazily pushed.exactly in
+        S5_keeps ty ty (b - a) a b (len c) c vs (subst (λ y. IsWell (slice_of a b y)) shown (sliced a b x well in_order range.1)) in
+        let swapped : KeepsExactly lazily whole = put_exactly 0 (slice_of a b c) u lazily below.exactly in
         let slots : slots_of (Some u ∷ w ∷ []) ≡ slot u (map_slots (part_of a b) vs) = ap (λ y. slots_of (Some u ∷ y ∷ [])) part
         ∙ masked_mapped (part_of a b) u v in
-        let made : t ≡ whole = e ∙ (let sized = sym pushed.exactly.keeps.same_len in λ i. node (dtype (shown i)) (sized i) enc.masked (slots i)) in
+        let made : t ≡ whole = e ∙ (let sized = sym below.exactly.keeps.same_len in λ i. node (dtype (shown i)) (sized i) enc.masked (slots i)) in
         subst (λ y. IsPushed a b y t) (sym shown) (subst (IsPushed a b child) (sym made) (record {
+          pushed_down =
+              (λ i. node ty (b - a) enc.masked (slot (below.pushed_down i) (map_slots (part_of a b) vs)))
+              ∙ sym (masked_is a b ty (len c) c vs (subst (λ y. IsPart a b (len y)) shown range.0));
           exactly = exactly_trans (slice_of a b child) lazily whole kept swapped;
           bounded =
-              omega (arith, pushed.bounded, masked_cost ty (b - a) u (map_slots (part_of a b) vs), masked_cost ty (len c) c vs, masked_reach ty (len c) c vs);
+              omega (arith, below.bounded, masked_cost ty (b - a) u (map_slots (part_of a b) vs), masked_cost ty (len c) c vs, masked_reach ty (len c) c vs);
           canonical = λ h. absurd (cc (h));
         }))

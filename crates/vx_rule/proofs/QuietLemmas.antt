@@ -12,7 +12,7 @@ use Rattle.vx_fn.specs.declared.function.ScalarFnRef.TheVariants as fn_of
 use Rattle.vx_tree.specs.Tree as enc
 use Rattle.vx_tree.specs.Tree.{Tree, Data, Slots, node, no_slots, slot, dtype, datum, slice_of, filter_of, is_filter, is_constant, is_function, is_masked, is_slice}
 use Rattle.vx_rule.specs.Calls.{null_test}
-use Rattle.vx_rule.specs.Rules.{IsQuiet, F1, F2, F3, C1, N1_null, N1_valid, S_whole, S_empty, S1, S2, S3, S4, S5, F5, F6, F7, F8, M1, K1, K2, K3, K4}
+use Rattle.vx_rule.specs.Rules.{Row, IsQuiet, F1, F2, F3, C1, N1_null, N1_valid, S_whole, S_empty, S1, S2, S3, S4, S5, F5, F6, F7, F8, M1, K1, K2, K3, K4}
 
 -- ---- the node itself
 
@@ -66,21 +66,25 @@ own_quiet t f g u os (N1_valid ty n c e) = absurd (cc (g))
 abbrev pub lets_filter : Data → Bool
 lets_filter d = is_filter d || is_constant d || is_function d || is_masked d
 
--- no row is one of a later slot
+-- each row of a slot is one of the first
+pub row_first : (i : ℕ) (t u : Tree) (os : List ℕ) → Row (Some i) t u os → i ≡ 0
+row_first i t u os (S_whole ty n a b c l z y) = refl
+row_first i t u os (S_empty ty n a b c l z y) = refl
+row_first i t u os (S1 ty sty n a b k s' r c p) = refl
+row_first i t u os (S2 ty cty n a b k v p) = refl
+row_first i t u os (S3 ty cty n a b k d ss e p) = refl
+row_first i t u os (S4 ty fty n a b k f' ss p) = refl
+row_first i t u os (S5 ty mty n a b k c vs p) = refl
+row_first i t u os (F5 ty fty n k outer inner c) = refl
+row_first i t u os (F6 ty cty n k bits v) = refl
+row_first i t u os (F7 ty fty n k bits f' ss) = refl
+row_first i t u os (F8 ty mty n k bits c vs) = refl
+row_first i t u os (M1 ty mty n k c m vs) = refl
+row_first i t u os (K1 ty s' n k target v x e) = refl
+row_first i t u os (K2 ty s' n k v x e) = refl
+row_first i t u os (K3 ty s' r q n i' j k options x y z v e) = refl
+row_first i t u os (K4 ty s' r n j k x y v e) = refl
+
+-- so none is one of a later slot
 pub later_quiet : (i : ℕ) (t : Tree) → (i ≡ 0 → ⊥) → IsQuiet (Some i) t
-later_quiet i t h u os (S_whole ty n a b c l z y) = h refl
-later_quiet i t h u os (S_empty ty n a b c l z y) = h refl
-later_quiet i t h u os (S1 ty sty n a b k s' r c p) = h refl
-later_quiet i t h u os (S2 ty cty n a b k v p) = h refl
-later_quiet i t h u os (S3 ty cty n a b k d ss e p) = h refl
-later_quiet i t h u os (S4 ty fty n a b k f' ss p) = h refl
-later_quiet i t h u os (S5 ty mty n a b k c vs p) = h refl
-later_quiet i t h u os (F5 ty fty n k outer inner c) = h refl
-later_quiet i t h u os (F6 ty cty n k bits v) = h refl
-later_quiet i t h u os (F7 ty fty n k bits f' ss) = h refl
-later_quiet i t h u os (F8 ty mty n k bits c vs) = h refl
-later_quiet i t h u os (M1 ty mty n k c m vs) = h refl
-later_quiet i t h u os (K1 ty s' n k target v x e) = h refl
-later_quiet i t h u os (K2 ty s' n k v x e) = h refl
-later_quiet i t h u os (K3 ty s' r q n i' j k options x y z v e) = h refl
-later_quiet i t h u os (K4 ty s' r n j k x y v e) = h refl
+later_quiet i t h u os row = h (row_first i t u os row)

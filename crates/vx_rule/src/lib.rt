@@ -20,7 +20,7 @@ pub use adaptors::{
     NotReduce, NotReduceAdaptor, SliceReduce, SliceReduceAdaptor,
 };
 pub use encodings::CanonicalEncoding;
-pub use laws::rule_laws;
+pub use laws::{push_laws, rule_laws};
 pub use push::push_slice;
 pub use raw_node::RawNode;
 pub use rule::{

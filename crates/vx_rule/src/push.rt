@@ -5,7 +5,8 @@ ghost use Rattle.vx_value.specs.Errors.{OnlyOutOfMemory};
 ghost use Rattle.vx_tree.specs.Tree.{len, datum, masked_of, slice_of, is_canonical, is_function};
 ghost use Rattle.vx_tree.specs.Keeps.{KeepsExactly};
 ghost use Rattle.vx_tree.specs.Cost.{cost, reach};
-ghost use Rattle.vx_rule.specs.Pushes.{IsPushed};
+ghost use Rattle.vx_rule.specs.Rules.{lets_slice, IsPartOf};
+ghost use Rattle.vx_rule.specs.Pushes.{pushed, IsPushed};
 
 use crate::nodes::{
     column_slice, constant_like, empty_column, function_node, function_parts, masked_node,
@@ -22,6 +23,7 @@ use vx_value::VortexResult;
 pub fn push_slice(alloc: Global, array: &ArrayRef, range: Range<usize>) -> VortexResult<ArrayRef>
     requires { (range.start ≤ range.end) × (range.end ≤ len array.now) }
     ensures ok { IfOk result (λ t. KeepsExactly (slice_of range.start range.end array.now) t) }
+    ensures pushed { IfOk result (λ t. t ≡ pushed range.start range.end array.now) }
     ensures cost { IfOk result (λ t. cost t ≤ cost array.now + 3 * reach array.now) }
     ensures canonical { IfOk result (λ t. is_canonical (datum array.now) ≡ true → is_canonical (datum t) ≡ true) }
     ensures err { OnlyOutOfMemory result }
@@ -62,7 +64,7 @@ fn push(alloc: Global, array: &ArrayRef, range: Range<usize>) -> VortexResult<Ar
 #[cycle(push)]
 fn push_function(alloc: Global, array: &ArrayRef, range: Range<usize>) -> VortexResult<ArrayRef>
     requires function { is_function (datum array.now) ≡ true }
-    requires within { (range.start ≤ range.end) × (range.end ≤ len array.now) }
+    requires part { IsPartOf range.start range.end array.now }
     ensures ok { IfOk result (λ t. IsPushed range.start range.end array.now t) }
     ensures err { OnlyOutOfMemory result }
 {
@@ -79,11 +81,11 @@ fn push_function(alloc: Global, array: &ArrayRef, range: Range<usize>) -> Vortex
     function_node(alloc, array, scalar_fn, end - start, parts)
 }
 
-/// Returns a lazy slice of `array`, which isn't canonical. Fails only with `OutOfMemory`.
-#[tactic(auto, using(crate::proofs::PushLemmas::slice_pushed))]
+/// Returns a lazy slice of `array`, through which no slice passes. Fails only with `OutOfMemory`.
+#[tactic(auto, using(crate::proofs::PushLemmas::lazily_pushed))]
 fn lazily(alloc: Global, array: &ArrayRef, range: Range<usize>) -> VortexResult<ArrayRef>
-    requires unready { is_canonical (datum array.now) ≡ false }
-    requires within { (range.start ≤ range.end) × (range.end ≤ len array.now) }
+    requires stopped { lets_slice (datum array.now) ≡ false }
+    requires part { IsPartOf range.start range.end array.now }
     ensures ok { IfOk result (λ t. IsPushed range.start range.end array.now t) }
     ensures err { OnlyOutOfMemory result }
 {
@@ -102,7 +104,7 @@ fn masked_part(
     range: Range<usize>,
 ) -> VortexResult<ArrayRef>
     requires shape { array.now ≡ masked_of child.now validity.now }
-    requires within { (range.start ≤ range.end) × (range.end ≤ len array.now) }
+    requires within { IsPartOf range.start range.end array.now }
     requires part { IsPushed range.start range.end child.now part }
     ensures ok { IfOk result (λ t. IsPushed range.start range.end array.now t) }
     ensures err { OnlyOutOfMemory result }

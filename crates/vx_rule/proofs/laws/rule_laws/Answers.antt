@@ -1,3 +1,4 @@
+use Rattle.vx_rule.proofs.AnswersLemmas.{row_determined, row_one_child}
 use Rattle.vx_rule.proofs.KeepsLemmas.{row_keeps}
 use Rattle.vx_rule.proofs.LighterLemmas.{row_lighter, row_moves, row_present, row_asked}
 use Rattle.vx_rule.proofs.laws.rule_laws.Goals as goal
@@ -16,3 +17,9 @@ returns-clause-asked c = row_asked
 
 pub returns-clause-moves : goal.returns-clause-moves
 returns-clause-moves c = row_moves
+
+pub returns-clause-determined : goal.returns-clause-determined
+returns-clause-determined c = row_determined
+
+pub returns-clause-one_child : goal.returns-clause-one_child
+returns-clause-one_child c = row_one_child

@@ -4,7 +4,7 @@ use Rattle.std.proofs.lemmas.List.Elements.{all_zip_more}
 use Rattle.std.proofs.lemmas.Result.{IfOk-weaker}
 use Rattle.vx_tree.specs.Tree.{len}
 use Rattle.vx_tree.specs.Columns.{empty_of}
-use Rattle.vx_rule.proofs.PushLemmas.{IsSlotPushed, whole_pushed, empty_pushed, column_pushed, constant_pushed, inner_pushed}
+use Rattle.vx_rule.proofs.PushLemmas.{IsSlotPushed, is_part, whole_pushed, empty_pushed, column_pushed, constant_pushed, inner_pushed}
 use Rattle.vx_rule.proofs.PushLemmas.{child_below, function_sized, function_pushed}
 use Rattle.vx_rule.proofs.push.+push.Goals as goal
 
@@ -22,24 +22,28 @@ push-returns-then-range-clause-ok t c =
     let a = c.args.range.start in
     let b = c.args.range.end in
     let none : a ≡ b = grind (arith, common_steps) in
+    let some : a ≡ 0 → b ≡ len c.args.array.now → ⊥ = λ z w. grind (arith, common_steps) in
     IfOk-weaker c.empty_column.result _ _
-    (λ u e. empty_pushed a b c.args.array.now c.well_formed_tree.ensures.formed c.requires.0 c.requires.1 u none (e ∙ ap empty_of c.dtype.ensures))
+    (λ u e. empty_pushed a b c.args.array.now c.well_formed_tree.ensures.formed c.requires.0 c.requires.1 u none some (e ∙ ap empty_of c.dtype.ensures))
     c.empty_column.ensures.ok
 
 pub push-returns-in-Constant-clause-ok : goal.push-returns-in-Constant-clause-ok
 push-returns-in-Constant-clause-ok t c =
+    let part = is_part c.args.range.start c.args.range.end c.args.array.now c.requires (λ z w. grind (arith, common_steps)) c.if-range.false in
     IfOk-weaker c.constant_like.result _ _
-    (constant_pushed c.args.range.start c.args.range.end c.args.array.now c.well_formed_tree.ensures.formed c.requires.0 c.requires.1) c.constant_like.ensures.ok
+    (constant_pushed c.args.range.start c.args.range.end c.args.array.now c.well_formed_tree.ensures.formed part) c.constant_like.ensures.ok
 
 pub push-returns-in_default-clause-ok : goal.push-returns-in_default-clause-ok
 push-returns-in_default-clause-ok t c =
-    IfOk-weaker c.column_slice.result _ _ (λ u h. column_pushed c.args.range.start c.args.range.end c.args.array.now u h.exactly h.column)
+    let part = is_part c.args.range.start c.args.range.end c.args.array.now c.requires (λ z w. grind (arith, common_steps)) c.if-range.false in
+    IfOk-weaker c.column_slice.result _ _ (λ u h. column_pushed c.args.range.start c.args.range.end c.args.array.now u part.0 (sym c.is.ensures ∙ c.if-is.true) h)
     c.column_slice.ensures.ok
 
 pub push-returns-in-Slice-clause-ok : goal.push-returns-in-Slice-clause-ok
 push-returns-in-Slice-clause-ok t c =
+    let part = is_part c.args.range.start c.args.range.end c.args.array.now c.requires (λ z w. grind (arith, common_steps)) c.if-range.false in
     IfOk-weaker c.push.result _ _
-    (λ u h. inner_pushed c.args.range.start c.args.range.end c.args.array.now c.well_formed_tree.ensures.formed c.requires.0 c.requires.1 c.in-Slice.from c.in-Slice.field-2
+    (λ u h. inner_pushed c.args.range.start c.args.range.end c.args.array.now c.well_formed_tree.ensures.formed part c.in-Slice.from c.in-Slice.field-2
     c.in-Slice.child.now u c.in-Slice.ensures.0 h)
     c.push.ensures.ok
 
@@ -55,7 +59,8 @@ push_function-push-requires t c =
     let below = child_below c.args.array.now p.result.0.now p.result.1.now p.ensures.shape p.ensures.node c.loop-slot.slot-index c.slot-item.result
     (Some c.in-Some.child) c.loop-slot-test.true c.slot-item.is c.in-Some.is in
     let d = c.decreases in
-    (omega (arith, below.1), (c.requires.within.0, omega (arith, below.0, c.requires.within.1)))
+    let order = c.requires.part.0.some_rows in
+    (omega (arith, below.1), (omega arith, omega (arith, below.0, c.requires.part.1)))
 
 pub push_function-loop-slot-preserved : goal.push_function-loop-slot-preserved
 push_function-loop-slot-preserved t c =
@@ -76,5 +81,5 @@ push_function-returns-clause-ok t c =
     let p = c.function_parts in
     IfOk-weaker c.function_node.result _ _
     (function_pushed c.args.array.now p.result.0.now p.result.1.now p.ensures.shape p.ensures.node c.args.range.start c.args.range.end c.loop-slot.slot-index
-    c.loop-slot.parts.items c.loop-slot-test.false c.loop-slot.invariant p.ensures.well c.requires.within.0 c.requires.within.1)
+    c.loop-slot.parts.items c.loop-slot-test.false c.loop-slot.invariant p.ensures.well c.requires.part)
     c.function_node.ensures.ok

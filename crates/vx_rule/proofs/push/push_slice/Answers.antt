@@ -9,3 +9,6 @@ returns-clause-cost c = IfOk-weaker c.push.result _ _ (λ u h. h.bounded) c.push
 
 pub returns-clause-canonical : goal.returns-clause-canonical
 returns-clause-canonical c = IfOk-weaker c.push.result _ _ (λ u h. h.canonical) c.push.ensures.ok
+
+pub returns-clause-pushed : goal.returns-clause-pushed
+returns-clause-pushed c = IfOk-weaker c.push.result _ _ (λ u h. h.pushed_down) c.push.ensures.ok

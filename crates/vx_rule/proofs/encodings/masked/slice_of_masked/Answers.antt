@@ -18,7 +18,7 @@ slice_validity-requires c =
     let x = c.args.child.now in
     let v = c.masked_parts.result.1.now in
     masked_range c.args.range.start c.args.range.end x c.masked_parts.result.0.now v c.masked_parts.ensures.shape c.masked_parts.ensures.well
-    (omega (arith, c.requires.part.0.some_rows)) c.requires.part.1
+    c.requires.part
 
 pub masked_node-requires : goal.masked_node-requires
 masked_node-requires c =
