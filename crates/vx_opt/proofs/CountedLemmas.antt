@@ -16,7 +16,7 @@ use Rattle.vx_opt.specs.Limits.{root_limit, call_limit}
 use Rattle.vx_opt.specs.Pass.{IsFirst, Runs, RunsIn, Optimizes, ComesTo, ComesToIn, start, pass, none, one_more, here, within, in_slot}
 use Rattle.vx_opt.specs.Descends.{Descends, DescendsIn, DescendsTo, DescendsToIn, first, over, into}
 use Rattle.vx_opt.specs.Descends as down
-use Rattle.vx_opt.specs.Counted.{IsCounted, IsStopped, OptimizesAt, ComesToAt, IsUnderWay, IsBetween, GoesDescending, GoesDescendingIn, DescendsAt, DescendsToAt}
+use Rattle.vx_opt.specs.Counted.{IsCounted, GivesUp, OptimizesAt, ComesToAt, IsUnderWay, IsBetween, GoesDescending, GoesDescendingIn, DescendsAt, DescendsToAt}
 
 -- the error of a call is passed on
 pub passed_on : {T : Type 0} (r : Result T VortexError) (P : T → Type 0) (Q : VortexError → Type 0) (e : VortexError)
@@ -25,7 +25,7 @@ passed_on (Ok v) P Q e h q = absurd h
 passed_on (Err y) P Q e h q = subst Q (sym h) q
 
 -- a limit that is met after so many more rewrites
-stopped_after : (P Q : ℕ → ℕ → Type 0) (a b x : ℕ) (e : VortexError) → a + x ≡ b → ((k n : ℕ) → P k n → Q k (x + n)) → IsStopped P b e → IsStopped Q a e
+stopped_after : (P Q : ℕ → ℕ → Type 0) (a b x : ℕ) (e : VortexError) → a + x ≡ b → ((k n : ℕ) → P k n → Q k (x + n)) → GivesUp P b e → GivesUp Q a e
 stopped_after P Q a b x OutOfMemory l f h = tt
 stopped_after P Q a b x (RewriteLimit k n) l f h = (x + h.0, f k h.0 h.1, omega (arith, h.2), h.3)
 stopped_after P Q a b x _ l f h = absurd h
@@ -54,7 +54,7 @@ way_go t u v x os a b c r w h y f m =
     }
 
 pub way_limit : (t u v : Tree) (os : List ℕ) (a b r : ℕ) → IsWell u → IsUnderWay t u a b r → IsFirst u v os
-    → (r + 1 ≡ root_limit + 1) ⊎ (b + 1 ≡ call_limit) → IsStopped (λ k n. ComesTo t k n 0) a (RewriteLimit (r + 1) (b + 1))
+    → (r + 1 ≡ root_limit + 1) ⊎ (b + 1 ≡ call_limit) → GivesUp (λ k n. ComesTo t k n 0) a (RewriteLimit (r + 1) (b + 1))
 way_limit t u v os a b r w h y l =
     let n = h.runs.count in
     let e : suc r ≡ r + 1 = omega arith in (
@@ -65,7 +65,7 @@ way_limit t u v os a b r w h y l =
     )
 
 pub way_stopped : (t u v : Tree) (os : List ℕ) (a b r : ℕ) (e : VortexError) → IsWell u → IsUnderWay t u a b r → IsFirst u v os → r + 1 ≤ root_limit
-    → IsStopped (λ k n. ComesToIn os v k n 0) (b + 1) e → IsStopped (λ k n. ComesTo t k n 0) a e
+    → GivesUp (λ k n. ComesToIn os v k n 0) (b + 1) e → GivesUp (λ k n. ComesTo t k n 0) a e
 way_stopped t u v os a b r e w h y f g =
     let n = h.runs.count in
     let room : suc r ≤ root_limit = omega arith in
@@ -113,13 +113,13 @@ module _ (i : ℕ) (c p t : Tree) (taken : IsTaken i c p t) where
 pub slot_passed : (i : ℕ) (t : Tree) (a : ℕ) → a < call_limit → (IsPresent i t → ⊥) → IsCounted (DescendsAt i t t) a a
 slot_passed i t a l h = counted_refl (DescendsAt i t t) a (inl (h, refl, refl)) l
 
-pub slot_stopped : (i : ℕ) (c t : Tree) (a : ℕ) (e : VortexError) → HasSlot i c t → IsStopped (λ k n. ComesTo c k n 0) a e → IsStopped (ComesToAt i t) a e
+pub slot_stopped : (i : ℕ) (c t : Tree) (a : ℕ) (e : VortexError) → HasSlot i c t → GivesUp (λ k n. ComesTo c k n 0) a e → GivesUp (ComesToAt i t) a e
 slot_stopped i c t a OutOfMemory w h = tt
 slot_stopped i c t a (RewriteLimit k n) w h = (h.0, (c, w, h.1), h.2, h.3)
 slot_stopped i c t a _ w h = absurd h
 
-pub slot_stopped_below : (i : ℕ) (c t : Tree) (a : ℕ) (e : VortexError) → HasSlot i c t → IsStopped (λ k n. DescendsTo c k n 0) a e
-    → IsStopped (DescendsToAt i t) a e
+pub slot_stopped_below : (i : ℕ) (c t : Tree) (a : ℕ) (e : VortexError) → HasSlot i c t → GivesUp (λ k n. DescendsTo c k n 0) a e
+    → GivesUp (DescendsToAt i t) a e
 slot_stopped_below i c t a OutOfMemory w h = tt
 slot_stopped_below i c t a (RewriteLimit k n) w h = (h.0, (c, w, h.1), h.2, h.3)
 slot_stopped_below i c t a _ w h = absurd h
@@ -165,7 +165,7 @@ split_at (o ∷ os) zero k w = refl
 split_at (o ∷ os) (suc i) k w = ap (λ l. o ∷ l) (split_at os i k (omega arith))
 
 pub between_stopped : (os : List ℕ) (i k : ℕ) (t u : Tree) (a b : ℕ) (e : VortexError) → i < length os → IsBetween os (take i os) t u a b
-    → IsStopped (ComesToAt (get_or os i k) u) b e → IsStopped (λ k n. ComesToIn os t k n 0) a e
+    → GivesUp (ComesToAt (get_or os i k) u) b e → GivesUp (λ k n. ComesToIn os t k n 0) a e
 between_stopped os i k t u a b e w h g =
     stopped_after (ComesToAt (get_or os i k) u) (λ x n. ComesToIn os t x n 0) a b h.runs.count e h.runs.counted
     (λ x n p. subst (λ l. ComesToIn l t x (h.runs.count + n) 0) (split_at os i k w)
@@ -198,8 +198,8 @@ sink_go i t u v a b c h m =
       room = m.room;
     }
 
-pub sink_stopped : (i : ℕ) (t u : Tree) (a b : ℕ) (e : VortexError) → IsCounted (λ n. DescendsIn i t u n 0) a b → IsStopped (DescendsToAt i u) b e
-    → IsStopped (λ k n. DescendsToIn t k n 0) a e
+pub sink_stopped : (i : ℕ) (t u : Tree) (a b : ℕ) (e : VortexError) → IsCounted (λ n. DescendsIn i t u n 0) a b → GivesUp (DescendsToAt i u) b e
+    → GivesUp (λ k n. DescendsToIn t k n 0) a e
 sink_stopped i t u a b e h g =
     stopped_after (DescendsToAt i u) (λ k n. DescendsToIn t k n 0) a b h.count e h.counted
     (λ k n p. down.in_slot i t u p.0 k h.count 0 n 0 h.done p.1 p.2) g
@@ -221,7 +221,7 @@ descends_then t r a b c (Err e) h g =
     stopped_after (λ k n. DescendsToIn r k n 0) (λ k n. DescendsTo t k n 0) a b h.count e h.counted
     (λ k n p. down.below t r k h.count 0 n 0 h.done p) g
 
-pub descends_stopped : (t : Tree) (a : ℕ) (e : VortexError) → IsStopped (λ k n. ComesTo t k n 0) a e → IsStopped (λ k n. DescendsTo t k n 0) a e
+pub descends_stopped : (t : Tree) (a : ℕ) (e : VortexError) → GivesUp (λ k n. ComesTo t k n 0) a e → GivesUp (λ k n. DescendsTo t k n 0) a e
 descends_stopped t a OutOfMemory h = tt
 descends_stopped t a (RewriteLimit k n) h = (h.0, down.at_root t k h.0 0 h.1, h.2, h.3)
 descends_stopped t a _ h = absurd h

@@ -17,14 +17,15 @@ pub record IsCounted (made : ℕ → Type 0) (before after : ℕ) : Type 0 where
   pub counted : before + count ≡ after
   pub room : after < call_limit
 
--- why nothing was made: memory, or a rewrite to which the call came is the one at which it gives up
-abbrev pub IsStopped : (ℕ → ℕ → Type 0) → ℕ → VortexError → Type 0
-IsStopped comes before OutOfMemory = Unit {0}
-IsStopped comes before (RewriteLimit at_root total) = (n : ℕ) × comes at_root n × (before + n ≡ total) × IsLast at_root total
-IsStopped comes before _ = ⊥
+-- why nothing was made: memory, or the rewrite to which the call came is the one at which it gives up
+abbrev pub GivesUp : (ℕ → ℕ → Type 0) → ℕ → VortexError → Type 0
+GivesUp comes before OutOfMemory = Unit {0}
+GivesUp comes before (RewriteLimit at_root total) = (n : ℕ) × comes at_root n × (before + n ≡ total) × IsLast at_root total
+GivesUp comes before _ = ⊥
 
+-- what is made, or why nothing is
 abbrev pub Goes : (Tree → ℕ → Type 0) → (ℕ → ℕ → Type 0) → ℕ → ℕ → Result Tree VortexError → Type 0
-Goes made comes before after r = MatchResult r (λ u. IsCounted (made u) before after) (IsStopped comes before)
+Goes made comes before after r = MatchResult r (λ u. IsCounted (made u) before after) (GivesUp comes before)
 
 -- ---- optimizing by rows of the table alone
 

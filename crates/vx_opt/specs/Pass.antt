@@ -34,6 +34,7 @@ Answered t u os (suc n) = IsHandedIn t u × (n ≡ weight u)
 
 mutual
   -- k passes over the root t make u of it, by n rewrites in all that spent s. The named slots of each answer are optimized before the next pass.
+  -- Each tree on the way is well-formed.
   pub data Runs : Tree → Tree → ℕ → ℕ → ℕ → Type 0 where
     start : (t : Tree) → Runs t t 0 0 0
     pass : (t u v w : Tree) (os : List ℕ) (k n s r m q : ℕ) → Runs t u k n s → IsWell u → Answered u v os r → RunsIn os v w m q

@@ -5,7 +5,7 @@ use Rattle.vx_tree.specs.Slots.{IsPresent}
 use Rattle.vx_rule.proofs.LighterLemmas.{row_present}
 use Rattle.vx_opt.specs.Pass.{IsPass, ends}
 use Rattle.vx_opt.specs.Limits.{root_limit, call_limit}
-use Rattle.vx_opt.specs.Counted.{IsCounted, OptimizesAt, ComesToAt, IsStopped}
+use Rattle.vx_opt.specs.Counted.{IsCounted, OptimizesAt, ComesToAt, GivesUp}
 use Rattle.vx_opt.proofs.PassLemmas.{optimizes_keeps}
 use Rattle.vx_opt.proofs.CountedLemmas.{way_start, way_go, way_limit, way_stopped, passed_on, slot_fits, slot_present, slot_optimized, slot_stopped, present_at, between_start, between_go, between_stopped, between_end}
 use Rattle.vx_opt.proofs.root.+optimize.Goals as goal
@@ -107,7 +107,7 @@ optimize_slots-returns-in_err-current t c =
     let b : w.i < length os = omega (arith, c.args.raw.optimize.ok.0) in
     passed_on _ _ _ _ c.from_residual.ensures.1
     (between_stopped os w.i c.index.result.now c.args.raw.tree w.current c.args.total.now w.total _ b w.invariant
-    (subst (λ n. IsStopped (ComesToAt n w.current) w.total c.in_err-current.field-0.0) c.index.ensures c.in_err-current.ensures.optimized))
+    (subst (λ n. GivesUp (ComesToAt n w.current) w.total c.in_err-current.field-0.0) c.index.ensures c.in_err-current.ensures.optimized))
 
 pub optimize_slots-loop-i-preserved : goal.optimize_slots-loop-i-preserved
 optimize_slots-loop-i-preserved t c =
