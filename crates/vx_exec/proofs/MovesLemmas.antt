@@ -147,7 +147,7 @@ executed fits t n fs u v h bare same reached =
 
 -- a tree that is what it is executed to is answered as it is
 
-pub no_frame : (gs : List Frame) (f : Frame) → [] ≡ gs ++ f ∷ [] → ⊥
+no_frame : (gs : List Frame) (f : Frame) → [] ≡ gs ++ f ∷ [] → ⊥
 no_frame [] f e = absurd (cc)
 no_frame (g ∷ gs) f e = absurd (cc)
 
@@ -167,11 +167,14 @@ stays_long fits t (suc n) fs u h r =
     let before = stays_long fits t n r.0 r.1 h r.2 in
     absurd (stays fits t fs u h (subst (λ x. IsOneMove fits [] x fs u) before.1 (subst (λ gs. IsOneMove fits gs r.1 fs u) before.0 r.3)))
 
+pub reached_at_once : (fits : Tree → Bool) (t u : Tree) → fits t ≡ true → u ≡ t → is_reached fits [] u ≡ true
+reached_at_once fits t u h same = subst (λ x. is_reached fits [] x ≡ true) (sym same) (or_true (is_canonical (datum t)) (fits t) h)
+
 -- a root that has reached its target makes no move
 pub never_moves : (fits : Tree → Bool) (t : Tree) (n : ℕ) (fs : List Frame) (u : Tree) → fits t ≡ true → Reaches fits t n fs u
     → (n ≡ 0) × (fs ≡ []) × (u ≡ t)
 unfolding Reaches
-never_moves fits t zero fs u h r = (refl, r)
+never_moves fits t zero fs u h r = (refl, r.0, r.1)
 never_moves fits t (suc n) fs u h r =
     let reached = or_true (is_canonical (datum t)) (fits t) h in
     let before = stays_long fits t n r.0 r.1 reached r.2 in

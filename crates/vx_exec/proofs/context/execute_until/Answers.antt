@@ -1,7 +1,8 @@
 use Rattle.std.proofs.Common.{◌≡◌, refl, sym, ◌∙◌, ap, subst, arith}
 use Rattle.vx_exec.specs.Budgets.{Budget}
 use Rattle.vx_exec.specs.Moves.{GoesOn}
-use Rattle.vx_exec.proofs.MovesLemmas.{loop_begins, loop_short, goes_on}
+use Rattle.vx_value.specs.declared.error.VortexError.TheVariants.{Fault}
+use Rattle.vx_exec.proofs.MovesLemmas.{loop_begins, loop_short, goes_on, faults_in, never_moves, reached_at_once}
 use Rattle.vx_exec.proofs.context.execute_until.Goals as goal
 
 pub loop-ctx-init : goal.loop-ctx-init
@@ -23,3 +24,22 @@ returns-clause-limit g c = λ l e.
       subst (λ n. GoesOn g.M.Matcher.fits c.args.array n) told
           (goes_on g.M.Matcher.fits c.args.array c.loop-ctx.frames.items c.loop-ctx.current c.loop-ctx.ctx-inside.turns loop),
     )
+
+pub returns-clause-at_once : goal.returns-clause-at_once
+returns-clause-at_once g c = λ h l.
+    let loop = c.loop-ctx.invariant.reached in
+    let none = never_moves g.M.Matcher.fits c.args.array c.loop-ctx.ctx-inside.turns c.loop-ctx.frames.items c.loop-ctx.current h loop.moved in
+    let limit : c.loop-ctx.ctx-inside.limit ≡ c.args.ctx.now.limit = c.loop-ctx.invariant.kept ∙ ap (λ (b : Budget). b.limit) c.ctx.view_is in
+    absurd (omega (arith, c.loop-ctx-test.false, none.0, limit, l))
+
+pub returns-in-Err-clause-at_once : goal.returns-in-Err-clause-at_once
+returns-in-Err-clause-at_once g c = λ h l.
+    let loop = c.loop-ctx.invariant.reached in
+    let none = never_moves g.M.Matcher.fits c.args.array c.loop-ctx.ctx-inside.turns c.loop-ctx.frames.items c.loop-ctx.current h loop.moved in
+    c.in-Err.ensures.returns none.1 (reached_at_once g.M.Matcher.fits c.args.array c.loop-ctx.current h none.2)
+
+pub returns-in-Err-clause-fault : goal.returns-in-Err-clause-fault
+returns-in-Err-clause-fault g c = λ e.
+    let same : c.in-Err.e ≡ Fault = cc in
+    faults_in g.M.Matcher.fits c.args.array c.loop-ctx.frames.items c.loop-ctx.current c.loop-ctx.ctx-inside.turns c.loop-ctx.invariant.reached
+    (c.in-Err.ensures.fault (cc))

@@ -1,4 +1,5 @@
-use Rattle.std.proofs.Common.{◌≡◌, true, ◌∙◌, ap, sym}
+use Rattle.std.proofs.Common.{◌≡◌, true, false, ◌∙◌, ap, sym}
+use Rattle.vx_value.specs.declared.error.VortexError.TheVariants.{Fault}
 use Rattle.vx_exec.specs.Moves.{is_reached}
 use Rattle.vx_exec.proofs.FramesLemmas.{frame_popped}
 use Rattle.vx_exec.proofs.MovesLemmas.{move_pop}
@@ -20,3 +21,14 @@ returns-in_ok-put-in-Some-clause-ok g c =
     let reached : is_reached g.M.Matcher.fits fs c.args.current ≡ true = sym
     (c.is_reached.ensures ∙ ap (λ x. is_reached g.M.Matcher.fits x c.args.current) c.deref.ensures.value) ∙ c.if-is_reached.true in
     move_pop g.M.Matcher.fits fs gs frame c.args.current c.in_ok-put-in-Some.field-0 reached c.in-Some.ensures.items c.requires c.in_ok-put-in-Some.ensures
+
+pub returns-in-Err-clause-fault : goal.returns-in-Err-clause-fault
+returns-in-Err-clause-fault g c = λ e.
+    let same : c.in-Err.e ≡ Fault = cc in
+    let fault = c.in-Err.ensures.fault (cc) in
+    let going : is_reached g.M.Matcher.fits c.args.frames.now.items c.args.current ≡ false = sym
+    (c.is_reached.ensures ∙ ap (λ x. is_reached g.M.Matcher.fits x c.args.current) c.deref.ensures.value) ∙ c.if-is_reached.false in (
+      going,
+      fault.0,
+      fault.1,
+    )
