@@ -22,11 +22,13 @@ fn a_row_by_itself(rt: HostRuntime) -> Result<(), Fail> {
 fn numbers(alloc: Global, nullability: Nullability) -> VortexResult<ArrayRef> {
     let dtype = DType::Primitive(PType::I64, nullability);
     let mut builder = Builder::with_capacity(alloc, dtype, 10)?;
-    for number in 0..10 {
+    for number in 0..10_usize {
         if number % 4 == 0 && nullability == Nullability::Nullable {
             builder.append_nulls(1)?;
         } else {
-            builder.append_scalar(&Scalar::primitive(number, PType::I64, nullability))?;
+            let dtype = DType::Primitive(PType::I64, nullability);
+            let value = ScalarValue::Integer(number as i128);
+            builder.append_scalar(&Scalar::try_new(dtype, Some(value))?)?;
         }
     }
     Ok(builder.finish(alloc)?.into_array())
