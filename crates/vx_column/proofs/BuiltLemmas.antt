@@ -55,6 +55,8 @@ use Rattle.vx_column.specs.declared.builder.values.Values.{Values}
 use Rattle.vx_column.specs.declared.builder.values.Values.TheVariants.{Nulls, Bits, Integers, Decimals, Bytes}
 use Rattle.vx_column.specs.Growing.{HaveStorage, padded, masked_by, rows_kept, IsKept, told_rows, IsColumnOf}
 use Rattle.vx_column.proofs.GrowingLemmas.{length-masked_by, stored_as, rows_counted}
+use Rattle.vx_tree.specs.Views.{packed}
+use Rattle.vx_tree.proofs.ViewsLemmas.{length-views_from}
 
 -- ---- the validity
 
@@ -169,7 +171,9 @@ column_is ty n (Decimals zs s) bits kept v nullable child t is =
     ∙ ap (λ st. built_stored st ty (rows_kept (Decimals zs s) bits)) (sym is.1)
 column_is ty n (Bytes rs) bits kept v nullable child t is =
     let same = ap (λ m. with_nullability m (bytes_type (storage_of ty))) nullable ∙ column_of_bytes ty kept.kind in
-    is ∙ column_kept bytes_in of.bytes [] (λ x. refl) refl (with_nullability (nullability_by v) (bytes_type (storage_of ty))) ty same enc.views
+    let s = with_nullability (nullability_by v) (bytes_type (storage_of ty)) in
+    is ∙ ap (λ k. column s k (enc.views (packed rs)) (child_of v k)) (length-views_from 0 rs)
+    ∙ column_kept bytes_in of.bytes [] (λ x. refl) refl s ty same (λ l. enc.views (packed l))
     (nullability_of ty) n bits rs v kept.zeros kept.told kept.counted child
     ∙ bytes_stored ty (rows_kept (Bytes rs) bits) kept.kind
 

@@ -42,6 +42,13 @@ use Rattle.vx_value.specs.declared.decimal.DecimalDType.{DecimalDType}
 use Rattle.vx_value.specs.declared.decimal.DecimalType.{DecimalType}
 use Rattle.vx_value.specs.Decimals.{has_digits, smallest_width, same_width}
 use Rattle.vx_column.specs.Arguments.{stored_decimals}
+use Rattle.std.specs.Prelude.{Result}
+use Rattle.std.specs.Result.{IfOk}
+use Rattle.std.proofs.lemmas.Result.{IfOk-weaker}
+use Rattle.vx_tree.specs.Canonicals.{canonical_tree}
+use Rattle.vx_tree.specs.declared.canonical.canonical.Canonical.{Canonical}
+use Rattle.vx_tree.specs.Views.{viewed_choice}
+use Rattle.vx_column.specs.Filtered.{chosen_data}
 
 -- ---- cells chosen by a mask
 
@@ -224,3 +231,9 @@ decimals_chosen d bits w u zs kept h same made =
     let width = ap (λ x. same_width x (smallest_width d.precision)) same ∙ first_so _ _ h in
     and_from _ _ width (ap (list_all (has_digits d.precision)) made ∙ all_chosen (has_digits d.precision) bits zs
     (second_so (same_width w (smallest_width d.precision)) _ h))
+
+-- a column that stores the chosen values of another
+pub data_chosen : {E : Type 0} (bits : List Bool) (t s : Tree) (d kept : Data) (u : Tree) (r : Result Canonical E) → s ≡ t → datum s ≡ d → datum u ≡ kept
+    → kept ≡ chosen_data bits d → IfOk r (λ c. canonical_tree c ≡ u) → IfOk r (λ c. datum (canonical_tree c) ≡ chosen_data bits (datum t))
+data_chosen bits t s d kept u r same stored made are =
+    IfOk-weaker r _ _ (λ c is. ap datum is ∙ made ∙ are ∙ ap (chosen_data bits) (sym stored ∙ ap datum same))

@@ -1,6 +1,7 @@
 -- A column by what it stores and by its valid rows.
 use Rattle.std.proofs.Common.{◌≡◌, ◌<◌, ℕ, ℤ, Bool, true, false, if◌then◌else◌, List, [], ◌∷◌, length, map, get_or, Some, refl, sym, ap, ◌∙◌, subst, arith}
 use Rattle.std.specs.List.{range_with_len}
+use Rattle.std.proofs.lemmas.List.{length-map}
 use Rattle.std.proofs.lemmas.List.FromFn.{get_or-map-range_with_len, length-map-range_with_len}
 use Rattle.std.proofs.lemmas.Result.{IfOk-weaker}
 use Rattle.std.proofs.lemmas.Simd.{map-map}
@@ -37,6 +38,7 @@ use Rattle.vx_column.specs.declared.rows.argument.Argument.{Argument}
 use Rattle.vx_column.specs.declared.rows.argument.ArgumentRows.{ArgumentRows}
 use Rattle.vx_column.specs.declared.rows.valid.ValidRows.{ValidRows}
 use Rattle.vx_column.proofs.ValidRowsLemmas.{filled_rows, filled_clean, one_slot}
+use Rattle.vx_tree.specs.Views.{ViewedRows, bytes_at, rows_of}
 
 -- what stands under a null tells nothing
 same_unless_null : (b : Bool) (c d : Cell) → (b ≡ true → c ≡ d) → null_unless b c ≡ null_unless b d
@@ -105,6 +107,26 @@ computed_by f args valid stored n u typed h same = record {
 }
 
 module _ (valid : ValidRows) (n : ℕ) (sized : HasValidity valid n) (v : Validity) (told : IsValidityOf valid n v) where
+  -- a column that stores the values of `f`
+  made_of : (d : Data) (k : ℕ) (f : ℕ → Value) (ty : Nullability → DataType) → k ≡ n
+      → ((m : Nullability) (css : List (List Cell)) → node_cells (ty m) k d css ≡ valid_cells (cells_at css 0) (map (λ i. value (f i)) (range_with_len 0 n)))
+      → is_canonical d ≡ true → (u : Tree) → u ≡ column (ty (nullability_by v)) k d (child_of v k)
+      → (dtype u ≡ ty (nullability_in valid)) × IsColumnOfCells valid (λ i. value (f i)) n u
+  made_of d k f ty long cells canonical u new =
+      let child : child_of v k ≡ child_in valid = ap (child_of v) long ∙ told.1 in
+      let whole : IsColumnOfCells valid (λ i. value (f i)) n (column (ty (nullability_by v)) k d (child_in valid)) =
+      record {
+        counted = long;
+        shown = cells (nullability_by v) (slots_rows (slots_of (child_in valid ∷ [])))
+            ∙ ap (λ css. valid_cells (cells_at css 0) (map (λ i. value (f i)) (range_with_len 0 n))) (one_slot (child_in valid))
+            ∙ filled_rows valid n f sized;
+        clean = filled_clean valid;
+        canonical = canonical;
+      } in (
+        ap dtype new ∙ ap ty told.0,
+        subst (IsColumnOfCells valid (λ i. value (f i)) n) (sym (new ∙ ap (column (ty (nullability_by v)) k d) child)) whole,
+      )
+
   -- items that are stored in a column
   made : {X : Type 0} (read : X → Value) (of_items : List X → Data)
       (ty : Nullability → DataType)
@@ -114,23 +136,10 @@ module _ (valid : ValidRows) (n : ℕ) (sized : HasValidity valid n) (v : Validi
       → u ≡ column (ty (nullability_by v)) (length xs) (of_items xs) (child_of v (length xs))
       → (dtype u ≡ ty (nullability_in valid)) × IsColumnOfCells valid (λ i. value (read (g i))) n u
   made read of_items ty cells canonical xs g u are new =
-      let long : length xs ≡ n = ap length are ∙ length-map-range_with_len g 0 n in
-      let child : child_of v (length xs) ≡ child_in valid = ap (child_of v) long ∙ told.1 in
       let stored : map (λ x. value (read x)) xs ≡ map (λ i. value (read (g i))) (range_with_len 0 n) =
       ap (map (λ x. value (read x))) are ∙ map-map (λ x. value (read x)) g (range_with_len 0 n) in
-      let whole : IsColumnOfCells valid (λ i. value (read (g i))) n (column (ty (nullability_by v)) (length xs) (of_items xs) (child_in valid)) =
-      record {
-        counted = long;
-        shown = cells (nullability_by v) (length xs) xs (slots_rows (slots_of (child_in valid ∷ [])))
-            ∙ ap (λ css. valid_cells (cells_at css 0) (map (λ x. value (read x)) xs)) (one_slot (child_in valid))
-            ∙ ap (valid_cells (validity_cells (child_in valid))) stored
-            ∙ filled_rows valid n (λ i. read (g i)) sized;
-        clean = filled_clean valid;
-        canonical = canonical xs;
-      } in (
-        ap dtype new ∙ ap ty told.0,
-        subst (IsColumnOfCells valid (λ i. value (read (g i))) n) (sym (new ∙ ap (column (ty (nullability_by v)) (length xs) (of_items xs)) child)) whole,
-      )
+      made_of (of_items xs) (length xs) (λ i. read (g i)) ty (ap length are ∙ length-map-range_with_len g 0 n)
+      (λ m css. cells m (length xs) xs css ∙ ap (valid_cells (cells_at css 0)) stored) (canonical xs) u new
 
   pub bools_made : (bits : List Bool) (test : ℕ → Bool) (u : Tree) → bits ≡ map test (range_with_len 0 n) → u ≡ boolean_column bits v
       → (dtype u ≡ bool (nullability_in valid)) × IsColumnOfCells valid (λ i. value (boolean (test i))) n u
@@ -144,6 +153,12 @@ module _ (valid : ValidRows) (n : ℕ) (sized : HasValidity valid n) (v : Validi
       → (dtype u ≡ decimal d.precision d.scale (nullability_in valid)) × IsColumnOfCells valid (λ i. value (of.decimal (g i) d.scale)) n u
   decimals_made d w = made (λ z. of.decimal z d.scale) (enc.decimals w) (decimal d.precision d.scale) (λ m k xs css. refl) (λ xs. refl)
 
-  pub bytes_made : (st : Storage) (rs : List (List ℕ)) (g : ℕ → List ℕ) (u : Tree) → rs ≡ map g (range_with_len 0 n) → u ≡ bytes_column st rs v
+  pub bytes_made : (st : Storage) (rs : ViewedRows) (g : ℕ → List ℕ) (u : Tree) → rows_of rs ≡ map g (range_with_len 0 n) → u ≡ bytes_column st rs v
       → (dtype u ≡ with_nullability (nullability_in valid) (bytes_type st)) × IsColumnOfCells valid (λ i. value (bytes (g i))) n u
-  bytes_made st = made bytes enc.views (λ m. with_nullability m (bytes_type st)) (λ m k xs css. refl) (λ xs. refl)
+  bytes_made st rs g u are =
+      let read : List ℕ → Cell = λ r. value (bytes r) in
+      let stored : map (λ x. read (bytes_at rs.buffers x)) rs.views ≡ map (λ i. read (g i)) (range_with_len 0 n) =
+      sym (map-map read (bytes_at rs.buffers) rs.views) ∙ ap (map read) are ∙ map-map read g (range_with_len 0 n) in
+      let long = sym (length-map rs.views (bytes_at rs.buffers)) ∙ ap length are ∙ length-map-range_with_len g 0 n in
+      made_of (enc.views rs) (length rs.views) (λ i. bytes (g i)) (λ m. with_nullability m (bytes_type st)) long
+      (λ m css. ap (valid_cells (cells_at css 0)) stored) refl u

@@ -10,7 +10,7 @@ use Rattle.vx_column.proofs.CellsLemmas.{row_told}
 use Rattle.vx_column.proofs.ValidRowsLemmas.{one_slot}
 use Rattle.std.proofs.Common.{◌≡◌, ◌⊎◌, inl, inr, ◌<◌, ℕ, zero, suc, ℤ, pos, List, [], ◌∷◌, map, length, replicate, get_or, Bool, true, false, Option, Some, None, refl, sym, ap, subst, ◌∙◌, arith}
 use Rattle.std.proofs.Math.Bool.{not}
-use Rattle.std.specs.Cmp.{unsigned_Decides}
+use Rattle.std.specs.Cmp.{unsigned_Decides, second_so}
 use Rattle.vx_value.specs.Types.{DataType, bool, utf8, binary, nullability_of, same_type_Decides, decimal}
 use Rattle.vx_value.specs.Nullabilities.{with_nullability}
 use Rattle.vx_value.specs.View.{type_of}
@@ -53,20 +53,21 @@ use Rattle.vx_value.specs.Values as of
 use Rattle.vx_value.specs.declared.decimal.DecimalDType.{DecimalDType}
 use Rattle.vx_value.specs.declared.decimal.DecimalType.{DecimalType}
 use Rattle.vx_column.specs.declared.rows.argument.DecimalRows.{DecimalRows}
+use Rattle.vx_tree.specs.Views.{ViewedRows, viewed, view_at, bytes_at, rows_of, all_lie_in}
 
 pub flat_taken : (s ty : DataType) (n : ℕ) (v : Validity) → HasRows v n → ty ≡ with_nullability (nullability_by v) s → flat_refusal s ty n v ≡ None
 flat_taken s ty n v h typed =
     none_refused _ _ (none_unless _ _ ((same_type_Decides ty (with_nullability (nullability_by v) s)).1 typed)) (rows_allowed n v h)
 
 -- and the column of rows of bytes with one
-pub bytes_taken : (st : Storage) (ty : DataType) (rs : List (List ℕ)) (v : Validity) → HasRows v (length rs) → are_bytes_of st rs ≡ true
+pub bytes_taken : (st : Storage) (ty : DataType) (rs : ViewedRows) (v : Validity) → HasRows v (length rs.views) → are_bytes_of st (rows_of rs) ≡ true
     → ty ≡ with_nullability (nullability_by v) (bytes_type st) → bytes_refusal ty rs v ≡ None
 bytes_taken storage.Text ty rs v h k e =
-    subst (λ t. bytes_refusal t rs v ≡ None) (sym e) (none_refused _ _ (flat_taken (utf8 NonNullable) (utf8 (nullability_by v)) (length rs) v h refl)
+    subst (λ t. bytes_refusal t rs v ≡ None) (sym e) (none_refused _ _ (flat_taken (utf8 NonNullable) (utf8 (nullability_by v)) (length rs.views) v h refl)
     (none_unless _ _ k))
 bytes_taken _ ty rs v h k e =
     subst (λ t. bytes_refusal t rs v ≡ None) (sym e)
-    (none_refused _ _ (flat_taken (binary NonNullable) (binary (nullability_by v)) (length rs) v h refl) refl)
+    (none_refused _ _ (flat_taken (binary NonNullable) (binary (nullability_by v)) (length rs.views) v h refl) refl)
 
 -- and the column of decimals with one
 pub decimals_taken : (d : DecimalDType) (ty : DataType) (w : DecimalType) (zs : List ℤ) (v : Validity) → HasRows v (length zs)
@@ -171,17 +172,23 @@ module _ (c : Columnar) (v : Option Tree) (valid : ValidRows) (told : AreTold (l
         sized = (rows_of (len t) (sym flat.0.2) (ap (λ st. are_decimals_of st w zs) (sym kind) ∙ flat.1), sized, tt);
       }
 
-  pub bytes_argument : (bs : BytesOperand) (rs : List (List ℕ)) → ((i : ℕ) → bytes_in bs i ≡ get_or rs i []) → bs.storage ≡ storage_of (dtype (columnar_tree c))
-      → ((n : ℕ) → length rs ≡ n → are_bytes_of bs.storage rs ≡ true → AreBytes bs n) → array ≡ column (dtype array) (len array) (enc.views rs) v
+  pub bytes_argument : (bs : BytesOperand) (rs : ViewedRows) → ((i : ℕ) → bytes_in bs i ≡ get_or (rows_of rs) i [])
+      → bs.storage ≡ storage_of (dtype (columnar_tree c))
+      → ((n : ℕ) → length rs.views ≡ n → are_bytes_of bs.storage (rows_of rs) ≡ true → AreBytes bs n)
+      → array ≡ column (dtype array) (len array) (enc.views rs) v
       → IsArgument c (record { rows = stored.Bytes bs; valid = valid })
-  bytes_argument bs rs read kind rows_of is_column =
+  bytes_argument bs rs read kind there is_column =
       let t = columnar_tree c in
       let flat = flat_by (enc.views rs) is_column in
+      let st = storage_of (dtype t) in
+      let typed : are_bytes_of st (rows_of rs) ≡ true = second_so (all_lie_in rs) (are_bytes_of st (rows_of rs)) flat.1 in
       record {
         typed = flat.0.1 ∙ (λ i. with_nullability (sym same i) (bytes_type (sym kind i)));
-        shown = λ i lt. rows_by bytes [] enc.views (λ n xs css. refl) rs (sym flat.0.2) is_column i lt
-            ∙ ap (λ r. null_unless (is_valid valid i) (value (bytes r))) (sym (read i));
-        sized = (rows_of (len t) (sym flat.0.2) (ap (λ st. are_bytes_of st rs) kind ∙ flat.1), sized, tt);
+        shown = λ i lt. rows_by (λ x. bytes (bytes_at rs.buffers x)) (view_at 0 0) (λ vs. enc.views (viewed vs rs.buffers)) (λ n xs css. refl) rs.views
+            (sym flat.0.2) is_column i lt
+            ∙ ap (λ r. null_unless (is_valid valid i) (value (bytes r)))
+            (sym (read i ∙ get_or-map (bytes_at rs.buffers) rs.views i (view_at 0 0) [] (subst (λ n. i < n) flat.0.2 lt)));
+        sized = (there (len t) (sym flat.0.2) (ap (λ x. are_bytes_of x (rows_of rs)) kind ∙ typed), sized, tt);
       }
 
 -- the rows of a column make an argument with any valid rows that its validity tells

@@ -1,7 +1,7 @@
 -- A column of one value, repeated.
-use Rattle.std.proofs.Common.{◌≡◌, ◌⊎◌, inl, inr, ◌==◌, ℕ, zero, suc, ℤ, pos, Bool, true, false, List, [], ◌∷◌, length, map, replicate, Result, IfOk, refl, sym, ◌∙◌, ap, subst}
+use Rattle.std.proofs.Common.{◌≡◌, ◌⊎◌, inl, inr, ◌==◌, ℕ, zero, suc, ℤ, pos, Bool, true, false, List, [], ◌∷◌, length, map, replicate, Result, IfOk, refl, sym, ◌∙◌, ap, subst, arith}
 use Rattle.std.specs.Prelude.{unwrap_or, if◌then◌else◌}
-use Rattle.std.proofs.lemmas.List.{length-replicate}
+use Rattle.std.proofs.lemmas.List.{length-replicate, take_all}
 use Rattle.std.proofs.lemmas.Result.{IfOk-weaker}
 use Rattle.vx_value.specs.Types as type
 use Rattle.vx_value.specs.Types.{DataType, nullability_of, is_nullable}
@@ -42,6 +42,7 @@ use Rattle.vx_value.specs.declared.decimal.DecimalDType.{DecimalDType}
 use Rattle.vx_value.specs.declared.decimal.DecimalType.{DecimalType}
 use Rattle.vx_column.specs.Arguments.{stored_decimals, unscaled_of}
 use Rattle.std.specs.List.{list_all}
+use Rattle.vx_tree.specs.Views.{ViewedRows, viewed, view_at, bytes_at, repeated}
 
 nullable_null : (m : Nullability) → is_nullable m ≡ true → m ≡ Nullable
 nullable_null Nullable h = refl
@@ -123,19 +124,21 @@ module _ (s : Typed) (n : ℕ) (typed : is_of s.of_type s.value ≡ true) (v : V
       (λ c new. repeated_exactly integer (primitive p) s (λ n xs css. refl) z n (canonical_tree c)
       (λ k. ap integer valued ∙ stored_number p (nullability_of s.of_type) (storage_of s.of_type) s.value stored typed k) (new ∙ is)) column_made
 
-  pub bytes_repeated : (st : Storage) (x : List ℕ) (rs : List (List ℕ)) → storage_of s.of_type ≡ st → (st ≡ Text) ⊎ (st ≡ Bytes)
-      → x ≡ unwrap_or (bytes_in s.value) [] → rs ≡ replicate n x →
+  pub bytes_repeated : (st : Storage) (x : List ℕ) (rs : ViewedRows) → storage_of s.of_type ≡ st → (st ≡ Text) ⊎ (st ≡ Bytes)
+      → x ≡ unwrap_or (bytes_in s.value) [] → rs ≡ repeated n x →
       IfOk r (λ c. canonical_tree c ≡ bytes_column st rs v) → IfOk r (λ c. KeepsExactly (constant_of s n) (canonical_tree c))
   bytes_repeated st x rs stored known valued made column_made =
-      let long : length rs ≡ n = ap length made ∙ length-replicate n x in
+      let all = view_at 0 (length x) in
+      let long : length rs.views ≡ n = ap (λ r. length (ViewedRows.views r)) made ∙ length-replicate n all in
+      let whole : bytes_at (x ∷ []) all ≡ x = take_all (length x) x (omega arith) in
       let there = subst (λ y. (y ≡ Text) ⊎ (y ≡ Bytes)) (sym stored) known in
       let of_type : with_nullability (nullability_by v) (bytes_type st) ≡ s.of_type =
       (λ i. with_nullability (nullability i) (bytes_type (sym stored i))) ∙ column_of_bytes s.of_type there in
-      let is : bytes_column st rs v ≡ column s.of_type n (views (replicate n x)) (child_of (repeated_validity s) n) =
+      let is : bytes_column st rs v ≡ column s.of_type n (views (repeated n x)) (child_of (repeated_validity s) n) =
       λ i. column (of_type i) (long i) (views (made i)) (child_of (told i) (long i)) in
       IfOk-weaker r _ _
-      (λ c new. repeated_exactly of.bytes views s (λ n xs css. refl) x n (canonical_tree c)
-      (λ k. ap of.bytes valued ∙ stored_as_bytes (nullability_of s.of_type) (storage_of s.of_type) s.value there typed k) (new ∙ is)) column_made
+      (λ c new. repeated_exactly (λ y. of.bytes (bytes_at (x ∷ []) y)) (λ vs. views (viewed vs (x ∷ []))) s (λ n xs css. refl) all n (canonical_tree c)
+      (λ k. ap of.bytes (whole ∙ valued) ∙ stored_as_bytes (nullability_of s.of_type) (storage_of s.of_type) s.value there typed k) (new ∙ is)) column_made
 
   pub decimals_repeated : (d : DecimalDType) (m : Nullability) (w : DecimalType) (z : ℤ) (zs : List ℤ) → s.of_type ≡ type.decimal d.precision d.scale m
       → z ≡ unscaled_of s.value → zs ≡ replicate n z →
@@ -166,7 +169,7 @@ bytes_copies _ n x h = refl
 -- ---- the layout
 
 pub bytes_expanded : (s : Typed) (n : ℕ) (st : Storage) → (st ≡ Text) ⊎ (st ≡ Bytes)
-    → expanded_stored st s n ≡ bytes_column st (replicate n (unwrap_or (bytes_in s.value) [])) (repeated_validity s)
+    → expanded_stored st s n ≡ bytes_column st (repeated n (unwrap_or (bytes_in s.value) [])) (repeated_validity s)
 bytes_expanded s n Text h = refl
 bytes_expanded s n Bytes h = refl
 bytes_expanded s n _ (inl e) = absurd (cc)

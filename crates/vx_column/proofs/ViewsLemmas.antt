@@ -4,9 +4,12 @@ use Rattle.std.specs.Cmp.{first_so}
 use Rattle.std.specs.List.{list_all, range_with_len}
 use Rattle.std.specs.Str.{is_utf8}
 use Rattle.std.proofs.lemmas.Bool.{and_from}
+use Rattle.std.proofs.lemmas.List.{length-map}
 use Rattle.vx_value.specs.declared.dtype.Storage.{Storage}
 use Rattle.vx_value.specs.declared.dtype.Storage.TheVariants.{Text}
 use Rattle.vx_tree.specs.ColumnTypes.{are_bytes_of}
+use Rattle.vx_tree.specs.Views.{rows_of}
+use Rattle.vx_tree.specs.Views.{bytes_at as viewed_at}
 use Rattle.vx_column.specs.Arguments.{bytes_at, HasBytes}
 use Rattle.vx_column.specs.declared.rows.argument.BytesRows.{BytesRows}
 use Rattle.vx_column.specs.declared.rows.argument.BytesRows.TheVariants as bytes_rows
@@ -23,5 +26,5 @@ text_at rs i h lt = and_from (is_utf8 (get_or rs i [])) true (passed_at is_utf8 
 
 pub row_stored : (st : Storage) (r : BytesRows) (n i : ℕ) → HasBytes st r n → i < n → are_bytes_of st (bytes_at r i ∷ []) ≡ true
 row_stored st (bytes_rows.Value bs) n i h lt = h
-row_stored Text (bytes_rows.Rows rs) n i h lt = text_at rs.now i h.1 (subst (λ k. i < k) (sym h.0) lt)
+row_stored Text (bytes_rows.Rows rs) n i h lt = text_at (rows_of rs.now) i h.1 (subst (λ k. i < k) (sym (length-map rs.now.views (viewed_at rs.now.buffers) ∙ h.0)) lt)
 row_stored _ (bytes_rows.Rows rs) n i h lt = refl

@@ -18,6 +18,8 @@ use Rattle.vx_tree.proofs.KindsLemmas.{type_in}
 use Rattle.vx_tree.proofs.TypedLemmas.{CellFits, AllFit, rows_fit}
 use Rattle.vx_tree.proofs.ValiditiesLemmas.{whole}
 use Rattle.vx_column.proofs.KeepsLemmas.{copies_clean}
+use Rattle.vx_tree.specs.Views.{bytes_at}
+use Rattle.vx_tree.specs.declared.views.view.View.{View}
 
 values_whole : {A : Type 0} (f : A → Value) (xs : List A) → HasNoFault (map (λ x. value (f x)) xs)
 values_whole f [] = tt
@@ -63,7 +65,8 @@ column_whole ty n (enc.decimals k zs) ss w h clean =
     let s = scale_of (storage_of ty) in
     flat_whole (decimal_type (storage_of ty)) (length zs) ty n ss (map (λ z. value (decimal z s)) zs) w.0.0 w.1 clean (values_whole (λ z. decimal z s) zs)
 column_whole ty n (enc.views rs) ss w h clean =
-    flat_whole (bytes_type (storage_of ty)) (length rs) ty n ss (map (λ r. value (bytes r)) rs) w.0.0 w.1 clean (values_whole bytes rs)
+    let read : View → Value = λ v. bytes (bytes_at rs.buffers v) in
+    flat_whole (bytes_type (storage_of ty)) (length rs.views) ty n ss (map (λ v. value (read v)) rs.views) w.0.0 w.1 clean (values_whole read rs.views)
 column_whole ty n _ ss w h clean = absurd (false≢true h)
 
 -- no row of a canonical column with clean slots is a fault

@@ -40,6 +40,7 @@ use Rattle.vx_column.specs.declared.rows.argument.ArgumentRows.{ArgumentRows}
 use Rattle.vx_column.specs.declared.rows.argument.ArgumentRows.TheVariants as stored
 use Rattle.vx_column.specs.declared.rows.valid.ValidRows.{ValidRows}
 use Rattle.vx_column.specs.ValidRows.{is_valid, HasValidity, AreTold, nullability_in, null_unless}
+use Rattle.vx_tree.specs.Views.{rows_of}
 
 -- the integer at row i, 0 past the last one
 abbrev pub integer_at : IntegerRows → ℕ → ℤ
@@ -98,7 +99,7 @@ AreDecimals ds = HasDecimals ds.decimal ds.rows
 
 -- the bytes at row i, none past the last one
 abbrev pub bytes_at : BytesRows → ℕ → List ℕ
-bytes_at (bytes_rows.Rows rs) i = slice_index_or rs.now i []
+bytes_at (bytes_rows.Rows rs) i = slice_index_or (rows_of rs.now) i []
 bytes_at (bytes_rows.Value bs) i = bs.now
 
 abbrev pub bytes_in : BytesOperand → ℕ → List ℕ
@@ -106,7 +107,7 @@ bytes_in bs = bytes_at bs.rows
 
 -- n rows of bytes that are values of this storage
 abbrev pub HasBytes : Storage → BytesRows → ℕ → Type 0
-HasBytes st (bytes_rows.Rows rs) n = (length rs.now ≡ n) × (are_bytes_of st rs.now ≡ true)
+HasBytes st (bytes_rows.Rows rs) n = (length rs.now.views ≡ n) × (are_bytes_of st (rows_of rs.now) ≡ true)
 HasBytes st (bytes_rows.Value bs) n = are_bytes_of st (bs.now ∷ []) ≡ true
 
 abbrev pub AreBytes : BytesOperand → ℕ → Type 0

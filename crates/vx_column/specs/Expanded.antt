@@ -15,6 +15,7 @@ use Rattle.vx_tree.specs.declared.validity.Validity.{Validity}
 use Rattle.vx_tree.specs.declared.validity.Validity.TheVariants.{AllInvalid}
 use Rattle.vx_column.specs.Arguments.{unscaled_of}
 use Rattle.vx_column.specs.Stored.{boolean_column, integer_column, scaled_column, bytes_column}
+use Rattle.vx_tree.specs.Views.{repeated}
 
 -- every row is null if the value is, else none
 abbrev pub repeated_validity : Typed → Validity
@@ -26,8 +27,8 @@ expanded_stored Nulls s n = nulls_of n
 expanded_stored Bits s n = boolean_column (replicate n (unwrap_or (boolean_in s.value) false)) (repeated_validity s)
 expanded_stored (Integers p) s n = integer_column p (replicate n (unwrap_or (integer_in s.value) (pos 0))) (repeated_validity s)
 expanded_stored (Decimals p k) s n = scaled_column p k (smallest_width p) (replicate n (unscaled_of s.value)) (repeated_validity s)
-expanded_stored Text s n = bytes_column Text (replicate n (unwrap_or (bytes_in s.value) [])) (repeated_validity s)
-expanded_stored Bytes s n = bytes_column Bytes (replicate n (unwrap_or (bytes_in s.value) [])) (repeated_validity s)
+expanded_stored Text s n = bytes_column Text (repeated n (unwrap_or (bytes_in s.value) [])) (repeated_validity s)
+expanded_stored Bytes s n = bytes_column Bytes (repeated n (unwrap_or (bytes_in s.value) [])) (repeated_validity s)
 
 -- n rows of the scalar; without rows, the empty column of its type
 abbrev pub expanded : Typed → ℕ → Tree

@@ -22,6 +22,7 @@ use Rattle.vx_column.specs.declared.rows.valid.ValidRows.{ValidRows}
 use Rattle.vx_column.specs.declared.rows.valid.ValidRows.TheVariants as valid
 use Rattle.vx_column.specs.declared.builder.values.Values.{Values}
 use Rattle.vx_column.specs.declared.builder.values.Values.TheVariants.{Nulls, Bits, Integers, Decimals, Bytes}
+use Rattle.vx_tree.specs.Views.{packed}
 
 -- the values, by kind: a line for each
 abbrev pub stored_values : Values → List Value
@@ -89,4 +90,4 @@ IsColumnOf st (Nulls n) v t = t ≡ nulls_of n
 IsColumnOf st (Bits bs) v t = t ≡ boolean_column bs v
 IsColumnOf st (Integers zs) v t = (p : PType) × (st ≡ storage.Integers p) × (t ≡ integer_column p zs.numbers v)
 IsColumnOf st (Decimals zs s) v t = (d : DecimalDType) × (st ≡ stored_decimals d) × (t ≡ decimal_column d (smallest_width d.precision) zs.numbers v)
-IsColumnOf st (Bytes rs) v t = t ≡ bytes_column st rs v
+IsColumnOf st (Bytes rs) v t = t ≡ bytes_column st (packed rs) v

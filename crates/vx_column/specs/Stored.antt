@@ -10,6 +10,7 @@ use Rattle.vx_tree.specs.ColumnTypes.{bytes_type}
 use Rattle.vx_tree.specs.Tree.{Tree, column, bool, primitive, decimals, views}
 use Rattle.vx_tree.specs.Validities.{nullability_by, child_of}
 use Rattle.vx_tree.specs.declared.validity.Validity.{Validity}
+use Rattle.vx_tree.specs.Views.{ViewedRows}
 
 -- a column of booleans; of integers; of decimals without their points; of text or bytes, by its storage
 abbrev pub boolean_column : List Bool → Validity → Tree
@@ -24,5 +25,5 @@ scaled_column p k w zs v = column (type.decimal p k (nullability_by v)) (length 
 abbrev pub decimal_column : DecimalDType → DecimalType → List ℤ → Validity → Tree
 decimal_column d = scaled_column d.precision d.scale
 
-abbrev pub bytes_column : Storage → List (List ℕ) → Validity → Tree
-bytes_column st rs v = column (with_nullability (nullability_by v) (bytes_type st)) (length rs) (views rs) (child_of v (length rs))
+abbrev pub bytes_column : Storage → ViewedRows → Validity → Tree
+bytes_column st rs v = column (with_nullability (nullability_by v) (bytes_type st)) (length rs.views) (views rs) (child_of v (length rs.views))

@@ -5,12 +5,12 @@ ghost use Rattle.vx_value.specs.Errors.{OnlyOutOfMemory};
 ghost use Rattle.vx_value.specs.Types.{bool};
 ghost use Rattle.vx_mask.specs.Masks.{bits_in};
 ghost use Rattle.vx_mask.specs.Places.{true_count};
-ghost use Rattle.vx_tree.specs.Tree.{dtype, len, filter_of, slots_of};
+ghost use Rattle.vx_tree.specs.Tree.{dtype, len, datum, filter_of, slots_of};
 ghost use Rattle.vx_tree.specs.Well.{AreWell};
 ghost use Rattle.vx_tree.specs.Keeps.{KeepsExactly};
 ghost use Rattle.vx_tree.specs.Canonicals.{canonical_tree};
 ghost use Rattle.vx_tree.specs.Validities.{nullability_by, child_of, HasRows};
-ghost use Rattle.vx_column.specs.Filtered.{IsChoice};
+ghost use Rattle.vx_column.specs.Filtered.{IsChoice, chosen_data};
 ghost use Rattle.vx_column.specs.ValidRows.{TellsRows};
 
 use crate::rows::{bool_column, decimal_column, primitive_column, varbinview_column};
@@ -27,6 +27,7 @@ use vx_value::{DType, Nullability, VortexResult};
 pub fn filter_canonical(alloc: Global, column: &Canonical, mask: &Mask) -> VortexResult<Canonical>
     requires { length (bits_in mask.now) ≡ len (canonical_tree column.now) }
     ensures ok { IfOk result (λ c. KeepsExactly (filter_of (bits_in mask.now) (canonical_tree column.now)) (canonical_tree c)) }
+    ensures stored { IfOk result (λ c. datum (canonical_tree c) ≡ chosen_data (bits_in mask.now) (datum (canonical_tree column.now))) }
     ensures err { OnlyOutOfMemory result }
 {
     let array = column.as_array();

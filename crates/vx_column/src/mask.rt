@@ -6,7 +6,7 @@ ghost use Rattle.vx_value.specs.Types.{bool, null};
 ghost use Rattle.vx_value.specs.Values.{boolean};
 ghost use Rattle.vx_value.specs.Cell.{value};
 ghost use Rattle.vx_fn.specs.declared.function.ScalarFnRef.TheVariants.{Binary};
-ghost use Rattle.vx_tree.specs.Tree.{dtype, len, datum, nulls_of, call_of, masked_of, is_canonical};
+ghost use Rattle.vx_tree.specs.Tree.{dtype, len, datum, nulls, nulls_of, call_of, masked_of, is_canonical};
 ghost use Rattle.vx_tree.specs.Cells.{rows};
 ghost use Rattle.vx_tree.specs.Keeps.{KeepsExactly};
 ghost use Rattle.vx_tree.specs.Canonicals.{canonical_tree};
@@ -38,6 +38,7 @@ pub fn mask_validity_canonical(
     requires rows { HasRows validity.now (len (canonical_tree column.now)) }
     ensures ok { IfOk result (λ c. KeepsExactly (masked_of (canonical_tree column.now) (child_of validity.now (len (canonical_tree column.now))))
         (canonical_tree c)) }
+    ensures stored { IfOk result (λ c. datum (canonical_tree c) ≡ datum (canonical_tree column.now)) }
     ensures err { IfErr result (λ e. (e ≡ VortexError.OutOfMemory) ⊎ ((dtype (canonical_tree column.now) ≡ null)
         × AreUnread (len (canonical_tree column.now)) (child_of validity.now (len (canonical_tree column.now))) e)) }
 {
@@ -52,6 +53,7 @@ fn mask_column(alloc: Global, array: &ArrayRef, child: Option<ArrayRef>) -> Vort
     requires canonical { is_canonical (datum array.now) ≡ true }
     requires child { TellsAll (len array.now) child }
     ensures ok { IfOk result (λ c. KeepsExactly (masked_of array.now child) (canonical_tree c)) }
+    ensures stored { IfOk result (λ c. datum (canonical_tree c) ≡ datum array.now) }
     ensures err { IfErr result (λ e. (e ≡ VortexError.OutOfMemory) ⊎ ((dtype array.now ≡ null) × AreUnread (len array.now) child e)) }
 {
     array.well_formed_tree();
@@ -85,6 +87,7 @@ fn mask_column(alloc: Global, array: &ArrayRef, child: Option<ArrayRef>) -> Vort
 fn mask_nulls(alloc: Global, validity: &Option<ArrayRef>, len: usize) -> VortexResult<Canonical>
     requires { TellsAll len validity.now }
     ensures ok { IfOk result (λ c. KeepsExactly (masked_of (nulls_of len) validity.now) (canonical_tree c)) }
+    ensures stored { IfOk result (λ c. datum (canonical_tree c) ≡ nulls) }
     ensures err { IfErr result (AreUnread len validity.now) }
 {
     let Some(child) = validity else {

@@ -47,6 +47,11 @@ use Rattle.vx_json.proofs.ReadRowsLemmas.{none_null, none_null_unread}
 use Rattle.vx_json.proofs.RowsLemmas.{column_of, column_there}
 use Rattle.vx_json.proofs.SpelledDecimalsLemmas.{rows_digits}
 use Rattle.vx_json.proofs.SpelledValuesLemmas.{mapped_read, all_count}
+use Rattle.vx_tree.specs.Views.{ViewedRows, bytes_at, rows_of, packed}
+
+-- there are as many rows as views
+rows_long : (rs : ViewedRows) → length (rows_of rs) ≡ length rs.views
+rows_long rs = length-map rs.views (bytes_at rs.buffers)
 
 -- whether each row is there is told of as many as there are values
 told_long : {A : Type 0} (zero : A) (read : Json → Option A) (ds : Items) (xs : List A) (valid : List Bool) →
@@ -96,9 +101,9 @@ values_fit m (type.decimal p s k) ds (Decimals v) valid w h e kept =
     decimals_fit p s k (decimal_type_of v) (numbers_of v) w h.0 (rows_digits m p ds (numbers_of v) valid h.1)
     (not_refused (type.decimal p s NonNullable) k (length (numbers_of v)) w e kept)
 values_fit m (type.utf8 k) ds (Views rows) valid w h e kept =
-    none_refused _ _ (not_refused (type.utf8 NonNullable) k (length rows) w e kept) (none_unless _ _ h.0)
+    none_refused _ _ (not_refused (type.utf8 NonNullable) k (length rows.views) w e kept) (none_unless _ _ h.1.0)
 values_fit m (type.binary k) ds (Views rows) valid w h e kept =
-    none_refused _ _ (not_refused (type.binary NonNullable) k (length rows) w e kept) refl
+    none_refused _ _ (not_refused (type.binary NonNullable) k (length rows.views) w e kept) refl
 values_fit m ty ds v valid w h e kept = absurd h
 
 -- values that are never null are those of a column: a line for each type
@@ -115,9 +120,11 @@ values_by (type.decimal p s k) ds (Decimals v) valid nulls h =
     (none_null (pos 0) (decimal_spelled p) ds (numbers_of v) valid h.1)
     ∙ ap (λ q. flat_of (type.decimal p s k) (length (numbers_of v)) (decimals q (numbers_of v)) nulls) (sym h.0)
 values_by (type.utf8 k) ds (Views rows) valid nulls h =
-    ap (option_and_then (λ rs. flat_of (type.utf8 k) (length rs) (views rs) nulls)) (none_null [] (bytes_spelled Text) ds rows valid h.1)
+    ap (option_and_then (λ rs. flat_of (type.utf8 k) (length rs) (views (packed rs)) nulls)) (none_null [] (bytes_spelled Text) ds (rows_of rows) valid h.1.1)
+    ∙ (λ i. flat_of (type.utf8 k) (rows_long rows i) (views (sym h.0 i)) nulls)
 values_by (type.binary k) ds (Views rows) valid nulls h =
-    ap (option_and_then (λ rs. flat_of (type.binary k) (length rs) (views rs) nulls)) (none_null [] (bytes_spelled Bytes) ds rows valid h)
+    ap (option_and_then (λ rs. flat_of (type.binary k) (length rs) (views (packed rs)) nulls)) (none_null [] (bytes_spelled Bytes) ds (rows_of rows) valid h.1)
+    ∙ (λ i. flat_of (type.binary k) (rows_long rows i) (views (sym h.0 i)) nulls)
 values_by ty ds v valid nulls h = absurd h
 
 pub values_unread : (ty : DataType) (ds : Items) (nulls : Nulls) → AreUnread NonNullable (storage_of ty) ds → column_of_values nulls ty ds ≡ None
@@ -134,8 +141,8 @@ values_counted : (m : Nullability) (ty : DataType) (vs : List Value) (v : Column
 values_counted m (type.bool k) vs (Bits bits) valid h = rows_counted false as_bool vs bits h
 values_counted m (type.primitive p k) vs (Integers v) valid h = rows_counted (pos 0) (integer_spelled p) vs (values_of v) h.1
 values_counted m (type.decimal p s k) vs (Decimals v) valid h = rows_counted (pos 0) (decimal_spelled p) vs (numbers_of v) h.1
-values_counted m (type.utf8 k) vs (Views rows) valid h = rows_counted [] (bytes_spelled Text) vs rows h.1
-values_counted m (type.binary k) vs (Views rows) valid h = rows_counted [] (bytes_spelled Bytes) vs rows h
+values_counted m (type.utf8 k) vs (Views rows) valid h = sym (rows_long rows) ∙ rows_counted [] (bytes_spelled Text) vs (rows_of rows) h.1.1
+values_counted m (type.binary k) vs (Views rows) valid h = sym (rows_long rows) ∙ rows_counted [] (bytes_spelled Bytes) vs (rows_of rows) h.1
 values_counted m ty vs v valid h = absurd h
 
 -- a column of them, if the validity is one of the nullability and of the items
@@ -170,8 +177,8 @@ flat_unspelled type.null vs nulls h = refl
 flat_unspelled (type.bool k) vs nulls h = unspelled_by (type.bool k) bool as_bool vs nulls h
 flat_unspelled (type.primitive p k) vs nulls h = unspelled_by (type.primitive p k) (primitive p) (integer_spelled p) vs nulls h
 flat_unspelled (type.decimal p s k) vs nulls h = unspelled_by (type.decimal p s k) (decimals (smallest_width p)) (decimal_spelled p) vs nulls h
-flat_unspelled (type.utf8 k) vs nulls h = unspelled_by (type.utf8 k) views (bytes_spelled Text) vs nulls h
-flat_unspelled (type.binary k) vs nulls h = unspelled_by (type.binary k) views (bytes_spelled Bytes) vs nulls h
+flat_unspelled (type.utf8 k) vs nulls h = unspelled_by (type.utf8 k) (λ rs. views (packed rs)) (bytes_spelled Text) vs nulls h
+flat_unspelled (type.binary k) vs nulls h = unspelled_by (type.binary k) (λ rs. views (packed rs)) (bytes_spelled Bytes) vs nulls h
 
 -- rows, null among them, are the column of what they hold and of a validity that tells whether each is there
 rows_column : {A : Type 0} (zero : A) (ty : DataType) (of_items : List A → Data) (read : Json → Option A) (ds : Items) (xs : List A) (valid : List Bool)
@@ -193,8 +200,12 @@ rows_by (type.primitive p Nullable) ds (Integers v) valid w n h tells =
 rows_by (type.decimal p s Nullable) ds (Decimals v) valid w n h tells =
     rows_column (pos 0) (type.decimal p s Nullable) (decimals (smallest_width p)) (decimal_spelled p) ds (numbers_of v) valid w h.1 tells
     ∙ ap (λ q. Some (column (type.decimal p s Nullable) (length (numbers_of v)) (decimals q (numbers_of v)) (child_of w (length (numbers_of v))))) (sym h.0)
-rows_by (type.utf8 Nullable) ds (Views rows) valid w n h tells = rows_column [] (type.utf8 Nullable) views (bytes_spelled Text) ds rows valid w h.1 tells
-rows_by (type.binary Nullable) ds (Views rows) valid w n h tells = rows_column [] (type.binary Nullable) views (bytes_spelled Bytes) ds rows valid w h tells
+rows_by (type.utf8 Nullable) ds (Views rows) valid w n h tells =
+    rows_column [] (type.utf8 Nullable) (λ rs. views (packed rs)) (bytes_spelled Text) ds (rows_of rows) valid w h.1.1 tells
+    ∙ ap Some (λ i. column (type.utf8 Nullable) (rows_long rows i) (views (sym h.0 i)) (child_of w (rows_long rows i)))
+rows_by (type.binary Nullable) ds (Views rows) valid w n h tells =
+    rows_column [] (type.binary Nullable) (λ rs. views (packed rs)) (bytes_spelled Bytes) ds (rows_of rows) valid w h.1 tells
+    ∙ ap Some (λ i. column (type.binary Nullable) (rows_long rows i) (views (sym h.0 i)) (child_of w (rows_long rows i)))
 rows_by (type.bool NonNullable) ds v valid w n h tells = absurd (cc n)
 rows_by (type.primitive p NonNullable) ds v valid w n h tells = absurd (cc n)
 rows_by (type.decimal p s NonNullable) ds v valid w n h tells = absurd (cc n)
@@ -211,8 +222,8 @@ bits_fit ty ds v valid w h tells = subst (λ n. array_refusal n w ≡ None) (lon
     long (type.bool k) (Bits bits) r = told_long false as_bool ds bits valid r
     long (type.primitive p k) (Integers zs) r = told_long (pos 0) (integer_spelled p) ds (values_of zs) valid r.1
     long (type.decimal p s k) (Decimals zs) r = told_long (pos 0) (decimal_spelled p) ds (numbers_of zs) valid r.1
-    long (type.utf8 k) (Views rows) r = told_long [] (bytes_spelled Text) ds rows valid r.1
-    long (type.binary k) (Views rows) r = told_long [] (bytes_spelled Bytes) ds rows valid r
+    long (type.utf8 k) (Views rows) r = told_long [] (bytes_spelled Text) ds (rows_of rows) valid r.1.1 ∙ rows_long rows
+    long (type.binary k) (Views rows) r = told_long [] (bytes_spelled Bytes) ds (rows_of rows) valid r.1 ∙ rows_long rows
     long t u r = absurd r
 
 pub rows_unread : (d : DType) (ds : Items) → d ≢ dtype_of.Null → nullability_of (type_of d) ≡ Nullable → AreUnread Nullable (storage_of (type_of d)) ds →
@@ -242,8 +253,8 @@ rows_are_values (type.bool NonNullable) ds h = values_there false (type.bool Non
 rows_are_values (type.primitive p NonNullable) ds h = values_there (pos 0) (type.primitive p NonNullable) (primitive p) (integer_spelled p) ds
 rows_are_values (type.decimal p s NonNullable) ds h =
     values_there (pos 0) (type.decimal p s NonNullable) (decimals (smallest_width p)) (decimal_spelled p) ds
-rows_are_values (type.utf8 NonNullable) ds h = values_there [] (type.utf8 NonNullable) views (bytes_spelled Text) ds
-rows_are_values (type.binary NonNullable) ds h = values_there [] (type.binary NonNullable) views (bytes_spelled Bytes) ds
+rows_are_values (type.utf8 NonNullable) ds h = values_there [] (type.utf8 NonNullable) (λ rs. views (packed rs)) (bytes_spelled Text) ds
+rows_are_values (type.binary NonNullable) ds h = values_there [] (type.binary NonNullable) (λ rs. views (packed rs)) (bytes_spelled Bytes) ds
 rows_are_values _ ds h = absurd (cc)
 
 -- one row more

@@ -20,6 +20,7 @@ use Rattle.vx_json.specs.ReadRows.{AreRead}
 use Rattle.vx_json.specs.SpelledValues.{integer_spelled, decimal_spelled, bytes_spelled, or_null, all_read}
 use Rattle.vx_json.specs.declared.column_values.ColumnValues.{ColumnValues}
 use Rattle.vx_json.specs.declared.column_values.ColumnValues.TheVariants.{Bits, Integers, Decimals, Views}
+use Rattle.vx_tree.specs.Views.{rows_of, packed}
 
 -- the data of a column's node, and its rows
 abbrev pub data_of : ColumnValues → enc.Data
@@ -32,7 +33,7 @@ abbrev pub count_of : ColumnValues → ℕ
 count_of (Bits bits) = length bits
 count_of (Integers v) = length (values_of v)
 count_of (Decimals v) = length (numbers_of v)
-count_of (Views rows) = length rows
+count_of (Views rows) = length rows.views
 
 -- why no column of these values has this type and validity
 abbrev pub values_refusal : DataType → ColumnValues → Validity → Option VortexError
@@ -48,8 +49,8 @@ AreReadAs m (storage.Integers p) ds (Integers v) valid = (ptype_of v ≡ p) × A
 AreReadAs m (storage.Decimals p s) ds (Decimals v) valid =
     (decimal_type_of v ≡ smallest_width p) × AreRead m (pos 0) (decimal_spelled p) ds (numbers_of v) valid
 AreReadAs m storage.Text ds (Views rows) valid =
-    (are_bytes_of storage.Text rows ≡ true) × AreRead m [] (bytes_spelled storage.Text) ds rows valid
-AreReadAs m storage.Bytes ds (Views rows) valid = AreRead m [] (bytes_spelled storage.Bytes) ds rows valid
+    (rows ≡ packed (rows_of rows)) × (are_bytes_of storage.Text (rows_of rows) ≡ true) × AreRead m [] (bytes_spelled storage.Text) ds (rows_of rows) valid
+AreReadAs m storage.Bytes ds (Views rows) valid = (rows ≡ packed (rows_of rows)) × AreRead m [] (bytes_spelled storage.Bytes) ds (rows_of rows) valid
 AreReadAs m _ ds v valid = ⊥
 
 -- the list doesn't spell rows in this storage

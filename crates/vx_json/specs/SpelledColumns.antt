@@ -19,6 +19,7 @@ use Rattle.vx_json.specs.SpelledNulls.{null_keys, validity_spelled}
 use Rattle.vx_json.specs.SpelledTypes.{type_at}
 use Rattle.vx_json.specs.SpelledValues.{integer_spelled, decimal_spelled, bytes_spelled, or_null, all_read}
 use Rattle.vx_json.specs.declared.nulls.Nulls.{Nulls}
+use Rattle.vx_tree.specs.Views.{packed}
 
 -- `{"enc":"col","type":T,"rows":[..]}`: a column of the rows, which may be null if the type is nullable; a line for each storage
 abbrev pub rows_stored : Nullability → Storage → Items → Option Tree
@@ -45,8 +46,8 @@ values_stored m (Integers p) nulls ds =
     option_and_then (λ zs. flat_of (type.primitive p m) (length zs) (enc.primitive p zs) nulls) (all_read (integer_spelled p) ds)
 values_stored m (Decimals p s) nulls ds =
     option_and_then (λ zs. flat_of (type.decimal p s m) (length zs) (enc.decimals (smallest_width p) zs) nulls) (all_read (decimal_spelled p) ds)
-values_stored m Text nulls ds = option_and_then (λ rs. flat_of (type.utf8 m) (length rs) (enc.views rs) nulls) (all_read (bytes_spelled Text) ds)
-values_stored m Bytes nulls ds = option_and_then (λ rs. flat_of (type.binary m) (length rs) (enc.views rs) nulls) (all_read (bytes_spelled Bytes) ds)
+values_stored m Text nulls ds = option_and_then (λ rs. flat_of (type.utf8 m) (length rs) (enc.views (packed rs)) nulls) (all_read (bytes_spelled Text) ds)
+values_stored m Bytes nulls ds = option_and_then (λ rs. flat_of (type.binary m) (length rs) (enc.views (packed rs)) nulls) (all_read (bytes_spelled Bytes) ds)
 values_stored m _ nulls ds = None
 
 abbrev pub column_of_values : Nulls → DataType → Items → Option Tree

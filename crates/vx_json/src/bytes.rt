@@ -9,6 +9,7 @@ ghost use Rattle.vx_tree.specs.ColumnTypes.{are_bytes_of};
 ghost use Rattle.vx_json.specs.ReadRows.{read_unless, RowsRead};
 ghost use Rattle.vx_json.specs.Refused.{IsRefused};
 ghost use Rattle.vx_json.specs.SpelledValues.{hex_bytes, bytes_spelled};
+ghost use Rattle.vx_tree.specs.Views.{rows_of, packed};
 
 use crate::BAD_VALUE;
 use crate::row_nulls::RowNulls;
@@ -110,8 +111,9 @@ pub(crate) fn byte_rows<N: RowNulls>(
     list: &Vec<Value>,
 ) -> VortexResult<BinaryViews>
     requires { N.told nulls.old ≡ [] }
-    ensures rows { RowsRead N.mode [] (bytes_spelled storage) (items_view list.now.items) result (λ rows. rows) (N.told nulls.new) }
-    ensures typed { IfOk result (λ rows. are_bytes_of storage rows ≡ true) }
+    ensures rows { RowsRead N.mode [] (bytes_spelled storage) (items_view list.now.items) result (λ rows. rows_of rows) (N.told nulls.new) }
+    ensures packed { IfOk result (λ rows. rows ≡ packed (rows_of rows)) }
+    ensures typed { IfOk result (λ rows. are_bytes_of storage (rows_of rows) ≡ true) }
 {
     let mut rows = BinaryBuilder::with_capacity(alloc, list.len())?;
     let mut decoded = Vec::new(alloc);

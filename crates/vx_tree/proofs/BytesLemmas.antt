@@ -5,6 +5,7 @@ use Rattle.std.specs.Str.{is_utf8}
 use Rattle.std.proofs.lemmas.List.Sums.{AllPass-from_list_all, list_all-from_AllPass}
 use Rattle.std.proofs.lemmas.List.Folds.{list_all-append}
 use Rattle.std.specs.Cmp.{first_so, second_so}
+use Rattle.std.proofs.lemmas.Bool.{and_from}
 use Rattle.vx_value.specs.Types.{DataType, nullability_of}
 use Rattle.vx_value.specs.Nullabilities.{with_nullability}
 use Rattle.vx_value.specs.Storage.{storage_of}
@@ -12,10 +13,12 @@ use Rattle.vx_value.specs.declared.dtype.Nullability.{Nullability}
 use Rattle.vx_value.specs.declared.dtype.Storage.{Storage}
 use Rattle.vx_value.specs.declared.dtype.Storage.TheVariants.{Text}
 use Rattle.vx_value.specs.declared.id.Id.TheVariants.{VarBinView}
-use Rattle.vx_tree.specs.ColumnTypes.{bytes_type, are_bytes_of}
+use Rattle.vx_tree.specs.ColumnTypes.{bytes_type, are_bytes_of, are_views_of}
 use Rattle.vx_tree.specs.Columns.{canonical_id}
 use Rattle.vx_tree.specs.Tree.{views}
+use Rattle.vx_tree.specs.Views.{ViewedRows, rows_of, lies_in, all_lie_in, AllLieIn, viewed_range}
 use Rattle.vx_tree.specs.Well.{Shape, IsFlat, IsNode}
+use Rattle.vx_tree.proofs.ViewsLemmas.{rows_part, lie_tested}
 
 -- its encoding, whatever the nullability
 pub bytes_columns : (m : Nullability) (s : Storage) → canonical_id (with_nullability m (bytes_type s)) ≡ VarBinView
@@ -23,16 +26,20 @@ bytes_columns m Text = refl
 bytes_columns m _ = refl
 
 -- a type of text or bytes is told by how it is stored, and so are its rows
-bytes_again : (s : Storage) (ty : DataType) (rows : List (List ℕ)) → ty ≡ with_nullability (nullability_of ty) (bytes_type s)
-    → (bytes_type (storage_of ty) ≡ bytes_type s) × (are_bytes_of (storage_of ty) rows ≡ are_bytes_of s rows)
-bytes_again Text ty rows h = (ap (λ t. bytes_type (storage_of t)) h, ap (λ t. are_bytes_of (storage_of t) rows) h)
-bytes_again _ ty rows h = (ap (λ t. bytes_type (storage_of t)) h, ap (λ t. are_bytes_of (storage_of t) rows) h)
+bytes_again : (s : Storage) (ty : DataType) (rs : ViewedRows) → ty ≡ with_nullability (nullability_of ty) (bytes_type s)
+    → (bytes_type (storage_of ty) ≡ bytes_type s) × (are_views_of (storage_of ty) rs ≡ are_views_of s rs)
+bytes_again Text ty rs h = (ap (λ t. bytes_type (storage_of t)) h, ap (λ t. are_views_of (storage_of t) rs) h)
+bytes_again _ ty rs h = (ap (λ t. bytes_type (storage_of t)) h, ap (λ t. are_views_of (storage_of t) rs) h)
 
-pub bytes_node : (s : Storage) (rows : List (List ℕ)) → are_bytes_of s rows ≡ true
-    → (ty : DataType) (n : ℕ) (ss : List (Option Shape)) → IsFlat (bytes_type s) (length rows) ty n ss → IsNode ty n (views rows) ss
-bytes_node s rows h ty n ss flat =
-    let again = bytes_again s ty rows flat.1 in
-    (subst (λ r. IsFlat r (length rows) ty n ss) (sym again.0) flat, again.1 ∙ h)
+pub bytes_node : (s : Storage) (rs : ViewedRows) → are_views_of s rs ≡ true
+    → (ty : DataType) (n : ℕ) (ss : List (Option Shape)) → IsFlat (bytes_type s) (length rs.views) ty n ss → IsNode ty n (views rs) ss
+bytes_node s rs h ty n ss flat =
+    let again = bytes_again s ty rs flat.1 in
+    (subst (λ r. IsFlat r (length rs.views) ty n ss) (sym again.0) flat, again.1 ∙ h)
+
+-- views that lie in their buffers, of rows of a type
+pub views_known : (s : Storage) (rs : ViewedRows) → AllLieIn rs.buffers rs.views → are_bytes_of s (rows_of rs) ≡ true → are_views_of s rs ≡ true
+views_known s rs lie h = and_from _ _ (lie_tested rs lie) h
 
 module _ {A : Type 0} (test : A → Bool) where
   parts_pass : (k : ℕ) (xs : List A) → list_all test xs ≡ true → (list_all test (take k xs) ≡ true) × (list_all test (drop k xs) ≡ true)
@@ -49,6 +56,12 @@ module _ {A : Type 0} (test : A → Bool) where
 pub bytes_part : (s : Storage) (xs ys : List (List ℕ)) (a b : ℕ) → are_bytes_of s xs ≡ true → ys ≡ slice_range xs a b → are_bytes_of s ys ≡ true
 bytes_part Text xs ys a b h range = ap (list_all is_utf8) range ∙ range_passes is_utf8 xs a b h
 bytes_part _ xs ys a b h range = refl
+
+pub views_part : (s : Storage) (rs : ViewedRows) (a b : ℕ) → are_views_of s rs ≡ true → are_views_of s (viewed_range a b rs) ≡ true
+views_part s rs a b h =
+    let lie : all_lie_in rs ≡ true = first_so (all_lie_in rs) (are_bytes_of s (rows_of rs)) h in
+    let typed : are_bytes_of s (rows_of rs) ≡ true = second_so (all_lie_in rs) (are_bytes_of s (rows_of rs)) h in
+    and_from _ _ (range_passes (lies_in rs.buffers) rs.views a b lie) (bytes_part s (rows_of rs) (rows_of (viewed_range a b rs)) a b typed (rows_part rs a b))
 
 -- the check of each row
 pub all_text : (b : Bool) (rows : List (List ℕ)) → (IsTrue b ↔ AllPass is_utf8 rows) → b ≡ list_all is_utf8 rows

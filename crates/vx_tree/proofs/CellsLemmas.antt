@@ -16,6 +16,8 @@ use Rattle.vx_mask.specs.Places.{true_count, chosen}
 use Rattle.vx_mask.proofs.PlacesLemmas.{length-chosen}
 use Rattle.vx_fn.specs.Apply.{apply}
 use Rattle.vx_tree.specs.Cells.{row_at, rows, slots_rows, node_cells, cells_at, shown_cell, valid_cells, HasNoFault}
+use Rattle.vx_tree.specs.Views.{bytes_at}
+use Rattle.vx_tree.specs.declared.views.view.View.{View}
 use Rattle.vx_tree.specs.Well.{Shape, shape, shapes, IsValidity, IsFlat, IsNode, IsWell, AreWell}
 
 -- of each slot that holds a tree, as many cells as it has rows; of one that doesn't, none
@@ -93,7 +95,8 @@ node_counted ty n (enc.decimals w zs) css ss h k =
     let cell : ℤ → Cell = λ z. value (decimal z (scale_of (storage_of ty))) in
     flat_counted (decimal_type (storage_of ty)) _ ty n css ss (map cell zs) h.0 k (length-map zs cell)
 node_counted ty n (enc.views rs) css ss h k =
-    flat_counted (bytes_type (storage_of ty)) _ ty n css ss (map (λ r. value (bytes r)) rs) h.0 k (length-map rs (λ r. value (bytes r)))
+    let cell : View → Cell = λ v. value (bytes (bytes_at rs.buffers v)) in
+    flat_counted (bytes_type (storage_of ty)) _ ty n css ss (map cell rs.views) h.0 k (length-map rs.views cell)
 
 mutual
   pub rows_counted : (t : Tree) → IsWell t → length (rows t) ≡ len t

@@ -15,9 +15,10 @@ use Rattle.vx_tree.specs.Well.{IsFlat, IsNode, IsWell, shapes}
 use Rattle.vx_tree.specs.Columns.{count_in, data_range, no_rows, empty_of}
 use Rattle.vx_tree.specs.Keeps.{KeepsExactly}
 use Rattle.vx_tree.specs.Validities.{HasRange, IsValidityPart}
+use Rattle.vx_tree.specs.Views.{viewed, bytes_at, viewed_range}
 use Rattle.vx_tree.proofs.KindsLemmas.{flat_node}
 use Rattle.vx_tree.proofs.SlotsLemmas.{only_slot}
-use Rattle.vx_tree.proofs.BytesLemmas.{bytes_node, bytes_part}
+use Rattle.vx_tree.proofs.BytesLemmas.{bytes_node, views_part}
 use Rattle.vx_tree.proofs.DecimalsLemmas.{decimals_node, decimals_part}
 use Rattle.vx_tree.proofs.ValiditiesLemmas.{flat_range, flat_part}
 
@@ -41,9 +42,10 @@ flat_range_kept (node ty n (enc.decimals d zs) ss) v w a b well h s within part 
     (decimals_node stored d (slice_range zs a b) (decimals_part stored d zs (slice_range zs a b) a b well.0.1 refl)) w part
 flat_range_kept (node ty n (enc.views rs) ss) v w a b well h s within part =
     let stored = storage_of ty in
-    flat_part (bytes_type stored) bytes enc.views a b rs (slice_range rs a b) v (node ty n (enc.views rs) ss) (λ n xs css. refl)
+    flat_part (bytes_type stored) (λ v. bytes (bytes_at rs.buffers v)) (λ vs. enc.views (viewed vs rs.buffers)) a b rs.views (slice_range rs.views a b) v
+    (node ty n (enc.views rs) ss) (λ n xs css. refl)
     (ap (node ty n (enc.views rs)) s) well within
-    refl (λ ss h. h.0) (bytes_node stored (slice_range rs a b) (bytes_part stored rs (slice_range rs a b) a b well.0.1 refl)) w part
+    refl (λ ss h. h.0) (bytes_node stored (viewed_range a b rs) (views_part stored rs a b well.0.1)) w part
 flat_range_kept _ v w a b well h s within part = absurd (cc)
 
 -- its root is a column of values of some type

@@ -19,6 +19,8 @@ use Rattle.vx_tree.specs.Well.{shape_of, shapes, IsValidity, IsFlat, IsNode, IsW
 use Rattle.vx_tree.specs.Cells.{rows, node_cells, cells_at, valid_cells, shown_cell}
 use Rattle.vx_tree.specs.Keeps.{RowsKeep}
 use Rattle.vx_tree.specs.Validities.{validity_of, HasRows}
+use Rattle.vx_tree.specs.Views.{ViewedRows, bytes_at}
+use Rattle.vx_tree.specs.declared.views.view.View.{View}
 use Rattle.vx_tree.specs.NodeValidities.{slot_tree, constant_validity, data_validity, if_nullable, node_validity, first_validity, IsValidityFor}
 use Rattle.vx_tree.specs.declared.validity.Validity.{Validity}
 use Rattle.vx_tree.specs.declared.validity.Validity.TheVariants as validity
@@ -81,11 +83,12 @@ module _ (ty : DataType) (n : ℕ) (xs : List (Option Tree)) where
       column_node (decimal_type (storage_of ty)) ty (length zs) n (enc.decimals w zs) (map (λ z. value (read z)) zs) xs (λ css. refl)
       (length-map zs (λ z. value (read z))) (stored_valid read (λ z. refl) zs) h.0
 
-  views_node : (rs : List (List ℕ)) → IsNode ty n (enc.views rs) (shapes (slots_of xs)) → AreWell (slots_of xs) → nullability_of ty ≡ Nullable
+  views_node : (rs : ViewedRows) → IsNode ty n (enc.views rs) (shapes (slots_of xs)) → AreWell (slots_of xs) → nullability_of ty ≡ Nullable
       → Tells (node ty n (enc.views rs) (slots_of xs)) (validity_of Nullable (slot_tree 0 (slots_of xs)))
   views_node rs h =
-      column_node (bytes_type (storage_of ty)) ty (length rs) n (enc.views rs) (map (λ r. value (bytes r)) rs) xs (λ css. refl)
-      (length-map rs (λ r. value (bytes r))) (stored_valid bytes (λ r. refl) rs) h.0
+      let read : View → Value = λ v. bytes (bytes_at rs.buffers v) in
+      column_node (bytes_type (storage_of ty)) ty (length rs.views) n (enc.views rs) (map (λ v. value (read v)) rs.views) xs (λ css. refl)
+      (length-map rs.views (λ v. value (read v))) (stored_valid read (λ v. refl) rs.views) h.0
 
 -- of a nullable node: a line for each encoding
 data_tells : (ty : DataType) (n : ℕ) (d : Data) (xs : List (Option Tree)) → IsNode ty n d (shapes (slots_of xs)) → AreWell (slots_of xs)

@@ -8,7 +8,7 @@ use Rattle.vx_value.specs.declared.dtype.Nullability.TheVariants.{NonNullable}
 use Rattle.vx_value.specs.Storage.{storage_of}
 use Rattle.vx_value.specs.declared.id.Id.{Id}
 use Rattle.vx_value.proofs.NullabilitiesLemmas.{alike_but_nullability, same_but_set}
-use Rattle.vx_tree.specs.ColumnTypes.{bytes_type, decimal_type, are_decimals_of, are_bytes_of}
+use Rattle.vx_tree.specs.ColumnTypes.{bytes_type, decimal_type, are_decimals_of, are_views_of}
 use Rattle.vx_tree.specs.Tree as enc
 use Rattle.vx_tree.specs.Tree.{Data, column, id_of, constant_refusal, nulls_refusal}
 use Rattle.vx_tree.specs.Well.{IsFlat, IsNode, Shape}
@@ -82,7 +82,7 @@ decided ty n enc.nulls ss = (λ i. nulls_kept ty n ss, nulls_taken ty n ss)
 decided ty n (enc.bool bs) ss = (λ i. column_kept ty n (bool NonNullable) _ ss, column_taken ty n (bool NonNullable) _ ss)
 decided ty n (enc.primitive p zs) ss = (λ i. column_kept ty n (primitive p NonNullable) _ ss, column_taken ty n (primitive p NonNullable) _ ss)
 decided ty n (enc.decimals w zs) ss = tested_decided ty n (decimal_type (storage_of ty)) (length zs) (are_decimals_of (storage_of ty) w zs) ss
-decided ty n (enc.views rs) ss = tested_decided ty n (bytes_type (storage_of ty)) (length rs) (are_bytes_of (storage_of ty) rs) ss
+decided ty n (enc.views rs) ss = tested_decided ty n (bytes_type (storage_of ty)) (length rs.views) (are_views_of (storage_of ty) rs) ss
 
 pub node_unless_refused : (i : Id) (ty : DataType) (n : ℕ) (d : Data) (ss : List (Option Shape)) →
     refusal i ty n d ss ≡ None → IsNode ty n d ss

@@ -54,6 +54,7 @@ use Rattle.vx_tree.specs.ColumnTypes.{decimal_type, scale_of, bytes_type}
 use Rattle.vx_tree.specs.Tree as enc
 use Rattle.vx_tree.specs.Tree.{Tree, Data, Slots, node, no_slots, absent, slot, dtype, IsMasked}
 use Rattle.vx_tree.specs.Cells.{rows, slots_rows, node_cells, cells_at, row_at, valid_cell, valid_cells, shown_cell}
+use Rattle.vx_tree.specs.Views.{bytes_at}
 use Rattle.vx_tree.specs.Well.{Shape, shape, shapes, IsValidity, IsFlat, IsNode, IsWell, AreWell}
 
 -- of the kind that is stored, however large: a line for each storage
@@ -417,7 +418,8 @@ node_fits ty n enc.nulls css ss h k = All-replicate (CellFits ty) n (value null)
 node_fits ty n (enc.bool bs) css ss h k = column_fits _ bs (type.bool NonNullable) (length bs) ty n css ss (λ m b. refl) h k
 node_fits ty n (enc.primitive p zs) css ss h k = column_fits _ zs (type.primitive p NonNullable) (length zs) ty n css ss (λ m z. refl) h k
 node_fits ty n (enc.decimals w zs) css ss h k = column_fits _ zs (decimal_type (storage_of ty)) (length zs) ty n css ss (decimal_fits (storage_of ty)) h.0 k
-node_fits ty n (enc.views rs) css ss h k = column_fits _ rs (bytes_type (storage_of ty)) (length rs) ty n css ss (bytes_fit (storage_of ty)) h.0 k
+node_fits ty n (enc.views rs) css ss h k = 
+    column_fits _ rs.views (bytes_type (storage_of ty)) (length rs.views) ty n css ss (λ m v. bytes_fit (storage_of ty) m (bytes_at rs.buffers v)) h.0 k
 
 mutual
   all_fit : (t : Tree) → IsWell t → All (CellFits (dtype t)) (rows t)

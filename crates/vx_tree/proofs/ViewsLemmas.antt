@@ -1,5 +1,5 @@
--- The rows of views: of a part of them, of those that a mask chooses, of equal ones, and of data that grows.
-use Rattle.std.proofs.Common.{◌≡◌, ◌<◌, ◌≤◌, ◌+◌, ◌-◌, ℕ, zero, suc, Bool, true, false, List, [], ◌∷◌, ◌++◌, length, take, drop, replicate, slice_range}
+-- The rows of views: of a part of them, of those that a mask chooses, of equal ones, and of rows that follow one another in one buffer.
+use Rattle.std.proofs.Common.{◌≡◌, ◌<◌, ◌≤◌, ◌+◌, ◌-◌, ℕ, zero, suc, Bool, true, false, List, [], ◌∷◌, ◌++◌, length, map, take, drop, replicate, slice_range}
 use Rattle.std.proofs.Common.{arith}
 use Rattle.std.proofs.Common.{refl}
 use Rattle.std.proofs.Common.{sym}
@@ -7,22 +7,26 @@ use Rattle.std.proofs.Common.{subst}
 use Rattle.std.proofs.Common.{◌∙◌}
 use Rattle.std.proofs.Common.{ap}
 use Rattle.std.proofs.Common.{ap₂}
-use Rattle.std.specs.Prelude.{slice_index_or, slice_get, Some, option_map}
-use Rattle.std.specs.List.{All}
-use Rattle.std.proofs.lemmas.List.{map-append, take_all, take-append-le, drop_at, drop-append-le, length-drop, length-append, length-map, get_or_read, take-map, drop-map, map_push}
-use Rattle.std.proofs.lemmas.List.Elements.{All-nil, All-cons, All-head, All-tail, All-same, All-take, All-drop, All-push, All-weaker, All-replicate}
-use Rattle.std.proofs.lemmas.List.Elements.{All-append}
+use Rattle.std.specs.Prelude.{slice_index_or, slice_get, Some, option_map, nat_lt, nat_le}
+use Rattle.std.specs.List.{All, AllPass, concat, list_all}
+use Rattle.std.proofs.Math.Seq.{drop-append_seam, take-append_seam}
+use Rattle.std.proofs.lemmas.Bool.{and_from, lt-ltb, le-leb}
+use Rattle.std.proofs.lemmas.List.{append_assoc, append-nil, take_all, length-drop, length-append, length-map, get_or_read, take-map, drop-map}
+use Rattle.std.proofs.lemmas.List.Elements.{All-nil, All-cons, All-head, All-tail, All-same, All-take, All-drop, All-weaker, All-replicate}
+use Rattle.std.proofs.lemmas.List.Folds.{concat-append}
+use Rattle.std.proofs.lemmas.List.Sums.{list_all-from_AllPass}
 use Rattle.std.proofs.lemmas.Option.{slice_get-map, slice_get-get_or}
 use Rattle.vx_mask.specs.Places.{chosen}
 use Rattle.vx_mask.proofs.PlacesLemmas.{chosen-nil}
 use Rattle.vx_mask.proofs.ChosenLemmas.{chosen_map}
 use Rattle.vx_tree.specs.declared.views.view.View.{View}
-use Rattle.vx_tree.specs.Views.{buffer_of, bytes_at, rows_of, LiesIn, AllLieIn}
+use Rattle.vx_tree.specs.Views.{ViewedRows, viewed, buffer_of, bytes_at, rows_of, LiesIn, AllLieIn, lies_in, all_lie_in}
+use Rattle.vx_tree.specs.Views.{viewed_range, viewed_choice, view_at, views_from, packed, repeated}
 
 -- ---- a part of the views, and those that a mask chooses
-pub rows_part : (buffers : List (List ℕ)) (views : List View) (a b : ℕ) → rows_of buffers (slice_range views a b) ≡ slice_range (rows_of buffers views) a b
-rows_part buffers views a b =
-    sym (ap (take (b - a)) (drop-map (bytes_at buffers) a views) ∙ take-map (bytes_at buffers) (b - a) (drop a views))
+pub rows_part : (r : ViewedRows) (a b : ℕ) → rows_of (viewed_range a b r) ≡ slice_range (rows_of r) a b
+rows_part r a b =
+    sym (ap (take (b - a)) (drop-map (bytes_at r.buffers) a r.views) ∙ take-map (bytes_at r.buffers) (b - a) (drop a r.views))
 
 pub lie_in_part : (buffers : List (List ℕ)) (views : List View) (a b : ℕ) → AllLieIn buffers views → AllLieIn buffers (slice_range views a b)
 lie_in_part buffers views a b lie = All-take (LiesIn buffers) (b - a) (drop a views) (All-drop (LiesIn buffers) a views lie)
@@ -38,15 +42,21 @@ pub lie_in_chosen : (buffers shared : List (List ℕ)) (bits : List Bool) (views
     → AllLieIn buffers views → AllLieIn shared kept
 lie_in_chosen buffers shared bits views kept same are lie = rw (same, are) (all_chosen (LiesIn buffers) bits views lie)
 
-pub rows_chosen : (buffers : List (List ℕ)) (bits : List Bool) (views : List View) → rows_of buffers (chosen bits views) ≡ chosen bits (rows_of buffers views)
-rows_chosen buffers bits views = sym (chosen_map (bytes_at buffers) bits views)
+pub rows_chosen : (bits : List Bool) (r : ViewedRows) → rows_of (viewed_choice bits r) ≡ chosen bits (rows_of r)
+rows_chosen bits r = sym (chosen_map (bytes_at r.buffers) bits r.views)
+
+-- views that lie in their buffers pass the test
+pub lie_tested : (r : ViewedRows) → AllLieIn r.buffers r.views → all_lie_in r ≡ true
+lie_tested r lie = list_all-from_AllPass (lies_in r.buffers) r.views (All-weaker (LiesIn r.buffers) (λ v. lies_in r.buffers v ≡ true) tested r.views lie)
+  where
+    tested : (v : View) → LiesIn r.buffers v → lies_in r.buffers v ≡ true
+    tested v lies = and_from _ _ (lt-ltb v.buffer (length r.buffers) lies.0) (le-leb (v.start + v.size) (length (buffer_of r.buffers v)) lies.1)
 
 -- ---- one row: as many bytes as its view has of those that follow its start
 pub row_at : (buffers : List (List ℕ)) (views : List View) (i : ℕ) (v other : View) (bytes item : List ℕ) → AllLieIn buffers views
-    → i < length (rows_of buffers views) → v ≡ slice_index_or views i other → bytes ≡ item → item ≡ slice_index_or buffers v.buffer item
-    → slice_get (rows_of buffers views) i ≡ Some (take v.size (take (length bytes - v.start) (drop v.start bytes)))
-row_at buffers views i v other bytes item lie within seen same held =
-    let here : i < length views = omega (arith, within, length-map views (bytes_at buffers)) in
+    → i < length views → v ≡ slice_index_or views i other → bytes ≡ item → item ≡ slice_index_or buffers v.buffer item
+    → slice_get (rows_of (viewed views buffers)) i ≡ Some (take v.size (take (length bytes - v.start) (drop v.start bytes)))
+row_at buffers views i v other bytes item lie here seen same held =
     let lies = subst (LiesIn buffers) (sym seen) (lie i other here) in
     let whole : buffer_of buffers v ≡ bytes = sym (same ∙ get_or_read buffers v.buffer item lies.0 held []) in
     let rest = take_all (length bytes - v.start) (drop v.start bytes) (omega (arith, length-drop v.start bytes)) in
@@ -55,71 +65,116 @@ row_at buffers views i v other bytes item lie within seen same held =
     ∙ ap (λ l. Some (take v.size l)) (ap (drop v.start) whole ∙ sym rest)
 
 -- ---- equal views of all bytes of one buffer
--- the view of all bytes of the first buffer
-abbrev pub whole : ℕ → View
-whole size = record { buffer = 0; start = 0; size = size }
+pub rows_repeated : (n : ℕ) (bytes : List ℕ) → rows_of (repeated n bytes) ≡ replicate n bytes
+rows_repeated zero bytes = refl
+rows_repeated (suc n) bytes = ap₂ (λ x l. x ∷ l) (take_all (length bytes) bytes (omega arith)) (rows_repeated n bytes)
 
-pub rows_equal : (bytes : List ℕ) (n : ℕ) → rows_of (bytes ∷ []) (replicate n (whole (length bytes))) ≡ replicate n bytes
-rows_equal bytes zero = refl
-rows_equal bytes (suc n) = ap₂ (λ x l. x ∷ l) (take_all (length bytes) bytes (omega arith)) (rows_equal bytes n)
+pub lie_in_equal : (bytes : List ℕ) (n : ℕ) → AllLieIn (bytes ∷ []) (replicate n (view_at 0 (length bytes)))
+lie_in_equal bytes n = All-replicate (LiesIn (bytes ∷ [])) n (view_at 0 (length bytes)) (omega arith, omega arith)
 
-pub lie_in_equal : (bytes : List ℕ) (n : ℕ) → AllLieIn (bytes ∷ []) (replicate n (whole (length bytes)))
-lie_in_equal bytes n = All-replicate (LiesIn (bytes ∷ [])) n (whole (length bytes)) (omega arith, omega arith)
+-- ---- rows that follow one another in one buffer
 
--- ---- one buffer that grows
-only : (bytes : List ℕ) (v : View) → v.buffer < 1 → buffer_of (bytes ∷ []) v ≡ bytes
-only bytes v first =
-    let here : v.buffer ≡ 0 = omega arith in
-    ap (λ k. slice_index_or (bytes ∷ []) k []) here
+-- those that stand after `before`
+rows_after : (before : List ℕ) (rs : List (List ℕ)) → map (bytes_at ((before ++ concat rs) ∷ [])) (views_from (length before) rs) ≡ rs
+rows_after before [] = refl
+rows_after before (r ∷ rs) =
+    let seen = ap (take (length r)) (drop-append_seam before (r ++ concat rs)) ∙ take-append_seam r (concat rs) in
+    let moved =
+      ap₂ (λ b k. map (bytes_at (b ∷ [])) (views_from k rs)) (sym (append_assoc before r (concat rs))) (sym (length-append before r)) in
+    ap₂ (λ x l. x ∷ l) seen (moved ∙ rows_after (before ++ r) rs)
 
-bytes_more : (xs ys : List ℕ) (v : View) → LiesIn (xs ∷ []) v → bytes_at ((xs ++ ys) ∷ []) v ≡ bytes_at (xs ∷ []) v
-bytes_more xs ys v lies =
-    let before = only xs v lies.0 in
-    let within : v.start + v.size ≤ length xs = omega (arith, lies.1, ap length before) in
-    ap (λ l. take v.size (drop v.start l)) (only (xs ++ ys) v lies.0)
-    ∙ ap (take v.size) (drop-append-le v.start xs ys (omega arith))
-    ∙ take-append-le v.size (drop v.start xs) ys (omega (arith, length-drop v.start xs))
-    ∙ sym (ap (λ l. take v.size (drop v.start l)) before)
+lie_after : (before : List ℕ) (rs : List (List ℕ)) → AllLieIn ((before ++ concat rs) ∷ []) (views_from (length before) rs)
+lie_after before [] = All-nil (LiesIn ((before ++ []) ∷ []))
+lie_after before (r ∷ rs) =
+    let all = before ++ (r ++ concat rs) in
+    let lies : LiesIn (all ∷ []) (view_at (length before) (length r)) =
+      (omega arith, omega (arith, length-append before (r ++ concat rs), length-append r (concat rs))) in
+    let later =
+      subst (λ k. AllLieIn (all ∷ []) (views_from k rs)) (length-append before r)
+      (subst (λ b. AllLieIn (b ∷ []) (views_from (length (before ++ r)) rs)) (append_assoc before r (concat rs)) (lie_after (before ++ r) rs)) in
+    All-cons (LiesIn (all ∷ [])) (view_at (length before) (length r)) (views_from (length before + length r) rs) lies later
 
-lies_in_more : (xs ys : List ℕ) (v : View) → LiesIn (xs ∷ []) v → LiesIn ((xs ++ ys) ∷ []) v
-lies_in_more xs ys v lies =
-    (lies.0, omega (arith, lies.1, ap length (only xs v lies.0), ap length (only (xs ++ ys) v lies.0), length-append xs ys))
+-- their views show just them, and lie in the buffer
+pub rows_packed : (rs : List (List ℕ)) → rows_of (packed rs) ≡ rs
+rows_packed rs = rows_after [] rs
 
-pub rows_more : (xs ys : List ℕ) (views : List View) → AllLieIn (xs ∷ []) views → rows_of ((xs ++ ys) ∷ []) views ≡ rows_of (xs ∷ []) views
-rows_more xs ys [] lie = refl
-rows_more xs ys (v ∷ views) lie =
-    ap₂ (λ x l. x ∷ l) (bytes_more xs ys v (All-head (LiesIn (xs ∷ [])) v views lie))
-    (rows_more xs ys views (All-tail (LiesIn (xs ∷ [])) v views lie))
+pub packed_lie : (rs : List (List ℕ)) → AllLieIn (concat rs ∷ []) (views_from 0 rs)
+packed_lie rs = lie_after [] rs
 
-pub lie_in_more : (xs ys : List ℕ) (views : List View) → AllLieIn (xs ∷ []) views → AllLieIn ((xs ++ ys) ∷ []) views
-lie_in_more xs ys views = All-weaker (LiesIn (xs ∷ [])) (LiesIn ((xs ++ ys) ∷ [])) (lies_in_more xs ys) views
+pub length-views_from : (k : ℕ) (rs : List (List ℕ)) → length (views_from k rs) ≡ length rs
+length-views_from k [] = refl
+length-views_from k (r ∷ rs) = ap suc (length-views_from (k + length r) rs)
 
--- and one more view, of the bytes that are new
-abbrev pub last : List ℕ → List ℕ → View
-last xs ys = record { buffer = 0; start = length xs; size = length ys }
+-- more rows stand after them
+views_more : (k : ℕ) (rs more : List (List ℕ)) → views_from k (rs ++ more) ≡ views_from k rs ++ views_from (k + length (concat rs)) more
+views_more k [] more = ap (λ j. views_from j more) (omega arith)
+views_more k (r ∷ rs) more =
+    let further : k + length r + length (concat rs) ≡ k + length (r ++ concat rs) = omega (arith, length-append r (concat rs)) in
+    ap (λ l. view_at k (length r) ∷ l) (views_more (k + length r) rs more ∙ ap (λ j. views_from (k + length r) rs ++ views_from j more) further)
 
-pub rows_push : (xs ys : List ℕ) (views : List View) → AllLieIn (xs ∷ []) views
-    → rows_of ((xs ++ ys) ∷ []) (views ++ last xs ys ∷ []) ≡ rows_of (xs ∷ []) views ++ ys ∷ []
-rows_push xs ys views lie =
-    map_push (bytes_at ((xs ++ ys) ∷ [])) views (last xs ys)
-    ∙ ap₂ (λ l x. l ++ x ∷ []) (rows_more xs ys views lie)
-    (ap (take (length ys)) (drop_at xs ys (length xs) refl) ∙ take_all (length ys) ys (omega arith))
+pub packed_more : (rs more : List (List ℕ))
+    → viewed (views_from 0 rs ++ views_from (length (concat rs)) more) ((concat rs ++ concat more) ∷ []) ≡ packed (rs ++ more)
+packed_more rs more =
+    let later : 0 + length (concat rs) ≡ length (concat rs) = omega arith in
+    sym (ap₂ (λ vs b. viewed vs (b ∷ [])) (views_more 0 rs more ∙ ap (λ k. views_from 0 rs ++ views_from k more) later) (concat-append rs more))
 
-pub lie_in_push : (xs ys : List ℕ) (views : List View) → AllLieIn (xs ∷ []) views → AllLieIn ((xs ++ ys) ∷ []) (views ++ last xs ys ∷ [])
-lie_in_push xs ys views lie =
-    All-push (LiesIn ((xs ++ ys) ∷ [])) views (last xs ys) (lie_in_more xs ys views lie) (omega arith, omega (arith, length-append xs ys))
+-- one more row
+pub packed_push : (rs : List (List ℕ)) (r : List ℕ)
+    → viewed (views_from 0 rs ++ view_at (length (concat rs)) (length r) ∷ []) ((concat rs ++ r) ∷ []) ≡ packed (rs ++ r ∷ [])
+packed_push rs r =
+    ap (λ b. viewed (views_from 0 rs ++ view_at (length (concat rs)) (length r) ∷ []) ((concat rs ++ b) ∷ [])) (sym (append-nil r))
+    ∙ packed_more rs (r ∷ [])
 
--- and n more views, of no bytes
-abbrev pub none : View
-none = record { buffer = 0; start = 0; size = 0 }
+-- n more, of no bytes
+no_bytes : (k n : ℕ) → views_from k (replicate n []) ≡ replicate n (view_at k 0)
+no_bytes k zero = refl
+no_bytes k (suc n) = ap (λ l. view_at k 0 ∷ l) (ap (λ j. views_from j (replicate n [])) (omega arith) ∙ no_bytes k n)
 
-pub rows_empty : (xs : List ℕ) (views : List View) (n : ℕ) → rows_of (xs ∷ []) (views ++ replicate n none) ≡ rows_of (xs ∷ []) views ++ replicate n []
-rows_empty xs views n = map-append (bytes_at (xs ∷ [])) views (replicate n none) ∙ ap (λ l. rows_of (xs ∷ []) views ++ l) (all_empty n)
-  where
-    all_empty : (n : ℕ) → rows_of (xs ∷ []) (replicate n none) ≡ replicate n []
-    all_empty zero = refl
-    all_empty (suc n) = ap (λ l. [] ∷ l) (all_empty n)
+concat_none : (n : ℕ) → concat (replicate n []) ≡ []
+concat_none zero = refl
+concat_none (suc n) = concat_none n
 
-pub lie_in_empty : (xs : List ℕ) (views : List View) (n : ℕ) → AllLieIn (xs ∷ []) views → AllLieIn (xs ∷ []) (views ++ replicate n none)
-lie_in_empty xs views n lie =
-    All-append (LiesIn (xs ∷ [])) views (replicate n none) lie (All-replicate (LiesIn (xs ∷ [])) n none (omega arith, omega arith))
+pub packed_empty : (rs : List (List ℕ)) (n : ℕ)
+    → viewed (views_from 0 rs ++ replicate n (view_at (length (concat rs)) 0)) (concat rs ∷ []) ≡ packed (rs ++ replicate n [])
+packed_empty rs n =
+    let start = length (concat rs) in
+    ap₂ (λ vs b. viewed (views_from 0 rs ++ vs) (b ∷ [])) (sym (no_bytes start n)) (sym (ap (λ b. concat rs ++ b) (concat_none n) ∙ append-nil (concat rs)))
+    ∙ packed_more rs (replicate n [])
+
+-- ---- a builder's views and bytes
+
+-- what is packed is packed of the rows that it shows
+pub packed_again : (r : ViewedRows) (rs : List (List ℕ)) → r ≡ packed rs → (r ≡ packed (rows_of r)) × (rows_of r ≡ rs)
+packed_again r rs e =
+    let shown : rows_of r ≡ rs = ap rows_of e ∙ rows_packed rs in
+    (e ∙ ap packed (sym shown), shown)
+
+module _ (vs : List View) (bs : List ℕ) (is : viewed vs (bs ∷ []) ≡ packed (rows_of (viewed vs (bs ∷ [])))) where
+  abbrev the_rows : List (List ℕ)
+  the_rows = rows_of (viewed vs (bs ∷ []))
+
+  the_views : vs ≡ views_from 0 the_rows
+  the_views = ap (λ r. ViewedRows.views r) is
+
+  the_bytes : bs ≡ concat the_rows
+  the_bytes = ap (λ r. slice_index_or (ViewedRows.buffers r) 0 []) is
+
+  -- one more row
+  pub grown_push : (v : View) (new : List View) (r more : List ℕ) → v ≡ view_at (length bs) (length r) → new ≡ vs ++ v ∷ [] → more ≡ bs ++ r
+      → viewed new (more ∷ []) ≡ packed (rows_of (viewed vs (bs ∷ [])) ++ r ∷ [])
+  grown_push v new r more seen views bytes =
+      ap₂ (λ l b. viewed l (b ∷ [])) (views ∙ ap (λ x. vs ++ x ∷ []) seen) bytes
+      ∙ ap₂ (λ l b. viewed (l ++ view_at (length b) (length r) ∷ []) ((b ++ r) ∷ [])) the_views the_bytes
+      ∙ packed_push the_rows r
+
+  -- n more, of no bytes
+  pub grown_empty : (n : ℕ) (v : View) (new : List View) → v ≡ view_at (length bs) 0 → new ≡ vs ++ replicate n v
+      → viewed new (bs ∷ []) ≡ packed (rows_of (viewed vs (bs ∷ [])) ++ replicate n [])
+  grown_empty n v new seen views =
+      ap (λ l. viewed l (bs ∷ [])) (views ∙ ap (λ x. vs ++ replicate n x) seen)
+      ∙ ap₂ (λ l b. viewed (l ++ replicate n (view_at (length b) 0)) (b ∷ [])) the_views the_bytes
+      ∙ packed_empty the_rows n
+
+  -- its views lie in its bytes
+  pub builder_lies : AllLieIn (bs ∷ []) vs
+  builder_lies = subst (λ r. AllLieIn (ViewedRows.buffers r) (ViewedRows.views r)) (sym is) (packed_lie the_rows)

@@ -9,6 +9,7 @@ use Rattle.vx_value.specs.declared.decimal.DecimalType.TheVariants.{I8}
 use Rattle.vx_value.specs.declared.dtype.Nullability.TheVariants.{NonNullable}
 use Rattle.vx_value.specs.declared.dtype.Storage.{Storage}
 use Rattle.vx_value.specs.declared.dtype.Storage.TheVariants.{Decimals, Text}
+use Rattle.vx_tree.specs.Views.{ViewedRows, rows_of, all_lie_in}
 
 -- the type of the decimals of this storage; if it isn't one of decimals, a type with one digit
 abbrev pub decimal_type : Storage → DataType
@@ -38,3 +39,7 @@ bytes_type _ = binary NonNullable
 abbrev pub are_bytes_of : Storage → List (List ℕ) → Bool
 are_bytes_of Text rows = list_all is_utf8 rows
 are_bytes_of _ rows = true
+
+-- the views lie in their buffers, and their rows are of that type
+abbrev pub are_views_of : Storage → ViewedRows → Bool
+are_views_of s rs = all_lie_in rs && are_bytes_of s (rows_of rs)

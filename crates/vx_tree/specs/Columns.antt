@@ -13,6 +13,7 @@ use Rattle.vx_tree.specs.Tree as enc
 use Rattle.vx_tree.specs.Tree.{Tree, Data, column, nulls_of, dtype, datum, id_of, is_canonical}
 use Rattle.vx_tree.specs.Cells.{rows}
 use Rattle.vx_tree.specs.Cost.{cost}
+use Rattle.vx_tree.specs.Views.{packed, viewed_range}
 
 -- the canonical encoding of a type, by how its values are stored
 abbrev pub stored_id : Storage → Id
@@ -40,8 +41,8 @@ pub record IsColumn (t : Tree) : Type 0 where
 abbrev pub no_rows : Storage → Data
 no_rows (Integers p) = enc.primitive p []
 no_rows (Decimals p s) = enc.decimals (smallest_width p) []
-no_rows Text = enc.views []
-no_rows Bytes = enc.views []
+no_rows Text = enc.views (packed [])
+no_rows Bytes = enc.views (packed [])
 no_rows _ = enc.bool []
 
 abbrev pub empty_stored : Storage → DataType → Tree
@@ -58,7 +59,7 @@ abbrev pub count_in : Data → ℕ
 count_in (enc.bool bs) = length bs
 count_in (enc.primitive p zs) = length zs
 count_in (enc.decimals w zs) = length zs
-count_in (enc.views rs) = length rs
+count_in (enc.views rs) = length rs.views
 count_in d = 0
 
 -- the rows from a, inclusive, to b, exclusive
@@ -66,5 +67,5 @@ abbrev pub data_range : ℕ → ℕ → Data → Data
 data_range a b (enc.bool bs) = enc.bool (slice_range bs a b)
 data_range a b (enc.primitive p zs) = enc.primitive p (slice_range zs a b)
 data_range a b (enc.decimals w zs) = enc.decimals w (slice_range zs a b)
-data_range a b (enc.views rs) = enc.views (slice_range rs a b)
+data_range a b (enc.views rs) = enc.views (viewed_range a b rs)
 data_range a b d = d

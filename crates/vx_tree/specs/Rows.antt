@@ -9,6 +9,7 @@ use Rattle.vx_tree.specs.ColumnTypes.{width_in}
 use Rattle.vx_tree.specs.Tree as enc
 use Rattle.vx_tree.specs.Tree.{Tree, column}
 use Rattle.vx_tree.specs.Validities.{child_by}
+use Rattle.vx_tree.specs.Views.{packed}
 
 -- a row's item, or `other` if it is null
 abbrev pub item_or : {A : Type 0} → A → Option A → A
@@ -26,6 +27,6 @@ integer_rows m p rows = column (type.primitive p m) (length rows) (enc.primitive
 abbrev pub decimal_rows : DataType → List (Option ℤ) → Tree
 decimal_rows ty rows = column ty (length rows) (enc.decimals (width_in (storage_of ty)) (map (item_or (pos 0)) rows)) (child_by (map is_some rows))
 
--- a column of text or bytes of a type: a null row stores no bytes
+-- a column of text or bytes of a type, in one data buffer: a null row stores no bytes
 abbrev pub bytes_rows : DataType → List (Option (List ℕ)) → Tree
-bytes_rows ty rows = column ty (length rows) (enc.views (map (item_or []) rows)) (child_by (map is_some rows))
+bytes_rows ty rows = column ty (length rows) (enc.views (packed (map (item_or []) rows))) (child_by (map is_some rows))

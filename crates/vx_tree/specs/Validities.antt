@@ -21,6 +21,7 @@ use Rattle.vx_tree.specs.Well.{IsWell}
 use Rattle.vx_tree.specs.declared.validity.Validity.{Validity}
 use Rattle.vx_tree.specs.declared.validity.Validity.TheVariants as validity
 pub use Rattle.vx_tree.specs.SlotValidities.{without_nulls, of_truth, of_data, validity_of}
+use Rattle.vx_tree.specs.Views.{ViewedRows, rows_of}
 
 -- the nullability of its column's type
 abbrev pub nullability_by : Validity → Nullability
@@ -78,9 +79,9 @@ decimal_refusal ty w zs v =
     first_of_both (flat_refusal (decimal_type (storage_of ty)) ty (length zs) v) (unless (are_decimals_of (storage_of ty) w zs) (InvalidArgument BadValue))
 
 -- why no column of these rows of bytes has the type ty and this validity
-abbrev pub bytes_refusal : DataType → List (List ℕ) → Validity → Option VortexError
+abbrev pub bytes_refusal : DataType → ViewedRows → Validity → Option VortexError
 bytes_refusal ty rs v =
-    first_of_both (flat_refusal (bytes_type (storage_of ty)) ty (length rs) v) (unless (are_bytes_of (storage_of ty) rs) (InvalidArgument BadValue))
+    first_of_both (flat_refusal (bytes_type (storage_of ty)) ty (length rs.views) v) (unless (are_bytes_of (storage_of ty) (rows_of rs)) (InvalidArgument BadValue))
 
 -- the tree in a validity's slot for the rows from a to b
 abbrev pub IsValidityPart : ℕ → ℕ → Option Tree → Option Tree → Type 0

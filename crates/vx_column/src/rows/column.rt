@@ -9,6 +9,7 @@ ghost use Rattle.vx_tree.specs.Validities.{HasRows};
 ghost use Rattle.vx_tree.specs.Canonicals.{canonical_tree};
 ghost use Rattle.vx_column.specs.Arguments.{stored_decimals};
 ghost use Rattle.vx_column.specs.Stored.{boolean_column, integer_column, decimal_column, bytes_column};
+ghost use Rattle.vx_tree.specs.Views.{rows_of};
 
 use std::alloc::Global;
 use vx_mask::BitBuffer;
@@ -76,8 +77,8 @@ pub(crate) fn varbinview_column(
     rows: BinaryViews,
     validity: &Validity,
 ) -> VortexResult<Canonical>
-    requires sized { HasRows validity.now (length rows) }
-    requires stored { are_bytes_of storage rows ≡ true }
+    requires sized { HasRows validity.now (length rows.views) }
+    requires stored { are_bytes_of storage (rows_of rows) ≡ true }
     ensures ok { IfOk result (λ c. canonical_tree c ≡ bytes_column storage rows validity.now) }
     ensures err { OnlyOutOfMemory result }
 {

@@ -15,6 +15,7 @@ ghost use Rattle.vx_column.specs.Arguments.{IsSized};
 ghost use Rattle.vx_column.specs.ValidRows.{is_valid, HasValidity};
 ghost use Rattle.vx_json.specs.RowText.{boolean_text, in_quotes};
 ghost use Rattle.vx_json.specs.Lines.{lines, integer_lines, decimal_lines, bytes_lines, row_text_at, row_lines, unless_null};
+ghost use Rattle.vx_tree.specs.Views.{rows_of};
 
 use crate::text::printed::PrintedNumber;
 use crate::text::rows::{push_decimal, push_hex, push_integer, push_row, push_utf8};
@@ -102,9 +103,9 @@ struct Texts<'a> {
 
 /// The texts of the rows, as if no row were null.
 impl TextRows for Texts<'_> {
-    ghost has_row = { λ s i. (i < length s.rows.now) × (is_utf8 (slice_index_or s.rows.now i []) ≡ true) };
+    ghost has_row = { λ s i. (i < length s.rows.now.views) × (is_utf8 (slice_index_or (rows_of s.rows.now) i []) ≡ true) };
 
-    ghost text_at = { λ s i. compact_text (string (slice_index_or s.rows.now i [])) };
+    ghost text_at = { λ s i. compact_text (string (slice_index_or (rows_of s.rows.now) i [])) };
 
     #[inline]
     fn push_text(&self, text: &mut String, index: usize) -> VortexResult<()> {
@@ -120,9 +121,9 @@ struct ByteRows<'a> {
 
 /// The texts of the rows, as if no row were null.
 impl TextRows for ByteRows<'_> {
-    ghost has_row = { λ s i. i < length s.rows.now };
+    ghost has_row = { λ s i. i < length s.rows.now.views };
 
-    ghost text_at = { λ s i. in_quotes (encode_lower (slice_index_or s.rows.now i [])) };
+    ghost text_at = { λ s i. in_quotes (encode_lower (slice_index_or (rows_of s.rows.now) i [])) };
 
     #[inline]
     fn push_text(&self, text: &mut String, index: usize) -> VortexResult<()> {
@@ -234,9 +235,9 @@ fn push_bytes(
     valid: &ValidRows,
     len: usize,
 ) -> VortexResult<()>
-    requires rows { (length rows.now ≡ len) × (are_bytes_of storage rows.now ≡ true) }
+    requires rows { (length rows.now.views ≡ len) × (are_bytes_of storage (rows_of rows.now) ≡ true) }
     requires valid { HasValidity valid.now len }
-    ensures ok { OnOk result (string_bytes text.new ≡ string_bytes text.old ++ bytes_lines storage valid.now rows.now len) }
+    ensures ok { OnOk result (string_bytes text.new ≡ string_bytes text.old ++ bytes_lines storage valid.now (rows_of rows.now) len) }
     ensures err { OnlyOutOfMemory result }
 {
     match storage {

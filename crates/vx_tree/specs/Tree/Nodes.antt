@@ -11,6 +11,7 @@ use Rattle.vx_value.specs.declared.decimal.DecimalType.{DecimalType}
 use Rattle.vx_value.specs.declared.dtype.PType.{PType}
 use Rattle.vx_fn.specs.Functions.{coded_function}
 use Rattle.vx_fn.specs.declared.function.ScalarFnRef.{ScalarFnRef}
+use Rattle.vx_tree.specs.Views.{ViewedRows, coded_viewed}
 
 -- the data of a node: its buffers as lists, and its numbers
 pub data Data : Type 0 where
@@ -25,8 +26,8 @@ pub data Data : Type 0 where
   primitive : PType → List ℤ → Data
   -- decimals of the column's type, without their points, as integers of this width
   decimals : DecimalType → List ℤ → Data
-  -- rows of text or bytes, each the list of its bytes
-  views : List (List ℕ) → Data
+  -- rows of text or bytes, as views into data buffers
+  views : ViewedRows → Data
 
 mutual
   pub data Tree : Type 0 where
@@ -86,7 +87,7 @@ data_parts =
     or part (coded_list coded_bool) filter
     or part coded_unit (λ u. masked)
     or part coded_unit (λ u. is_valid)
-    or part (coded_list (coded_list coded_ℕ)) views
+    or part coded_viewed views
     or part (coded× coded_width (coded_list coded_ℤ)) (λ p. decimals p.0 p.1)
     or part coded_unit (λ u. nulls)
     or no_part

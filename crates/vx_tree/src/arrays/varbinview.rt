@@ -8,6 +8,7 @@ ghost use Rattle.vx_value.specs.View.{type_of};
 ghost use Rattle.vx_value.specs.declared.id.Id.TheVariants as id;
 ghost use Rattle.vx_tree.specs.ColumnTypes.{bytes_type, are_bytes_of};
 ghost use Rattle.vx_tree.specs.Validities.{child_of, bytes_refusal};
+ghost use Rattle.vx_tree.specs.Views.{rows_of};
 
 use crate::array::{
     Array, ArrayId, ArrayKind, ArrayParts, Encoded, Encoding, EncodingKind, EncodingVariant, Node,
@@ -32,7 +33,7 @@ impl EncodingKind for VarBinView {
     }
 }
 
-/// The data of a column of text or bytes: the bytes of each row, also if the row is null. Those of text are UTF-8.
+/// The data of a column of text or bytes: a view of each row's bytes, also if the row is null. Those of text are UTF-8.
 #[derive(Clone, Debug, Drop)]
 pub struct VarBinViewData {
     pub rows: BinaryViews,
@@ -105,7 +106,7 @@ fn plain_type(storage: Storage) -> DType
 
 /// Returns whether `rows` are values of `storage`: if it is text, whether each is UTF-8.
 fn are_bytes_of(storage: Storage, rows: &BinaryViews) -> bool
-    ensures { result ≡ are_bytes_of storage rows.now }
+    ensures { result ≡ are_bytes_of storage (rows_of rows.now) }
 {
     match storage {
         Storage::Text => rows.is_utf8(),
@@ -128,7 +129,7 @@ impl VarBinViewArray {
         rows: BinaryViews,
         validity: &Validity,
     ) -> VortexResult<VarBinViewArray>
-        ensures ok { IfOk result (λ a. a ≡ column (type_of dtype) (length rows) (views rows) (child_of validity.now (length rows))) }
+        ensures ok { IfOk result (λ a. a ≡ column (type_of dtype) (length rows.views) (views rows) (child_of validity.now (length rows.views))) }
         ensures valid { OnOk result (bytes_refusal (type_of dtype) rows validity.now ≡ None) }
         ensures refused { IfErr result (λ e. (e ≡ VortexError.OutOfMemory) ⊎ (bytes_refusal (type_of dtype) rows validity.now ≡ Some e)) }
     {
@@ -146,7 +147,7 @@ impl VarBinViewArray {
         validity: &Validity,
     ) -> VortexResult<VarBinViewArray>
         requires { bytes_refusal (type_of dtype) rows validity.now ≡ None }
-        ensures ok { IfOk result (λ a. a ≡ column (type_of dtype) (length rows) (views rows) (child_of validity.now (length rows))) }
+        ensures ok { IfOk result (λ a. a ≡ column (type_of dtype) (length rows.views) (views rows) (child_of validity.now (length rows.views))) }
         ensures err { OnlyOutOfMemory result }
     {
         let len = rows.len();

@@ -1,6 +1,7 @@
 //! Building columns of bytes row by row.
 
 ghost use Rattle.std.specs.Prelude.{◌≡◌, ◌∷◌, [], ◌++◌, IfOk, OnOk, OnErr, replicate};
+ghost use Rattle.vx_tree.specs.Views.{packed};
 
 use crate::views::view::View;
 use crate::views::views::BinaryViews;
@@ -16,14 +17,14 @@ pub struct BinaryBuilder {
 }
 
 impl Model for BinaryBuilder {
-    ghost use Rattle.std.specs.Prelude.{List, ℕ, [], ◌∷◌};
-    ghost use Rattle.vx_tree.specs.Views.{AllLieIn, rows_of};
+    ghost use Rattle.std.specs.Prelude.{◌≡◌, List, ℕ, [], ◌∷◌};
+    ghost use Rattle.vx_tree.specs.Views.{viewed, rows_of, packed};
 
     ghost Value = { List (List ℕ) };
 
-    ghost view = { λ b. rows_of (b.bytes.items ∷ []) b.views.items };
+    ghost view = { λ b. rows_of (viewed b.views.items (b.bytes.items ∷ [])) };
 
-    ghost invariant = { λ b. AllLieIn (b.bytes.items ∷ []) b.views.items };
+    ghost invariant = { λ b. viewed b.views.items (b.bytes.items ∷ []) ≡ packed (rows_of (viewed b.views.items (b.bytes.items ∷ []))) };
 }
 
 impl BinaryBuilder {
@@ -39,31 +40,30 @@ impl BinaryBuilder {
 
     /// Appends a row, copying its bytes. Fails only if there is no memory for the bytes or the view; the rows are then
     /// unchanged.
-    #[tactic(auto, using(crate::proofs::ViewsLemmas::rows_more, crate::proofs::ViewsLemmas::rows_push, crate::proofs::ViewsLemmas::lie_in_more, crate::proofs::ViewsLemmas::lie_in_push))]
     pub fn push(&mut self, bytes: &[u8]) -> Result<(), AllocError>
         ensures ok { OnOk result (self.new ≡ self.old ++ bytes.now ∷ []) }
         ensures err { OnErr result (self.new ≡ self.old) }
     {
-        let start = self.bytes.len();
-        self.bytes.extend_from_slice(bytes)?;
-        self.views.push(View {
+        let view = View {
             buffer: 0,
-            start,
+            start: self.bytes.len(),
             size: bytes.len(),
-        })?;
+        };
+        self.views.reserve(1)?;
+        self.bytes.extend_from_slice(bytes)?;
+        self.views.push_reserved(view);
         Ok(())
     }
 
     /// Appends `count` rows without bytes, in one allocation. Fails only if there is no memory for the views; the rows are then
     /// unchanged.
-    #[tactic(auto, using(crate::proofs::ViewsLemmas::lie_in_empty))]
     pub fn push_empty(&mut self, count: usize) -> Result<(), AllocError>
         ensures ok { OnOk result (self.new ≡ self.old ++ replicate count []) }
         ensures err { OnErr result (self.new ≡ self.old) }
     {
         let view = View {
             buffer: 0,
-            start: 0,
+            start: self.bytes.len(),
             size: 0,
         };
         self.views.reserve(count)?;
@@ -71,10 +71,10 @@ impl BinaryBuilder {
         Ok(())
     }
 
-    /// Returns the rows as a column with one data buffer, without copying them. Fails only if there is no memory for the
-    /// list of one buffer or the reference counts.
+    /// Returns the rows as a column with one data buffer, in which they follow one another, without copying them. Fails only
+    /// if there is no memory for the list of one buffer or the reference counts.
     pub fn finish(self, alloc: Global) -> Result<BinaryViews, AllocError>
-        ensures { IfOk result (λ column. column ≡ self) }
+        ensures { IfOk result (λ column. column ≡ packed self) }
     {
         let BinaryBuilder { views, bytes } = self;
         BinaryViews::of_one_buffer(alloc, views, ByteBuffer::from_vec(alloc, bytes)?)

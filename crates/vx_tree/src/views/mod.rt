@@ -1,5 +1,5 @@
-//! Columns of text or bytes as views into shared data buffers. In contracts a column is the list of its rows, each a list
-//! of bytes.
+//! Columns of text or bytes as views into shared data buffers. In contracts a column is its views and buffers, and
+//! `rows_of` gives the list of its rows, each a list of bytes.
 
 mod builder;
 mod view;

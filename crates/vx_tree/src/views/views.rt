@@ -1,12 +1,11 @@
 //! Columns of bytes in shared storage.
 
-ghost use Rattle.std.specs.Prelude.{◌≡◌, ◌<◌, ◌≤◌, ◌↔◌, ◌∷◌, [], IsTrue, IfOk, SomeIff, Some, length, slice_get, slice_range, replicate};
+ghost use Rattle.std.specs.Prelude.{◌≡◌, ◌<◌, ◌≤◌, ◌↔◌, ◌∷◌, [], IsTrue, IfOk, SomeIff, Some, length, slice_get};
 ghost use Rattle.std.specs.Option.{option_copied};
 ghost use Rattle.vx_mask.specs.Masks.{bits_in};
-ghost use Rattle.vx_mask.specs.Places.{chosen};
 ghost use Rattle.std.specs.List.{AllPass};
 ghost use Rattle.std.specs.Str.{is_utf8};
-ghost use Rattle.vx_tree.specs.Views.{AllLieIn, rows_of};
+ghost use Rattle.vx_tree.specs.Views.{AllLieIn, rows_of, viewed, viewed_range, viewed_choice, repeated};
 
 use crate::views::view::{View, all_lie_in};
 use std::alloc::{AllocError, Global};
@@ -25,12 +24,13 @@ pub struct BinaryViews {
 }
 
 impl Model for BinaryViews {
-    ghost use Rattle.std.specs.Prelude.{List, ℕ};
-    ghost use Rattle.vx_tree.specs.Views.{AllLieIn, rows_of};
+    ghost use Rattle.vx_tree.specs.Views.{ViewedRows, coded_viewed, viewed, AllLieIn};
 
-    ghost Value = { List (List ℕ) };
+    ghost Value = { ViewedRows };
 
-    ghost view = { λ b. rows_of b.buffers b.views };
+    ghost coded = { coded_viewed };
+
+    ghost view = { λ b. viewed b.views b.buffers };
 
     ghost invariant = { λ b. AllLieIn b.buffers b.views };
 }
@@ -43,7 +43,7 @@ impl BinaryViews {
         views: Buffer<View>,
         buffers: Vec<ByteBuffer>,
     ) -> Result<Option<BinaryViews>, AllocError>
-        ensures { IfOk result (λ made. SomeIff made (AllLieIn buffers.items views) (rows_of buffers.items views)) }
+        ensures { IfOk result (λ made. SomeIff made (AllLieIn buffers.items views) (viewed views buffers.items)) }
     {
         if !all_lie_in(views.as_slice(), buffers.as_slice()) {
             return Ok(None);
@@ -52,11 +52,11 @@ impl BinaryViews {
         Ok(Some(BinaryViews { views, buffers }))
     }
 
-    /// Makes a column of `len` rows, each `bytes`, which aren't copied. Fails only if there is no memory for the views, the
-    /// list of one buffer or the reference counts. (own)
-    #[tactic(auto, using(crate::proofs::ViewsLemmas::rows_equal, crate::proofs::ViewsLemmas::lie_in_equal))]
+    /// Makes a column of `len` rows, each `bytes`, which aren't copied: equal views of one buffer. Fails only if there is no
+    /// memory for the views, the list of one buffer or the reference counts. (own)
+    #[tactic(auto, using(crate::proofs::ViewsLemmas::lie_in_equal))]
     pub fn repeat(alloc: Global, bytes: ByteBuffer, len: usize) -> Result<BinaryViews, AllocError>
-        ensures { IfOk result (λ column. column ≡ replicate len bytes) }
+        ensures { IfOk result (λ column. column ≡ repeated len bytes) }
     {
         let view = View {
             buffer: 0,
@@ -75,7 +75,7 @@ impl BinaryViews {
         bytes: ByteBuffer,
     ) -> Result<BinaryViews, AllocError>
         requires { AllLieIn (bytes ∷ []) views.items }
-        ensures { IfOk result (λ column. column ≡ rows_of (bytes ∷ []) views.items) }
+        ensures { IfOk result (λ column. column ≡ viewed views.items (bytes ∷ [])) }
     {
         let buffers = vec![in alloc; bytes]?;
         Ok(BinaryViews {
@@ -86,22 +86,23 @@ impl BinaryViews {
 
     /// Returns the number of rows.
     pub fn len(&self) -> usize
-        ensures { result ≡ length self.now }
+        ensures counted { result ≡ length self.now.views }
+        ensures within { AllLieIn self.now.buffers self.now.views }
     {
         self.views.len()
     }
 
     /// Returns whether there are no rows.
     pub fn is_empty(&self) -> bool
-        ensures { IsTrue result ↔ (length self.now ≡ 0) }
+        ensures { IsTrue result ↔ (length self.now.views ≡ 0) }
     {
         self.views.is_empty()
     }
 
     /// Returns the bytes of row `index`.
     pub fn value(&self, index: usize) -> &[u8]
-        requires { index < length self.now }
-        ensures { slice_get self.now index ≡ Some result.now }
+        requires { index < length self.now.views }
+        ensures { slice_get (rows_of self.now) index ≡ Some result.now }
     {
         let view = self.views.as_slice()[index];
         let bytes = self.buffers.as_slice()[view.buffer].as_slice();
@@ -110,7 +111,7 @@ impl BinaryViews {
 
     /// Returns the bytes of row `index`, or `None` past the last row. (own)
     pub fn get(&self, index: usize) -> Option<&[u8]>
-        ensures { option_copied result ≡ slice_get self.now index }
+        ensures { option_copied result ≡ slice_get (rows_of self.now) index }
     {
         if index < self.len() {
             Some(self.value(index))
@@ -121,7 +122,7 @@ impl BinaryViews {
 
     /// Returns the views of the rows, and the data buffers that they are views into. (own)
     pub fn parts(&self) -> (&[View], &[ByteBuffer])
-        ensures rows { self.now ≡ rows_of result.1.now result.0.now }
+        ensures parts { self.now ≡ viewed result.0.now result.1.now }
         ensures within { AllLieIn result.1.now result.0.now }
     {
         (self.views.as_slice(), self.buffers.as_slice())
@@ -129,7 +130,7 @@ impl BinaryViews {
 
     /// Returns whether the bytes of each row are UTF-8. (own)
     pub fn is_utf8(&self) -> bool
-        ensures { IsTrue result ↔ AllPass is_utf8 self.now }
+        ensures { IsTrue result ↔ AllPass is_utf8 (rows_of self.now) }
     {
         for index in 0..self.len() {
             if !is_text(self.value(index)) {
@@ -140,11 +141,11 @@ impl BinaryViews {
     }
 
     /// Returns the rows in `range`, which share the views and the data. Fails only if they can't be shared once more.
-    #[tactic(auto, using(crate::proofs::ViewsLemmas::rows_part, crate::proofs::ViewsLemmas::lie_in_part))]
+    #[tactic(auto, using(crate::proofs::ViewsLemmas::lie_in_part))]
     pub fn slice(&self, range: Range<usize>) -> Result<BinaryViews, AllocError>
         requires order { range.start ≤ range.end }
-        requires bounds { range.end ≤ length self.now }
-        ensures { IfOk result (λ column. column ≡ slice_range self.now range.start range.end) }
+        requires bounds { range.end ≤ length self.now.views }
+        ensures { IfOk result (λ column. column ≡ viewed_range range.start range.end self.now) }
     {
         Ok(BinaryViews {
             views: self.views.slice(range)?,
@@ -154,10 +155,10 @@ impl BinaryViews {
 
     /// Returns the rows at the true bits of `mask`, in order. They share the data. Fails only if there is no memory for
     /// the views, or if the data can't be shared once more.
-    #[tactic(auto, using(crate::proofs::ViewsLemmas::rows_chosen, crate::proofs::ViewsLemmas::lie_in_chosen))]
+    #[tactic(auto, using(crate::proofs::ViewsLemmas::lie_in_chosen))]
     pub fn filter(&self, alloc: Global, mask: &Mask) -> Result<BinaryViews, AllocError>
-        requires { length (bits_in mask.now) ≡ length self.now }
-        ensures { IfOk result (λ column. column ≡ chosen (bits_in mask.now) self.now) }
+        requires { length (bits_in mask.now) ≡ length self.now.views }
+        ensures { IfOk result (λ column. column ≡ viewed_choice (bits_in mask.now) self.now) }
     {
         let views = self.views.filter(alloc, mask)?;
         let buffers = self.buffers.clone()?;

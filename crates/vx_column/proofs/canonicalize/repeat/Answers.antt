@@ -15,6 +15,8 @@ use Rattle.vx_column.proofs.StoredLemmas.{stored_integer, bytes_kept, decimal_ke
 use Rattle.vx_tree.specs.Natives.{values_of, ptype_of}
 use Rattle.vx_column.proofs.RepeatedLemmas.{repeated_has, bools_repeated, integers_repeated, bytes_repeated, bytes_copies, bytes_expanded, decimals_repeated, all_copies}
 use Rattle.vx_column.proofs.NullsLemmas.{nulls_repeated}
+use Rattle.vx_tree.specs.Views.{ViewedRows, rows_of, repeated}
+use Rattle.vx_tree.proofs.ViewsLemmas.{rows_repeated}
 use Rattle.vx_column.proofs.canonicalize.repeat.Goals as goal
 use Rattle.vx_value.specs.View.{type_of}
 use Rattle.vx_value.specs.Decimals.{has_digits, same_width_Decides}
@@ -89,7 +91,7 @@ returns-in-Text-clause-layout c =
     let n = c.args.len in
     let st = c.storage-storage.result in
     let valued : c.in_ok-bytes-in-Text.bytes ≡ unwrap_or (bytes_in s.value) [] = search rules in
-    let made = c.in_ok-rows-in-Text.ensures ∙ ap (replicate n) valued in
+    let made = c.in_ok-rows-in-Text.ensures ∙ ap (repeated n) valued in
     let stored : storage_of s.of_type ≡ st = ap storage_of (sym c.dtype.ensures.dtype) ∙ sym c.storage-storage.ensures in
     IfOk-weaker c.varbinview_column.result _ _
     (λ u e. e ∙ (λ i. bytes_column st (made i) (c.repeated_validity-validity.ensures i)) ∙ sym (bytes_expanded s n st c.in-Text.is)
@@ -133,7 +135,8 @@ varbinview_column-requires-clause-stored c =
     let kept = ap (λ x. is_stored (nullability_of s.of_type) x s.value) (c.storage-storage.ensures ∙ ap storage_of c.dtype.ensures.dtype)
     ∙ c.dtype.ensures.typed in
     let one = ap (λ x. are_bytes_of st (x ∷ [])) valued ∙ bytes_kept (nullability_of s.of_type) st s.value c.in-Text.is kept in
-    ap (are_bytes_of st) c.in_ok-rows-in-Text.ensures ∙ bytes_copies st c.args.len c.in_ok-bytes-in-Text.bytes one
+    ap (λ r. are_bytes_of st (rows_of r)) c.in_ok-rows-in-Text.ensures
+    ∙ ap (are_bytes_of st) (rows_repeated c.args.len c.in_ok-bytes-in-Text.bytes) ∙ bytes_copies st c.args.len c.in_ok-bytes-in-Text.bytes one
 
 pub returns-in-Text-clause-ok : goal.returns-in-Text-clause-ok
 returns-in-Text-clause-ok c =
@@ -168,7 +171,8 @@ decimal_column-requires-clause-sized c =
 pub varbinview_column-requires-clause-sized : goal.varbinview_column-requires-clause-sized
 varbinview_column-requires-clause-sized c =
     let made = c.in_ok-rows-in-Text in
-    repeated_has c.args.scalar.now c.args.len c.repeated_validity-validity.result c.repeated_validity-validity.ensures made.rows _ made.ensures
+    repeated_has c.args.scalar.now c.args.len c.repeated_validity-validity.result c.repeated_validity-validity.ensures (ViewedRows.views made.rows) _
+    (ap (λ r. ViewedRows.views r) made.ensures)
 
 pub repeat-requires-in-Integers : goal.repeat-requires-in-Integers
 repeat-requires-in-Integers c =

@@ -6,7 +6,7 @@ use Rattle.vx_tree.specs.ColumnTypes.{bytes_type, are_bytes_of, decimal_type, ar
 use Rattle.vx_value.specs.declared.dtype.Nullability.TheVariants.{NonNullable}
 use Rattle.vx_tree.specs.Natives.{values_of, ptype_of}
 use Rattle.vx_tree.specs.Tree as enc
-use Rattle.vx_tree.specs.Tree.{dtype, len, slots_of}
+use Rattle.vx_tree.specs.Tree.{dtype, len, datum, slots_of}
 use Rattle.vx_tree.specs.Well.{IsNodeOf, IsFlat, shapes}
 use Rattle.vx_tree.specs.Canonicals.{canonical_tree}
 use Rattle.vx_column.specs.Stored.{boolean_column, integer_column, bytes_column, decimal_column}
@@ -18,6 +18,9 @@ use Rattle.vx_column.proofs.StoredLemmas.{decimal_typed}
 use Rattle.vx_column.specs.Arguments.{stored_decimals}
 use Rattle.vx_tree.specs.Keeps.{KeepsExactly}
 use Rattle.vx_tree.specs.Validities.{HasRows}
+use Rattle.std.specs.Cmp.{second_so}
+use Rattle.vx_tree.specs.Views.{ViewedRows, viewed, bytes_at, rows_of, all_lie_in}
+use Rattle.std.proofs.lemmas.Result.{IfOk-weaker}
 use Rattle.vx_column.proofs.mask.mask_column.Goals as goal
 
 pub returns-in-Null-clause-ok : goal.returns-in-Null-clause-ok
@@ -84,7 +87,9 @@ varbinview_column-requires-clause-stored c =
     let flat = subst IsNodeOf c.in-VarBinView.ensures.0 c.in-VarBinView.ensures.1 in
     let kind = c.storage.ensures ∙ ap storage_of c.dtype-in-VarBinView.ensures in
     let shared : c.in_ok-clone-in-VarBinView.field-0 ≡ c.in-VarBinView.rows.now = search rules in
-    (λ i. are_bytes_of (kind i) (shared i)) ∙ flat.1
+    let rs = c.in-VarBinView.rows.now in
+    let st = storage_of (dtype c.args.array.now) in
+    (λ i. are_bytes_of (kind i) (rows_of (shared i))) ∙ second_so (all_lie_in rs) (are_bytes_of st (rows_of rs)) flat.1
 
 pub returns-in_ok-clone-in-VarBinView-clause-ok : goal.returns-in_ok-clone-in-VarBinView-clause-ok
 returns-in_ok-clone-in-VarBinView-clause-ok c =
@@ -95,7 +100,8 @@ returns-in_ok-clone-in-VarBinView-clause-ok c =
     let flat = subst IsNodeOf c.in-VarBinView.ensures.0 c.in-VarBinView.ensures.1 in
     let kind = c.storage.ensures ∙ ap storage_of c.dtype-in-VarBinView.ensures in
     let shared : c.in_ok-clone-in-VarBinView.field-0 ≡ rows = search rules in
-    canonical_masked bytes enc.views (bytes_type st) (λ m n xs css. refl) (bytes_set st) c.varbinview_column.result rows c.in-VarBinView.own.now
+    canonical_masked (λ x. bytes (bytes_at rows.buffers x)) (λ vs. enc.views (viewed vs rows.buffers)) (bytes_type st) (λ m n xs css. refl) (bytes_set st)
+    c.varbinview_column.result rows.views c.in-VarBinView.own.now
     c.args.child both.both c.len-len.result t _ c.len-len.ensures c.in-VarBinView.ensures.0 flat.0 both.ensures.nullable both.ensures.both
     (λ i. bytes_column (kind i) (shared i) both.both)
     c.varbinview_column.ensures.ok
@@ -121,5 +127,25 @@ decimal_column-requires-clause-sized c =
 pub varbinview_column-requires-clause-sized : goal.varbinview_column-requires-clause-sized
 varbinview_column-requires-clause-sized c =
     let flat = subst IsNodeOf c.in-VarBinView.ensures.0 c.in-VarBinView.ensures.1 in
-    subst (HasRows c.in_ok-both-in-VarBinView.both) (c.len-len.ensures ∙ flat.0.2 ∙ sym (ap length c.in_ok-clone-in-VarBinView.ensures.cases))
+    subst (HasRows c.in_ok-both-in-VarBinView.both) (c.len-len.ensures ∙ flat.0.2 ∙ sym (ap (λ r. length (ViewedRows.views r)) c.in_ok-clone-in-VarBinView.ensures.cases))
     c.in_ok-both-in-VarBinView.ensures.sized
+
+pub returns-in_ok-clone-in-Bool-clause-stored : goal.returns-in_ok-clone-in-Bool-clause-stored
+returns-in_ok-clone-in-Bool-clause-stored c =
+    IfOk-weaker c.bool_column.result _ _ (λ u made. ap datum made ∙ (ap enc.bool c.in_ok-clone-in-Bool.ensures.cases) ∙ sym (ap datum c.in-Bool.ensures.0)) c.bool_column.ensures.ok
+
+pub returns-in_ok-clone-in-Primitive-clause-stored : goal.returns-in_ok-clone-in-Primitive-clause-stored
+returns-in_ok-clone-in-Primitive-clause-stored c =
+    IfOk-weaker c.primitive_column.result _ _ (λ u made. ap datum made ∙ (λ i. enc.primitive (c.in_ok-clone-in-Primitive.ensures.cases i).kind (c.in_ok-clone-in-Primitive.ensures.cases i).numbers) ∙ sym (ap datum c.in-Primitive.ensures.0)) c.primitive_column.ensures.ok
+
+pub returns-in_ok-clone-in-Decimal-clause-stored : goal.returns-in_ok-clone-in-Decimal-clause-stored
+returns-in_ok-clone-in-Decimal-clause-stored c =
+    IfOk-weaker c.decimal_column.result _ _ (λ u made. ap datum made ∙ (λ i. enc.decimals (c.in_ok-clone-in-Decimal.ensures.cases i).kind (c.in_ok-clone-in-Decimal.ensures.cases i).numbers) ∙ sym (ap datum c.in-Decimal.ensures.0)) c.decimal_column.ensures.ok
+
+pub returns-in_ok-clone-in-VarBinView-clause-stored : goal.returns-in_ok-clone-in-VarBinView-clause-stored
+returns-in_ok-clone-in-VarBinView-clause-stored c =
+    IfOk-weaker c.varbinview_column.result _ _ (λ u made. ap datum made ∙ (ap enc.views c.in_ok-clone-in-VarBinView.ensures.cases) ∙ sym (ap datum c.in-VarBinView.ensures.0)) c.varbinview_column.ensures.ok
+
+pub returns-in-Null-clause-stored : goal.returns-in-Null-clause-stored
+returns-in-Null-clause-stored c =
+    IfOk-weaker c.mask_nulls.result _ _ (λ u made. made ∙ sym (ap datum c.in-Null.ensures)) c.mask_nulls.ensures.stored

@@ -1,5 +1,5 @@
-use Rattle.std.proofs.Common.{IfOk, sym, subst, ◌∙◌}
-use Rattle.vx_tree.specs.Tree.{nulls_of, masked_of}
+use Rattle.std.proofs.Common.{IfOk, ◌≡◌, ap, sym, subst, ◌∙◌}
+use Rattle.vx_tree.specs.Tree.{nulls, nulls_of, masked_of, datum}
 use Rattle.vx_tree.specs.Keeps.{KeepsExactly}
 use Rattle.vx_tree.specs.Canonicals.{canonical_tree}
 use Rattle.vx_tree.specs.declared.canonical.canonical.Canonical.{Canonical}
@@ -27,4 +27,12 @@ returns-clause-ok c =
           let kept = masked_nulls n t u bits w.in-Ok.ensures.ok (w.in-Ok.ensures.sized ∙ tells.2) w.in_ok-new-in-Ok.ensures.ok in
           subst (λ r. IfOk r Kept) (sym w.result-is) (subst (λ v. KeepsExactly (masked_of (nulls_of n) v) u) (sym there) kept)
       | in-Err w ↦ subst (λ r. IfOk r Kept) (sym w.result-is) tt
+    ]
+
+pub returns-clause-stored : goal.returns-clause-stored
+returns-clause-stored c =
+    let Stored : Canonical → Type 0 = λ u. datum (canonical_tree u) ≡ nulls in
+    elim c.match-truths_in.branch [
+      | in-Ok+in_ok-new-in-Ok w ↦ subst (λ r. IfOk r Stored) (sym w.result-is) (ap datum w.in_ok-new-in-Ok.ensures.ok)
+      | in-Err w ↦ subst (λ r. IfOk r Stored) (sym w.result-is) tt
     ]

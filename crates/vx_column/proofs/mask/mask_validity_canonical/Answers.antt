@@ -1,7 +1,7 @@
 use Rattle.std.proofs.Common.{IfOk, IfErr, Option, ◌≡◌, ◌⊎◌, ap, subst, ◌∙◌}
 use Rattle.vx_value.specs.Types.{null}
 use Rattle.vx_value.specs.declared.error.VortexError.TheVariants.{OutOfMemory}
-use Rattle.vx_tree.specs.Tree.{Tree, dtype, len, masked_of}
+use Rattle.vx_tree.specs.Tree.{Tree, dtype, len, datum, masked_of}
 use Rattle.vx_tree.specs.Canonicals.{canonical_tree}
 use Rattle.vx_tree.specs.Keeps.{KeepsExactly}
 use Rattle.vx_tree.specs.Validities.{child_of}
@@ -28,3 +28,7 @@ returns-clause-err c =
     subst (λ (p : Tree × Option Tree). IfErr c.mask_column.result (λ e. (e ≡ OutOfMemory) ⊎ ((dtype p.0 ≡ null) × AreUnread (len p.0) p.1 e)))
     (λ i. (of i, slot i))
     c.mask_column.ensures.err
+
+pub returns-clause-stored : goal.returns-clause-stored
+returns-clause-stored c =
+    subst (λ t. IfOk c.mask_column.result (λ u. datum (canonical_tree u) ≡ datum t)) c.as_array-array.ensures.of c.mask_column.ensures.stored

@@ -15,6 +15,7 @@ ghost use Rattle.vx_column.specs.Casts.{none_unless};
 ghost use Rattle.vx_column.specs.Computed.{IsColumnOfCells};
 ghost use Rattle.vx_column.specs.Operands.{IsFaultyRow};
 ghost use Rattle.vx_column.specs.ValidRows.{is_valid, HasValidity, nullability_in};
+ghost use Rattle.vx_tree.specs.Views.{rows_of};
 
 use crate::functions::kernel::{stored_column, valid_bytes};
 use crate::rows::{ArgumentRows, BytesOperand, BytesRows, ValidRows};
@@ -69,8 +70,8 @@ fn text_rows(
 ) -> VortexResult<BinaryViews>
     requires bytes { AreBytes bytes len }
     requires valid { HasValidity valid.now len }
-    ensures rows { IfOk result (λ r. r ≡ map (λ i. none_unless (is_valid valid.now i) (bytes_in bytes.entry i)) (range_with_len 0 len)) }
-    ensures text { IfOk result (λ r. are_bytes_of Storage.Text r ≡ true) }
+    ensures rows { IfOk result (λ r. rows_of r ≡ map (λ i. none_unless (is_valid valid.now i) (bytes_in bytes.entry i)) (range_with_len 0 len)) }
+    ensures text { IfOk result (λ r. are_bytes_of Storage.Text (rows_of r) ≡ true) }
     ensures err { IfErr result (IsFaultyRow (is_valid valid.now) (λ i. to_text (bytes_value (bytes_in bytes.entry i))) len) }
 {
     let mut rows = BinaryBuilder::with_capacity(alloc, len)?;

@@ -14,6 +14,7 @@ ghost use Rattle.vx_tree.specs.Tree.{dtype};
 ghost use Rattle.vx_column.specs.Arguments.{integer_in, ptype_in, unscaled_in, bytes_in, plain_type, value_at, stored_decimals, HasStored, AreIntegers, AreDecimals, AreBytes};
 ghost use Rattle.vx_column.specs.Computed.{IsColumnOfCells};
 ghost use Rattle.vx_column.specs.ValidRows.{HasValidity, nullability_in};
+ghost use Rattle.vx_tree.specs.Views.{rows_of};
 
 use crate::functions::kernel::valid::{valid_bools, valid_bytes, valid_decimals, valid_integers};
 use crate::rows::{
@@ -82,7 +83,7 @@ pub(crate) fn byte_rows(
     len: usize,
 ) -> Result<BinaryViews, AllocError>
     requires { AreBytes bytes len }
-    ensures { IfOk result (λ r. r ≡ map (λ i. bytes_in bytes.entry i) (range_with_len 0 len)) }
+    ensures { IfOk result (λ r. rows_of r ≡ map (λ i. bytes_in bytes.entry i) (range_with_len 0 len)) }
 {
     match bytes.rows {
         BytesRows::Rows(rows) => Ok(rows.clone()?),

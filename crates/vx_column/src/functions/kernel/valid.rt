@@ -17,6 +17,7 @@ ghost use Rattle.vx_tree.specs.Tree.{dtype};
 ghost use Rattle.vx_column.specs.Arguments.{stored_decimals};
 ghost use Rattle.vx_column.specs.ValidRows.{is_valid, HasValidity, nullability_in};
 ghost use Rattle.vx_column.specs.Computed.{IsColumnOfCells};
+ghost use Rattle.vx_tree.specs.Views.{rows_of};
 
 use crate::rows::{ValidRows, bool_column, decimal_column, primitive_column, varbinview_column};
 use std::alloc::{AllocError, Global};
@@ -87,11 +88,11 @@ pub(crate) fn valid_bytes(
     valid: &ValidRows,
     len: usize,
 ) -> VortexResult<Canonical>
-    requires rows { length rows ≡ len }
-    requires stored { are_bytes_of storage rows ≡ true }
+    requires rows { length rows.views ≡ len }
+    requires stored { are_bytes_of storage (rows_of rows) ≡ true }
     requires valid { HasValidity valid.now len }
     ensures ok { IfOk result (λ c. (dtype (canonical_tree c) ≡ with_nullability (nullability_in valid.now) (bytes_type storage))
-        × IsColumnOfCells valid.now (λ i. value (bytes_value (slice_index_or rows i []))) len (canonical_tree c)) }
+        × IsColumnOfCells valid.now (λ i. value (bytes_value (slice_index_or (rows_of rows) i []))) len (canonical_tree c)) }
     ensures err { OnlyOutOfMemory result }
 {
     let validity = valid.validity(alloc, len)?;

@@ -14,6 +14,7 @@ ghost use Rattle.vx_column.specs.Operands.{number_in, HasRow, HasRows};
 ghost use Rattle.vx_column.specs.Selected.{selected, selected_rows, AreSides, AreSelected, IsSelected};
 ghost use Rattle.vx_column.specs.declared.rows.argument.ArgumentRows.TheVariants.{Integers, Decimals};
 ghost use Rattle.vx_column.specs.ValidRows.{is_valid, HasValidity, nullability_in};
+ghost use Rattle.vx_tree.specs.Views.{rows_of};
 
 use crate::functions::kernel::{
     Operand, bit_rows, decimal_operand_of, operand_of, stored_column, valid_bools, valid_bytes,
@@ -291,7 +292,7 @@ fn select_views(
     requires choice { length choice.now ≡ len }
     requires left { AreBytes left len }
     requires right { AreBytes right len }
-    ensures { IfOk result (λ r. r ≡ selected_rows choice.now (bytes_in left.entry) (bytes_in right.entry) len) }
+    ensures { IfOk result (λ r. rows_of r ≡ selected_rows choice.now (bytes_in left.entry) (bytes_in right.entry) len) }
 {
     let mut rows = BinaryBuilder::with_capacity(alloc, len)?;
     for index in 0..len {

@@ -5,6 +5,8 @@ use Rattle.vx_json.specs.ReadRows.{read_unless}
 use Rattle.vx_json.specs.SpelledValues.{bytes_spelled, or_null, all_read}
 use Rattle.vx_json.proofs.ReadRowsLemmas.{none_yet, one_more, not_read, past_all}
 use Rattle.vx_json.proofs.SpelledBytesLemmas.{typed_more}
+use Rattle.vx_tree.specs.Views.{rows_of}
+use Rattle.vx_tree.proofs.ViewsLemmas.{rows_packed, packed_again}
 use Rattle.vx_json.proofs.bytes.byte_rows.Goals as goal
 
 pub loop-value-init : goal.loop-value-init
@@ -36,4 +38,11 @@ loop-value-preserved g c =
 pub returns-clause-rows : goal.returns-clause-rows
 returns-clause-rows g c =
     let past = rw c.deref-value-items.ensures.value at c.loop-value-test.false in
-    past_all _ _ _ _ _ _ _ c.loop-value.invariant.read past _ c.in_ok-finish.ensures
+    past_all _ _ _ _ _ _ _ c.loop-value.invariant.read past _ (ap rows_of c.in_ok-finish.ensures ∙ rows_packed c.loop-value.rows)
+
+pub returns-clause-packed : goal.returns-clause-packed
+returns-clause-packed g c = (packed_again _ _ c.in_ok-finish.ensures).0
+
+pub returns-clause-typed : goal.returns-clause-typed
+returns-clause-typed g c =
+    ap (are_bytes_of c.args.storage) (ap rows_of c.in_ok-finish.ensures ∙ rows_packed c.loop-value.rows) ∙ c.loop-value.invariant.typed

@@ -18,6 +18,7 @@ use Rattle.vx_column.specs.declared.rows.argument.DecimalRows.TheVariants.{Rows 
 use Rattle.vx_column.specs.declared.rows.argument.IntegerRows.TheVariants.{Rows}
 use Rattle.vx_column.proofs.CellsLemmas.{IfOk-both}
 use Rattle.vx_column.proofs.NullRowsLemmas.{nulls_argument, constant_argument, told_argument, booleans_argument, integers_argument, decimals_argument, bytes_argument, column_unread}
+use Rattle.vx_tree.specs.Views.{viewed, bytes_at}
 use Rattle.vx_column.proofs.rows.argument.argument_of.Goals as goal
 use Rattle.vx_value.specs.View.{type_of}
 use Rattle.vx_column.proofs.StoredLemmas.{decimal_typed}
@@ -109,5 +110,6 @@ pub returns-in-VarBinView-clause-err : goal.returns-in-VarBinView-clause-err
 returns-in-VarBinView-clause-err c =
     let k = c.in-VarBinView in
     IfErr-weaker c.column_argument-in-VarBinView.result _ _
-    (λ e h. column_unread c.args.column.now k.validity.now e c.as_array.result.now c.as_array.ensures.of h bytes enc.views (λ n xs css. refl) k.rows.now
+    (λ e h. column_unread c.args.column.now k.validity.now e c.as_array.result.now c.as_array.ensures.of h (λ x. bytes (bytes_at k.rows.now.buffers x))
+    (λ vs. enc.views (viewed vs k.rows.now.buffers)) (λ n xs css. refl) k.rows.now.views
     (sym (subst IsNodeOf k.ensures.0 k.ensures.1).0.2) k.ensures.0) c.column_argument-in-VarBinView.ensures.err

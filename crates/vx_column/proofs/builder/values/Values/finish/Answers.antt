@@ -11,6 +11,8 @@ use Rattle.vx_tree.specs.Canonicals.{canonical_tree}
 use Rattle.vx_column.specs.Stored.{decimal_column}
 use Rattle.vx_column.specs.Growing.{stored_values, HaveStorage, IsColumnOf}
 use Rattle.vx_column.proofs.BuiltLemmas.{width_known, digits_known, bytes_known}
+use Rattle.vx_tree.specs.Views.{rows_of}
+use Rattle.vx_tree.proofs.ViewsLemmas.{rows_packed}
 use Rattle.vx_column.proofs.builder.values.Values.finish.Goals as goal
 
 pub decimal_column-requires-clause-stored : goal.decimal_column-requires-clause-stored
@@ -28,7 +30,8 @@ pub varbinview_column-requires-clause-stored : goal.varbinview_column-requires-c
 varbinview_column-requires-clause-stored c =
     let ty = type_of c.args.dtype.now in
     let typed = subst (λ vs. list_all (is_of ty) (stored_values vs) ≡ true) c.in-Bytes.is c.requires.typed in
-    (λ i. are_bytes_of (c.storage.ensures i) (c.in_ok-finish-in-Bytes.ensures i)) ∙ bytes_known ty c.in-Bytes.rows typed
+    (λ i. are_bytes_of (c.storage.ensures i) (rows_of (c.in_ok-finish-in-Bytes.ensures i)))
+    ∙ ap (are_bytes_of (storage_of ty)) (rows_packed c.in-Bytes.rows) ∙ bytes_known ty c.in-Bytes.rows typed
 
 pub returns-in_ok-into_values-in-Decimals-clause-ok : goal.returns-in_ok-into_values-in-Decimals-clause-ok
 returns-in_ok-into_values-in-Decimals-clause-ok c =

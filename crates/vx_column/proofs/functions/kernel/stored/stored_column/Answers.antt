@@ -13,6 +13,7 @@ use Rattle.vx_column.specs.Computed.{IsColumnOfCells}
 use Rattle.vx_column.proofs.ValidRowsLemmas.{counted}
 use Rattle.vx_column.proofs.MadeLemmas.{nulls_made, rows_made}
 use Rattle.vx_column.proofs.ViewsLemmas.{rows_stored, row_stored}
+use Rattle.vx_tree.specs.Views.{rows_of}
 use Rattle.vx_column.proofs.functions.kernel.stored.stored_column.Goals as goal
 
 pub bit_rows-requires : goal.bit_rows-requires
@@ -78,10 +79,10 @@ valid_bytes-requires-clause-stored c =
     let bs = c.in-Bytes.bytes in
     let made = c.in_ok-rows-in-Bytes in
     let are = subst (λ r. HasStored r n) c.in-Bytes.is c.requires.rows in
-    rows_stored bs.storage (bytes_in bs) made.rows n made.ensures (λ i lt. row_stored bs.storage bs.rows n i are lt)
+    rows_stored bs.storage (bytes_in bs) (rows_of made.rows) n made.ensures (λ i lt. row_stored bs.storage bs.rows n i are lt)
 
 pub returns-in_ok-rows-in-Bytes-clause-ok : goal.returns-in_ok-rows-in-Bytes-clause-ok
 returns-in_ok-rows-in-Bytes-clause-ok c =
     let made = c.in_ok-rows-in-Bytes in
-    rows_made bytes [] (bytes_in c.in-Bytes.bytes) c.args.rows _ c.args.valid.now c.args.len made.rows _ c.valid_bytes.result c.in-Bytes.is made.ensures
+    rows_made bytes [] (bytes_in c.in-Bytes.bytes) c.args.rows _ c.args.valid.now c.args.len (rows_of made.rows) _ c.valid_bytes.result c.in-Bytes.is made.ensures
     (λ i. refl) refl c.valid_bytes.ensures.ok

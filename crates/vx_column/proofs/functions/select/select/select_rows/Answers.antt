@@ -4,6 +4,7 @@ use Rattle.vx_mask.specs.Operands.{bit_in}
 use Rattle.vx_column.specs.Arguments.{bytes_in, value_at}
 use Rattle.vx_column.proofs.SelectLemmas.{column_selected, column_either}
 use Rattle.vx_column.proofs.SelectedLemmas.{selected_stored}
+use Rattle.vx_tree.specs.Views.{rows_of}
 use Rattle.vx_column.proofs.functions.select.select.select_rows.Goals as goal
 
 pub returns-in-Nulls-Nulls-clause-ok : goal.returns-in-Nulls-Nulls-clause-ok
@@ -20,11 +21,11 @@ returns-in_ok-bits-in-Bits-Bits-clause-ok c =
 pub valid_bytes-requires-clause-stored : goal.valid_bytes-requires-clause-stored
 valid_bytes-requires-clause-stored c =
     let arm = c.in-Bytes-Bytes in
-    selected_stored c.args.if_true c.args.if_false arm.if_true arm.if_false c.args.choice.now c.in_ok-rows-in-Bytes-Bytes.rows c.args.len arm.is-0 arm.is-1
+    selected_stored c.args.if_true c.args.if_false arm.if_true arm.if_false c.args.choice.now (rows_of c.in_ok-rows-in-Bytes-Bytes.rows) c.args.len arm.is-0 arm.is-1
     c.requires.same c.requires.left c.requires.right c.in_ok-rows-in-Bytes-Bytes.ensures
 
 pub returns-in_ok-rows-in-Bytes-Bytes-clause-ok : goal.returns-in_ok-rows-in-Bytes-Bytes-clause-ok
 returns-in_ok-rows-in-Bytes-Bytes-clause-ok c =
     let arm = c.in-Bytes-Bytes in
     column_selected bytes [] c.args.choice.now c.args.if_true c.args.if_false _ _ (bytes_in arm.if_true) (bytes_in arm.if_false) c.args.valid.now c.args.len
-    c.in_ok-rows-in-Bytes-Bytes.rows _ c.valid_bytes.result arm.is-0 arm.is-1 refl refl refl c.in_ok-rows-in-Bytes-Bytes.ensures c.valid_bytes.ensures.ok
+    (rows_of c.in_ok-rows-in-Bytes-Bytes.rows) _ c.valid_bytes.result arm.is-0 arm.is-1 refl refl refl c.in_ok-rows-in-Bytes-Bytes.ensures c.valid_bytes.ensures.ok

@@ -3,6 +3,9 @@ use Rattle.std.proofs.lemmas.Option.{get_or_from_slice_get}
 use Rattle.vx_column.specs.Arguments.{bytes_in}
 use Rattle.vx_column.proofs.ComputedLemmas.{items_more}
 use Rattle.vx_column.specs.Selected.{selected_by}
+use Rattle.std.proofs.lemmas.Result.{IfOk-weaker}
+use Rattle.vx_tree.specs.Views.{rows_of}
+use Rattle.vx_tree.proofs.ViewsLemmas.{rows_packed}
 use Rattle.vx_column.proofs.functions.select.select.select_views.Goals as goal
 
 pub loop-index-preserved : goal.loop-index-preserved
@@ -14,3 +17,7 @@ loop-index-preserved c =
     c.in_ok-push.ensures.ok
     ∙ items_more (selected_by bits l r) c.loop-index.rows i c.select_value.result.now c.loop-index.invariant
     (c.select_value.ensures ∙ ap (λ b. if b then l i else r i) (sym (get_or_from_slice_get bits i c.value-is_true.result false c.value-is_true.ensures)))
+
+pub returns : goal.returns
+returns c =
+    IfOk-weaker c.finish.result _ _ (λ r made. ap rows_of made ∙ rows_packed c.loop-index.rows ∙ c.loop-index.invariant) c.finish.ensures
