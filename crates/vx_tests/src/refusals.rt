@@ -14,6 +14,7 @@ ghost use Rattle.vx_tree.specs.Tree.{function, nulls, booleans};
 ghost use Rattle.vx_tree.specs.Well.{shape};
 ghost use Rattle.vx_tree.specs.Refusals.{refusal};
 ghost use Rattle.vx_tree.specs.Validities.{decimal_refusal, bytes_refusal};
+ghost use Rattle.vx_tree.specs.Views.{packed};
 ghost use Rattle.vx_tree.specs.Calls.{inferred_refusal};
 ghost use Rattle.vx_tree.specs.declared.validity.Validity.TheVariants as validity;
 ghost use Rattle.vx_tests.specs.Parts.{i32, nullable, i8, u8, bool, decimal, two, three, flags, because};
@@ -59,8 +60,8 @@ pub fn worked_values()
     ensures decimal_type { decimal_refusal i32 I16 (pos 123 ∷ pos 123 ∷ []) validity.NonNullable ≡ because BadType }
     ensures decimal_validity { decimal_refusal (type.decimal 2 1 Nullable) I16 (pos 123 ∷ pos 123 ∷ [])
         (validity.Array (booleans (true ∷ []))) ≡ because (SlotLen 0) }
-    ensures text_type { bytes_refusal bool ((97 ∷ []) ∷ (97 ∷ []) ∷ []) validity.NonNullable ≡ because BadType }
-    ensures text_validity { bytes_refusal (type.utf8 Nullable) ((255 ∷ []) ∷ (255 ∷ []) ∷ [])
+    ensures text_type { bytes_refusal bool (packed ((97 ∷ []) ∷ (97 ∷ []) ∷ [])) validity.NonNullable ≡ because BadType }
+    ensures text_validity { bytes_refusal (type.utf8 Nullable) (packed ((255 ∷ []) ∷ (255 ∷ []) ∷ []))
         (validity.Array (booleans (true ∷ []))) ≡ because (SlotLen 0) }
 {}
 

@@ -37,6 +37,10 @@ bytes_node s rs h ty n ss flat =
     let again = bytes_again s ty rs flat.1 in
     (subst (λ r. IsFlat r (length rs.views) ty n ss) (sym again.0) flat, again.1 ∙ h)
 
+-- of views that lie in their buffers, the rows decide
+pub views_told : (s : Storage) (rs : ViewedRows) → AllLieIn rs.buffers rs.views → are_bytes_of s (rows_of rs) ≡ are_views_of s rs
+views_told s rs lie = ap (λ b. b && are_bytes_of s (rows_of rs)) (sym (lie_tested rs lie))
+
 -- views that lie in their buffers, of rows of a type
 pub views_known : (s : Storage) (rs : ViewedRows) → AllLieIn rs.buffers rs.views → are_bytes_of s (rows_of rs) ≡ true → are_views_of s rs ≡ true
 views_known s rs lie h = and_from _ _ (lie_tested rs lie) h

@@ -6,7 +6,7 @@ ghost use Rattle.vx_tree.specs.Tree.{views, is_views, column};
 ghost use Rattle.vx_value.specs.Nullabilities.{with_nullability};
 ghost use Rattle.vx_value.specs.View.{type_of};
 ghost use Rattle.vx_value.specs.declared.id.Id.TheVariants as id;
-ghost use Rattle.vx_tree.specs.ColumnTypes.{bytes_type, are_bytes_of};
+ghost use Rattle.vx_tree.specs.ColumnTypes.{bytes_type, are_bytes_of, are_views_of};
 ghost use Rattle.vx_tree.specs.Validities.{child_of, bytes_refusal};
 ghost use Rattle.vx_tree.specs.Views.{rows_of};
 
@@ -106,8 +106,10 @@ fn plain_type(storage: Storage) -> DType
 
 /// Returns whether `rows` are values of `storage`: if it is text, whether each is UTF-8.
 fn are_bytes_of(storage: Storage, rows: &BinaryViews) -> bool
-    ensures { result ≡ are_bytes_of storage (rows_of rows.now) }
+    ensures bytes { result ≡ are_bytes_of storage (rows_of rows.now) }
+    ensures views { result ≡ are_views_of storage rows.now }
 {
+    rows.lie_in_buffers();
     match storage {
         Storage::Text => rows.is_utf8(),
         _ => true,
@@ -150,6 +152,7 @@ impl VarBinViewArray {
         ensures ok { IfOk result (λ a. a ≡ column (type_of dtype) (length rows.views) (views rows) (child_of validity.now (length rows.views))) }
         ensures err { OnlyOutOfMemory result }
     {
+        rows.lie_in_buffers();
         let len = rows.len();
         flat_unchecked(alloc, dtype, len, VarBinViewData { rows }, validity)
     }

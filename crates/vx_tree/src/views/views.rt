@@ -86,8 +86,7 @@ impl BinaryViews {
 
     /// Returns the number of rows.
     pub fn len(&self) -> usize
-        ensures counted { result ≡ length self.now.views }
-        ensures within { AllLieIn self.now.buffers self.now.views }
+        ensures { result ≡ length self.now.views }
     {
         self.views.len()
     }
@@ -126,6 +125,13 @@ impl BinaryViews {
         ensures within { AllLieIn result.1.now result.0.now }
     {
         (self.views.as_slice(), self.buffers.as_slice())
+    }
+
+    /// States what holds of every column: each view lies in its buffer.
+    pub(crate) fn lie_in_buffers(&self)
+        ensures { AllLieIn self.now.buffers self.now.views }
+    {
+        let _views = &self.views;
     }
 
     /// Returns whether the bytes of each row are UTF-8. (own)

@@ -19,7 +19,7 @@ flat_unchecked-requires c =
     let n = length rs.views in
     let child = child_of c.args.validity.now n in
     let pass : are_bytes_of s (rows_of rs) ≡ true = unless_none _ _ (second_none _ _ c.requires) in
-    let known = views_known s rs c.len-len.ensures.within pass in
+    let known = views_known s rs c.lie_in_buffers.ensures pass in
     let flat = flat_made (bytes_type s) ty n c.args.validity.now child (child ∷ []) (first_none _ _ c.requires) refl refl in
-    subst (λ k. IsNode ty k (views rs) (shapes (slots_of (child_of c.args.validity.now k ∷ [])))) (sym c.len-len.ensures.counted)
+    subst (λ k. IsNode ty k (views rs) (shapes (slots_of (child_of c.args.validity.now k ∷ [])))) (sym c.len-len.ensures)
     (bytes_node s rs known ty n (shapes (slots_of (child ∷ []))) flat)
