@@ -2,13 +2,13 @@
 
 ghost use Rattle.std.specs.Prelude.{◌≡◌, ◌⊎◌, map, option_map, IfOk, IfErr, IsSome, Some, true};
 ghost use Rattle.vx_value.specs.Types.{DataType};
+ghost use Rattle.vx_value.specs.Errors.{OnlyOutOfMemory};
 ghost use Rattle.vx_value.specs.View.{type_of, cell_of};
 ghost use Rattle.vx_value.specs.IsOf.{is_of};
 ghost use Rattle.vx_value.specs.Cell.{value, fault};
 ghost use Rattle.vx_fn.specs.Meanings.{Meaning, clones};
 ghost use Rattle.vx_fn.specs.Apply.{on_values};
 
-use std::alloc::AllocError;
 use vx_value::{DType, Id, Scalar, VortexError, VortexResult};
 
 /// A scalar function. Each has a file in `functions`. (own)
@@ -21,10 +21,11 @@ pub(crate) trait RowFunction {
         ensures id { result.0 ≡ (meaning self.now).id }
         ensures names { map (λ s. s.now) result.1.now ≡ (meaning self.now).names };
 
-    /// Returns the type of the result, or `None` if the function doesn't accept the arguments. Fails only if there is no memory
-    /// for the type, and only in a function that clones one.
-    fn return_dtype(&self, arguments: &[DType]) -> Result<Option<DType>, AllocError>
+    /// Returns the type of the result, or `None` if the function doesn't accept the arguments. Fails only with
+    /// `OutOfMemory`, and only in a function that clones a type.
+    fn return_dtype(&self, arguments: &[DType]) -> VortexResult<Option<DType>>
         ensures ok { IfOk result (λ t. option_map type_of t ≡ (meaning self.now).types (map type_of arguments.now)) }
+        ensures err { OnlyOutOfMemory result }
         ensures memory { IfErr result (λ _. clones (meaning self.now).id ≡ true) };
 
     /// Applies the function to one row of its arguments, whose types it must accept. `Fault` if the row has no value;

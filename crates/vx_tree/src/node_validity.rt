@@ -83,7 +83,7 @@ fn slot_validity(slot: &Option<ArrayRef>) -> VortexResult<Validity>
     ensures ok { IfOk result (λ v. v ≡ validity_of Nullability.Nullable slot.now) }
     ensures err { OnlyOutOfMemory result }
 {
-    Ok(child_to_validity(slot.as_ref(), Nullability::Nullable)?)
+    child_to_validity(slot.as_ref(), Nullability::Nullable)
 }
 
 /// Returns the validity of the rows in `range`, which must be in order and in bounds; `validity` is that of all rows. Fails

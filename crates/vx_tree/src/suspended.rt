@@ -1,13 +1,14 @@
 //! Nodes with a slot taken out.
 
 ghost use Rattle.std.specs.Prelude.{◌≡◌, IfOk};
+ghost use Rattle.vx_value.specs.Errors.{OnlyOutOfMemory};
 ghost use Rattle.vx_tree.specs.Slots.{put, IsHole, IsPresent, HasSlot};
 ghost use Rattle.vx_tree.specs.Well.{IsNodeOf};
 
 use crate::array::{ArrayRef, Node, know_well};
-use std::alloc::AllocError;
 use std::marker::Model;
 use std::rc::Rc;
+use vx_value::VortexResult;
 
 /// A node with an empty slot. It has no other owner, and is never an `ArrayRef`. (own)
 pub struct Suspended {
@@ -35,10 +36,12 @@ impl Model for Suspended {
 }
 
 impl ArrayRef {
-    /// Takes the child out of `slot`, counted from 0, in place. Copies the parts of the root only if it is shared. (own)
-    pub fn take_slot(self, slot: usize) -> Result<(Suspended, ArrayRef), AllocError>
+    /// Takes the child out of `slot`, counted from 0, in place. Copies the parts of the root only if it is shared. Fails only
+    /// with `OutOfMemory`. (own)
+    pub fn take_slot(self, slot: usize) -> VortexResult<(Suspended, ArrayRef)>
         requires { IsPresent slot self }
-        ensures { IfOk result (λ p. (put slot p.1 p.0 ≡ self) × IsHole slot p.0 × IsNodeOf self × HasSlot slot p.1 self) }
+        ensures ok { IfOk result (λ p. (put slot p.1 p.0 ≡ self) × IsHole slot p.0 × IsNodeOf self × HasSlot slot p.1 self) }
+        ensures err { OnlyOutOfMemory result }
     {
         self.well_formed_tree();
         let mut node = self.into_root();
@@ -50,11 +53,12 @@ impl ArrayRef {
 }
 
 impl Suspended {
-    /// Puts `child` into the empty `slot`, counted from 0. Copies nothing. (own)
-    pub fn put(self, slot: usize, child: ArrayRef) -> Result<ArrayRef, AllocError>
+    /// Puts `child` into the empty `slot`, counted from 0. Copies nothing. Fails only with `OutOfMemory`. (own)
+    pub fn put(self, slot: usize, child: ArrayRef) -> VortexResult<ArrayRef>
         requires hole { IsHole slot self }
         requires fits { IsNodeOf (put slot child self) }
-        ensures { IfOk result (λ t. t ≡ put slot child self) }
+        ensures ok { IfOk result (λ t. t ≡ put slot child self) }
+        ensures err { OnlyOutOfMemory result }
     {
         let Suspended { mut node } = self;
         let root = Rc::make_mut(&mut node)?;

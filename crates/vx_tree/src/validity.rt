@@ -15,7 +15,7 @@ use crate::arrays::filter::FilterArray;
 use crate::arrays::slice::SliceArray;
 use crate::conditions::check_that;
 use crate::types::{BOOLEANS, is_same_type};
-use std::alloc::{AllocError, Global};
+use std::alloc::Global;
 use std::ops::Range;
 use vx_mask::{BitBuffer, Mask};
 use vx_value::{ArgKind, Nullability, Scalar, VortexResult};
@@ -82,12 +82,13 @@ impl From<Nullability> for Validity {
 }
 
 /// Returns the validity that `child` stands for in a column of this nullability. A constant is read back as `AllValid` or
-/// `AllInvalid`.
+/// `AllInvalid`. Fails only with `OutOfMemory`.
 pub fn child_to_validity(
     child: Option<&ArrayRef>,
     nullability: Nullability,
-) -> Result<Validity, AllocError>
-    ensures { IfOk result (λ v. v ≡ validity_of nullability (option_map (λ c. c.now) child.entry)) }
+) -> VortexResult<Validity>
+    ensures ok { IfOk result (λ v. v ≡ validity_of nullability (option_map (λ c. c.now) child.entry)) }
+    ensures err { OnlyOutOfMemory result }
 {
     let Some(child) = child else {
         return Ok(Validity::from(nullability));

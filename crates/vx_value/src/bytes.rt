@@ -5,8 +5,10 @@ ghost use Rattle.std.specs.Str.{is_utf8, bytes_eq};
 ghost use Rattle.std.specs.Cmp.{partial_equiv_from_equiv};
 ghost use Rattle.std.specs.Cmp.Lexicographic.{bytes_decides, nat_list_eq_equiv, nat_list_cmp_total, texts_po, texts_ties};
 ghost use Rattle.std.specs.Hash.{same_Alike};
+ghost use Rattle.vx_value.specs.Errors.{OnlyOutOfMemory};
 ghost use Rattle.vx_value.specs.Bytes.{bytes_cmp, bytes_writes};
 
+use crate::VortexResult;
 use std::alloc::{AllocError, Global};
 use std::cmp::Ordering;
 use std::hash::{Hash, Hasher};
@@ -48,25 +50,28 @@ impl ByteBuffer {
         ByteBuffer { bytes: None }
     }
 
-    /// Makes a buffer of `bytes`, which aren't copied. (own)
-    pub fn from_vec(alloc: Global, bytes: Vec<u8>) -> Result<ByteBuffer, AllocError>
-        ensures { IfOk result (λ b. b ≡ bytes.items) }
+    /// Makes a buffer of `bytes`, which aren't copied. Fails only with `OutOfMemory`. (own)
+    pub fn from_vec(alloc: Global, bytes: Vec<u8>) -> VortexResult<ByteBuffer>
+        ensures ok { IfOk result (λ b. b ≡ bytes.items) }
+        ensures err { OnlyOutOfMemory result }
     {
         Ok(ByteBuffer {
             bytes: Some(Rc::new(alloc, bytes)?),
         })
     }
 
-    /// Makes a buffer of the bytes of `text`, which aren't copied. (own)
-    pub fn from_string(alloc: Global, text: String) -> Result<ByteBuffer, AllocError>
-        ensures { IfOk result (λ b. b ≡ string_bytes text) }
+    /// Makes a buffer of the bytes of `text`, which aren't copied. Fails only with `OutOfMemory`. (own)
+    pub fn from_string(alloc: Global, text: String) -> VortexResult<ByteBuffer>
+        ensures ok { IfOk result (λ b. b ≡ string_bytes text) }
+        ensures err { OnlyOutOfMemory result }
     {
         ByteBuffer::from_vec(alloc, text.into_bytes())
     }
 
-    /// Makes a buffer of a copy of `bytes`.
-    pub fn copy_from(alloc: Global, bytes: &[u8]) -> Result<ByteBuffer, AllocError>
-        ensures { IfOk result (λ b. b ≡ bytes.now) }
+    /// Makes a buffer of a copy of `bytes`. Fails only with `OutOfMemory`.
+    pub fn copy_from(alloc: Global, bytes: &[u8]) -> VortexResult<ByteBuffer>
+        ensures ok { IfOk result (λ b. b ≡ bytes.now) }
+        ensures err { OnlyOutOfMemory result }
     {
         ByteBuffer::from_vec(alloc, Vec::from_slice(alloc, bytes)?)
     }

@@ -1,12 +1,13 @@
 //! Logical types, as in the original's `dtype` module.
 
 ghost use Rattle.std.specs.Prelude.{◌≡◌, ◌↔◌, IsTrue, IfOk};
+ghost use Rattle.vx_value.specs.Errors.{OnlyOutOfMemory};
 ghost use Rattle.vx_value.specs.View.{type_of};
 ghost use Rattle.vx_value.specs.Storage.{storage_of};
 ghost use Rattle.vx_value.specs.Types.{nullability_of, is_nullable};
 ghost use Rattle.vx_value.specs.Nullabilities.{with_nullability, union, same_but_nullability};
 
-use crate::DecimalDType;
+use crate::{DecimalDType, VortexResult};
 use std::alloc::AllocError;
 
 /// The nullability of a type: whether null is one of its values.
@@ -134,31 +135,35 @@ impl DType {
         self.nullability().is_nullable()
     }
 
-    /// Returns the nullable type that is otherwise the same. Fails only if there is no memory for it.
-    pub fn as_nullable(&self) -> Result<DType, AllocError>
-        ensures { IfOk result (λ t. type_of t ≡ with_nullability Nullability.Nullable (type_of self.now)) }
+    /// Returns the nullable type that is otherwise the same. Fails only with `OutOfMemory`.
+    pub fn as_nullable(&self) -> VortexResult<DType>
+        ensures ok { IfOk result (λ t. type_of t ≡ with_nullability Nullability.Nullable (type_of self.now)) }
+        ensures err { OnlyOutOfMemory result }
     {
         self.with_nullability(Nullability::Nullable)
     }
 
-    /// Returns the non-nullable type that is otherwise the same; `Null`, which is always nullable, stays. Fails only if there
-    /// is no memory for it.
-    pub fn as_nonnullable(&self) -> Result<DType, AllocError>
-        ensures { IfOk result (λ t. type_of t ≡ with_nullability Nullability.NonNullable (type_of self.now)) }
+    /// Returns the non-nullable type that is otherwise the same; `Null`, which is always nullable, stays. Fails only
+    /// with `OutOfMemory`.
+    pub fn as_nonnullable(&self) -> VortexResult<DType>
+        ensures ok { IfOk result (λ t. type_of t ≡ with_nullability Nullability.NonNullable (type_of self.now)) }
+        ensures err { OnlyOutOfMemory result }
     {
         self.with_nullability(Nullability::NonNullable)
     }
 
-    /// Returns the type with nullability `nullability`; `Null` stays. Fails only if there is no memory for it.
-    pub fn with_nullability(&self, nullability: Nullability) -> Result<DType, AllocError>
-        ensures { IfOk result (λ t. type_of t ≡ with_nullability nullability (type_of self.now)) }
+    /// Returns the type with nullability `nullability`; `Null` stays. Fails only with `OutOfMemory`.
+    pub fn with_nullability(&self, nullability: Nullability) -> VortexResult<DType>
+        ensures ok { IfOk result (λ t. type_of t ≡ with_nullability nullability (type_of self.now)) }
+        ensures err { OnlyOutOfMemory result }
     {
         Ok(self.clone()?.into_nullability(nullability))
     }
 
-    /// Returns the type, nullable if it is or `other` is. Fails only if there is no memory for it.
-    pub fn union_nullability(&self, other: Nullability) -> Result<DType, AllocError>
-        ensures { IfOk result (λ t. type_of t ≡ with_nullability (union (nullability_of (type_of self.now)) other) (type_of self.now)) }
+    /// Returns the type, nullable if it is or `other` is. Fails only with `OutOfMemory`.
+    pub fn union_nullability(&self, other: Nullability) -> VortexResult<DType>
+        ensures ok { IfOk result (λ t. type_of t ≡ with_nullability (union (nullability_of (type_of self.now)) other) (type_of self.now)) }
+        ensures err { OnlyOutOfMemory result }
     {
         self.with_nullability(self.nullability().union(other))
     }

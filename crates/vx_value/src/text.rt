@@ -3,17 +3,19 @@
 ghost use Rattle.std.specs.Prelude.{◌≡◌, ◌++◌, OnOk, IfOk, codes, string_bytes};
 ghost use Rattle.std.specs.Fmt.{decimal};
 ghost use Rattle.vx_value.specs.View.{type_of};
+ghost use Rattle.vx_value.specs.Errors.{OnlyOutOfMemory};
 ghost use Rattle.vx_value.specs.Text.{type_text, bare_text, type_mark, mark, ptype_text};
 
-use crate::{DType, DecimalDType, Nullability, PType};
+use crate::{DType, DecimalDType, Nullability, PType, VortexResult};
 use std::alloc::{AllocError, Global};
 
 /// Returns the text of `dtype`, for example `i32` or `decimal(10,2)`, followed by `?` if the type is nullable. `null` has no
 /// mark.
 ///
-/// Fails only if there is no memory for the text. (own)
-pub fn type_text(alloc: Global, dtype: &DType) -> Result<String, AllocError>
-    ensures { IfOk result (λ s. string_bytes s ≡ type_text (type_of dtype.now)) }
+/// Fails only with `OutOfMemory`. (own)
+pub fn type_text(alloc: Global, dtype: &DType) -> VortexResult<String>
+    ensures ok { IfOk result (λ s. string_bytes s ≡ type_text (type_of dtype.now)) }
+    ensures err { OnlyOutOfMemory result }
 {
     let mut text = String::new(alloc);
     push_bare(&mut text, dtype)?;

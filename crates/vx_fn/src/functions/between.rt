@@ -11,7 +11,6 @@ ghost use Rattle.vx_fn.specs.Meanings.{widened};
 
 use crate::order::is_ordered;
 use crate::row_function::RowFunction;
-use std::alloc::AllocError;
 use std::cmp::Ordering;
 use vx_value::{DType, Id, Nullability, Scalar, VortexResult};
 
@@ -40,7 +39,7 @@ impl RowFunction for BetweenOptions {
         (Id::Between, &["array", "lower", "upper"])
     }
 
-    fn return_dtype(&self, arguments: &[DType]) -> Result<Option<DType>, AllocError> {
+    fn return_dtype(&self, arguments: &[DType]) -> VortexResult<Option<DType>> {
         match arguments {
             [array, lower, upper] => Ok(nullability_between(array, lower, upper).map(DType::Bool)),
             _ => Ok(None),

@@ -14,7 +14,6 @@ ghost use Rattle.vx_fn.specs.Logic.{kleene_and, kleene_or};
 use crate::function::Operator;
 use crate::order::is_ordered;
 use crate::row_function::RowFunction;
-use std::alloc::AllocError;
 use std::cmp::Ordering;
 use vx_value::{
     DType, DecimalValue, Id, Nullability, Scalar, ScalarValue, VortexError, VortexResult,
@@ -27,7 +26,7 @@ impl RowFunction for Operator {
         (Id::Binary, &["lhs", "rhs"])
     }
 
-    fn return_dtype(&self, arguments: &[DType]) -> Result<Option<DType>, AllocError> {
+    fn return_dtype(&self, arguments: &[DType]) -> VortexResult<Option<DType>> {
         match arguments {
             [lhs, rhs] => Ok(binary_type(*self, lhs, rhs)),
             _ => Ok(None),

@@ -8,7 +8,6 @@ ghost use Rattle.vx_value.specs.Cell.{value, fault};
 ghost use Rattle.vx_fn.specs.Cast.{conversion, cast_type};
 
 use crate::row_function::RowFunction;
-use std::alloc::AllocError;
 use vx_value::{DType, Id, Scalar, VortexError, VortexResult, has_cast};
 
 impl RowFunction for DType {
@@ -18,7 +17,7 @@ impl RowFunction for DType {
         (Id::Cast, &["input"])
     }
 
-    fn return_dtype(&self, arguments: &[DType]) -> Result<Option<DType>, AllocError> {
+    fn return_dtype(&self, arguments: &[DType]) -> VortexResult<Option<DType>> {
         match arguments {
             [input] if has_cast(input, self) => Ok(Some(self.clone()?)),
             _ => Ok(None),

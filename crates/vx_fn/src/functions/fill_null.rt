@@ -8,7 +8,6 @@ ghost use Rattle.vx_fn.specs.FillNull.{fill_null};
 
 use crate::retyped::retyped;
 use crate::row_function::RowFunction;
-use std::alloc::AllocError;
 use vx_value::{DType, Id, Scalar, VortexResult};
 
 /// `input`, or the argument `fill_value` if it is null. (own)
@@ -21,7 +20,7 @@ impl RowFunction for FillNull {
         (Id::FillNull, &["input", "fill_value"])
     }
 
-    fn return_dtype(&self, arguments: &[DType]) -> Result<Option<DType>, AllocError> {
+    fn return_dtype(&self, arguments: &[DType]) -> VortexResult<Option<DType>> {
         match arguments {
             [input, fill_value] if input.eq_ignore_nullability(fill_value) => {
                 Ok(Some(fill_value.clone()?))

@@ -3,7 +3,6 @@
 ghost use Rattle.vx_fn.specs.IsNull.{null_meaning};
 
 use crate::row_function::RowFunction;
-use std::alloc::AllocError;
 use vx_value::{DType, Id, Nullability, Scalar, VortexResult};
 
 /// A test of the argument `input`. (own)
@@ -25,7 +24,7 @@ impl RowFunction for NullTest {
         }
     }
 
-    fn return_dtype(&self, arguments: &[DType]) -> Result<Option<DType>, AllocError> {
+    fn return_dtype(&self, arguments: &[DType]) -> VortexResult<Option<DType>> {
         match arguments {
             [_] => Ok(Some(DType::Bool(Nullability::NonNullable))),
             _ => Ok(None),

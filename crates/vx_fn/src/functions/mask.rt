@@ -1,12 +1,12 @@
 //! The value if a mask is true, null if it is false.
 
 ghost use Rattle.std.specs.Prelude.{◌≡◌, ◌⊎◌, IfOk, IfErr, IsSome, Some, ◌∷◌, [], option_map};
+ghost use Rattle.vx_value.specs.Errors.{OnlyOutOfMemory};
 ghost use Rattle.vx_value.specs.View.{type_of};
 ghost use Rattle.vx_value.specs.Cell.{value};
 ghost use Rattle.vx_fn.specs.Mask.{mask};
 
 use crate::row_function::RowFunction;
-use std::alloc::AllocError;
 use vx_value::{DType, Id, Nullability, Scalar, VortexResult};
 
 /// `input` if the argument `mask` is true, else null. (own)
@@ -19,7 +19,7 @@ impl RowFunction for Mask {
         (Id::Mask, &["input", "mask"])
     }
 
-    fn return_dtype(&self, arguments: &[DType]) -> Result<Option<DType>, AllocError> {
+    fn return_dtype(&self, arguments: &[DType]) -> VortexResult<Option<DType>> {
         match arguments {
             [input, DType::Bool(Nullability::NonNullable)] => Ok(Some(input.as_nullable()?)),
             _ => Ok(None),
@@ -28,17 +28,18 @@ impl RowFunction for Mask {
 
     fn apply(&self, arguments: &[Scalar]) -> VortexResult<Scalar> {
         match arguments {
-            [input, mask] => Ok(masked(input, mask)?),
+            [input, mask] => masked(input, mask),
             _ => unreachable!(),
         }
     }
 }
 
-/// Returns `input` if `choice` is true, else null.
-fn masked(input: &Scalar, choice: &Scalar) -> Result<Scalar, AllocError>
+/// Returns `input` if `choice` is true, else null. Fails only with `OutOfMemory`.
+fn masked(input: &Scalar, choice: &Scalar) -> VortexResult<Scalar>
     requires { IsSome (mask.types (input.now.of_type ∷ choice.now.of_type ∷ [])) }
     ensures typed { IfOk result (λ s. mask.types (input.now.of_type ∷ choice.now.of_type ∷ []) ≡ Some s.of_type) }
     ensures value { IfOk result (λ s. mask.value s.of_type (input.now.value ∷ choice.now.value ∷ []) ≡ value s.value) }
+    ensures err { OnlyOutOfMemory result }
 {
     match choice.as_bool() {
         Some(true) => Ok(input.clone()?.into_nullable()),

@@ -6,7 +6,6 @@ ghost use Rattle.vx_value.specs.Cell.{value};
 ghost use Rattle.vx_fn.specs.Negation.{negation};
 
 use crate::row_function::RowFunction;
-use std::alloc::AllocError;
 use vx_value::{DType, Id, Scalar, VortexResult};
 
 /// The negation of a boolean, the argument `input`. (own)
@@ -19,7 +18,7 @@ impl RowFunction for Not {
         (Id::Not, &["input"])
     }
 
-    fn return_dtype(&self, arguments: &[DType]) -> Result<Option<DType>, AllocError> {
+    fn return_dtype(&self, arguments: &[DType]) -> VortexResult<Option<DType>> {
         match arguments {
             [input] => Ok(not_type(input)),
             _ => Ok(None),

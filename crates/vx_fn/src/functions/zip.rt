@@ -8,7 +8,6 @@ ghost use Rattle.vx_fn.specs.Zip.{zip};
 
 use crate::retyped::retyped;
 use crate::row_function::RowFunction;
-use std::alloc::AllocError;
 use vx_value::{DType, Id, Scalar, VortexResult};
 
 /// `if_true` if the argument `mask` is true, else `if_false`. (own)
@@ -21,7 +20,7 @@ impl RowFunction for Zip {
         (Id::Zip, &["if_true", "if_false", "mask"])
     }
 
-    fn return_dtype(&self, arguments: &[DType]) -> Result<Option<DType>, AllocError> {
+    fn return_dtype(&self, arguments: &[DType]) -> VortexResult<Option<DType>> {
         match arguments {
             [if_true, if_false, DType::Bool(_)] if if_true.eq_ignore_nullability(if_false) => {
                 Ok(Some(if_true.union_nullability(if_false.nullability())?))

@@ -1,6 +1,7 @@
 //! The nodes that all handles share.
 
 ghost use Rattle.std.specs.Prelude.{◌≡◌, IfOk, IfErr, IfSome};
+ghost use Rattle.vx_value.specs.Errors.{OnlyOutOfMemory};
 ghost use Rattle.vx_tree.specs.Tree.{Tree, slots_of};
 ghost use Rattle.vx_tree.specs.TreeView.{data_of, tree_of};
 ghost use Rattle.vx_tree.specs.Well.{IsNodeOf, IsWell, AreWell};
@@ -18,7 +19,7 @@ use crate::arrays::varbinview::VarBinViewData;
 use std::alloc::{AllocError, Global};
 use std::marker::Model;
 use std::rc::Rc;
-use vx_value::DType;
+use vx_value::{DType, VortexResult};
 
 /// The slots of a node. A slot that may be left out can be `None`.
 pub type ArraySlots = Vec<Option<ArrayRef>>;
@@ -152,10 +153,12 @@ pub(crate) fn know_well(slots: &[Option<ArrayRef>])
 }
 
 impl Node {
-    /// Makes the tree of these parts. They must meet the conditions of the encoding.
-    pub fn into_array(self, alloc: Global) -> Result<ArrayRef, AllocError>
+    /// Makes the tree of these parts. They must meet the conditions of the encoding. Fails only with
+    /// `OutOfMemory`.
+    pub fn into_array(self, alloc: Global) -> VortexResult<ArrayRef>
         requires { IsNodeOf (tree_of self) }
-        ensures { IfOk result (λ t. t ≡ tree_of self) }
+        ensures ok { IfOk result (λ t. t ≡ tree_of self) }
+        ensures err { OnlyOutOfMemory result }
     {
         know_well(&self.slots);
         Ok(ArrayRef {
@@ -173,11 +176,12 @@ impl ArrayRef {
         node
     }
 
-    /// Returns the parts of the root. Copies them if the root is shared.
-    pub fn into_node(self) -> Result<Node, AllocError>
-        ensures { IfOk result (λ n. tree_of n ≡ self) }
+    /// Returns the parts of the root. Copies them if the root is shared. Fails only with `OutOfMemory`.
+    pub fn into_node(self) -> VortexResult<Node>
+        ensures ok { IfOk result (λ n. tree_of n ≡ self) }
+        ensures err { OnlyOutOfMemory result }
     {
-        Rc::unwrap_or_clone(self.into_root())
+        Ok(Rc::unwrap_or_clone(self.into_root())?)
     }
 
     /// Returns the parts of the root. Hands the tree back if the root is shared. (own)

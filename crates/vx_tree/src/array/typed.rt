@@ -94,24 +94,27 @@ impl<V: VTable> Array<V> {
         Ok(Array::from_parts_unchecked(alloc, parts)?)
     }
 
-    /// Makes the node of `parts` without checking them. They must meet the conditions of the encoding.
-    pub fn from_parts_unchecked(alloc: Global, parts: ArrayParts<V>) -> Result<Array<V>, AllocError>
+    /// Makes the node of `parts` without checking them. They must meet the conditions of the encoding. Fails only with
+    /// `OutOfMemory`.
+    pub fn from_parts_unchecked(alloc: Global, parts: ArrayParts<V>) -> VortexResult<Array<V>>
         requires { IsNode (type_of parts.dtype) parts.len (V.stands_for parts.payload) (shapes (slots_of parts.slots.items)) }
-        ensures { IfOk result (λ a. a ≡ node (type_of parts.dtype) parts.len (V.stands_for parts.payload) (slots_of parts.slots.items)) }
+        ensures ok { IfOk result (λ a. a ≡ node (type_of parts.dtype) parts.len (V.stands_for parts.payload) (slots_of parts.slots.items)) }
+        ensures err { OnlyOutOfMemory result }
     {
         Array::of(alloc, parts.dtype, parts.len, parts.payload, parts.slots)
     }
 
-    /// Makes the node of these parts, which must meet the conditions of the encoding.
+    /// Makes the node of these parts, which must meet the conditions of the encoding. Fails only with `OutOfMemory`.
     pub(crate) fn of(
         alloc: Global,
         dtype: DType,
         len: usize,
         payload: V::TypedArrayData,
         slots: Vec<Option<ArrayRef>>,
-    ) -> Result<Array<V>, AllocError>
+    ) -> VortexResult<Array<V>>
         requires { IsNode (type_of dtype) len (V.stands_for payload) (shapes (slots_of slots.items)) }
-        ensures { IfOk result (λ a. a ≡ node (type_of dtype) len (V.stands_for payload) (slots_of slots.items)) }
+        ensures ok { IfOk result (λ a. a ≡ node (type_of dtype) len (V.stands_for payload) (slots_of slots.items)) }
+        ensures err { OnlyOutOfMemory result }
     {
         let node = Node {
             dtype,
@@ -139,7 +142,7 @@ impl<V: VTable> Array<V> {
         ensures err { OnlyOutOfMemory result }
     {
         let slots = vec![in alloc; slot]?;
-        Ok(Array::of(alloc, dtype, len, payload, slots)?)
+        Array::of(alloc, dtype, len, payload, slots)
     }
 
     /// Returns the handle of `array`'s node. Hands `array` back if it has another encoding.
@@ -189,14 +192,15 @@ impl<V: VTable> Array<V> {
         }
     }
 
-    /// Returns the reference of the node that `shared` holds. `AllocError` if `shared` has other owners and `Rc` refuses one
-    /// more reference to the node. (own)
-    pub fn shared_into_array(shared: Rc<Array<V>>) -> Result<ArrayRef, AllocError>
-        ensures { IfOk result (λ a. a ≡ shared.value) }
+    /// Returns the reference of the node that `shared` holds. Fails only with `OutOfMemory`: if `shared` has other owners and
+    /// `Rc` refuses one more reference to the node. (own)
+    pub fn shared_into_array(shared: Rc<Array<V>>) -> VortexResult<ArrayRef>
+        ensures ok { IfOk result (λ a. a ≡ shared.value) }
+        ensures err { OnlyOutOfMemory result }
     {
         match Rc::try_unwrap(shared) {
             Ok(handle) => Ok(handle.array),
-            Err(shared) => shared.array.clone(),
+            Err(shared) => Ok(shared.array.clone()?),
         }
     }
 

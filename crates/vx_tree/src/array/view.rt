@@ -1,13 +1,14 @@
 //! Borrowed nodes, with the data of their encoding.
 
 ghost use Rattle.std.specs.Prelude.{◌≡◌, ◌==◌, IfOk};
+ghost use Rattle.vx_value.specs.Errors.{OnlyOutOfMemory};
 ghost use Rattle.vx_value.specs.View.{type_of};
 ghost use Rattle.vx_tree.specs.Tree.{dtype, len, datum, slots, slots_of, id_of};
 
 use crate::array::{Array, ArrayRef, Encoded, VTable};
 use std::alloc::AllocError;
 use std::ops::Deref;
-use vx_value::{DType, Id};
+use vx_value::{DType, Id, VortexResult};
 
 /// A borrowed node of `V`'s encoding. If you build one yourself, `payload` must be the node's own data.
 #[derive_where(Copy, Debug)]
@@ -77,10 +78,12 @@ impl<'a, V: Encoded> ArrayView<'a, V> {
 }
 
 impl<'a, V: VTable> ArrayView<'a, V> {
-    /// Returns an owned handle of the same node. `AllocError` if `Rc` refuses one more reference to it.
-    pub fn into_owned(self) -> Result<Array<V>, AllocError>
+    /// Returns an owned handle of the same node. Fails only with `OutOfMemory`: if `Rc` refuses one more reference
+    /// to it.
+    pub fn into_owned(self) -> VortexResult<Array<V>>
         requires { V.stands_for self.payload.now ≡ datum self.array.now }
-        ensures { IfOk result (λ a. a ≡ self.entry.array.now) }
+        ensures ok { IfOk result (λ a. a ≡ self.entry.array.now) }
+        ensures err { OnlyOutOfMemory result }
     {
         match Array::<V>::try_from_array_ref(self.array.clone()?) {
             Ok(owned) => Ok(owned),

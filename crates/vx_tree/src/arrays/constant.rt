@@ -103,6 +103,6 @@ impl ConstantArray {
         ensures err { OnlyOutOfMemory result }
     {
         let dtype = scalar.dtype().clone()?;
-        Ok(Array::of(alloc, dtype, len, ConstantData { scalar }, Vec::new(alloc))?)
+        Array::of(alloc, dtype, len, ConstantData { scalar }, Vec::new(alloc))
     }
 }

@@ -120,6 +120,6 @@ impl MaskedArray {
         let len = child.len();
         let validity = validity_to_child(alloc, validity, len)?;
         let slots = vec![in alloc; Some(child), validity]?;
-        Ok(Array::of(alloc, dtype, len, MaskedData, slots)?)
+        Array::of(alloc, dtype, len, MaskedData, slots)
     }
 }

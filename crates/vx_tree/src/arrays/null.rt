@@ -78,6 +78,6 @@ impl NullArray {
         ensures ok { IfOk result (λ a. a ≡ nulls_of len) }
         ensures err { OnlyOutOfMemory result }
     {
-        Ok(Array::of(alloc, DType::Null, len, EmptyArrayData, Vec::new(alloc))?)
+        Array::of(alloc, DType::Null, len, EmptyArrayData, Vec::new(alloc))
     }
 }

@@ -13,26 +13,28 @@ ghost use Rattle.vx_tree.specs.Well.{IsWell};
 
 use crate::array::{Array, ArrayRef, VTable};
 use crate::validity::slice_validity;
-use std::alloc::{AllocError, Global};
+use std::alloc::Global;
 use std::ops::Range;
 use vx_value::{DType, VortexResult};
 
 /// Encodings of flat columns: they hold the values of their rows themselves, and have one slot, for their validity. (own)
 pub(crate) trait FlatEncoding: VTable {
-    /// Returns no values of type `dtype`, whose canonical encoding must be this one.
-    fn no_values(alloc: Global, dtype: &DType) -> Result<Self::TypedArrayData, AllocError>
+    /// Returns no values of type `dtype`, whose canonical encoding must be this one. Fails only with `OutOfMemory`.
+    fn no_values(alloc: Global, dtype: &DType) -> VortexResult<Self::TypedArrayData>
         requires { Self.is_kind (no_rows (storage_of (type_of dtype.now))) ≡ true }
-        ensures { IfOk result (λ none. Self.stands_for none ≡ no_rows (storage_of (type_of dtype.now))) };
+        ensures ok { IfOk result (λ none. Self.stands_for none ≡ no_rows (storage_of (type_of dtype.now))) }
+        ensures err { OnlyOutOfMemory result };
 
     /// Returns the values of the rows in `range`, which must be in order and in bounds. They share their storage with
-    /// `payload`.
+    /// `payload`. Fails only with `OutOfMemory`.
     fn slice_values(
         payload: &Self::TypedArrayData,
         range: Range<usize>,
-    ) -> Result<Self::TypedArrayData, AllocError>
+    ) -> VortexResult<Self::TypedArrayData>
         requires order { range.start ≤ range.end }
         requires bounds { range.end ≤ count_in (Self.stands_for payload.now) }
-        ensures { IfOk result (λ part. Self.stands_for part ≡ data_range range.start range.end (Self.stands_for payload.now)) };
+        ensures ok { IfOk result (λ part. Self.stands_for part ≡ data_range range.start range.end (Self.stands_for payload.now)) }
+        ensures err { OnlyOutOfMemory result };
 
     // a node with its data is such a column
     ghost flat: { (d : Self.TypedArrayData) → is_flat (Self.stands_for d) ≡ true };

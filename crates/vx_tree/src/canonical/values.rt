@@ -9,18 +9,18 @@ use crate::arrays::varbinview::{VarBinView, VarBinViewData};
 use crate::canonical::flat::FlatEncoding;
 use crate::native::{DecimalValues, PrimitiveValues};
 use crate::views::BinaryViews;
-use std::alloc::{AllocError, Global};
+use std::alloc::Global;
 use std::ops::Range;
 use vx_mask::BitBuffer;
-use vx_value::{ByteBuffer, DType, DecimalType};
+use vx_value::{ByteBuffer, DType, DecimalType, VortexResult};
 
 impl FlatEncoding for Bool {
-    fn no_values(alloc: Global, _dtype: &DType) -> Result<BoolData, AllocError> {
+    fn no_values(alloc: Global, _dtype: &DType) -> VortexResult<BoolData> {
         let bits = BitBuffer::repeat(alloc, false, 0)?;
         Ok(BoolData { bits })
     }
 
-    fn slice_values(payload: &BoolData, range: Range<usize>) -> Result<BoolData, AllocError> {
+    fn slice_values(payload: &BoolData, range: Range<usize>) -> VortexResult<BoolData> {
         Ok(BoolData {
             bits: payload.bits.slice(range)?,
         })
@@ -31,7 +31,7 @@ impl FlatEncoding for Bool {
 
 impl FlatEncoding for Primitive {
     #[tactic(auto, using(vx_value::proofs::DefaultsLemmas::zero_in_range))]
-    fn no_values(alloc: Global, dtype: &DType) -> Result<PrimitiveData, AllocError> {
+    fn no_values(alloc: Global, dtype: &DType) -> VortexResult<PrimitiveData> {
         let DType::Primitive(ptype, _) = dtype else {
             unreachable!()
         };
@@ -39,10 +39,7 @@ impl FlatEncoding for Primitive {
         Ok(PrimitiveData { values })
     }
 
-    fn slice_values(
-        payload: &PrimitiveData,
-        range: Range<usize>,
-    ) -> Result<PrimitiveData, AllocError> {
+    fn slice_values(payload: &PrimitiveData, range: Range<usize>) -> VortexResult<PrimitiveData> {
         Ok(PrimitiveData {
             values: payload.values.slice(range)?,
         })
@@ -52,7 +49,7 @@ impl FlatEncoding for Primitive {
 }
 
 impl FlatEncoding for Decimal {
-    fn no_values(alloc: Global, dtype: &DType) -> Result<DecimalData, AllocError> {
+    fn no_values(alloc: Global, dtype: &DType) -> VortexResult<DecimalData> {
         let DType::Decimal(decimal, _) = dtype else {
             unreachable!()
         };
@@ -61,7 +58,7 @@ impl FlatEncoding for Decimal {
         Ok(DecimalData { values })
     }
 
-    fn slice_values(payload: &DecimalData, range: Range<usize>) -> Result<DecimalData, AllocError> {
+    fn slice_values(payload: &DecimalData, range: Range<usize>) -> VortexResult<DecimalData> {
         Ok(DecimalData {
             values: payload.values.slice(range)?,
         })
@@ -71,15 +68,12 @@ impl FlatEncoding for Decimal {
 }
 
 impl FlatEncoding for VarBinView {
-    fn no_values(alloc: Global, _dtype: &DType) -> Result<VarBinViewData, AllocError> {
+    fn no_values(alloc: Global, _dtype: &DType) -> VortexResult<VarBinViewData> {
         let rows = BinaryViews::repeat(alloc, ByteBuffer::empty(), 0)?;
         Ok(VarBinViewData { rows })
     }
 
-    fn slice_values(
-        payload: &VarBinViewData,
-        range: Range<usize>,
-    ) -> Result<VarBinViewData, AllocError> {
+    fn slice_values(payload: &VarBinViewData, range: Range<usize>) -> VortexResult<VarBinViewData> {
         Ok(VarBinViewData {
             rows: payload.rows.slice(range)?,
         })

@@ -1,6 +1,7 @@
 //! Buffers of numbers, as lists of the integers that they stand for.
 
 ghost use Rattle.std.specs.Prelude.{◌≡◌, ◌<◌, ◌≤◌, map, length, IfOk, Some, true, slice_get, slice_range, replicate};
+ghost use Rattle.vx_value.specs.Errors.{OnlyOutOfMemory};
 ghost use Rattle.vx_tree.specs.Buffers.{native_in, numbers_in};
 ghost use Rattle.std.specs.List.{list_all};
 ghost use Rattle.vx_value.specs.Decimals.{has_digits};
@@ -13,7 +14,7 @@ use crate::native::{NativeBuffer, NativeKind, NativeNumber, NativeValues};
 use std::alloc::{AllocError, Global};
 use std::ops::Range;
 use vx_mask::{Buffer, Mask};
-use vx_value::DecimalDType;
+use vx_value::{DecimalDType, VortexResult};
 
 /// Returns the number at `index`, counted from 0. It must be in bounds.
 pub(crate) fn number_at<K: NativeKind, T: NativeNumber>(
@@ -29,45 +30,49 @@ pub(crate) fn number_at<K: NativeKind, T: NativeNumber>(
     buffer.as_slice()[index].widened()
 }
 
-/// Returns the numbers in `range`, which must be in order and in bounds. Shares their storage.
+/// Returns the numbers in `range`, which must be in order and in bounds. Shares their storage. Fails only with
+/// `OutOfMemory`.
 #[tactic(auto, using(crate::proofs::NativesLemmas::map_part))]
 pub(crate) fn part_of<K: NativeKind, T: NativeNumber>(
     kind: K,
     buffer: &Buffer<T>,
     range: Range<usize>,
-) -> Result<NativeValues<K>, AllocError>
+) -> VortexResult<NativeValues<K>>
     requires named { T.native ≡ K.native kind }
     requires order { range.start ≤ range.end }
     requires bounds { range.end ≤ length (map T.value buffer.now) }
-    ensures { IfOk result (λ part. part ≡ record { kind = kind; numbers = slice_range (map T.value buffer.now) range.start range.end }) }
+    ensures ok { IfOk result (λ part. part ≡ record { kind = kind; numbers = slice_range (map T.value buffer.now) range.start range.end }) }
+    ensures err { OnlyOutOfMemory result }
 {
     Ok(NativeValues::new(kind, buffer.slice(range)?))
 }
 
 /// Returns the numbers at the true bits of `mask`, in order; it must have a bit for each number. Shares their storage if the
-/// true bits are consecutive.
+/// true bits are consecutive. Fails only with `OutOfMemory`.
 #[tactic(auto, using(vx_mask::proofs::ChosenLemmas::chosen_map))]
 pub(crate) fn chosen_of<K: NativeKind, T: NativeNumber>(
     kind: K,
     buffer: &Buffer<T>,
     alloc: Global,
     mask: &Mask,
-) -> Result<NativeValues<K>, AllocError>
+) -> VortexResult<NativeValues<K>>
     requires named { T.native ≡ K.native kind }
     requires sized { length (bits_in mask.now) ≡ length (map T.value buffer.now) }
-    ensures { IfOk result (λ kept. kept ≡ record { kind = kind; numbers = chosen (bits_in mask.now) (map T.value buffer.now) }) }
+    ensures ok { IfOk result (λ kept. kept ≡ record { kind = kind; numbers = chosen (bits_in mask.now) (map T.value buffer.now) }) }
+    ensures err { OnlyOutOfMemory result }
 {
     Ok(NativeValues::new(kind, buffer.filter(alloc, mask)?))
 }
 
-/// Returns the numbers in `values` in shared storage, without copying them.
+/// Returns the numbers in `values` in shared storage, without copying them. Fails only with `OutOfMemory`.
 pub(crate) fn shared_of<K: NativeKind, T: NativeNumber>(
     alloc: Global,
     kind: K,
     values: Vec<T>,
-) -> Result<NativeValues<K>, AllocError>
+) -> VortexResult<NativeValues<K>>
     requires { T.native ≡ K.native kind }
-    ensures { IfOk result (λ shared. shared ≡ record { kind = kind; numbers = map T.value values.items }) }
+    ensures ok { IfOk result (λ shared. shared ≡ record { kind = kind; numbers = map T.value values.items }) }
+    ensures err { OnlyOutOfMemory result }
 {
     Ok(NativeValues::new(kind, Buffer::from_vec(alloc, values)?))
 }

@@ -2,6 +2,7 @@
 
 ghost use Rattle.std.specs.Prelude.{◌≡◌, ◌<◌, ◌≤◌, map, length, IfOk, Some, true, slice_get, slice_range, replicate};
 ghost use Rattle.std.specs.List.{list_all};
+ghost use Rattle.vx_value.specs.Errors.{OnlyOutOfMemory};
 ghost use Rattle.vx_value.specs.Decimals.{has_digits};
 ghost use Rattle.vx_mask.specs.Masks.{bits_in};
 ghost use Rattle.vx_mask.specs.Places.{chosen};
@@ -14,7 +15,7 @@ use std::alloc::{AllocError, Global};
 use std::marker::Model;
 use std::ops::Range;
 use vx_mask::{Buffer, Mask};
-use vx_value::{DecimalDType, DecimalType, PType};
+use vx_value::{DecimalDType, DecimalType, PType, VortexResult};
 
 /// Numbers of the native type that a kind names, in shared storage. (own)
 #[derive(Debug)]
@@ -97,20 +98,23 @@ impl<K: NativeKind> NativeValues<K> {
         by_native!(&self.buffer, |numbers| number_at(self.kind, numbers, index))
     }
 
-    /// Returns the values in `range`, which must be in order and in bounds. Shares their storage.
-    pub fn slice(&self, range: Range<usize>) -> Result<NativeValues<K>, AllocError>
+    /// Returns the values in `range`, which must be in order and in bounds. Shares their storage. Fails only with
+    /// `OutOfMemory`.
+    pub fn slice(&self, range: Range<usize>) -> VortexResult<NativeValues<K>>
         requires order { range.start ≤ range.end }
         requires bounds { range.end ≤ length self.now.numbers }
-        ensures { IfOk result (λ part. part ≡ record { kind = self.now.kind; numbers = slice_range self.now.numbers range.start range.end }) }
+        ensures ok { IfOk result (λ part. part ≡ record { kind = self.now.kind; numbers = slice_range self.now.numbers range.start range.end }) }
+        ensures err { OnlyOutOfMemory result }
     {
         by_native!(&self.buffer, |numbers| part_of(self.kind, numbers, range))
     }
 
     /// Returns the values at the true bits of `mask`, in order; it must have a bit for each value. Shares their storage if the
-    /// true bits are consecutive.
-    pub fn filter(&self, alloc: Global, mask: &Mask) -> Result<NativeValues<K>, AllocError>
+    /// true bits are consecutive. Fails only with `OutOfMemory`.
+    pub fn filter(&self, alloc: Global, mask: &Mask) -> VortexResult<NativeValues<K>>
         requires { length (bits_in mask.now) ≡ length self.now.numbers }
-        ensures { IfOk result (λ kept. kept ≡ record { kind = self.now.kind; numbers = chosen (bits_in mask.now) self.now.numbers }) }
+        ensures ok { IfOk result (λ kept. kept ≡ record { kind = self.now.kind; numbers = chosen (bits_in mask.now) self.now.numbers }) }
+        ensures err { OnlyOutOfMemory result }
     {
         by_native!(
             &self.buffer,
@@ -118,15 +122,12 @@ impl<K: NativeKind> NativeValues<K> {
         )
     }
 
-    /// Returns `len` copies of `wide`, which must fit the type that `kind` names. Takes one allocation. (own)
-    pub fn repeat(
-        alloc: Global,
-        kind: K,
-        wide: i128,
-        len: usize,
-    ) -> Result<NativeValues<K>, AllocError>
+    /// Returns `len` copies of `wide`, which must fit the type that `kind` names. Takes one allocation. Fails only with
+    /// `OutOfMemory`. (own)
+    pub fn repeat(alloc: Global, kind: K, wide: i128, len: usize) -> VortexResult<NativeValues<K>>
         requires { K.has kind wide ≡ true }
-        ensures { IfOk result (λ copies. copies ≡ record { kind = kind; numbers = replicate len wide }) }
+        ensures ok { IfOk result (λ copies. copies ≡ record { kind = kind; numbers = replicate len wide }) }
+        ensures err { OnlyOutOfMemory result }
     {
         let buffer = NativeBuffer::repeat(alloc, kind.native_type(), wide, len)?;
         Ok(NativeValues::of(kind, buffer))

@@ -1,6 +1,7 @@
 //! Vectors of any of the nine types.
 
 ghost use Rattle.std.specs.Prelude.{◌≡◌, ◌∷◌, [], ◌++◌, pos, map, replicate, true, IfOk, OnOk, OnErr};
+ghost use Rattle.vx_value.specs.Errors.{OnlyOutOfMemory};
 ghost use Rattle.vx_tree.specs.Ranges.{in_native};
 ghost use Rattle.vx_tree.specs.Vecs.{native_of_vec, numbers_of_vec};
 
@@ -10,6 +11,7 @@ use crate::native::number::fitted;
 use crate::native::{NativeKind, NativeNumber, NativeType, NativeValues};
 use std::alloc::{AllocError, Global};
 use std::marker::Model;
+use vx_value::VortexResult;
 
 /// A vector of numbers of one of the nine native types.
 #[derive(Debug, Drop)]
@@ -82,39 +84,41 @@ fn any_with_capacity(
 }
 
 impl<K: NativeKind> NativeVec<K> {
-    /// Makes an empty vector of numbers of the type that `kind` names, with room for `capacity` of them. Fails only if there is
-    /// no memory for them.
-    pub fn with_capacity(
-        alloc: Global,
-        kind: K,
-        capacity: usize,
-    ) -> Result<NativeVec<K>, AllocError>
-        ensures { IfOk result (λ v. v ≡ record { kind = kind; numbers = [] }) }
+    /// Makes an empty vector of numbers of the type that `kind` names, with room for `capacity` of them. Fails only
+    /// with `OutOfMemory`.
+    pub fn with_capacity(alloc: Global, kind: K, capacity: usize) -> VortexResult<NativeVec<K>>
+        ensures ok { IfOk result (λ v. v ≡ record { kind = kind; numbers = [] }) }
+        ensures err { OnlyOutOfMemory result }
     {
         let values = any_with_capacity(alloc, kind.native_type(), capacity)?;
         Ok(NativeVec { kind, values })
     }
 
-    /// Appends `wide`, which must fit the type. Fails only if there is no memory for it; the numbers are then unchanged.
-    pub fn push(&mut self, wide: i128) -> Result<(), AllocError>
+    /// Appends `wide`, which must fit the type. Fails only with `OutOfMemory`; the numbers are then unchanged.
+    pub fn push(&mut self, wide: i128) -> VortexResult<()>
         requires { K.has self.old.kind wide ≡ true }
         ensures ok { OnOk result (self.new ≡ record { kind = self.old.kind; numbers = self.old.numbers ++ wide ∷ [] }) }
         ensures err { OnErr result (self.new ≡ self.old) }
+        ensures memory { OnlyOutOfMemory result }
     {
-        for_natives!(over!(&mut self.values, AnyVec(values) => push_wide(values, wide)))
+        for_natives!(over!(&mut self.values, AnyVec(values) => push_wide(values, wide)))?;
+        Ok(())
     }
 
-    /// Appends 0 `count` times, in one allocation. Fails only if there is no memory for them; the numbers are then unchanged.
-    pub fn push_zeros(&mut self, count: usize) -> Result<(), AllocError>
+    /// Appends 0 `count` times, in one allocation. Fails only with `OutOfMemory`; the numbers are then unchanged.
+    pub fn push_zeros(&mut self, count: usize) -> VortexResult<()>
         ensures ok { OnOk result (self.new ≡ record { kind = self.old.kind; numbers = self.old.numbers ++ replicate count (pos 0) }) }
         ensures err { OnErr result (self.new ≡ self.old) }
+        ensures memory { OnlyOutOfMemory result }
     {
-        for_natives!(over!(&mut self.values, AnyVec(values) => push_zeros(values, count)))
+        for_natives!(over!(&mut self.values, AnyVec(values) => push_zeros(values, count)))?;
+        Ok(())
     }
 
-    /// Returns the numbers in shared storage, without copying them. Fails only if there is no memory for the reference count.
-    pub fn into_values(self, alloc: Global) -> Result<NativeValues<K>, AllocError>
-        ensures { IfOk result (λ v. v ≡ self) }
+    /// Returns the numbers in shared storage, without copying them. Fails only with `OutOfMemory`.
+    pub fn into_values(self, alloc: Global) -> VortexResult<NativeValues<K>>
+        ensures ok { IfOk result (λ v. v ≡ self) }
+        ensures err { OnlyOutOfMemory result }
     {
         let NativeVec { kind, values } = self;
         for_natives!(over!(values, AnyVec(values) => shared_of(alloc, kind, values)))

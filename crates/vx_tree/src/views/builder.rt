@@ -1,13 +1,14 @@
 //! Building columns of bytes row by row.
 
 ghost use Rattle.std.specs.Prelude.{◌≡◌, ◌∷◌, [], ◌++◌, IfOk, OnOk, OnErr, replicate};
+ghost use Rattle.vx_value.specs.Errors.{OnlyOutOfMemory};
 ghost use Rattle.vx_tree.specs.Views.{packed};
 
 use crate::views::view::View;
 use crate::views::views::BinaryViews;
 use std::alloc::{AllocError, Global};
 use std::marker::Model;
-use vx_value::ByteBuffer;
+use vx_value::{ByteBuffer, VortexResult};
 
 /// Builds a `BinaryViews` with one data buffer. (own)
 #[derive(Debug, Drop)]
@@ -71,12 +72,14 @@ impl BinaryBuilder {
         Ok(())
     }
 
-    /// Returns the rows as a column with one data buffer, in which they follow one another, without copying them. Fails only
-    /// if there is no memory for the list of one buffer or the reference counts.
-    pub fn finish(self, alloc: Global) -> Result<BinaryViews, AllocError>
-        ensures { IfOk result (λ column. column ≡ packed self) }
+    /// Returns the rows as a column with one data buffer, in which they follow one another, without copying them. Fails only with
+    /// `OutOfMemory`.
+    pub fn finish(self, alloc: Global) -> VortexResult<BinaryViews>
+        ensures ok { IfOk result (λ column. column ≡ packed self) }
+        ensures err { OnlyOutOfMemory result }
     {
         let BinaryBuilder { views, bytes } = self;
-        BinaryViews::of_one_buffer(alloc, views, ByteBuffer::from_vec(alloc, bytes)?)
+        let bytes = ByteBuffer::from_vec(alloc, bytes)?;
+        Ok(BinaryViews::of_one_buffer(alloc, views, bytes)?)
     }
 }

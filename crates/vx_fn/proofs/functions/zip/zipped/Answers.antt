@@ -14,7 +14,7 @@ typed : (c : In_ok-dtype) → let s = c.args.if_true.now.of_type in
     type_of c.in_ok-dtype.dtype ≡ with_nullability (union (nullability_of s) (nullability_of c.args.if_false.now.of_type)) s
 typed c =
     let s = c.dtype.ensures.dtype in
-    c.in_ok-dtype.ensures
+    c.in_ok-dtype.ensures.ok
     ∙ (λ i. with_nullability (union (nullability_of (s i)) ((c.nullability.ensures ∙ ap nullability_of c.dtype-2.ensures.dtype) i)) (s i))
 
 pub retyped-requires : goal.retyped-requires

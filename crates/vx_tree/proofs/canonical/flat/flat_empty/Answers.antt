@@ -8,10 +8,10 @@ use Rattle.vx_tree.proofs.canonical.flat.flat_empty.Goals as goal
 
 pub over-requires : goal.over-requires
 over-requires g c =
-    subst (λ x. x) (λ i. IsNode (type_of (sym c.in_ok-clone.ensures.cases i)) 0 (sym c.in_ok-payload.ensures i) (None ∷ []))
+    subst (λ x. x) (λ i. IsNode (type_of (sym c.in_ok-clone.ensures.cases i)) 0 (sym c.in_ok-payload.ensures.ok i) (None ∷ []))
     (no_rows_node (type_of c.args.dtype.now) c.requires.stored)
 
 pub returns-clause-ok : goal.returns-clause-ok
 returns-clause-ok g c =
-    IfOk-weaker c.over.result _ _ (λ u made. made ∙ (λ i. column (type_of (c.in_ok-clone.ensures.cases i)) 0 (c.in_ok-payload.ensures i) None)
+    IfOk-weaker c.over.result _ _ (λ u made. made ∙ (λ i. column (type_of (c.in_ok-clone.ensures.cases i)) 0 (c.in_ok-payload.ensures.ok i) None)
     ∙ no_rows_column (type_of c.args.dtype.now) c.requires.stored) c.over.ensures.ok

@@ -27,7 +27,7 @@ cut g c =
     let typed : type_of c.in_ok-dtype.dtype ≡ dtype c.args.column.now = search rules in
     flat_cut c.args.range.start c.args.range.end c.args.column.now c.flat_validity-validity.result.now c.in_ok-validity.validity (type_of c.in_ok-dtype.dtype)
     (g.V.EncodingVariant.stands_for c.in_ok-payload.payload) (g.V.EncodingVariant.stands_for c.data.result.now) e.formed e.slot c.requires.0 c.requires.1 e.flat
-    c.in_ok-validity.ensures.ok typed c.in_ok-payload.ensures c.data.ensures
+    c.in_ok-validity.ensures.ok typed c.in_ok-payload.ensures.ok c.data.ensures
 
 pub over-requires : goal.over-requires
 over-requires g c = (cut g c).0

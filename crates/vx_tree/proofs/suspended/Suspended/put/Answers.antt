@@ -25,8 +25,8 @@ invariant_of-result c =
     (ap is_ok c.in_ok-root.was))
     (subst IsNodeOf (sym filled) c.requires.fits, subst (λ xs. AreWell (slots_of xs)) c.deref.ensures.value c.know_well.ensures)
 
-pub returns : goal.returns
-returns c =
+pub returns-clause-ok : goal.returns-clause-ok
+returns-clause-ok c =
     let n = c.in_ok-root.root.now in
     let same = own_or_copy tree_of n c.self.inside.node.value c.args.self c.in_ok-root.ensures.value c.self.view_is in
     rw (c.make_mut.follows.holds (record { dtype = n.dtype; len = n.len; encoding = n.encoding; slots = with_item n.slots c.args.slot (Some c.args.child) })

@@ -21,8 +21,8 @@ unreachable-requires c =
     present_some n.slots.items c.args.slot c.index_mut.result.now (subst (λ x. IsPresent c.args.slot x) (sym same) c.requires)
     (sym c.index_mut.ensures.value ∙ sym c.take-taken.ensures.value ∙ c.in_default.is)
 
-pub returns : goal.returns
-returns c =
+pub returns-clause-ok : goal.returns-clause-ok
+returns-clause-ok c =
     let n = c.in_ok-root.root.now in
     let same = own_or_copy tree_of n c.into_root-node.result.value c.args.self c.in_ok-root.ensures.value c.into_root-node.ensures in
     rw (c.make_mut.follows.holds (record { dtype = n.dtype; len = n.len; encoding = n.encoding; slots = with_item n.slots c.args.slot c.take-taken.new.self })

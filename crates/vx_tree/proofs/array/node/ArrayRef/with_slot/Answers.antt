@@ -23,7 +23,7 @@ index_mut-requires c =
     c.in-Some.ensures.lookup.1 in
     let within : c.args.slot < length n.slots.items =
     slot_within (type_of n.dtype) n.len
-    (data_of n.encoding) n.slots.items c.args.self c.in_ok-node.ensures c.args.slot c.args.child (same ∙ c.in_ok-check_slot.ensures) in
+    (data_of n.encoding) n.slots.items c.args.self c.in_ok-node.ensures.ok c.args.slot c.args.child (same ∙ c.in_ok-check_slot.ensures) in
     omega (arith, n.slots.ok.0)
 
 pub into_array-requires : goal.into_array-requires
@@ -32,13 +32,13 @@ into_array-requires c =
     let same = slot_found c.slots.result.now c.args.slot c.args.child c.args.self c.slots.ensures c.in-Some.old.now c.in-Some.ensures.lookup.3.0
     c.in-Some.ensures.lookup.1 in
     slot_replaced (type_of n.dtype) n.len
-    (data_of n.encoding) n.slots.items c.args.self c.in_ok-node.ensures c.well_formed_tree.ensures.formed c.args.slot c.args.child (same ∙ c.in_ok-check_slot.ensures)
+    (data_of n.encoding) n.slots.items c.args.self c.in_ok-node.ensures.ok c.well_formed_tree.ensures.formed c.args.slot c.args.child (same ∙ c.in_ok-check_slot.ensures)
 
 pub returns-clause-ok : goal.returns-clause-ok
 returns-clause-ok c =
     let n = c.in_ok-node.node in
-    c.in_ok-into_array.ensures ∙ slot_filled (type_of n.dtype) n.len
-    (data_of n.encoding) n.slots.items c.args.slot c.args.child c.args.self c.in_ok-node.ensures
+    c.in_ok-into_array.ensures.ok ∙ slot_filled (type_of n.dtype) n.len
+    (data_of n.encoding) n.slots.items c.args.slot c.args.child c.args.self c.in_ok-node.ensures.ok
 
 pub returns-clause-valid : goal.returns-clause-valid
 returns-clause-valid c =

@@ -26,12 +26,12 @@ into_array-requires c =
     let same = slots_counted c.args.slots.items c.slots-old.result.now c.args.self c.slots-old.ensures alike in
     let taken : with_slots_refusal (slots_of c.args.slots.items) c.args.self ≡ None = same ∙ rw c.deref.ensures.value at c.in_ok-check_slots.ensures in
     all_replaced (type_of n.dtype) n.len
-    (data_of n.encoding) n.slots.items c.args.self c.in_ok-node.ensures c.well_formed_tree.ensures.formed (slots_of c.args.slots.items) taken
+    (data_of n.encoding) n.slots.items c.args.self c.in_ok-node.ensures.ok c.well_formed_tree.ensures.formed (slots_of c.args.slots.items) taken
 
 pub returns-clause-ok : goal.returns-clause-ok
 returns-clause-ok c =
     let n = c.in_ok-node.node in
-    c.in_ok-into_array.ensures ∙ all_put (type_of n.dtype) n.len (data_of n.encoding) n.slots.items c.args.self c.in_ok-node.ensures
+    c.in_ok-into_array.ensures.ok ∙ all_put (type_of n.dtype) n.len (data_of n.encoding) n.slots.items c.args.self c.in_ok-node.ensures.ok
     (slots_of c.args.slots.items)
 
 pub returns-clause-valid : goal.returns-clause-valid

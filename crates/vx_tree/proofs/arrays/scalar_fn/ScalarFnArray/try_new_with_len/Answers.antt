@@ -29,7 +29,7 @@ returns-clause-ok c =
     let typed : tys ≡ types_in (shapes ss) = search rules in
     let row : return_type c.args.scalar_fn tys ≡ Some (type_of c.in_ok-dtype.dtype) = search rules in
     let made = call_made c.args.scalar_fn c.args.children.items c.args.len ss c.in_ok-slots.ensures tys typed (type_of c.in_ok-dtype.dtype) row in
-    made ∙ ap Some (sym c.in_ok-of.ensures)
+    made ∙ ap Some (sym c.in_ok-of.ensures.ok)
 
 pub returns-clause-valid : goal.returns-clause-valid
 returns-clause-valid c =
