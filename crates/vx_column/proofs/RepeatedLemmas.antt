@@ -23,7 +23,7 @@ use Rattle.std.specs.Str.{is_utf8}
 use Rattle.std.specs.Cmp.{first_so}
 use Rattle.std.proofs.lemmas.Bool.{and_from}
 use Rattle.vx_tree.specs.ColumnTypes.{bytes_type, are_bytes_of}
-use Rattle.vx_tree.specs.Tree.{Tree, Data, bool, primitive, views, slots_of, column, constant_of, decimals}
+use Rattle.vx_tree.specs.Tree.{Tree, Data, node, len, datum, constant, bool, primitive, views, slots_of, column, constant_of, decimals}
 use Rattle.vx_tree.specs.Cells.{rows, slots_rows, node_cells, cells_at, valid_cells, AreClean}
 use Rattle.vx_tree.specs.Canonicals.{canonical_tree}
 use Rattle.vx_tree.specs.Keeps.{KeepsExactly}
@@ -37,7 +37,7 @@ use Rattle.vx_tree.proofs.NativesLemmas.{map_copies}
 use Rattle.vx_column.specs.Stored.{boolean_column, integer_column, bytes_column, decimal_column}
 use Rattle.vx_column.proofs.KeepsLemmas.{same_exactly, any_rows, copies_clean}
 use Rattle.vx_column.proofs.StoredLemmas.{column_of_bytes, stored_boolean, stored_number, stored_as_bytes, stored_decimal}
-use Rattle.vx_column.specs.Expanded.{repeated_validity, expanded, expanded_stored}
+use Rattle.vx_column.specs.Expanded.{repeated_validity, expanded, expanded_stored, expansion}
 use Rattle.vx_value.specs.declared.decimal.DecimalDType.{DecimalDType}
 use Rattle.vx_value.specs.declared.decimal.DecimalType.{DecimalType}
 use Rattle.vx_column.specs.Arguments.{stored_decimals, unscaled_of}
@@ -178,3 +178,6 @@ bytes_expanded s n _ (inr e) = absurd (cc)
 pub some_expanded : (s : Typed) (n : ℕ) → (n == 0) ≡ false → expanded_stored (storage_of s.of_type) s n ≡ expanded s n
 some_expanded s zero h = absurd (cc)
 some_expanded s (suc n) h = refl
+
+pub expansion_of : (t : Tree) (s : Typed) → constant s ≡ datum t → expanded s (len t) ≡ expansion t
+expansion_of (node ty n d ss) s e = ap (λ x. expansion (node ty n x ss)) e

@@ -8,7 +8,7 @@ use Rattle.vx_value.specs.Storage.{storage_of}
 use Rattle.vx_value.specs.Decimals.{smallest_width}
 use Rattle.vx_value.specs.declared.dtype.Storage.{Storage}
 use Rattle.vx_value.specs.declared.dtype.Storage.TheVariants.{Nulls, Bits, Integers, Decimals, Text, Bytes}
-use Rattle.vx_tree.specs.Tree.{Tree, nulls_of}
+use Rattle.vx_tree.specs.Tree.{Tree, node, constant, nulls_of}
 use Rattle.vx_tree.specs.Columns.{empty_of}
 use Rattle.vx_tree.specs.Validities.{without_nulls}
 use Rattle.vx_tree.specs.declared.validity.Validity.{Validity}
@@ -34,3 +34,8 @@ expanded_stored Bytes s n = bytes_column Bytes (repeated n (unwrap_or (bytes_in 
 abbrev pub expanded : Typed → ℕ → Tree
 expanded s zero = empty_of s.of_type
 expanded s (suc n) = expanded_stored (storage_of s.of_type) s (suc n)
+
+-- the canonical column of a constant; any other tree is itself
+abbrev pub expansion : Tree → Tree
+expansion (node ty n (constant s) ss) = expanded s n
+expansion t = t

@@ -3,10 +3,10 @@
 ghost use Rattle.std.specs.Prelude.{◌≡◌, IfOk};
 ghost use Rattle.vx_value.specs.Errors.{OnlyOutOfMemory};
 ghost use Rattle.vx_value.specs.Storage.{storage_of};
-ghost use Rattle.vx_tree.specs.Tree.{datum, len, constant, constant_of};
+ghost use Rattle.vx_tree.specs.Tree.{constant_of};
 ghost use Rattle.vx_tree.specs.Canonicals.{canonical_tree};
 ghost use Rattle.vx_tree.specs.Keeps.{KeepsExactly};
-ghost use Rattle.vx_column.specs.Expanded.{repeated_validity, expanded, expanded_stored};
+ghost use Rattle.vx_column.specs.Expanded.{repeated_validity, expanded_stored, expansion};
 
 use crate::rows::{bool_column, decimal_column, primitive_column, unscaled_of, varbinview_column};
 use std::alloc::Global;
@@ -19,20 +19,21 @@ use vx_value::{ByteBuffer, DType, DecimalType, Scalar, Storage, VortexResult};
 
 /// Expands `array` to a canonical column. Allocates the rows once, before any is written; the bytes of a text or a binary value
 /// are stored once. Fails only with `OutOfMemory`.
+#[tactic(auto, using(crate::proofs::RepeatedLemmas::expansion_of))]
 pub fn constant_canonicalize(
     alloc: Global,
     array: ArrayView<'_, Constant>,
 ) -> VortexResult<Canonical>
-    requires payload { constant array.payload.now.scalar ≡ datum array.array.now }
     ensures ok { IfOk result (λ c. KeepsExactly array.entry.array.now (canonical_tree c)) }
-    ensures layout { IfOk result (λ c. canonical_tree c ≡ expanded array.entry.payload.now.scalar (len array.entry.array.now)) }
+    ensures layout { IfOk result (λ c. canonical_tree c ≡ expansion array.entry.array.now) }
     ensures err { OnlyOutOfMemory result }
 {
-    array.array.well_formed_tree();
+    array.array().well_formed_tree();
+    let scalar = array.data().scalar();
     if array.is_empty() {
         Canonical::empty(alloc, array.dtype())
     } else {
-        repeat(alloc, array.payload.scalar(), array.len())
+        repeat(alloc, scalar, array.len())
     }
 }
 

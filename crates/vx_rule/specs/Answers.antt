@@ -2,14 +2,10 @@
 use Rattle.std.specs.Prelude.{◌≡◌, ℕ, Option, Some, None, Result, Ok, Err}
 use Rattle.vx_value.specs.declared.error.VortexError.{VortexError}
 use Rattle.vx_value.specs.declared.error.VortexError.TheVariants.{OutOfMemory}
-use Rattle.vx_tree.specs.Tree.{Tree, Data, datum, slots}
-use Rattle.vx_tree.specs.Slots.{HasSlot, present_from}
+use Rattle.vx_tree.specs.Tree.{Tree, slots}
+use Rattle.vx_tree.specs.Slots.{present_from}
 use Rattle.vx_rule.specs.Rules.{Row, IsQuiet}
 use Rattle.vx_rule.specs.declared.raw_node.RawNode.{RawNode}
-
--- slot i of t holds c, whose own data is d
-abbrev pub HoldsWith : Data → Tree → ℕ → Tree → Type 0
-HoldsWith d c i t = (d ≡ datum c) × HasSlot i c t
 
 -- the answer is that of a row of the table, or None if no row fits
 abbrev pub IsAnswer : Option ℕ → Tree → Option RawNode → Type 0

@@ -2,8 +2,9 @@
 
 ghost use Rattle.std.specs.Prelude.{◌≡◌, Bool, IfOk, Some, None, true, false};
 ghost use Rattle.vx_value.specs.Errors.{OnlyOutOfMemory};
-ghost use Rattle.vx_tree.specs.Tree.{Tree, datum};
-ghost use Rattle.vx_rule.specs.Answers.{HoldsWith, Answers};
+ghost use Rattle.vx_tree.specs.Tree.{Tree};
+ghost use Rattle.vx_tree.specs.Slots.{HasSlot};
+ghost use Rattle.vx_rule.specs.Answers.{Answers};
 
 use crate::raw_node::RawNode;
 use std::alloc::Global;
@@ -19,7 +20,6 @@ pub trait ArrayReduceRule<V: VTable> {
     /// Returns the answer for `array` if the rule covers it: `None` exactly if no row fits. `None` if the rule doesn't cover
     /// it. Fails only with `OutOfMemory`.
     fn reduce(&self, alloc: Global, array: &ArrayView<'_, V>) -> VortexResult<Option<RawNode>>
-        requires payload { V.stands_for array.now.payload.now ≡ datum array.now.array.now }
         ensures answer { covers array.now.array.now ≡ true → Answers None array.now.array.now result }
         ensures other { covers array.now.array.now ≡ false → IfOk result (λ o. o ≡ None) }
         ensures err { OnlyOutOfMemory result };
@@ -39,7 +39,7 @@ pub trait ArrayParentReduceRule<V: VTable> {
         slot: usize,
     ) -> VortexResult<Option<RawNode>>
         requires fits { Self.Parent.fits parent.now ≡ true }
-        requires slot { HoldsWith (V.stands_for child.now.payload.now) child.now.array.now slot parent.now }
+        requires slot { HasSlot slot child.now.array.now parent.now }
         ensures { Answers (Some slot) parent.now result };
 }
 
@@ -60,7 +60,7 @@ pub trait DynArrayParentReduceRule<V: VTable> {
         parent: &ArrayRef,
         slot: usize,
     ) -> VortexResult<Option<RawNode>>
-        requires { HoldsWith (V.stands_for child.now.payload.now) child.now.array.now slot parent.now }
+        requires { HasSlot slot child.now.array.now parent.now }
         ensures answer { covers parent.now ≡ true → Answers (Some slot) parent.now result }
         ensures other { covers parent.now ≡ false → IfOk result (λ o. o ≡ None) }
         ensures err { OnlyOutOfMemory result };

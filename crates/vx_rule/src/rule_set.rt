@@ -1,8 +1,8 @@
 //! The rules of each encoding, as sets.
 
 ghost use Rattle.std.specs.Prelude.{◌≡◌, Some, None};
-ghost use Rattle.vx_tree.specs.Tree.{datum};
-ghost use Rattle.vx_rule.specs.Answers.{HoldsWith, Answers};
+ghost use Rattle.vx_tree.specs.Slots.{HasSlot};
+ghost use Rattle.vx_rule.specs.Answers.{Answers};
 
 use crate::raw_node::RawNode;
 use std::alloc::Global;
@@ -14,7 +14,6 @@ use vx_value::VortexResult;
 pub trait ReduceVTable: VTable {
     /// Returns the answer of `array` itself: `None` exactly if no row fits. Fails only with `OutOfMemory`. (own)
     fn reduce(alloc: Global, array: &ArrayView<'_, Self>) -> VortexResult<Option<RawNode>>
-        requires payload { Self.stands_for array.now.payload.now ≡ datum array.now.array.now }
         ensures { Answers None array.now.array.now result };
 
     /// Returns the answer of `child`, which is in `slot` of `parent`: `None` exactly if no row fits there. Fails only with
@@ -25,7 +24,7 @@ pub trait ReduceVTable: VTable {
         parent: &ArrayRef,
         slot: usize,
     ) -> VortexResult<Option<RawNode>>
-        requires { HoldsWith (Self.stands_for child.now.payload.now) child.now.array.now slot parent.now }
+        requires { HasSlot slot child.now.array.now parent.now }
         ensures { Answers (Some slot) parent.now result };
 }
 
@@ -45,7 +44,6 @@ impl<V: ReduceVTable> ReduceRuleSet<V> {
 
     /// Returns the answer of `array` itself: `None` exactly if no row fits. Fails only with `OutOfMemory`.
     pub fn evaluate(&self, alloc: Global, array: &ArrayView<'_, V>) -> VortexResult<Option<RawNode>>
-        requires payload { V.stands_for array.now.payload.now ≡ datum array.now.array.now }
         ensures { Answers None array.now.array.now result }
     {
         V::reduce(alloc, array)
@@ -75,7 +73,7 @@ impl<V: ReduceVTable> ParentRuleSet<V> {
         parent: &ArrayRef,
         slot: usize,
     ) -> VortexResult<Option<RawNode>>
-        requires { HoldsWith (V.stands_for child.now.payload.now) child.now.array.now slot parent.now }
+        requires { HasSlot slot child.now.array.now parent.now }
         ensures { Answers (Some slot) parent.now result }
     {
         V::reduce_parent(alloc, child, parent, slot)

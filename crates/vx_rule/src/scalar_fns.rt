@@ -19,7 +19,9 @@ pub trait ScalarFnTag {
 }
 
 /// Matches the nodes of the function that `F` names.
+#[derive_where(Debug, Default)]
 pub struct ExactScalarFn<F> {
+    #[derive_where(skip(Debug))]
     tag: PhantomData<F>,
 }
 

@@ -4,7 +4,7 @@ ghost use Rattle.std.specs.Prelude.{◌≡◌, IfOk, None, Some};
 ghost use Rattle.vx_value.specs.Errors.{OnlyOutOfMemory};
 ghost use Rattle.vx_tree.specs.Tree.{datum};
 ghost use Rattle.vx_tree.specs.Slots.{HasSlot};
-ghost use Rattle.vx_rule.specs.Answers.{HoldsWith, IsAnswer};
+ghost use Rattle.vx_rule.specs.Answers.{IsAnswer};
 
 use crate::raw_node::RawNode;
 use crate::rule_set::{ParentRuleSet, ReduceRuleSet, ReduceVTable};
@@ -23,8 +23,7 @@ fn evaluate<V: ReduceVTable>(
     ensures answer { IfOk result (λ o. IsAnswer None array.now o) }
     ensures err { OnlyOutOfMemory result }
 {
-    let view: ArrayView<'_, V> = ArrayView { array, payload };
-    ReduceRuleSet::new().evaluate(alloc, &view)
+    ReduceRuleSet::<V>::new().evaluate(alloc, &ArrayView::new(array, payload))
 }
 
 /// Returns the answer of `child`, which is in `slot` of `parent`, by the rules of `V`, its encoding, whose data is `payload`.
@@ -36,15 +35,12 @@ fn evaluate_child<V: ReduceVTable>(
     slot: usize,
     payload: &V::TypedArrayData,
 ) -> VortexResult<Option<RawNode>>
-    requires { HoldsWith (V.stands_for payload.now) child.now slot parent.now }
+    requires data { V.stands_for payload.now ≡ datum child.now }
+    requires slot { HasSlot slot child.now parent.now }
     ensures answer { IfOk result (λ o. IsAnswer (Some slot) parent.now o) }
     ensures err { OnlyOutOfMemory result }
 {
-    let view: ArrayView<'_, V> = ArrayView {
-        array: child,
-        payload,
-    };
-    ParentRuleSet::new().evaluate(alloc, &view, parent, slot)
+    ParentRuleSet::<V>::new().evaluate(alloc, &ArrayView::new(child, payload), parent, slot)
 }
 
 /// Returns the answer of `array` itself, by the rows F1 to F3, C1 and N1: `None` exactly if none of them fits. Fails only with

@@ -6,8 +6,8 @@ use std::test::Fail;
 use vx_fn::ScalarFnRef;
 use vx_mask::{BitBuffer, Buffer, Mask};
 use vx_tree::{
-    Array, ArrayRef, BinaryViews, BoolArray, ConstantArray, DecimalArray, DecimalType,
-    DecimalValues, FilterArray, IntoArray, MaskedArray, NullArray, PrimitiveArray, PrimitiveValues,
+    Array, ArrayRef, BinaryViews, BoolArray, Canonical, CanonicalView, Columnar, ColumnarView,
+    ConstantArray, DecimalArray, DecimalType, DecimalValues, FilterArray, IntoArray, MaskedArray, NullArray, PrimitiveArray, PrimitiveValues,
     ScalarFnArray, ScalarFnValidityArray, SliceArray, VTable, Validity, VarBinViewArray, View,
 };
 use vx_value::{
@@ -142,5 +142,39 @@ fn unshared(alloc: Global) -> VortexResult<ArrayRef> {
 fn handles_are_owned(rt: HostRuntime) -> Result<(), Fail> {
     assert!(rt; owned(rt.alloc())?.len() == 3);
     assert!(rt; unshared(rt.alloc())?.len() == 3);
+    Ok(())
+}
+
+fn column_back(alloc: Global) -> VortexResult<Canonical> {
+    let column = Canonical::Primitive(integers(alloc)?);
+    Canonical::try_from(CanonicalView::from(&column))
+}
+
+fn constant_back(alloc: Global) -> VortexResult<Columnar> {
+    let column = Columnar::constant(alloc, seven(), 2)?;
+    Columnar::try_from(ColumnarView::from(&column))
+}
+
+fn canonical_tree(array: &ArrayRef) -> VortexResult<ArrayRef> {
+    match array.as_canonical() {
+        Some(column) => column.to_array_ref(),
+        None => Err(VortexError::InvalidArgument(ArgKind::BadValue)),
+    }
+}
+
+fn columnar_tree(array: &ArrayRef) -> VortexResult<ArrayRef> {
+    match array.as_columnar() {
+        Some(column) => column.to_array_ref(),
+        None => Err(VortexError::InvalidArgument(ArgKind::BadValue)),
+    }
+}
+
+#[test]
+fn columns_are_borrowed(rt: HostRuntime) -> Result<(), Fail> {
+    let tree = integers(rt.alloc())?.into_array();
+    assert!(rt; column_back(rt.alloc())?.len() == 3);
+    assert!(rt; constant_back(rt.alloc())?.len() == 2);
+    assert!(rt; canonical_tree(&tree)?.len() == 3);
+    assert!(rt; columnar_tree(&other(rt.alloc())?)?.len() == 3);
     Ok(())
 }

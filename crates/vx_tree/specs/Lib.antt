@@ -42,3 +42,4 @@ pub mod Natives
 pub mod DecimalNumbers
 pub mod Views
 pub mod Canonicals
+pub mod BorrowedColumns

@@ -16,7 +16,7 @@ use Rattle.std.specs.Prelude.{◌||◌, ℕ, List}
 use Rattle.vx_value.specs.declared.id.Id.{Id}
 use Rattle.vx_tree.specs.Meanings.{Meaning}
 pub use Rattle.vx_tree.specs.Tree.Nodes.{Data, Tree, node, Slots, no_slots, absent, slot, slots_of, filled_slots, column, dtype, len, datum, slots}
-pub use Rattle.vx_tree.specs.Tree.Nodes.{height, slots_height, coded_tree}
+pub use Rattle.vx_tree.specs.Tree.Nodes.{height, slots_height, coded_data, coded_tree}
 pub use Rattle.vx_tree.specs.Tree.Constant.{constant, constant_of, is_constant, constant_refusal, constant_validity, constant_meaning}
 pub use Rattle.vx_tree.specs.Tree.Slice.{slice, slice_of, is_slice, slice_refusal, slice_meaning}
 pub use Rattle.vx_tree.specs.Tree.Filter.{filter, filter_of, is_filter, filter_refusal, filter_meaning}

@@ -30,7 +30,7 @@ pub use arrays::scalar_fn::{ScalarFn, ScalarFnArray, ScalarFnData};
 pub use arrays::scalar_fn_validity::{EmptyArrayData, ScalarFnValidity, ScalarFnValidityArray};
 pub use arrays::slice::{Slice, SliceArray, SliceData, SliceDataParts};
 pub use arrays::varbinview::{VarBinView, VarBinViewArray, VarBinViewData, bytes_type};
-pub use canonical::{Canonical, Columnar, slice_canonical};
+pub use canonical::{Canonical, CanonicalView, Columnar, ColumnarView, slice_canonical};
 pub use laws::{
     choice_laws, column_laws, execution_bounds, keeping_laws, node_validity_laws, refused_exactly,
     validity_laws, weight_laws,

@@ -2,7 +2,6 @@
 
 ghost use Rattle.std.specs.Prelude.{◌≡◌, Some, ◌∷◌, []};
 ghost use Rattle.vx_fn.specs.declared.function.ScalarFnRef.TheVariants as fn_of;
-ghost use Rattle.vx_tree.specs.Tree.{datum};
 ghost use Rattle.vx_rule.specs.Calls.{IsCallOf};
 ghost use Rattle.vx_rule.specs.Answers.{Answers};
 
@@ -25,7 +24,6 @@ pub trait MaskReduce: VTable {
         parent: &ArrayRef,
         mask: &ArrayRef,
     ) -> VortexResult<Option<RawNode>>
-        requires payload { Self.stands_for array.now.payload.now ≡ datum array.now.array.now }
         requires call { IsCallOf fn_of.Mask (array.now.array.now ∷ mask.now ∷ []) parent.now }
         ensures { Answers (Some 0) parent.now result };
 }
@@ -40,7 +38,6 @@ pub trait CastReduce: VTable {
         parent: &ArrayRef,
         dtype: &DType,
     ) -> VortexResult<Option<RawNode>>
-        requires payload { Self.stands_for array.now.payload.now ≡ datum array.now.array.now }
         requires call { IsCallOf (fn_of.Cast dtype.now) (array.now.array.now ∷ []) parent.now }
         ensures { Answers (Some 0) parent.now result };
 }
@@ -53,7 +50,6 @@ pub trait NotReduce: VTable {
         array: &ArrayView<'_, Self>,
         parent: &ArrayRef,
     ) -> VortexResult<Option<RawNode>>
-        requires payload { Self.stands_for array.now.payload.now ≡ datum array.now.array.now }
         requires call { IsCallOf fn_of.Not (array.now.array.now ∷ []) parent.now }
         ensures { Answers (Some 0) parent.now result };
 }
@@ -70,7 +66,6 @@ pub trait BetweenReduce: VTable {
         upper: &ArrayRef,
         options: &BetweenOptions,
     ) -> VortexResult<Option<RawNode>>
-        requires payload { Self.stands_for array.now.payload.now ≡ datum array.now.array.now }
         requires call { IsCallOf (fn_of.Between options.now) (array.now.array.now ∷ lower.now ∷ upper.now ∷ []) parent.now }
         ensures { Answers (Some 0) parent.now result };
 }
@@ -85,7 +80,6 @@ pub trait FillNullReduce: VTable {
         parent: &ArrayRef,
         fill_value: &ArrayRef,
     ) -> VortexResult<Option<RawNode>>
-        requires payload { Self.stands_for array.now.payload.now ≡ datum array.now.array.now }
         requires call { IsCallOf fn_of.FillNull (array.now.array.now ∷ fill_value.now ∷ []) parent.now }
         ensures { Answers (Some 0) parent.now result };
 }

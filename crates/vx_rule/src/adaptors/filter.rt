@@ -2,7 +2,7 @@
 
 ghost use Rattle.std.specs.Prelude.{◌≡◌, Some, length};
 ghost use Rattle.vx_mask.specs.Masks.{bits_in};
-ghost use Rattle.vx_tree.specs.Tree.{len, datum, filter_of};
+ghost use Rattle.vx_tree.specs.Tree.{len, filter_of};
 ghost use Rattle.vx_rule.specs.Answers.{Answers};
 
 use crate::raw_node::RawNode;
@@ -21,7 +21,6 @@ pub trait FilterReduce: VTable {
         array: &ArrayView<'_, Self>,
         mask: &Mask,
     ) -> VortexResult<Option<RawNode>>
-        requires payload { Self.stands_for array.now.payload.now ≡ datum array.now.array.now }
         requires long { length (bits_in mask.now) ≡ len array.now.array.now }
         ensures { Answers (Some 0) (filter_of (bits_in mask.now) array.now.array.now) result };
 }

@@ -22,7 +22,6 @@ pub trait SliceReduce: VTable {
         array: &ArrayView<'_, Self>,
         range: Range<usize>,
     ) -> VortexResult<Option<RawNode>>
-        requires payload { Self.stands_for array.now.payload.now ≡ datum array.now.array.now }
         requires part { IsPartOf range.start range.end array.now.array.now }
         ensures { Answers (Some 0) (slice_of range.start range.end array.now.array.now) result };
 
@@ -59,7 +58,6 @@ fn slice_of_child<V: SliceReduce>(
     child: &ArrayView<'_, V>,
     range: Range<usize>,
 ) -> VortexResult<Option<RawNode>>
-    requires payload { V.stands_for child.now.payload.now ≡ datum child.now.array.now }
     requires within { (range.start ≤ range.end) × (range.end ≤ len child.now.array.now) }
     ensures { Answers (Some 0) (slice_of range.start range.end child.now.array.now) result }
 {

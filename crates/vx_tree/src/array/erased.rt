@@ -114,13 +114,9 @@ impl ArrayRef {
     pub fn as_opt<V: EncodingVariant>(&self) -> Option<ArrayView<'_, V>>
         ensures which { is_some result ≡ V.is_kind (datum self.now) }
         ensures of { IfSome result (λ v. v.array.now ≡ self.now) }
-        ensures payload { IfSome result (λ v. V.stands_for v.payload.now ≡ datum self.now) }
     {
         match V::project(self.encoding()) {
-            Some(payload) => Some(ArrayView {
-                array: self,
-                payload,
-            }),
+            Some(payload) => Some(ArrayView::new(self, payload)),
             None => None,
         }
     }

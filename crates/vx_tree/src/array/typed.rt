@@ -224,13 +224,9 @@ impl<V: VTable> Array<V> {
 
     /// Returns a view of the node.
     pub fn as_view(&self) -> ArrayView<'_, V>
-        ensures of { result.array.now ≡ self.now }
-        ensures payload { V.stands_for result.payload.now ≡ datum self.now }
+        ensures { result.array.now ≡ self.now }
     {
-        ArrayView {
-            array: &self.array,
-            payload: self.data(),
-        }
+        ArrayView::new(&self.array, self.data())
     }
 
     /// Returns the number of rows.

@@ -1,24 +1,27 @@
 //! Borrowed nodes, with the data of their encoding.
 
-ghost use Rattle.std.specs.Prelude.{◌≡◌, ◌==◌, IfOk};
+ghost use Rattle.std.specs.Prelude.{◌≡◌, ◌==◌, IfOk, true};
+ghost use Rattle.std.specs.Coded.{Coded-set};
 ghost use Rattle.vx_value.specs.Errors.{OnlyOutOfMemory};
 ghost use Rattle.vx_value.specs.View.{type_of};
-ghost use Rattle.vx_tree.specs.Tree.{dtype, len, datum, slots, slots_of, id_of};
+ghost use Rattle.vx_tree.specs.Tree.{dtype, len, datum, slots, slots_of, id_of, coded_data};
 
-use crate::array::{Array, ArrayRef, Encoded, VTable};
+use crate::array::{Array, ArrayRef, EncodingVariant, VTable};
 use std::alloc::AllocError;
 use std::ops::Deref;
 use vx_value::{DType, Id, VortexResult};
 
-/// A borrowed node of `V`'s encoding. If you build one yourself, `payload` must be the node's own data.
+/// A borrowed node of `V`'s encoding.
 #[derive_where(Copy, Debug)]
-pub struct ArrayView<'a, V: Encoded> {
-    pub array: &'a ArrayRef,
+pub struct ArrayView<'a, V: EncodingVariant> {
+    array: &'a ArrayRef,
     #[derive_where(skip(Debug))]
-    pub payload: &'a V::TypedArrayData,
+    payload: &'a V::TypedArrayData,
+    // the payload is the node's own data
+    ghost own: { V.stands_for payload.now ≡ datum array.now } by { Coded-set coded_data _ _ },
 }
 
-impl<'a, V: Encoded> Clone for ArrayView<'a, V> {
+impl<'a, V: EncodingVariant> Clone for ArrayView<'a, V> {
     ghost is_clone = { λ a b. b ≡ a };
 
     fn clone(&self) -> Result<ArrayView<'a, V>, AllocError> {
@@ -26,17 +29,26 @@ impl<'a, V: Encoded> Clone for ArrayView<'a, V> {
     }
 }
 
-impl<'a, V: Encoded> ArrayView<'a, V> {
+impl<'a, V: EncodingVariant> ArrayView<'a, V> {
+    /// Returns the view of `array`'s node, whose data must be `payload`. (own)
+    pub fn new(array: &'a ArrayRef, payload: &'a V::TypedArrayData) -> ArrayView<'a, V>
+        requires { V.stands_for payload.now ≡ datum array.now }
+        ensures { result.array.now ≡ array.now }
+    {
+        ArrayView { array, payload }
+    }
+
     /// Returns the reference of the node.
     pub fn array(&self) -> &'a ArrayRef
-        ensures { result.now ≡ self.now.array.now }
+        ensures of { result.now ≡ self.now.array.now }
+        ensures kind { V.is_kind (datum result.now) ≡ true }
     {
         self.array
     }
 
     /// Returns the data of the node.
     pub fn data(&self) -> &'a V::TypedArrayData
-        ensures { result.now ≡ self.now.payload.now }
+        ensures { V.stands_for result.now ≡ datum self.now.array.now }
     {
         self.payload
     }
@@ -81,7 +93,6 @@ impl<'a, V: VTable> ArrayView<'a, V> {
     /// Returns an owned handle of the same node. Fails only with `OutOfMemory`: if `Rc` refuses one more reference
     /// to it.
     pub fn into_owned(self) -> VortexResult<Array<V>>
-        requires { V.stands_for self.payload.now ≡ datum self.array.now }
         ensures ok { IfOk result (λ a. a ≡ self.entry.array.now) }
         ensures err { OnlyOutOfMemory result }
     {
@@ -92,7 +103,7 @@ impl<'a, V: VTable> ArrayView<'a, V> {
     }
 }
 
-impl<'a, V: Encoded> AsRef<ArrayRef> for ArrayView<'a, V> {
+impl<'a, V: EncodingVariant> AsRef<ArrayRef> for ArrayView<'a, V> {
     fn as_ref(&self) -> &ArrayRef
         ensures { result.now ≡ self.now.array.now }
     {
@@ -100,10 +111,10 @@ impl<'a, V: Encoded> AsRef<ArrayRef> for ArrayView<'a, V> {
     }
 }
 
-impl<'a, V: Encoded> Deref for ArrayView<'a, V> {
+impl<'a, V: EncodingVariant> Deref for ArrayView<'a, V> {
     type Target = V::TypedArrayData;
 
-    ghost deref_gives = { λ v d. d ≡ v.payload.now };
+    ghost deref_gives = { λ v d. V.stands_for d ≡ datum v.array.now };
 
     fn deref(&self) -> &V::TypedArrayData {
         self.payload

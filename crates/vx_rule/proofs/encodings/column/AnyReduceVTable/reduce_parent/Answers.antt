@@ -6,6 +6,6 @@ use Rattle.vx_rule.proofs.encodings.column.AnyReduceVTable.reduce_parent.Goals a
 pub returns : goal.returns
 returns g c =
     let x = c.args.child.now.array.now in
-    let kind = subst (λ d. g.V.EncodingVariant.is_kind d ≡ true) c.requires.0 (g.met.V.EncodingVariant.kind_of c.args.child.now.payload.now) in
+    let kind = subst (λ d. g.V.EncodingVariant.is_kind d ≡ true) c.args.child.now.own (g.met.V.EncodingVariant.kind_of c.args.child.now.payload.now) in
     let other : is_slice (datum c.args.parent.now) ≡ false = search rules in
-    column_quiet c.args.slot x c.args.parent.now (g.met.V.CanonicalEncoding.canonical (datum x) kind) c.requires.1 other
+    column_quiet c.args.slot x c.args.parent.now (g.met.V.CanonicalEncoding.canonical (datum x) kind) c.requires other
