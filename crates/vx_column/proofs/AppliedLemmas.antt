@@ -24,6 +24,7 @@ use Rattle.vx_tree.specs.Canonicals.{columnar_tree}
 use Rattle.vx_tree.specs.declared.canonical.columnar.Columnar.{Columnar}
 use Rattle.vx_column.specs.Applied.{IsCall, IsApplied, IsUnapplied, all_constant, gives_constant, Repeats}
 use Rattle.vx_column.specs.Computed.{IsTaken, IsResult, IsNoResult, cells_of}
+use Rattle.vx_column.specs.Formed.{IsFormed}
 use Rattle.vx_column.proofs.CallsLemmas.{AreRows, call_typed, call_lengths, unread_row}
 use Rattle.vx_column.proofs.ComputedLemmas.{fault_among}
 use Rattle.vx_column.specs.Arguments.{AnyUnread}
@@ -42,12 +43,14 @@ rows_are : (f : ScalarFnRef) (ts : List Tree) (n : ℕ) (tys : List DataType) (r
 rows_are f ts n tys row same ty = same_below n _ _ (λ i h. ap (apply f ty) (same.cells i h))
 
 pub applied : {f : ScalarFnRef} {ts : List Tree} {n : ℕ} {tys : List DataType} {row : ℕ → List Cell} {u : Tree} →
-    AreRows ts n tys row → IsResult f tys row n u → HasNoFault (rows u) → is_constant (datum u) ≡ gives_constant ts n → IsApplied f ts n u
-applied {f = f} {ts = ts} {n = n} {tys = tys} {row = row} {u = u} same h none kept = record {
+    AreRows ts n tys row → IsResult f tys row n u → HasNoFault (rows u) → is_constant (datum u) ≡ gives_constant ts n → IsFormed u
+    → IsApplied f ts n u
+applied {f = f} {ts = ts} {n = n} {tys = tys} {row = row} {u = u} same h none kept formed = record {
   typed = ap (return_type f) same.types ∙ h.typed;
   exactly = same_exactly (call_of f (dtype u) n ts) u refl (sym h.counted) (rows_are f ts n tys row same (dtype u) ∙ sym h.shown) h.clean;
   clean = whole_clean u h.clean none;
   constant_kept = kept;
+  formed = formed;
 }
 
 pub unapplied : (f : ScalarFnRef) {ts : List Tree} {n : ℕ} {tys : List DataType} {row : ℕ → List Cell} → AreRows ts n tys row → (e : VortexError)

@@ -1,7 +1,6 @@
 -- The column of a function that is known on the valid rows.
 use Rattle.std.proofs.Common.{◌≡◌, ◌<◌, ℕ, Bool, true, false, List, map, Option, Some, Result, IfOk, sym, ap, ◌∙◌}
 use Rattle.std.proofs.lemmas.Result.{IfOk-weaker}
-use Rattle.std.specs.Prelude.{◌&&◌}
 use Rattle.std.specs.List.{range_with_len}
 use Rattle.vx_value.specs.Types.{DataType, bool}
 use Rattle.vx_value.specs.Values.{boolean}
@@ -61,14 +60,3 @@ module _ (f : ScalarFnRef) (of_type : Option DataType) (row : ℕ → List Cell)
       IfOk-weaker r _ _
       (λ c made. filled (bool (nullability_in valid)) (λ i. value (boolean (bit_row bits i))) (canonical_tree c) typed made
       (λ i lt here. let no : false ≡ true = sym (none i lt) ∙ here in absurd (cc)))
-
-  -- booleans that are kept of the valid rows
-  pub kept_filled : (r : Result Canonical VortexError) (test : ℕ → Bool) (bits kept : List Bool) →
-      filled_type valid of_type ≡ Some (bool (nullability_in valid)) →
-      ((i : ℕ) → value (boolean (test i)) ≡ apply f (bool (nullability_in valid)) (row i)) → bits ≡ map test (range_with_len 0 n) →
-      kept ≡ map (λ i. is_valid valid i && bit_row bits i) (range_with_len 0 n) →
-      IfOk r (λ c. (dtype (canonical_tree c) ≡ bool (nullability_in valid)) × IsColumnOfCells valid (λ i. value (boolean (bit_row kept i))) n (canonical_tree c)) →
-      IfOk r (λ c. IsRowwiseResult f of_type row valid n (canonical_tree c))
-  kept_filled r test bits kept typed given are =
-      bools_filled r (λ i. is_valid valid i && bit_row bits i) kept typed
-      (λ i lt here. ap (λ b. value (boolean (b && bit_row bits i))) here ∙ ap (λ b. value (boolean b)) (bit_made test bits n i are lt) ∙ given i)

@@ -17,6 +17,7 @@ pub mod StoredLemmas
 pub mod ValidRowsLemmas
 pub mod KernelArgumentsLemmas
 pub mod ComputedLemmas
+pub mod FormedLemmas
 pub mod MadeLemmas
 pub mod PassedLemmas
 mod RowsLemmas

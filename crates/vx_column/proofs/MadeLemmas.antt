@@ -5,12 +5,14 @@ use Rattle.std.proofs.lemmas.List.{length-map}
 use Rattle.std.proofs.lemmas.List.FromFn.{get_or-map-range_with_len, length-map-range_with_len}
 use Rattle.std.proofs.lemmas.Result.{IfOk-weaker}
 use Rattle.std.proofs.lemmas.Simd.{map-map}
-use Rattle.std.specs.Prelude.{Result, IfOk}
+use Rattle.std.proofs.lemmas.Bool.{false≢true}
+use Rattle.std.specs.Prelude.{Result, IfOk, ◌&&◌}
 use Rattle.vx_value.specs.Types.{DataType, bool, primitive, decimal}
 use Rattle.vx_value.specs.Nullabilities.{with_nullability}
 use Rattle.vx_value.specs.Values as of
 use Rattle.vx_value.specs.Values.{Value, null, boolean, integer, bytes}
 use Rattle.vx_value.specs.Cell.{Cell, value}
+use Rattle.vx_value.specs.IsOf.{is_null}
 use Rattle.vx_value.specs.declared.decimal.DecimalDType.{DecimalDType}
 use Rattle.vx_value.specs.declared.decimal.DecimalType.{DecimalType}
 use Rattle.vx_value.specs.declared.dtype.PType.{PType}
@@ -23,20 +25,22 @@ use Rattle.vx_fn.specs.ReturnTypes.{return_type}
 use Rattle.vx_fn.specs.declared.function.ScalarFnRef.{ScalarFnRef}
 use Rattle.vx_tree.specs.ColumnTypes.{bytes_type}
 use Rattle.vx_tree.specs.Tree as enc
-use Rattle.vx_tree.specs.Tree.{Tree, Data, dtype, slots_of, column, nulls_of, is_canonical}
+use Rattle.vx_tree.specs.Tree.{Tree, Data, dtype, slots_of, column, nulls_of, is_canonical, is_bool}
 use Rattle.vx_tree.specs.Canonicals.{canonical_tree}
 use Rattle.vx_tree.specs.declared.canonical.canonical.Canonical.{Canonical}
-use Rattle.vx_tree.specs.Cells.{slots_rows, node_cells, cells_at, valid_cells}
-use Rattle.vx_tree.specs.Validities.{nullability_by, child_of}
+use Rattle.vx_tree.specs.Cells.{rows, slots_rows, node_cells, cells_at, valid_cells}
+use Rattle.vx_tree.specs.Validities.{nullability_by, child_of, child_by}
 use Rattle.vx_tree.specs.declared.validity.Validity.{Validity}
 use Rattle.vx_column.specs.Arguments.{types_of, row_of, plain_type, value_at}
 use Rattle.vx_column.specs.Computed.{IsColumnOfCells, IsCanonicalResult}
+use Rattle.vx_column.specs.Formed.{is_shown, is_true}
 use Rattle.vx_column.specs.Stored.{boolean_column, integer_column, decimal_column, bytes_column}
 use Rattle.vx_column.specs.Nulls.{validity_cells}
 use Rattle.vx_column.specs.ValidRows.{is_valid, HasValidity, nullability_in, child_in, IsValidityOf, null_unless}
 use Rattle.vx_column.specs.declared.rows.argument.Argument.{Argument}
 use Rattle.vx_column.specs.declared.rows.argument.ArgumentRows.{ArgumentRows}
 use Rattle.vx_column.specs.declared.rows.valid.ValidRows.{ValidRows}
+use Rattle.vx_column.proofs.FormedLemmas.{not_flat_formed, child_shown, bits_true, kept_again}
 use Rattle.vx_column.proofs.ValidRowsLemmas.{filled_rows, filled_clean, one_slot}
 use Rattle.vx_tree.specs.Views.{ViewedRows, bytes_at, rows_of}
 
@@ -57,6 +61,7 @@ made_by valid stored other n u same h = record {
   shown = h.shown ∙ same_below n _ _ (λ i lt. same_unless_null (is_valid valid i) (stored i) (other i) (same i lt));
   clean = h.clean;
   canonical = h.canonical;
+  formed = h.formed;
 }
 
 -- items that stand for the values of `f`
@@ -95,6 +100,7 @@ nulls_made f valid n none = record {
       (λ i lt. ap (λ v. null_unless (is_valid valid i) (value v)) (none i) ∙ null_always (is_valid valid i)));
   clean = tt;
   canonical = refl;
+  formed = not_flat_formed (nulls_of n) refl;
 }
 
 -- the column of a function, by what it stores
@@ -104,24 +110,36 @@ pub computed_by : (f : ScalarFnRef) (args : List Argument) (valid : ValidRows) (
 computed_by f args valid stored n u typed h same = record {
   result = record { typed = typed; counted = h.counted; shown = h.shown ∙ same_below n _ _ same; clean = h.clean };
   canonical = h.canonical;
+  formed = h.formed;
 }
 
 module _ (valid : ValidRows) (n : ℕ) (sized : HasValidity valid n) (v : Validity) (told : IsValidityOf valid n v) where
+  -- the cells of values in the valid rows
+  abbrev cells_made : (ℕ → Value) → List Cell
+  cells_made f = map (λ i. null_unless (is_valid valid i) (value (f i))) (range_with_len 0 n)
+
   -- a column that stores the values of `f`
   made_of : (d : Data) (k : ℕ) (f : ℕ → Value) (ty : Nullability → DataType) → k ≡ n
       → ((m : Nullability) (css : List (List Cell)) → node_cells (ty m) k d css ≡ valid_cells (cells_at css 0) (map (λ i. value (f i)) (range_with_len 0 n)))
-      → is_canonical d ≡ true → (u : Tree) → u ≡ column (ty (nullability_by v)) k d (child_of v k)
+      → is_canonical d ≡ true → ((i : ℕ) → is_null (f i) ≡ false) → (is_bool d ≡ true → d ≡ enc.bool (map is_true (cells_made f))) → (u : Tree)
+      → u ≡ column (ty (nullability_by v)) k d (child_of v k)
       → (dtype u ≡ ty (nullability_in valid)) × IsColumnOfCells valid (λ i. value (f i)) n u
-  made_of d k f ty long cells canonical u new =
+  made_of d k f ty long cells canonical held cleared u new =
       let child : child_of v k ≡ child_in valid = ap (child_of v) long ∙ told.1 in
+      let shown : rows (column (ty (nullability_by v)) k d (child_in valid)) ≡ cells_made f =
+      cells (nullability_by v) (slots_rows (slots_of (child_in valid ∷ [])))
+      ∙ ap (λ css. valid_cells (cells_at css 0) (map (λ i. value (f i)) (range_with_len 0 n))) (one_slot (child_in valid))
+      ∙ filled_rows valid n f sized in
       let whole : IsColumnOfCells valid (λ i. value (f i)) n (column (ty (nullability_by v)) k d (child_in valid)) =
       record {
         counted = long;
-        shown = cells (nullability_by v) (slots_rows (slots_of (child_in valid ∷ [])))
-            ∙ ap (λ css. valid_cells (cells_at css 0) (map (λ i. value (f i)) (range_with_len 0 n))) (one_slot (child_in valid))
-            ∙ filled_rows valid n f sized;
+        shown = shown;
         clean = filled_clean valid;
         canonical = canonical;
+        formed = record {
+          validity_told = λ k. ap (λ t. slots_of (t ∷ [])) (child_shown valid n sized f held ∙ ap (λ cs. child_by (map is_shown cs)) (sym shown));
+          bits_cleared = λ k. cleared k ∙ ap (λ cs. enc.bool (map is_true cs)) (sym shown);
+        };
       } in (
         ap dtype new ∙ ap ty told.0,
         subst (IsColumnOfCells valid (λ i. value (f i)) n) (sym (new ∙ ap (column (ty (nullability_by v)) k d) child)) whole,
@@ -132,26 +150,39 @@ module _ (valid : ValidRows) (n : ℕ) (sized : HasValidity valid n) (v : Validi
       (ty : Nullability → DataType)
       → ((m : Nullability) (k : ℕ) (xs : List X) (css : List (List Cell))
       → node_cells (ty m) k (of_items xs) css ≡ valid_cells (cells_at css 0) (map (λ x. value (read x)) xs))
-      → ((xs : List X) → is_canonical (of_items xs) ≡ true) → (xs : List X) (g : ℕ → X) (u : Tree) → xs ≡ map g (range_with_len 0 n)
+      → ((xs : List X) → is_canonical (of_items xs) ≡ true) → ((x : X) → is_null (read x) ≡ false) → (xs : List X) (g : ℕ → X)
+      → (is_bool (of_items xs) ≡ true → of_items xs ≡ enc.bool (map is_true (cells_made (λ i. read (g i)))))
+      → (u : Tree) → xs ≡ map g (range_with_len 0 n)
       → u ≡ column (ty (nullability_by v)) (length xs) (of_items xs) (child_of v (length xs))
       → (dtype u ≡ ty (nullability_in valid)) × IsColumnOfCells valid (λ i. value (read (g i))) n u
-  made read of_items ty cells canonical xs g u are new =
+  made read of_items ty cells canonical held xs g cleared u are new =
       let stored : map (λ x. value (read x)) xs ≡ map (λ i. value (read (g i))) (range_with_len 0 n) =
       ap (map (λ x. value (read x))) are ∙ map-map (λ x. value (read x)) g (range_with_len 0 n) in
       made_of (of_items xs) (length xs) (λ i. read (g i)) ty (ap length are ∙ length-map-range_with_len g 0 n)
-      (λ m css. cells m (length xs) xs css ∙ ap (valid_cells (cells_at css 0)) stored) (canonical xs) u new
+      (λ m css. cells m (length xs) xs css ∙ ap (valid_cells (cells_at css 0)) stored) (canonical xs) (λ i. held (g i)) cleared u new
 
-  pub bools_made : (bits : List Bool) (test : ℕ → Bool) (u : Tree) → bits ≡ map test (range_with_len 0 n) → u ≡ boolean_column bits v
-      → (dtype u ≡ bool (nullability_in valid)) × IsColumnOfCells valid (λ i. value (boolean (test i))) n u
-  bools_made = made boolean enc.bool bool (λ m k xs css. refl) (λ xs. refl)
+  -- bits that are false in the rows that aren't valid
+  pub bools_made : (bits : List Bool) (test : ℕ → Bool) (u : Tree) → bits ≡ map (λ i. is_valid valid i && test i) (range_with_len 0 n)
+      → u ≡ boolean_column bits v → (dtype u ≡ bool (nullability_in valid)) × IsColumnOfCells valid (λ i. value (boolean (test i))) n u
+  bools_made bits test u are new =
+      let kept : ℕ → Bool = λ i. is_valid valid i && test i in
+      let both : (dtype u ≡ bool (nullability_in valid)) × IsColumnOfCells valid (λ i. value (boolean (kept i))) n u =
+      made boolean enc.bool bool (λ m k xs css. refl) (λ xs. refl) (λ b. refl) bits kept
+      (λ k. ap enc.bool (are ∙ same_below n _ _ (λ i lt. sym (kept_again (is_valid valid i) (test i))) ∙ bits_true valid n kept)) u are new in (
+        both.0,
+        made_by valid _ _ n u (λ i lt here. ap (λ b. value (boolean (b && test i))) here) both.1,
+      )
 
   pub integers_made : (p : PType) (zs : List ℤ) (g : ℕ → ℤ) (u : Tree) → zs ≡ map g (range_with_len 0 n) → u ≡ integer_column p zs v
       → (dtype u ≡ primitive p (nullability_in valid)) × IsColumnOfCells valid (λ i. value (integer (g i))) n u
-  integers_made p = made integer (enc.primitive p) (primitive p) (λ m k xs css. refl) (λ xs. refl)
+  integers_made p zs g =
+      made integer (enc.primitive p) (primitive p) (λ m k xs css. refl) (λ xs. refl) (λ z. refl) zs g (λ k. absurd (false≢true k))
 
   pub decimals_made : (d : DecimalDType) (w : DecimalType) (zs : List ℤ) (g : ℕ → ℤ) (u : Tree) → zs ≡ map g (range_with_len 0 n) → u ≡ decimal_column d w zs v
       → (dtype u ≡ decimal d.precision d.scale (nullability_in valid)) × IsColumnOfCells valid (λ i. value (of.decimal (g i) d.scale)) n u
-  decimals_made d w = made (λ z. of.decimal z d.scale) (enc.decimals w) (decimal d.precision d.scale) (λ m k xs css. refl) (λ xs. refl)
+  decimals_made d w zs g =
+      made (λ z. of.decimal z d.scale) (enc.decimals w) (decimal d.precision d.scale) (λ m k xs css. refl) (λ xs. refl) (λ z. refl) zs g
+      (λ k. absurd (false≢true k))
 
   pub bytes_made : (st : Storage) (rs : ViewedRows) (g : ℕ → List ℕ) (u : Tree) → rows_of rs ≡ map g (range_with_len 0 n) → u ≡ bytes_column st rs v
       → (dtype u ≡ with_nullability (nullability_in valid) (bytes_type st)) × IsColumnOfCells valid (λ i. value (bytes (g i))) n u
@@ -161,4 +192,4 @@ module _ (valid : ValidRows) (n : ℕ) (sized : HasValidity valid n) (v : Validi
       sym (map-map read (bytes_at rs.buffers) rs.views) ∙ ap (map read) are ∙ map-map read g (range_with_len 0 n) in
       let long = sym (length-map rs.views (bytes_at rs.buffers)) ∙ ap length are ∙ length-map-range_with_len g 0 n in
       made_of (enc.views rs) (length rs.views) (λ i. bytes (g i)) (λ m. with_nullability m (bytes_type st)) long
-      (λ m css. ap (valid_cells (cells_at css 0)) stored) refl u
+      (λ m css. ap (valid_cells (cells_at css 0)) stored) refl (λ i. refl) (λ k. absurd (false≢true k)) u

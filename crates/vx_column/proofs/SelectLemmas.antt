@@ -118,6 +118,7 @@ is_selected choice k x y t valid n found is plain rows nullability =
           ∙ cell_selected (bit_in choice i) (is_valid x.valid i) (is_valid y.valid i) (value_at x.rows i) (value_at y.rows i));
       clean = h.1.clean;
       canonical = h.1.canonical;
+      formed = h.1.formed;
     })
 
 computed_selected : (f : ScalarFnRef) (args : List Argument) (choice : BitOperand) (x y : Argument) (n : ℕ) (u : Tree)
@@ -126,6 +127,7 @@ computed_selected : (f : ScalarFnRef) (args : List Argument) (choice : BitOperan
 computed_selected f args choice x y n u typed cells h = record {
   result = record { typed = typed ∙ ap Some (sym h.typed); counted = h.counted; shown = h.shown ∙ same_below n _ _ cells; clean = h.clean };
   canonical = h.canonical;
+  formed = h.formed;
 }
 
 -- ---- the functions

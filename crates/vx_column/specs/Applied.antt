@@ -12,6 +12,7 @@ use Rattle.vx_tree.specs.Cells.{rows, HasNoFault, IsClean}
 use Rattle.vx_tree.specs.Canonicals.{columnar_tree}
 use Rattle.vx_tree.specs.Keeps.{KeepsExactly}
 use Rattle.vx_tree.specs.declared.canonical.columnar.Columnar.{Columnar}
+use Rattle.vx_column.specs.Formed.{IsFormed}
 
 -- f accepts the trees ts, each n rows long, and computes a column of them
 abbrev pub IsCall : ScalarFnRef → List Tree → ℕ → Type 0
@@ -29,12 +30,14 @@ gives_constant ts n = nat_lt 0 n && all_constant ts
 abbrev pub Repeats : Columnar → Typed → Type 0
 Repeats c s = columnar_tree c ≡ constant_of s (len (columnar_tree c))
 
--- u stands for the node exactly, has no fault, and is a constant if and only if there is a row and every tree is a constant
+-- u stands for the node exactly, has no fault, and is a constant if and only if there is a row and every tree is a constant; its validity has
+-- one form, and its booleans are false under nulls
 pub record IsApplied (f : ScalarFnRef) (ts : List Tree) (n : ℕ) (u : Tree) : Type 0 where
   pub typed : return_type f (map dtype ts) ≡ Some (dtype u)
   pub exactly : KeepsExactly (call_of f (dtype u) n ts) u
   pub clean : IsClean u
   pub constant_kept : is_constant (datum u) ≡ gives_constant ts n
+  pub formed : IsFormed u
 
 -- why f can't be applied: out of memory, or a fault in one of the node's rows
 abbrev pub IsUnapplied : ScalarFnRef → List Tree → ℕ → VortexError → Type 0

@@ -11,6 +11,7 @@ use Rattle.vx_fn.specs.declared.function.ScalarFnRef.{ScalarFnRef}
 use Rattle.vx_tree.specs.Tree.{Tree, dtype, len, datum, slots, is_canonical}
 use Rattle.vx_tree.specs.Cells.{rows, HasNoFault, AreClean}
 use Rattle.vx_column.specs.Arguments.{types_of, row_of, IsSized}
+use Rattle.vx_column.specs.Formed.{IsFormed}
 use Rattle.vx_column.specs.ValidRows.{is_valid, null_unless}
 use Rattle.vx_column.specs.declared.rows.argument.Argument.{Argument}
 use Rattle.vx_column.specs.declared.rows.valid.ValidRows.{ValidRows}
@@ -37,11 +38,13 @@ pub record IsColumnOfCells (valid : ValidRows) (stored : ℕ → Cell) (n : ℕ)
   pub shown : rows u ≡ map (λ i. null_unless (is_valid valid i) (stored i)) (range_with_len 0 n)
   pub clean : AreClean (slots u)
   pub canonical : is_canonical (datum u) ≡ true
+  pub formed : IsFormed u
 
 -- u is the canonical column of f applied to the arguments, n rows each
 pub record IsCanonicalResult (f : ScalarFnRef) (args : List Argument) (n : ℕ) (u : Tree) : Type 0 where
   pub result : IsResult f (types_of args) (row_of args) n u
   pub canonical : is_canonical (datum u) ≡ true
+  pub formed : IsFormed u
 
 abbrev pub HasNoCanonicalResult : ScalarFnRef → List Argument → ℕ → VortexError → Type 0
 HasNoCanonicalResult f args n e = IsNoResult f (types_of args) (row_of args) n e

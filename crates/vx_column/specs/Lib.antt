@@ -20,6 +20,7 @@ pub mod Nulls
 pub mod Read
 pub mod Stored
 pub mod ValidRows
+pub mod Formed
 pub mod Computed
 pub mod Operands
 pub mod Bits

@@ -14,6 +14,7 @@ use Rattle.vx_column.specs.declared.rows.argument.Argument.{Argument}
 use Rattle.vx_column.specs.declared.rows.argument.ArgumentRows.{ArgumentRows}
 use Rattle.vx_column.specs.declared.rows.valid.ValidRows.{ValidRows}
 use Rattle.vx_column.specs.Computed.{IsColumnOfCells}
+use Rattle.vx_column.specs.Formed.{IsFormed}
 
 -- x in row i if its bit is true, else y
 abbrev pub selected : {A : Type 0} → BitOperand → (ℕ → A) → (ℕ → A) → ℕ → A
@@ -47,3 +48,4 @@ pub record IsSelected (choice : BitOperand) (x y : Argument) (n : ℕ) (u : Tree
   pub shown : rows u ≡ map (selected choice (cell_at x) (cell_at y)) (range_with_len 0 n)
   pub clean : AreClean (slots u)
   pub canonical : is_canonical (datum u) ≡ true
+  pub formed : IsFormed u

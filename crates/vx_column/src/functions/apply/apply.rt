@@ -17,7 +17,7 @@ use vx_value::VortexResult;
 
 /// Applies `function` to `arguments`, each `len` rows long, in one pass and one allocation for the rows; constants
 /// aren't expanded, and values under nulls aren't computed. The result is a constant if `len > 0` and every argument is
-/// one, else canonical. (own)
+/// one, else canonical; its validity is absent if no row is null, and booleans are `false` under nulls. (own)
 ///
 /// # Errors
 ///

@@ -95,7 +95,7 @@ pub(crate) fn byte_rows(
 }
 
 /// Makes the column of `rows`, `len` rows, null in each row that isn't `valid`. Shares the buffer of `rows`, or repeats a
-/// single value. Fails only with `OutOfMemory`. (own)
+/// single value; copies bits if there may be nulls. Fails only with `OutOfMemory`. (own)
 pub(crate) fn stored_column(
     alloc: Global,
     rows: ArgumentRows<'_>,

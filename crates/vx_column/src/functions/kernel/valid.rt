@@ -25,7 +25,8 @@ use vx_mask::{BitAnd, BitBuffer, BitOperand};
 use vx_tree::{BinaryViews, Canonical, DecimalValues, PrimitiveValues};
 use vx_value::{DecimalDType, Storage, VortexResult};
 
-/// Makes the column of `bits`, `len` rows, null in each row that isn't `valid`. Fails only with `OutOfMemory`. (own)
+/// Makes the column of `bits`, `len` rows, null in each row that isn't `valid`, and stores `false` there. Fails only with
+/// `OutOfMemory`. (own)
 pub(crate) fn valid_bools(
     alloc: Global,
     bits: BitBuffer,
@@ -38,8 +39,9 @@ pub(crate) fn valid_bools(
         × IsColumnOfCells valid.now (λ i. value (boolean (bit_row bits i))) len (canonical_tree c)) }
     ensures err { OnlyOutOfMemory result }
 {
+    let kept = keep_valid(alloc, bits, valid, len)?;
     let validity = valid.validity(alloc, len)?;
-    bool_column(alloc, bits, &validity)
+    bool_column(alloc, kept, &validity)
 }
 
 /// Makes the column of `values`, `len` rows, null in each row that isn't `valid`. Fails only with `OutOfMemory`. (own)

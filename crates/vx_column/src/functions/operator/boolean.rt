@@ -16,7 +16,7 @@ ghost use Rattle.vx_column.specs.Filled.{Operates, IsRowwiseResult, IsOperatorRe
 ghost use Rattle.vx_column.specs.ValidRows.{HasValidity};
 ghost use Rattle.vx_column.specs.declared.rows.argument.ArgumentRows.TheVariants.{Bits};
 
-use crate::functions::kernel::{keep_valid, valid_bools};
+use crate::functions::kernel::valid_bools;
 use crate::rows::{Argument, ArgumentRows, ValidRows};
 use std::alloc::{AllocError, Global};
 use vx_fn::Operator;
@@ -67,8 +67,7 @@ pub(crate) fn operate_bools(
     ensures err { OnlyOutOfMemory result }
 {
     let bits = operate_bits(alloc, operator, lhs, rhs, len)?;
-    let kept = keep_valid(alloc, bits, valid, len)?;
-    valid_bools(alloc, kept, valid, len)
+    valid_bools(alloc, bits, valid, len)
 }
 
 /// Negates each row of `input`, `len` booleans; null stays null. Fails only with `OutOfMemory`. (own)
@@ -98,6 +97,5 @@ fn negate_bits(
     ensures err { OnlyOutOfMemory result }
 {
     let bits = BitBuffer::zip::<BitNotEq>(alloc, input, BitOperand::Bit(true), len)?;
-    let kept = keep_valid(alloc, bits, valid, len)?;
-    valid_bools(alloc, kept, valid, len)
+    valid_bools(alloc, bits, valid, len)
 }

@@ -10,6 +10,7 @@ use Rattle.vx_tree.proofs.ColumnsLemmas.{canonical_open}
 use Rattle.vx_column.proofs.CellsLemmas.{IfOk-both}
 use Rattle.vx_column.specs.Applied.{IsUnapplied}
 use Rattle.vx_column.proofs.AppliedLemmas.{taken, call_taken, applied, unapplied, unread, all_repeat}
+use Rattle.vx_column.proofs.FormedLemmas.{constant_formed}
 use Rattle.vx_column.proofs.WholeLemmas.{canonical_whole}
 use Rattle.vx_column.proofs.CallsLemmas.{argument_rows, scalar_rows, arguments_sized}
 use Rattle.vx_column.proofs.functions.apply.apply.apply_fn.Goals as goal
@@ -30,7 +31,8 @@ returns-in-Some-clause-ok c =
     IfOk-both c.apply_constants.result
     (λ u (both : IsResult c.args.function.now (types_of_scalars ss) (λ _. cells_of_scalars ss) n (columnar_tree u) × HasNoFault (rows (columnar_tree u)))
     constant.
-    applied (scalar_rows c.args.function.now n xs ss c.requires all) both.0 both.1 (constant ∙ sym (all_repeat n xs ss some all)))
+    applied (scalar_rows c.args.function.now n xs ss c.requires all) both.0 both.1 (constant ∙ sym (all_repeat n xs ss some all))
+    (constant_formed (columnar_tree u) constant))
     (IfOk-both c.apply_constants.result (λ u made none. (made, none)) (rw c.as_slice.ensures.value at c.apply_constants.ensures.ok)
     c.apply_constants.ensures.whole) c.apply_constants.ensures.constant
 
@@ -58,6 +60,7 @@ returns-in_ok-column-in-None-clause-ok c =
     let column = canonical_tree c.in_ok-column-in-None.column in
     let well = subst IsWell c.as_array.ensures.of c.well_formed_tree.ensures.formed in
     applied rows made.result (canonical_whole column well made.canonical made.result.clean) (canonical_open (datum (canonical_tree c.in_ok-column-in-None.column)) made.canonical ∙ sym other)
+    made.formed
 
 pub returns-in_err-column-in-None-clause-err : goal.returns-in_err-column-in-None-clause-err
 returns-in_err-column-in-None-clause-err c =

@@ -9,12 +9,12 @@ use Rattle.vx_mask.proofs.Operations.{differs_from_true}
 use Rattle.vx_fn.specs.declared.function.ScalarFnRef.TheVariants.{Not}
 use Rattle.vx_column.specs.Arguments.{value_at}
 use Rattle.vx_column.specs.declared.rows.argument.ArgumentRows.TheVariants.{Bits}
-use Rattle.vx_column.proofs.FilledLemmas.{kept_filled}
+use Rattle.vx_column.proofs.FilledLemmas.{bools_filled}
 use Rattle.vx_column.proofs.functions.operator.boolean.negate_bits.Goals as goal
 
 pub returns-clause-ok : goal.returns-clause-ok
 returns-clause-ok c =
     let l = c.args.input in
-    kept_filled Not (Some (bool NonNullable)) (λ i. value (value_at (Bits l) i) ∷ []) c.args.valid.now c.args.len c.valid_bools.result
-    (λ i. is_ne (bool_cmp (bit_in l i) true)) c.in_ok-bits.bits c.in_ok-kept.kept refl (λ i. ap (λ b. value (boolean b)) (differs_from_true (bit_in l i)))
-    c.in_ok-bits.ensures c.in_ok-kept.ensures c.valid_bools.ensures.ok
+    bools_filled Not (Some (bool NonNullable)) (λ i. value (value_at (Bits l) i) ∷ []) c.args.valid.now c.args.len c.valid_bools.result
+    (λ i. is_ne (bool_cmp (bit_in l i) true)) c.in_ok-bits.bits refl (λ i lt here. ap (λ b. value (boolean b)) (differs_from_true (bit_in l i)))
+    c.in_ok-bits.ensures c.valid_bools.ensures.ok

@@ -8,7 +8,7 @@ use Rattle.vx_column.specs.Arguments.{pair_at}
 use Rattle.vx_column.specs.Bits.{bit_by}
 use Rattle.vx_column.specs.ValidRows.{nullability_in}
 use Rattle.vx_column.specs.declared.rows.argument.ArgumentRows.TheVariants.{Bits}
-use Rattle.vx_column.proofs.FilledLemmas.{kept_filled}
+use Rattle.vx_column.proofs.FilledLemmas.{bools_filled}
 use Rattle.vx_column.proofs.OperatorLemmas.{bools_typed, bools_valued}
 use Rattle.vx_column.proofs.functions.operator.boolean.operate_bools.Goals as goal
 
@@ -18,6 +18,6 @@ returns-clause-ok c =
     let op = c.args.operator in
     let l = c.args.lhs in
     let r = c.args.rhs in
-    kept_filled (Binary op) (operator_type op (bool NonNullable)) (pair_at (Bits l) (Bits r)) c.args.valid.now c.args.len c.valid_bools.result
-    (λ i. bit_by op (bit_in l i) (bit_in r i)) c.in_ok-bits.bits c.in_ok-kept.kept (bools_typed op m c.requires.taken)
-    (λ i. sym (bools_valued op m (bit_in l i) (bit_in r i))) c.in_ok-bits.ensures c.in_ok-kept.ensures c.valid_bools.ensures.ok
+    bools_filled (Binary op) (operator_type op (bool NonNullable)) (pair_at (Bits l) (Bits r)) c.args.valid.now c.args.len c.valid_bools.result
+    (λ i. bit_by op (bit_in l i) (bit_in r i)) c.in_ok-bits.bits (bools_typed op m c.requires.taken)
+    (λ i lt here. sym (bools_valued op m (bit_in l i) (bit_in r i))) c.in_ok-bits.ensures c.valid_bools.ensures.ok

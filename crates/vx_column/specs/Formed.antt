@@ -1,0 +1,23 @@
+-- The one form of a canonical column: its rows say what it stores.
+use Rattle.std.specs.Prelude.{◌≡◌, [], ◌∷◌, map, Bool, true, false, not}
+use Rattle.vx_value.specs.IsOf.{is_null}
+use Rattle.vx_value.specs.Values.{boolean}
+use Rattle.vx_value.specs.Cell.{Cell, value}
+use Rattle.vx_tree.specs.Tree.{Tree, datum, slots, slots_of, bool, is_bool, is_flat}
+use Rattle.vx_tree.specs.Cells.{rows}
+use Rattle.vx_tree.specs.Validities.{child_by}
+
+-- whether the cell isn't null
+abbrev pub is_shown : Cell → Bool
+is_shown (value v) = not (is_null v)
+is_shown _ = true
+
+-- whether the cell is the value true
+abbrev pub is_true : Cell → Bool
+is_true (value (boolean b)) = b
+is_true _ = false
+
+-- a column that holds its rows itself has the one validity of its rows, absent if none is null; booleans are false under nulls
+pub record IsFormed (u : Tree) : Type 0 where
+  pub validity_told : is_flat (datum u) ≡ true → slots u ≡ slots_of (child_by (map is_shown (rows u)) ∷ [])
+  pub bits_cleared : is_bool (datum u) ≡ true → datum u ≡ bool (map is_true (rows u))
