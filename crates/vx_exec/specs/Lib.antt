@@ -9,3 +9,4 @@ pub mod Frames
 pub mod Moves
 pub mod Limits
 pub mod Budgets
+pub mod Executions

@@ -1,27 +1,29 @@
 //! The loop of turns.
 
 ghost use Rattle.std.specs.Prelude.{◌≡◌, ◌⊎◌, ◌≤◌, ◌<◌, ℕ, IsOk, IfOk, IfErr, OnOk, Err, true};
-ghost use Rattle.vx_tree.specs.Tree.{datum, is_canonical, is_columnar};
+ghost use Rattle.vx_tree.specs.Tree.{datum, is_canonical};
 ghost use Rattle.vx_tree.specs.Keeps.{KeepsExactly};
 ghost use Rattle.vx_tree.specs.Cost.{cost};
-ghost use Rattle.vx_tree.specs.Canonicals.{columnar_tree};
 ghost use Rattle.vx_step.specs.Steps.{IsStopped};
 ghost use Rattle.vx_exec.specs.Moves.{IsExecuted, GoesOn, FaultsIn};
 ghost use Rattle.vx_exec.specs.Limits.{default_turns};
 
+use crate::session::VortexSession;
 use crate::turn::{Frame, Turn, take_turn};
 use std::alloc::Global;
+use std::fmt;
 use std::marker::Model;
-use vx_tree::{AnyColumnar, ArrayRef, Columnar, Matcher};
+use vx_tree::{ArrayRef, Matcher};
 use vx_value::{VortexError, VortexResult};
 
 /// The turns that an execution may take if no other limit is set.
 pub const DEFAULT_TURNS: u64 = 4_194_304;
 
-/// The context of an execution: an allocator, the limit of turns, and the turns that the last call took.
+/// The context of an execution: an allocator, the session, the limit of turns, and the turns that the last call took.
 #[derive(Drop)]
 pub struct ExecutionCtx {
     alloc: Global,
+    session: VortexSession,
     limit: u64,
     turns: u64,
 }
@@ -35,12 +37,13 @@ impl Model for ExecutionCtx {
 }
 
 impl ExecutionCtx {
-    /// Creates a context with the limit `DEFAULT_TURNS`.
-    pub fn new(alloc: Global) -> Self
+    /// Creates a context that owns `session` until `into_session` hands it back, with the limit `DEFAULT_TURNS`.
+    pub fn new(alloc: Global, session: VortexSession) -> Self
         ensures { result ≡ record { limit = default_turns; turns = 0 } }
     {
         ExecutionCtx {
             alloc,
+            session,
             limit: DEFAULT_TURNS,
             turns: 0,
         }
@@ -51,6 +54,34 @@ impl ExecutionCtx {
         ensures { result ≡ record { limit = limit; turns = self.turns } }
     {
         ExecutionCtx { limit, ..self }
+    }
+
+    /// Sets the allocator.
+    pub fn with_allocator(self, alloc: Global) -> Self
+        ensures { result ≡ self }
+    {
+        ExecutionCtx { alloc, ..self }
+    }
+
+    /// Returns the allocator.
+    pub fn allocator(&self) -> Global {
+        self.alloc
+    }
+
+    /// Returns the session.
+    pub fn session(&self) -> &VortexSession {
+        &self.session
+    }
+
+    /// Hands the session back. (own)
+    pub fn into_session(self) -> VortexSession {
+        let ExecutionCtx {
+            alloc: _,
+            session,
+            limit: _,
+            turns: _,
+        } = self;
+        session
     }
 
     /// Returns the limit, in turns. (own)
@@ -65,6 +96,13 @@ impl ExecutionCtx {
         ensures { result ≡ self.now.turns }
     {
         self.turns
+    }
+}
+
+/// Prints `exec`.
+impl fmt::Display for ExecutionCtx {
+    fn fmt<W: fmt::Write>(&self, f: &mut fmt::Formatter<W>) -> fmt::Result {
+        f.write_str("exec")
     }
 }
 
@@ -104,34 +142,4 @@ pub fn execute_until<M: Matcher>(array: ArrayRef, ctx: &mut ExecutionCtx) -> Vor
         }
     }
     Err(VortexError::IterationLimit { limit: ctx.limit })
-}
-
-/// Executes `array` to a column of its type and length. Returns `array` unchanged, in one turn and without memory, if it is
-/// already a constant or a canonical column.
-///
-/// # Errors
-///
-/// Those of `execute_until`.
-pub fn execute(array: ArrayRef, ctx: &mut ExecutionCtx) -> VortexResult<Columnar>
-    ensures ok { IfOk result (λ c. KeepsExactly array (columnar_tree c)) }
-    ensures executed { IfOk result (λ c. IsExecuted (λ t. is_columnar (datum t)) array ctx.new.turns (columnar_tree c)) }
-    ensures as_it_is { is_columnar (datum array) ≡ true → IfOk result (λ c. columnar_tree c ≡ array) }
-    ensures at_once { is_columnar (datum array) ≡ true → 1 ≤ ctx.old.limit → IsOk result }
-    ensures bound { OnOk result (ctx.new.turns ≤ cost array) }
-    ensures within { OnOk result ((1 ≤ ctx.new.turns) × (ctx.new.turns ≤ ctx.old.limit)) }
-    ensures limit { (l : ℕ) → result ≡ Err (VortexError.IterationLimit l)
-        → (l ≡ ctx.old.limit) × (ctx.new.turns ≡ l) × (l < cost array) × GoesOn (λ t. is_columnar (datum t)) array l }
-    ensures err { IfErr result
-        (λ e. (e ≡ VortexError.IterationLimit ctx.old.limit) ⊎ IsStopped array e) }
-    ensures fault { result ≡ Err VortexError.Fault → FaultsIn (λ t. is_columnar (datum t)) array ctx.new.turns }
-    ensures told { ctx.new.turns ≤ ctx.old.limit }
-    ensures kept { ctx.new.limit ≡ ctx.old.limit }
-{
-    match execute_until::<AnyColumnar>(array, ctx) {
-        Ok(done) => match Columnar::try_from_array_ref(done) {
-            Ok(column) => Ok(column),
-            Err(_) => unreachable!(),
-        },
-        Err(e) => Err(e),
-    }
 }

@@ -2,7 +2,11 @@
 #![tactic(auto)]
 
 mod context;
+mod executable;
+mod session;
 mod turn;
 
-pub use context::{DEFAULT_TURNS, ExecutionCtx, execute, execute_until};
+pub use context::{DEFAULT_TURNS, ExecutionCtx, execute_until};
+pub use executable::{ArrayExecute, Executable};
+pub use session::{ArrayKernels, VortexSession, VortexSessionExecute};
 pub use turn::{Frame, Turn, take_turn};

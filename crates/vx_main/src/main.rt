@@ -17,7 +17,8 @@ pub use streams::{
     Failed, INPUT_LIMIT, MemSink, MemSource, PlainSink, PlainSource, Sink, Source, StdinSource,
     StdoutSink,
 };
-pub use top::{Command, HELP, Status, VERSION, VortexSession, run, status_text};
+pub use top::{Command, HELP, Status, VERSION, run, status_text};
+pub use vx_exec::VortexSession;
 
 /// Reads the arguments of the process, with the program's name first.
 fn read_arguments(rt: &HostRuntime) -> io::Result<Vec<String>> {

@@ -2,11 +2,9 @@
 
 mod answer;
 mod run;
-mod session;
 mod status;
 mod words;
 
 pub use run::run;
-pub use session::VortexSession;
 pub use status::{Status, status_text};
 pub use words::{Command, HELP, VERSION};

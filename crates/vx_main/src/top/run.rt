@@ -13,10 +13,10 @@ ghost use Rattle.vx_main.specs.declared.top.words.Command.{Command as CommandOf}
 
 use crate::streams::{ReadError, Sink, Source, read_all, write_all};
 use crate::top::answer::answer;
-use crate::top::session::VortexSession;
 use crate::top::status::Status;
 use crate::top::words::{Command, HELP, VERSION, read_command};
 use std::alloc::Global;
+use vx_exec::VortexSession;
 
 /// Runs the command in `words`: reads the tree in `source`, rewrites it if the command is `optimize`, executes it to a column
 /// and writes the column's text into `sink`.
@@ -86,7 +86,7 @@ pub fn run<S: Source, K: Sink>(
         },
         Err(ReadError::OutOfMemory) => return Status::Memory,
     };
-    match answer(alloc, bytes.as_slice(), command) {
+    match answer(alloc, bytes.as_slice(), command, session) {
         Ok(text) => finish(sink, text.as_bytes()),
         Err(status) => status,
     }
