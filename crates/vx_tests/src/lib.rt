@@ -21,6 +21,8 @@ mod rewriting;
 mod rows;
 #[cfg(test)]
 mod sharing;
+#[cfg(test)]
+mod targets;
 mod values;
 mod weights;
 
