@@ -1,18 +1,17 @@
 use Rattle.std.proofs.Common.{◌≡◌, [], refl, subst, rules}
-use Rattle.std.proofs.lemmas.Result.{IfOk-weaker}
 use Rattle.vx_column.specs.Arguments.{bytes_at, HasBytes}
 use Rattle.vx_column.proofs.RowsLemmas.{rows_shared, value_repeated}
 use Rattle.vx_column.proofs.functions.kernel.stored.byte_rows.Goals as goal
 
-pub returns-in_ok-clone-in-Rows : goal.returns-in_ok-clone-in-Rows
-returns-in_ok-clone-in-Rows c =
+pub returns-in_ok-clone-in-Rows-clause-ok : goal.returns-in_ok-clone-in-Rows-clause-ok
+returns-in_ok-clone-in-Rows-clause-ok c =
     let b = c.args.bytes in
     let n = c.args.len in
     let same : c.in_ok-clone-in-Rows.field-0 ≡ c.in-Rows.rows.now = search rules in
     rows_shared bytes_at b.rows n [] _ c.in-Rows.rows.now _ c.in-Rows.is same (subst (λ r. HasBytes b.storage r n) c.in-Rows.is c.requires).0 (λ i. refl)
 
-pub returns-in_ok-value-in-Value : goal.returns-in_ok-value-in-Value
-returns-in_ok-value-in-Value c =
-    IfOk-weaker c.repeat.result _ _
-    (λ r made. value_repeated bytes_at c.args.bytes.rows c.args.len _ c.in-Value.value.now _ r c.in-Value.is made c.in_ok-value-in-Value.ensures (λ i. refl))
-    c.repeat.ensures
+pub returns-in_ok-repeat-in-Value-clause-ok : goal.returns-in_ok-repeat-in-Value-clause-ok
+returns-in_ok-repeat-in-Value-clause-ok c =
+    let made = c.in_ok-repeat-in-Value in
+    value_repeated bytes_at c.args.bytes.rows c.args.len _ c.in-Value.value.now _ made.field-0 c.in-Value.is made.ensures c.in_ok-value-in-Value.ensures.ok
+    (λ i. refl)
