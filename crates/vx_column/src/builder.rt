@@ -174,7 +174,7 @@ impl Builder {
         self.validity.push_nulls(self.len, count)?;
         if let Err(e) = self.values.push_zeros(count) {
             self.validity.truncate(told);
-            return Err(VortexError::from(e));
+            return Err(e);
         }
         self.len += count;
         Ok(())

@@ -5,6 +5,7 @@ use std::fmt::Debug;
 use std::test::Fail;
 use vx_mask::{BitBuffer, BitBuilder, Buffer};
 use vx_tree::{BinaryBuilder, BinaryViews};
+use vx_value::VortexResult;
 
 fn is_printed_as<T: Debug>(alloc: Global, value: &T, text: &str) -> bool {
     match format!(in alloc; "{value:?}") {
@@ -21,7 +22,7 @@ fn bits(alloc: Global) -> Result<BitBuffer, AllocError> {
     builder.finish(alloc)
 }
 
-fn rows(alloc: Global) -> Result<BinaryViews, AllocError> {
+fn rows(alloc: Global) -> VortexResult<BinaryViews> {
     let mut builder = BinaryBuilder::with_capacity(alloc, 2)?;
     for row in [b"one".as_slice(), b"", b"\xc3"] {
         builder.push(row)?;

@@ -130,12 +130,12 @@ fn slots_are_replaced(rt: HostRuntime) -> Result<(), Fail> {
 }
 
 fn owned(alloc: Global) -> VortexResult<PrimitiveArray> {
-    Ok(integers(alloc)?.as_view().into_owned()?)
+    integers(alloc)?.as_view().into_owned()
 }
 
 fn unshared(alloc: Global) -> VortexResult<ArrayRef> {
     let shared = Rc::new(alloc, integers(alloc)?)?;
-    Ok(Array::shared_into_array(shared)?)
+    Array::shared_into_array(shared)
 }
 
 #[test]

@@ -12,7 +12,7 @@ ghost use Rattle.vx_value.specs.declared.dtype.Storage.{Storage as StorageOf};
 ghost use Rattle.vx_column.specs.Growing.{stored_values, zero_in, HaveStorage, Accepts, IsColumnOf};
 
 use crate::rows::{bool_column, decimal_column, primitive_column, varbinview_column};
-use std::alloc::{AllocError, Global};
+use std::alloc::Global;
 use vx_mask::BitBuilder;
 use vx_tree::{BinaryBuilder, Canonical, NativeVec, NullArray, Validity};
 use vx_value::{DType, DecimalType, PType, ScalarValue, VortexResult};
@@ -30,15 +30,16 @@ pub(super) enum Values {
 }
 
 impl Values {
-    /// Makes the values of no rows of type `dtype`, with room for `capacity` of them. Fails only if there is no memory for
-    /// them.
+    /// Makes the values of no rows of type `dtype`, with room for `capacity` of them. Fails only with
+    /// `OutOfMemory`.
     pub(super) fn with_capacity(
         alloc: Global,
         dtype: &DType,
         capacity: usize,
-    ) -> Result<Values, AllocError>
+    ) -> VortexResult<Values>
         ensures stored { IfOk result (HaveStorage (storage_of (type_of dtype.now))) }
         ensures empty { IfOk result (λ values. stored_values values ≡ []) }
+        ensures err { OnlyOutOfMemory result }
     {
         Ok(match dtype {
             DType::Null => Values::Nulls(0),
@@ -57,32 +58,34 @@ impl Values {
         })
     }
 
-    /// Appends `value`, which must be of the kind of the others. Fails only if there is no memory for it; the values are then
+    /// Appends `value`, which must be of the kind of the others. Fails only with `OutOfMemory`; the values are then
     /// unchanged.
-    pub(super) fn push(&mut self, value: &ScalarValue) -> Result<(), AllocError>
+    pub(super) fn push(&mut self, value: &ScalarValue) -> VortexResult<()>
         requires { Accepts self.old (value_of value.now) }
         ensures ok { OnOk result (stored_values self.new ≡ stored_values self.old ++ value_of value.now ∷ []) }
         ensures err { OnErr result (stored_values self.new ≡ stored_values self.old) }
+        ensures memory { OnlyOutOfMemory result }
         ensures zero { zero_in self.new ≡ zero_in self.old }
         ensures stored { (st : StorageOf) → HaveStorage st self.old → HaveStorage st self.new }
     {
         match (self, value) {
-            (Values::Bits(bits), ScalarValue::Bool(bit)) => bits.push(*bit),
+            (Values::Bits(bits), ScalarValue::Bool(bit)) => Ok(bits.push(*bit)?),
             (Values::Integers(values), ScalarValue::Integer(number)) => values.push(*number),
             (Values::Decimals(values, _), ScalarValue::Decimal(decimal)) => {
                 values.push(decimal.unscaled)
             }
-            (Values::Bytes(rows), ScalarValue::Bytes(bytes)) => rows.push(bytes.as_slice()),
+            (Values::Bytes(rows), ScalarValue::Bytes(bytes)) => Ok(rows.push(bytes.as_slice())?),
             _ => unreachable!(),
         }
     }
 
-    /// Appends the value under a null `count` times, in one allocation. Fails only if there is no memory for them; the values
-    /// are then unchanged.
-    pub(super) fn push_zeros(&mut self, count: usize) -> Result<(), AllocError>
+    /// Appends the value under a null `count` times, in one allocation. Fails only with `OutOfMemory`; the values are then
+    /// unchanged.
+    pub(super) fn push_zeros(&mut self, count: usize) -> VortexResult<()>
         requires { length (stored_values self.old) + count < 2 ^ 64 }
         ensures ok { OnOk result (stored_values self.new ≡ stored_values self.old ++ replicate count (zero_in self.old)) }
         ensures err { OnErr result (stored_values self.new ≡ stored_values self.old) }
+        ensures memory { OnlyOutOfMemory result }
         ensures zero { zero_in self.new ≡ zero_in self.old }
         ensures stored { (st : StorageOf) → HaveStorage st self.old → HaveStorage st self.new }
     {
@@ -91,10 +94,10 @@ impl Values {
                 *rows += count;
                 Ok(())
             }
-            Values::Bits(bits) => bits.push_copies(false, count),
+            Values::Bits(bits) => Ok(bits.push_copies(false, count)?),
             Values::Integers(values) => values.push_zeros(count),
             Values::Decimals(values, _) => values.push_zeros(count),
-            Values::Bytes(rows) => rows.push_empty(count),
+            Values::Bytes(rows) => Ok(rows.push_empty(count)?),
         }
     }
     /// Returns the column of the values, which are of type `dtype`, without copying them; `validity` says which rows are null.

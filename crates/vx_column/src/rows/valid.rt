@@ -7,7 +7,7 @@ ghost use Rattle.vx_mask.specs.Logic.{bit_row};
 ghost use Rattle.vx_mask.specs.Operands.{bit_in, HasBits};
 ghost use Rattle.vx_column.specs.ValidRows.{is_valid, HasValidity, nullability_in, IsValidityOf};
 
-use std::alloc::{AllocError, Global};
+use std::alloc::Global;
 use vx_mask::{BitAnd, BitBuffer, BitOperand};
 use vx_tree::Validity;
 use vx_value::{Nullability, VortexResult};
@@ -59,13 +59,14 @@ impl ValidRows {
         }
     }
 
-    /// Returns the rows that are valid in both of two columns of `len` rows.
-    pub fn and(&self, alloc: Global, other: &ValidRows, len: usize) -> Result<ValidRows, AllocError>
+    /// Returns the rows that are valid in both of two columns of `len` rows. Fails only with `OutOfMemory`.
+    pub fn and(&self, alloc: Global, other: &ValidRows, len: usize) -> VortexResult<ValidRows>
         requires first { HasValidity self.now len }
         requires second { HasValidity other.now len }
         ensures rows { IfOk result (λ r. (i : ℕ) → i < len → is_valid r i ≡ is_valid self.now i && is_valid other.now i) }
         ensures sized { IfOk result (λ r. HasValidity r len) }
         ensures nullability { IfOk result (λ r. nullability_in r ≡ union (nullability_in self.now) (nullability_in other.now)) }
+        ensures err { OnlyOutOfMemory result }
     {
         match (self, other) {
             (ValidRows::All(first), ValidRows::All(second)) => {

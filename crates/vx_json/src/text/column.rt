@@ -1,6 +1,7 @@
 //! The text of a column.
 
 ghost use Rattle.std.specs.Prelude.{◌≡◌, IfOk, IfErr, OnOk, string_bytes};
+ghost use Rattle.vx_value.specs.Errors.{OnlyOutOfMemory};
 ghost use Rattle.vx_tree.specs.Tree.{dtype, datum, id_of};
 ghost use Rattle.vx_tree.specs.Cells.{rows};
 ghost use Rattle.vx_tree.specs.Columns.{IsLawful};
@@ -8,14 +9,15 @@ ghost use Rattle.vx_tree.specs.Canonicals.{columnar_tree};
 ghost use Rattle.vx_json.specs.Output.{Shows, IsUnread, head_lines};
 
 use crate::text::lines::push_rows;
-use std::alloc::{AllocError, Global};
+use std::alloc::Global;
 use vx_column::argument_of;
 use vx_tree::{ArrayRef, Columnar};
 use vx_value::{VortexResult, type_text};
 
-/// Returns the lines of the type and the encoding.
-fn head_text(alloc: Global, array: &ArrayRef) -> Result<String, AllocError>
-    ensures { IfOk result (λ s. string_bytes s ≡ head_lines (dtype array.now) (id_of (datum array.now))) }
+/// Returns the lines of the type and the encoding. Fails only with `OutOfMemory`.
+fn head_text(alloc: Global, array: &ArrayRef) -> VortexResult<String>
+    ensures ok { IfOk result (λ s. string_bytes s ≡ head_lines (dtype array.now) (id_of (datum array.now))) }
+    ensures err { OnlyOutOfMemory result }
 {
     let mut text = String::from_str(alloc, "type ")?;
     text.push_str(type_text(alloc, array.dtype())?.as_str())?;

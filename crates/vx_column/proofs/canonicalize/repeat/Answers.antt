@@ -42,8 +42,8 @@ returns-in-Integers-clause-ok c =
     ap storage_of (sym c.dtype.ensures.dtype) ∙ sym c.storage-storage.ensures ∙ c.in-Integers.is in
     let fits : FitsSigned w128 c.unwrap_or-wide.result = search rules in
     integers_repeated s c.args.len typed c.repeated_validity-validity.result c.repeated_validity-validity.ensures c.primitive_column.result
-    c.in-Integers.ptype (ptype_of made.values) c.unwrap_or-wide.result (values_of made.values) stored (cc) (ap (λ v. v.kind) made.ensures)
-    (ap (λ v. v.numbers) made.ensures ∙ ap (replicate c.args.len) (to_z-of_z fits)) c.primitive_column.ensures.ok
+    c.in-Integers.ptype (ptype_of made.values) c.unwrap_or-wide.result (values_of made.values) stored (cc) (ap (λ v. v.kind) made.ensures.ok)
+    (ap (λ v. v.numbers) made.ensures.ok ∙ ap (replicate c.args.len) (to_z-of_z fits)) c.primitive_column.ensures.ok
 
 pub returns-in-Bits-clause-layout : goal.returns-in-Bits-clause-layout
 returns-in-Bits-clause-layout c =
@@ -65,8 +65,8 @@ returns-in-Integers-clause-layout c =
     ap storage_of (sym c.dtype.ensures.dtype) ∙ sym c.storage-storage.ensures ∙ c.in-Integers.is in
     let fits : FitsSigned w128 c.unwrap_or-wide.result = search rules in
     let wide = c.unwrap_or-wide.ensures ∙ ap (λ o. unwrap_or o (pos 0)) c.as_integer.ensures in
-    let numbers = ap (λ v. v.numbers) made.ensures ∙ ap (replicate n) (to_z-of_z fits ∙ wide) in
-    let kind = ap (λ v. v.kind) made.ensures in
+    let numbers = ap (λ v. v.numbers) made.ensures.ok ∙ ap (replicate n) (to_z-of_z fits ∙ wide) in
+    let kind = ap (λ v. v.kind) made.ensures.ok in
     IfOk-weaker c.primitive_column.result _ _
     (λ u e. e ∙ (λ i. integer_column (kind i) (numbers i) (c.repeated_validity-validity.ensures i)) ∙ sym (ap (λ st. expanded_stored st s n) stored))
     c.primitive_column.ensures.ok
@@ -79,8 +79,8 @@ returns-in-Decimals-clause-layout c =
     let made = c.in_ok-values-in-Decimals in
     let fits : FitsSigned w128 c.unscaled_of.result = search rules in
     let typed = sym c.dtype-in-Decimals.ensures.dtype ∙ ap type_of c.in-Decimal.is in
-    let width = ap (λ v. v.kind) made.ensures ∙ c.smallest_decimal_value_type-width.ensures.value in
-    let numbers = ap (λ v. v.numbers) made.ensures ∙ ap (replicate n) (to_z-of_z fits ∙ c.unscaled_of.ensures) in
+    let width = ap (λ v. v.kind) made.ensures.ok ∙ c.smallest_decimal_value_type-width.ensures.value in
+    let numbers = ap (λ v. v.numbers) made.ensures.ok ∙ ap (replicate n) (to_z-of_z fits ∙ c.unscaled_of.ensures) in
     IfOk-weaker c.decimal_column.result _ _
     (λ u e. e ∙ (λ i. decimal_column d (width i) (numbers i) (c.repeated_validity-validity.ensures i))
     ∙ sym (ap (λ ty. expanded_stored (storage_of ty) s n) typed)) c.decimal_column.ensures.ok
@@ -112,9 +112,9 @@ decimal_column-requires-clause-stored c =
     let fits : FitsSigned w128 c.unscaled_of.result = search rules in
     let typed = sym c.dtype-in-Decimals.ensures.dtype ∙ ap type_of c.in-Decimal.is in
     let there = ap (λ ty. is_stored m (storage_of ty) s.value) (sym typed) ∙ c.dtype.ensures.typed in
-    let width = (same_width_Decides _ _).1 (ap (λ v. v.kind) made.ensures ∙ c.smallest_decimal_value_type-width.ensures.value) in
+    let width = (same_width_Decides _ _).1 (ap (λ v. v.kind) made.ensures.ok ∙ c.smallest_decimal_value_type-width.ensures.value) in
     let digits = ap (has_digits d.precision) c.unscaled_of.ensures ∙ decimal_kept d.precision d.scale m s.value there in
-    let numbers = ap (λ v. v.numbers) made.ensures ∙ ap (replicate c.args.len) (to_z-of_z fits) in
+    let numbers = ap (λ v. v.numbers) made.ensures.ok ∙ ap (replicate c.args.len) (to_z-of_z fits) in
     and_from _ _ width (ap (list_all (has_digits d.precision)) numbers ∙ all_copies (has_digits d.precision) c.args.len c.unscaled_of.result digits)
 
 pub returns-in-Decimals-clause-ok : goal.returns-in-Decimals-clause-ok
@@ -125,7 +125,7 @@ returns-in-Decimals-clause-ok c =
     let typed = sym c.dtype-in-Decimals.ensures.dtype ∙ ap type_of c.in-Decimal.is in
     decimals_repeated s c.args.len c.dtype.ensures.typed c.repeated_validity-validity.result c.repeated_validity-validity.ensures c.decimal_column.result
     c.in-Decimal.decimal c.in-Decimal.field-1 (decimal_type_of made.values) c.unscaled_of.result (numbers_of made.values) typed c.unscaled_of.ensures
-    (ap (λ v. v.numbers) made.ensures ∙ ap (replicate c.args.len) (to_z-of_z fits)) c.decimal_column.ensures.ok
+    (ap (λ v. v.numbers) made.ensures.ok ∙ ap (replicate c.args.len) (to_z-of_z fits)) c.decimal_column.ensures.ok
 
 pub varbinview_column-requires-clause-stored : goal.varbinview_column-requires-clause-stored
 varbinview_column-requires-clause-stored c =
@@ -160,13 +160,13 @@ pub primitive_column-requires : goal.primitive_column-requires
 primitive_column-requires c =
     let made = c.in_ok-values-in-Integers in
     repeated_has c.args.scalar.now c.args.len c.repeated_validity-validity.result c.repeated_validity-validity.ensures (values_of made.values) _
-    (ap (λ v. v.numbers) made.ensures)
+    (ap (λ v. v.numbers) made.ensures.ok)
 
 pub decimal_column-requires-clause-sized : goal.decimal_column-requires-clause-sized
 decimal_column-requires-clause-sized c =
     let made = c.in_ok-values-in-Decimals in
     repeated_has c.args.scalar.now c.args.len c.repeated_validity-validity.result c.repeated_validity-validity.ensures (numbers_of made.values) _
-    (ap (λ v. v.numbers) made.ensures)
+    (ap (λ v. v.numbers) made.ensures.ok)
 
 pub varbinview_column-requires-clause-sized : goal.varbinview_column-requires-clause-sized
 varbinview_column-requires-clause-sized c =

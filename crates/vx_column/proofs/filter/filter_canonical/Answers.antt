@@ -36,7 +36,7 @@ pub primitive_column-requires : goal.primitive_column-requires
 primitive_column-requires c =
     let flat = subst IsNodeOf c.in-Primitive.ensures.0 c.in-Primitive.ensures.1 in
     rows_chosen (bits_in c.args.mask.now) (values_of c.in-Primitive.values.now) (values_of c.in_ok-filter-in-Primitive.field-0) c.as_array-array.result.now _
-    c.in_ok-validity-in-Primitive.validity (sym flat.2) c.requires c.as_array-array.ensures.of (ap (λ v. v.numbers) c.in_ok-filter-in-Primitive.ensures)
+    c.in_ok-validity-in-Primitive.validity (sym flat.2) c.requires c.as_array-array.ensures.of (ap (λ v. v.numbers) c.in_ok-filter-in-Primitive.ensures.ok)
     c.in_ok-validity-in-Primitive.ensures.sized
 
 pub returns-in_ok-filter-in-Bool-clause-ok : goal.returns-in_ok-filter-in-Bool-clause-ok
@@ -63,13 +63,13 @@ returns-in_ok-filter-in-Primitive-clause-ok c =
     let flat = subst IsNodeOf c.in-Primitive.ensures.0 c.in-Primitive.ensures.1 in
     let long = c.requires ∙ ap len (sym c.as_array-array.ensures.of) in
     let same = validity.ensures.nullability ∙ c.nullability-nullability.ensures ∙ ap nullability_of c.dtype.ensures in
-    let column_made = rw (ap (λ v. v.kind) kept.ensures) at c.primitive_column.ensures.ok in
+    let column_made = rw (ap (λ v. v.kind) kept.ensures.ok) at c.primitive_column.ensures.ok in
     IfOk-weaker c.primitive_column.result _ _
     (λ u made. subst (λ x. KeepsExactly (filter_of bits x) (canonical_tree u)) c.as_array-array.ensures.of
     (column_filtered integer (enc.primitive p) (primitive p NonNullable) (λ m n xs css. refl) bits (values_of c.in-Primitive.values.now)
     (values_of kept.field-0)
     c.in-Primitive.validity.now validity.validity t (canonical_tree u) c.in-Primitive.ensures.0 flat long
-    (ap (λ v. v.numbers) kept.ensures) same validity.ensures.chosen made))
+    (ap (λ v. v.numbers) kept.ensures.ok) same validity.ensures.chosen made))
     column_made
 
 pub unreachable-requires : goal.unreachable-requires
@@ -84,7 +84,7 @@ pub decimal_column-requires-clause-sized : goal.decimal_column-requires-clause-s
 decimal_column-requires-clause-sized c =
     let flat = subst IsNodeOf c.in-Decimal.ensures.0 c.in-Decimal.ensures.1 in
     rows_chosen (bits_in c.args.mask.now) (numbers_of c.in-Decimal.values.now) (numbers_of c.in_ok-filter-in-Decimal.field-0) c.as_array-array.result.now _
-    c.in_ok-validity-in-Decimal.validity (sym flat.0.2) c.requires c.as_array-array.ensures.of (ap (λ v. v.numbers) c.in_ok-filter-in-Decimal.ensures)
+    c.in_ok-validity-in-Decimal.validity (sym flat.0.2) c.requires c.as_array-array.ensures.of (ap (λ v. v.numbers) c.in_ok-filter-in-Decimal.ensures.ok)
     c.in_ok-validity-in-Decimal.ensures.sized
 
 pub decimal_column-requires-clause-stored : goal.decimal_column-requires-clause-stored
@@ -95,8 +95,8 @@ decimal_column-requires-clause-stored c =
     let stored = ap storage_of (sym c.dtype-in-Decimal.ensures ∙ ap type_of c.in-Decimal-dtype.is) in
     decimals_chosen c.in-Decimal-dtype.decimal (bits_in c.args.mask.now) (decimal_type_of values) (decimal_type_of kept.field-0) (numbers_of values)
     (numbers_of kept.field-0)
-    (subst (λ st. are_decimals_of st (decimal_type_of values) (numbers_of values) ≡ true) stored flat.1) (ap (λ v. v.kind) kept.ensures)
-    (ap (λ v. v.numbers) kept.ensures)
+    (subst (λ st. are_decimals_of st (decimal_type_of values) (numbers_of values) ≡ true) stored flat.1) (ap (λ v. v.kind) kept.ensures.ok)
+    (ap (λ v. v.numbers) kept.ensures.ok)
 
 pub returns-in_ok-filter-in-Decimal-clause-ok : goal.returns-in_ok-filter-in-Decimal-clause-ok
 returns-in_ok-filter-in-Decimal-clause-ok c =
@@ -111,13 +111,13 @@ returns-in_ok-filter-in-Decimal-clause-ok c =
     let stored = ap storage_of (sym c.dtype-in-Decimal.ensures ∙ ap type_of c.in-Decimal-dtype.is) in
     let long = c.requires ∙ ap len (sym c.as_array-array.ensures.of) in
     let same = validity.ensures.nullability ∙ c.nullability-nullability.ensures ∙ ap nullability_of c.dtype.ensures in
-    let column_made = rw (ap (λ v. v.kind) kept.ensures) at c.decimal_column.ensures.ok in
+    let column_made = rw (ap (λ v. v.kind) kept.ensures.ok) at c.decimal_column.ensures.ok in
     IfOk-weaker c.decimal_column.result _ _
     (λ u made. subst (λ x. KeepsExactly (filter_of bits x) (canonical_tree u)) c.as_array-array.ensures.of
     (column_filtered (λ z. decimal z d.scale) (enc.decimals w) (type.decimal d.precision d.scale NonNullable) (λ m n xs css. refl) bits (numbers_of values)
     (numbers_of kept.field-0) c.in-Decimal.validity.now validity.validity t (canonical_tree u) c.in-Decimal.ensures.0
     (subst (λ st. IsFlat (decimal_type st) (length (numbers_of values)) (dtype t) (len t) (shapes (slots_of (c.in-Decimal.validity.now ∷ [])))) stored flat.0)
-    long (ap (λ v. v.numbers) kept.ensures) same validity.ensures.chosen made))
+    long (ap (λ v. v.numbers) kept.ensures.ok) same validity.ensures.chosen made))
     column_made
 
 pub varbinview_column-requires-clause-sized : goal.varbinview_column-requires-clause-sized

@@ -41,15 +41,17 @@ pub(crate) fn bit_rows(
     }
 }
 
-/// Returns `integers` as `len` rows: shares a buffer, repeats a single integer. (own)
+/// Returns `integers` as `len` rows: shares a buffer, repeats a single integer. Fails only with
+/// `OutOfMemory`. (own)
 pub(crate) fn integer_rows(
     alloc: Global,
     integers: IntegerOperand<'_>,
     len: usize,
-) -> Result<PrimitiveValues, AllocError>
+) -> VortexResult<PrimitiveValues>
     requires { AreIntegers (ptype_in integers) integers len }
     ensures kind { IfOk result (λ v. ptype_of v ≡ ptype_in integers.entry) }
     ensures values { IfOk result (λ v. values_of v ≡ map (λ i. integer_in integers.entry i) (range_with_len 0 len)) }
+    ensures err { OnlyOutOfMemory result }
 {
     match integers.rows {
         IntegerRows::Rows(values) => Ok(values.clone()?),
@@ -57,15 +59,17 @@ pub(crate) fn integer_rows(
     }
 }
 
-/// Returns `decimals` as `len` rows: shares a buffer, repeats a single number. (own)
+/// Returns `decimals` as `len` rows: shares a buffer, repeats a single number. Fails only with
+/// `OutOfMemory`. (own)
 pub(crate) fn decimal_rows(
     alloc: Global,
     decimals: DecimalOperand<'_>,
     len: usize,
-) -> Result<DecimalValues, AllocError>
+) -> VortexResult<DecimalValues>
     requires { AreDecimals decimals len }
     ensures stored { IfOk result (λ v. are_decimals_of (stored_decimals decimals.entry.decimal) (decimal_type_of v) (numbers_of v) ≡ true) }
     ensures values { IfOk result (λ v. numbers_of v ≡ map (λ i. unscaled_in decimals.entry i) (range_with_len 0 len)) }
+    ensures err { OnlyOutOfMemory result }
 {
     match decimals.rows {
         DecimalRows::Rows(values) => Ok(values.clone()?),
@@ -76,20 +80,22 @@ pub(crate) fn decimal_rows(
     }
 }
 
-/// Returns `bytes` as `len` rows: shares a column, copies the bytes of a single value once. (own)
+/// Returns `bytes` as `len` rows: shares a column, copies the bytes of a single value once. Fails only with
+/// `OutOfMemory`. (own)
 pub(crate) fn byte_rows(
     alloc: Global,
     bytes: BytesOperand<'_>,
     len: usize,
-) -> Result<BinaryViews, AllocError>
+) -> VortexResult<BinaryViews>
     requires { AreBytes bytes len }
-    ensures { IfOk result (λ r. rows_of r ≡ map (λ i. bytes_in bytes.entry i) (range_with_len 0 len)) }
+    ensures ok { IfOk result (λ r. rows_of r ≡ map (λ i. bytes_in bytes.entry i) (range_with_len 0 len)) }
+    ensures err { OnlyOutOfMemory result }
 {
     match bytes.rows {
         BytesRows::Rows(rows) => Ok(rows.clone()?),
         BytesRows::Value(value) => {
             let value = ByteBuffer::copy_from(alloc, value)?;
-            BinaryViews::repeat(alloc, value, len)
+            Ok(BinaryViews::repeat(alloc, value, len)?)
         }
     }
 }

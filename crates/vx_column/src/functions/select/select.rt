@@ -281,18 +281,20 @@ fn select_row<T: NativeNumber>(
     if choice { first } else { second }
 }
 
-/// Chooses `left` at the true bits of `choice`, else `right`, `len` rows each. Copies the bytes of each row once.
+/// Chooses `left` at the true bits of `choice`, else `right`, `len` rows each. Copies the bytes of each row once. Fails
+/// only with `OutOfMemory`.
 fn select_views(
     alloc: Global,
     choice: &BitBuffer,
     left: BytesOperand<'_>,
     right: BytesOperand<'_>,
     len: usize,
-) -> Result<BinaryViews, AllocError>
+) -> VortexResult<BinaryViews>
     requires choice { length choice.now ≡ len }
     requires left { AreBytes left len }
     requires right { AreBytes right len }
-    ensures { IfOk result (λ r. rows_of r ≡ selected_rows choice.now (bytes_in left.entry) (bytes_in right.entry) len) }
+    ensures ok { IfOk result (λ r. rows_of r ≡ selected_rows choice.now (bytes_in left.entry) (bytes_in right.entry) len) }
+    ensures err { OnlyOutOfMemory result }
 {
     let mut rows = BinaryBuilder::with_capacity(alloc, len)?;
     for index in 0..len {

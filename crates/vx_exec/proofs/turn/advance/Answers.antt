@@ -21,7 +21,7 @@ returns-in_ok-push-in-Ok-ExecuteSlot-clause-ok g c =
     let asked = c.in-Ok-ExecuteSlot in
     let answer = subst (λ s. IsStep c.args.current s) asked.field-0-is asked.ensures.ok in
     move_push g.M.Matcher.fits c.args.frames.now.items c.push.new.self.items asked.slot c.args.current taken.parent taken.child asked.target c.requires.open
-    taken.ensures.0 taken.ensures.1 taken.ensures.2 answer.0 answer.1 answer.2 c.requires.frames c.in_ok-push-in-Ok-ExecuteSlot.ensures.items
+    taken.ensures.ok.0 taken.ensures.ok.1 taken.ensures.ok.2 answer.0 answer.1 answer.2 c.requires.frames c.in_ok-push-in-Ok-ExecuteSlot.ensures.items
 
 pub returns-in-Err-clause-err : goal.returns-in-Err-clause-err
 returns-in-Err-clause-err g c =

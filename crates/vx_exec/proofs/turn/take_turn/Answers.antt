@@ -20,7 +20,7 @@ returns-in_ok-put-in-Some-clause-ok g c =
     let frame = c.in-Some.field-0 in
     let reached : is_reached g.M.Matcher.fits fs c.args.current ≡ true = sym
     (c.is_reached.ensures ∙ ap (λ x. is_reached g.M.Matcher.fits x c.args.current) c.deref.ensures.value) ∙ c.if-is_reached.true in
-    move_pop g.M.Matcher.fits fs gs frame c.args.current c.in_ok-put-in-Some.field-0 reached c.in-Some.ensures.items c.requires c.in_ok-put-in-Some.ensures
+    move_pop g.M.Matcher.fits fs gs frame c.args.current c.in_ok-put-in-Some.field-0 reached c.in-Some.ensures.items c.requires c.in_ok-put-in-Some.ensures.ok
 
 pub returns-in-Err-clause-fault : goal.returns-in-Err-clause-fault
 returns-in-Err-clause-fault g c = λ e.

@@ -15,13 +15,13 @@ descend-returns-in_err-root t c =
 pub descend_slot-put-requires-clause-fits : goal.descend_slot-put-requires-clause-fits
 descend_slot-put-requires-clause-fits t c =
     let o = c.in_ok-child.ensures in
-    slot_fits c.args.slot c.in_ok-parent.child c.in_ok-parent.parent c.args.array c.in_ok-parent.ensures c.in_ok-child.child
+    slot_fits c.args.slot c.in_ok-parent.child c.in_ok-parent.parent c.args.array c.in_ok-parent.ensures.ok c.in_ok-child.child
     (descends_keeps c.in_ok-parent.child c.in_ok-child.child o.count 0 o.done)
 
 pub descend_slot-returns : goal.descend_slot-returns
 descend_slot-returns t c =
-    rw c.in_ok-put.ensures
-    (slot_descended c.args.slot c.in_ok-parent.child c.in_ok-parent.parent c.args.array c.in_ok-parent.ensures
+    rw c.in_ok-put.ensures.ok
+    (slot_descended c.args.slot c.in_ok-parent.child c.in_ok-parent.parent c.args.array c.in_ok-parent.ensures.ok
     c.in_ok-child.child c.args.total.now c.descend.new.total c.in_ok-child.ensures)
 
 pub descend_slot-returns-then-not-has_child : goal.descend_slot-returns-then-not-has_child
@@ -31,7 +31,7 @@ descend_slot-returns-then-not-has_child t c =
 pub descend_slot-returns-in_err-child : goal.descend_slot-returns-in_err-child
 descend_slot-returns-in_err-child t c =
     passed_on _ _ _ _ c.from_residual-in_err-child.ensures.1
-    (slot_stopped_below c.args.slot c.in_ok-parent.child c.args.array c.args.total.now c.in_err-child.field-0.0 c.in_ok-parent.ensures.3
+    (slot_stopped_below c.args.slot c.in_ok-parent.child c.args.array c.args.total.now c.in_err-child.field-0.0 c.in_ok-parent.ensures.ok.3
     c.in_err-child.ensures)
 
 pub descend_slots-loop-slot-init : goal.descend_slots-loop-slot-init

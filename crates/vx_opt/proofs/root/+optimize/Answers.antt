@@ -70,24 +70,24 @@ optimize_root-returns t c =
 pub optimize_slot-put-requires-clause-fits : goal.optimize_slot-put-requires-clause-fits
 optimize_slot-put-requires-clause-fits t c =
     let o = c.in_ok-child.ensures in
-    slot_fits c.args.slot c.in_ok-parent.child c.in_ok-parent.parent c.args.array c.in_ok-parent.ensures c.in_ok-child.child
+    slot_fits c.args.slot c.in_ok-parent.child c.in_ok-parent.parent c.args.array c.in_ok-parent.ensures.ok c.in_ok-child.child
     (optimizes_keeps c.in_ok-parent.child c.in_ok-child.child o.count 0 o.done)
 
 pub optimize_slot-returns-clause-optimized : goal.optimize_slot-returns-clause-optimized
 optimize_slot-returns-clause-optimized t c =
-    rw c.in_ok-put.ensures
-    (slot_optimized c.args.slot c.in_ok-parent.child c.in_ok-parent.parent c.args.array c.in_ok-parent.ensures
+    rw c.in_ok-put.ensures.ok
+    (slot_optimized c.args.slot c.in_ok-parent.child c.in_ok-parent.parent c.args.array c.in_ok-parent.ensures.ok
     c.in_ok-child.child c.args.total.now c.optimize_root.new.total c.in_ok-child.ensures)
 
 pub optimize_slot-returns-in_err-child-clause-optimized : goal.optimize_slot-returns-in_err-child-clause-optimized
 optimize_slot-returns-in_err-child-clause-optimized t c =
     passed_on _ _ _ _ c.from_residual-in_err-child.ensures.1
-    (slot_stopped c.args.slot c.in_ok-parent.child c.args.array c.args.total.now c.in_err-child.field-0.0 c.in_ok-parent.ensures.3 c.in_err-child.ensures)
+    (slot_stopped c.args.slot c.in_ok-parent.child c.args.array c.args.total.now c.in_err-child.field-0.0 c.in_ok-parent.ensures.ok.3 c.in_err-child.ensures)
 
 pub optimize_slot-returns-clause-same_slots : goal.optimize_slot-returns-clause-same_slots
 optimize_slot-returns-clause-same_slots t c =
-    rw c.in_ok-put.ensures
-    (λ j h. slot_present c.args.slot c.in_ok-parent.child c.in_ok-parent.parent c.args.array c.in_ok-parent.ensures j c.in_ok-child.child h)
+    rw c.in_ok-put.ensures.ok
+    (λ j h. slot_present c.args.slot c.in_ok-parent.child c.in_ok-parent.parent c.args.array c.in_ok-parent.ensures.ok j c.in_ok-child.child h)
 
 pub optimize_slots-loop-i-init : goal.optimize_slots-loop-i-init
 optimize_slots-loop-i-init t c = between_start c.args.raw.optimize.items c.args.raw.tree c.args.total.now c.requires.present c.requires.room

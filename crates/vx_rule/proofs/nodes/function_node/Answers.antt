@@ -30,5 +30,5 @@ pub returns-clause-ok : goal.returns-clause-ok
 returns-clause-ok c =
     let typed : type_of c.in_ok-clone-2.field-0 ≡ dtype c.args.original.now = ap type_of c.in_ok-clone-2.ensures.cases ∙ c.dtype.ensures in
     let same = ap (λ p. p.scalar_fn) c.new-payload.ensures ∙ clone_is_same _ _ c.in_ok-clone.ensures.cases in
-    let made = rw c.new-parts.ensures at c.in_ok-from_parts_unchecked.ensures in
+    let made = rw c.new-parts.ensures at c.in_ok-from_parts_unchecked.ensures.ok in
     c.into_array.ensures ∙ made ∙ (λ i. node (typed i) c.args.len (function (same i)) (slots_of c.args.slots.items))

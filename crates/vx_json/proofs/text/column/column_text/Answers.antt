@@ -17,7 +17,7 @@ returns-clause-ok c =
     let of = c.as_array-array.ensures.of in
     let argument = c.in_ok-argument.argument in
     let counted : length (rows t) ≡ len t = subst (λ x. length (rows x) ≡ len x) of c.well_formed_tree.ensures.counted in
-    let head = c.in_ok-reserve.ensures.bytes ∙ c.in_ok-text.ensures ∙ ap (λ u. head_lines (dtype u) (id_of (datum u))) of in
+    let head = c.in_ok-reserve.ensures.bytes ∙ c.in_ok-text.ensures.ok ∙ ap (λ u. head_lines (dtype u) (id_of (datum u))) of in
     shows_column column argument c.len-2.result _ c.in_ok-argument.ensures.ok counted (c.len-2.ensures ∙ ap len of)
     (c.in_ok-push_rows.ensures.ok ∙ ap (λ text. text ++ row_lines argument c.len-2.result) head)
 

@@ -10,11 +10,10 @@ returns-in-Nulls-clause-ok c =
     more_nulls c.args.self.now c.in-Nulls.rows c.args.count c.in-Nulls.is
     ∙ ap (λ vs. stored_values c.args.self.now ++ replicate c.args.count (zero_in vs)) (sym c.in-Nulls.is)
 
-pub returns-in-Bits-clause-ok : goal.returns-in-Bits-clause-ok
-returns-in-Bits-clause-ok c =
-    on_ok_weaker _
-    (more_zeros c.args.self.now boolean false c.in-Bits.bits _ c.args.count (ap stored_values c.in-Bits.is) (ap zero_in c.in-Bits.is))
-    c.push_copies.ensures.ok
+pub returns-in_ok-push_copies-in-Bits-clause-ok : goal.returns-in_ok-push_copies-in-Bits-clause-ok
+returns-in_ok-push_copies-in-Bits-clause-ok c =
+    more_zeros c.args.self.now boolean false c.in-Bits.bits _ c.args.count (ap stored_values c.in-Bits.is) (ap zero_in c.in-Bits.is)
+    c.in_ok-push_copies-in-Bits.ensures.ok
 
 pub returns-in-Integers-clause-ok : goal.returns-in-Integers-clause-ok
 returns-in-Integers-clause-ok c =
@@ -30,8 +29,7 @@ returns-in-Decimals-clause-ok c =
     (ap stored_values c.in-Decimals.is) (ap zero_in c.in-Decimals.is))
     (on_ok_weaker _ (ap (λ v. v.numbers)) c.push_zeros-in-Decimals.ensures.ok)
 
-pub returns-in-Bytes-clause-ok : goal.returns-in-Bytes-clause-ok
-returns-in-Bytes-clause-ok c =
-    on_ok_weaker _
-    (more_zeros c.args.self.now bytes [] c.in-Bytes.rows _ c.args.count (ap stored_values c.in-Bytes.is) (ap zero_in c.in-Bytes.is))
-    c.push_empty.ensures.ok
+pub returns-in_ok-push_empty-in-Bytes-clause-ok : goal.returns-in_ok-push_empty-in-Bytes-clause-ok
+returns-in_ok-push_empty-in-Bytes-clause-ok c =
+    more_zeros c.args.self.now bytes [] c.in-Bytes.rows _ c.args.count (ap stored_values c.in-Bytes.is) (ap zero_in c.in-Bytes.is)
+    c.in_ok-push_empty-in-Bytes.ensures.ok

@@ -1,6 +1,5 @@
 use Rattle.std.proofs.Common.{◌≡◌, [], refl, subst, rules, ap, ◌∙◌}
 use Rattle.std.proofs.lemmas.List.{length-map}
-use Rattle.std.proofs.lemmas.Result.{IfOk-weaker}
 use Rattle.vx_tree.specs.Views.{rows_of}
 use Rattle.vx_tree.specs.Views.{bytes_at as viewed_at}
 use Rattle.vx_tree.proofs.ViewsLemmas.{rows_repeated}
@@ -8,8 +7,8 @@ use Rattle.vx_column.specs.Arguments.{bytes_at, HasBytes}
 use Rattle.vx_column.proofs.RowsLemmas.{rows_shared, value_repeated}
 use Rattle.vx_column.proofs.functions.kernel.stored.byte_rows.Goals as goal
 
-pub returns-in_ok-clone-in-Rows : goal.returns-in_ok-clone-in-Rows
-returns-in_ok-clone-in-Rows c =
+pub returns-in_ok-clone-in-Rows-clause-ok : goal.returns-in_ok-clone-in-Rows-clause-ok
+returns-in_ok-clone-in-Rows-clause-ok c =
     let b = c.args.bytes in
     let n = c.args.len in
     let same : c.in_ok-clone-in-Rows.field-0 ≡ c.in-Rows.rows.now = search rules in
@@ -17,9 +16,9 @@ returns-in_ok-clone-in-Rows c =
     let long = length-map all.views (viewed_at all.buffers) ∙ (subst (λ r. HasBytes b.storage r n) c.in-Rows.is c.requires).0 in
     rows_shared bytes_at b.rows n [] _ (rows_of all) _ c.in-Rows.is (ap rows_of same) long (λ i. refl)
 
-pub returns-in_ok-value-in-Value : goal.returns-in_ok-value-in-Value
-returns-in_ok-value-in-Value c =
-    IfOk-weaker c.repeat.result _ _
-    (λ r made. value_repeated bytes_at c.args.bytes.rows c.args.len _ c.in-Value.value.now _ (rows_of r) c.in-Value.is (ap rows_of made ∙ rows_repeated c.args.len c.in_ok-value-in-Value.value)
-    c.in_ok-value-in-Value.ensures (λ i. refl))
-    c.repeat.ensures
+pub returns-in_ok-repeat-in-Value-clause-ok : goal.returns-in_ok-repeat-in-Value-clause-ok
+returns-in_ok-repeat-in-Value-clause-ok c =
+    let made = c.in_ok-repeat-in-Value in
+    value_repeated bytes_at c.args.bytes.rows c.args.len _ c.in-Value.value.now _ (rows_of made.field-0) c.in-Value.is
+    (ap rows_of made.ensures ∙ rows_repeated c.args.len c.in_ok-value-in-Value.value) c.in_ok-value-in-Value.ensures.ok
+    (λ i. refl)

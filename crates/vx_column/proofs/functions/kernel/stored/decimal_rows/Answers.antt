@@ -20,7 +20,7 @@ returns-in-Value-clause-values c =
     IfOk-weaker c.repeat.result _ _
     (λ v made. let number = c.in-Value.unscaled in
     number_repeated unscaled_at c.args.decimals.rows _ c.args.len number (numbers_of v) (search rules) c.in-Value.is (ap (λ r. r.numbers) made) (λ i. refl))
-    c.repeat.ensures
+    c.repeat.ensures.ok
 
 pub returns-in-Value-clause-stored : goal.returns-in-Value-clause-stored
 returns-in-Value-clause-stored c =
@@ -30,4 +30,4 @@ returns-in-Value-clause-stored c =
     (λ v made numbers. numbers_stored d (decimal_type_of v) (unscaled_at c.args.decimals.rows) (numbers_of v) n
     (ap (λ r. r.kind) made ∙ c.smallest_decimal_value_type-width.ensures.value) numbers
     (λ i lt. row_digits d c.args.decimals.rows n i c.requires lt))
-    c.repeat.ensures (returns-in-Value-clause-values c)
+    c.repeat.ensures.ok (returns-in-Value-clause-values c)

@@ -17,4 +17,4 @@ returns-in-Value-clause-values c =
     IfOk-weaker c.repeat.result _ _
     (λ v made. number_repeated integer_at c.args.integers.rows _ c.args.len c.in-Value.wide (values_of v) (search rules) c.in-Value.is
     (ap (λ r. r.numbers) made) (λ i. refl))
-    c.repeat.ensures
+    c.repeat.ensures.ok

@@ -40,7 +40,7 @@ pub byte_rows-requires : goal.byte_rows-requires
 byte_rows-requires c = subst (λ r. HasStored r c.args.len) c.in-Bytes.is c.requires.rows
 
 pub valid_bytes-requires-clause-rows : goal.valid_bytes-requires-clause-rows
-valid_bytes-requires-clause-rows c = counted (bytes_in c.in-Bytes.bytes) (c.in_ok-rows-in-Bytes.rows) c.args.len c.in_ok-rows-in-Bytes.ensures
+valid_bytes-requires-clause-rows c = counted (bytes_in c.in-Bytes.bytes) (c.in_ok-rows-in-Bytes.rows) c.args.len c.in_ok-rows-in-Bytes.ensures.ok
 
 pub returns-in_ok-new-in-Nulls-clause-ok : goal.returns-in_ok-new-in-Nulls-clause-ok
 returns-in_ok-new-in-Nulls-clause-ok c =
@@ -79,10 +79,10 @@ valid_bytes-requires-clause-stored c =
     let bs = c.in-Bytes.bytes in
     let made = c.in_ok-rows-in-Bytes in
     let are = subst (λ r. HasStored r n) c.in-Bytes.is c.requires.rows in
-    rows_stored bs.storage (bytes_in bs) (rows_of made.rows) n made.ensures (λ i lt. row_stored bs.storage bs.rows n i are lt)
+    rows_stored bs.storage (bytes_in bs) (rows_of made.rows) n made.ensures.ok (λ i lt. row_stored bs.storage bs.rows n i are lt)
 
 pub returns-in_ok-rows-in-Bytes-clause-ok : goal.returns-in_ok-rows-in-Bytes-clause-ok
 returns-in_ok-rows-in-Bytes-clause-ok c =
     let made = c.in_ok-rows-in-Bytes in
-    rows_made bytes [] (bytes_in c.in-Bytes.bytes) c.args.rows _ c.args.valid.now c.args.len (rows_of made.rows) _ c.valid_bytes.result c.in-Bytes.is made.ensures
+    rows_made bytes [] (bytes_in c.in-Bytes.bytes) c.args.rows _ c.args.valid.now c.args.len (rows_of made.rows) _ c.valid_bytes.result c.in-Bytes.is made.ensures.ok
     (λ i. refl) refl c.valid_bytes.ensures.ok

@@ -22,10 +22,10 @@ pub valid_bytes-requires-clause-stored : goal.valid_bytes-requires-clause-stored
 valid_bytes-requires-clause-stored c =
     let arm = c.in-Bytes-Bytes in
     selected_stored c.args.if_true c.args.if_false arm.if_true arm.if_false c.args.choice.now (rows_of c.in_ok-rows-in-Bytes-Bytes.rows) c.args.len arm.is-0 arm.is-1
-    c.requires.same c.requires.left c.requires.right c.in_ok-rows-in-Bytes-Bytes.ensures
+    c.requires.same c.requires.left c.requires.right c.in_ok-rows-in-Bytes-Bytes.ensures.ok
 
 pub returns-in_ok-rows-in-Bytes-Bytes-clause-ok : goal.returns-in_ok-rows-in-Bytes-Bytes-clause-ok
 returns-in_ok-rows-in-Bytes-Bytes-clause-ok c =
     let arm = c.in-Bytes-Bytes in
     column_selected bytes [] c.args.choice.now c.args.if_true c.args.if_false _ _ (bytes_in arm.if_true) (bytes_in arm.if_false) c.args.valid.now c.args.len
-    (rows_of c.in_ok-rows-in-Bytes-Bytes.rows) _ c.valid_bytes.result arm.is-0 arm.is-1 refl refl refl c.in_ok-rows-in-Bytes-Bytes.ensures c.valid_bytes.ensures.ok
+    (rows_of c.in_ok-rows-in-Bytes-Bytes.rows) _ c.valid_bytes.result arm.is-0 arm.is-1 refl refl refl c.in_ok-rows-in-Bytes-Bytes.ensures.ok c.valid_bytes.ensures.ok
