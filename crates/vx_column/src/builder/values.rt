@@ -74,7 +74,7 @@ impl Values {
             (Values::Decimals(values, _), ScalarValue::Decimal(decimal)) => {
                 values.push(decimal.unscaled)
             }
-            (Values::Bytes(rows), ScalarValue::Bytes(bytes)) => Ok(rows.push(bytes.as_slice())?),
+            (Values::Bytes(rows), ScalarValue::Bytes(bytes)) => rows.push(bytes.as_slice()),
             _ => unreachable!(),
         }
     }
@@ -97,7 +97,7 @@ impl Values {
             Values::Bits(bits) => Ok(bits.push_copies(false, count)?),
             Values::Integers(values) => values.push_zeros(count),
             Values::Decimals(values, _) => values.push_zeros(count),
-            Values::Bytes(rows) => Ok(rows.push_empty(count)?),
+            Values::Bytes(rows) => rows.push_empty(count),
         }
     }
     /// Returns the column of the values, which are of type `dtype`, without copying them; `validity` says which rows are null.

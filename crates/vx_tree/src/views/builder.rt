@@ -6,7 +6,7 @@ ghost use Rattle.vx_tree.specs.Views.{packed};
 
 use crate::views::view::View;
 use crate::views::views::BinaryViews;
-use std::alloc::{AllocError, Global};
+use std::alloc::Global;
 use std::marker::Model;
 use vx_value::{ByteBuffer, VortexResult};
 
@@ -29,9 +29,10 @@ impl Model for BinaryBuilder {
 }
 
 impl BinaryBuilder {
-    /// Makes an empty builder with room for the views of `len` rows. Fails only if there is no memory for them.
-    pub fn with_capacity(alloc: Global, len: usize) -> Result<BinaryBuilder, AllocError>
-        ensures { IfOk result (λ b. b ≡ []) }
+    /// Makes an empty builder with room for the views of `len` rows. Fails only with `OutOfMemory`.
+    pub fn with_capacity(alloc: Global, len: usize) -> VortexResult<BinaryBuilder>
+        ensures ok { IfOk result (λ b. b ≡ []) }
+        ensures err { OnlyOutOfMemory result }
     {
         Ok(BinaryBuilder {
             views: Vec::with_capacity(alloc, len)?,
@@ -39,11 +40,11 @@ impl BinaryBuilder {
         })
     }
 
-    /// Appends a row, copying its bytes. Fails only if there is no memory for the bytes or the view; the rows are then
-    /// unchanged.
-    pub fn push(&mut self, bytes: &[u8]) -> Result<(), AllocError>
+    /// Appends a row, copying its bytes. Fails only with `OutOfMemory`; the rows are then unchanged.
+    pub fn push(&mut self, bytes: &[u8]) -> VortexResult<()>
         ensures ok { OnOk result (self.new ≡ self.old ++ bytes.now ∷ []) }
         ensures err { OnErr result (self.new ≡ self.old) }
+        ensures memory { OnlyOutOfMemory result }
     {
         let view = View {
             buffer: 0,
@@ -56,11 +57,11 @@ impl BinaryBuilder {
         Ok(())
     }
 
-    /// Appends `count` rows without bytes, in one allocation. Fails only if there is no memory for the views; the rows are then
-    /// unchanged.
-    pub fn push_empty(&mut self, count: usize) -> Result<(), AllocError>
+    /// Appends `count` rows without bytes, in one allocation. Fails only with `OutOfMemory`; the rows are then unchanged.
+    pub fn push_empty(&mut self, count: usize) -> VortexResult<()>
         ensures ok { OnOk result (self.new ≡ self.old ++ replicate count []) }
         ensures err { OnErr result (self.new ≡ self.old) }
+        ensures memory { OnlyOutOfMemory result }
     {
         let view = View {
             buffer: 0,

@@ -2,6 +2,7 @@
 
 ghost use Rattle.std.specs.Prelude.{◌≡◌, ◌<◌, ◌≤◌, ◌↔◌, ◌∷◌, [], IsTrue, IfOk, SomeIff, Some, length, slice_get};
 ghost use Rattle.std.specs.Option.{option_copied};
+ghost use Rattle.vx_value.specs.Errors.{OnlyOutOfMemory};
 ghost use Rattle.vx_mask.specs.Masks.{bits_in};
 ghost use Rattle.std.specs.List.{AllPass};
 ghost use Rattle.std.specs.Str.{is_utf8};
@@ -13,7 +14,7 @@ use std::fmt;
 use std::marker::Model;
 use std::ops::Range;
 use vx_mask::{Buffer, Mask};
-use vx_value::{ByteBuffer, is_text};
+use vx_value::{ByteBuffer, VortexResult, is_text};
 
 /// Rows of bytes, as in the original's `VarBinViewArray`. Each row is a view into one of the data buffers, which clones,
 /// slices and filtered columns share.
@@ -36,14 +37,15 @@ impl Model for BinaryViews {
 }
 
 impl BinaryViews {
-    /// Makes a column of `views` into `buffers`, or returns `None` if a view doesn't lie in its buffer. Fails only if there
-    /// is no memory for the reference count.
+    /// Makes a column of `views` into `buffers`, or returns `None` if a view doesn't lie in its buffer. Fails only with
+    /// `OutOfMemory`.
     pub fn try_new(
         alloc: Global,
         views: Buffer<View>,
         buffers: Vec<ByteBuffer>,
-    ) -> Result<Option<BinaryViews>, AllocError>
-        ensures { IfOk result (λ made. SomeIff made (AllLieIn buffers.items views) (viewed views buffers.items)) }
+    ) -> VortexResult<Option<BinaryViews>>
+        ensures ok { IfOk result (λ made. SomeIff made (AllLieIn buffers.items views) (viewed views buffers.items)) }
+        ensures err { OnlyOutOfMemory result }
     {
         if !all_lie_in(views.as_slice(), buffers.as_slice()) {
             return Ok(None);
@@ -52,11 +54,12 @@ impl BinaryViews {
         Ok(Some(BinaryViews { views, buffers }))
     }
 
-    /// Makes a column of `len` rows, each `bytes`, which aren't copied: equal views of one buffer. Fails only if there is no
-    /// memory for the views, the list of one buffer or the reference counts. (own)
+    /// Makes a column of `len` rows, each `bytes`, which aren't copied: equal views of one buffer. Fails only with
+    /// `OutOfMemory`. (own)
     #[tactic(auto, using(crate::proofs::ViewsLemmas::lie_in_equal))]
-    pub fn repeat(alloc: Global, bytes: ByteBuffer, len: usize) -> Result<BinaryViews, AllocError>
-        ensures { IfOk result (λ column. column ≡ repeated len bytes) }
+    pub fn repeat(alloc: Global, bytes: ByteBuffer, len: usize) -> VortexResult<BinaryViews>
+        ensures ok { IfOk result (λ column. column ≡ repeated len bytes) }
+        ensures err { OnlyOutOfMemory result }
     {
         let view = View {
             buffer: 0,
@@ -64,7 +67,7 @@ impl BinaryViews {
             size: bytes.len(),
         };
         let views = vec![in alloc; view; len]?;
-        BinaryViews::of_one_buffer(alloc, views, bytes)
+        Ok(BinaryViews::of_one_buffer(alloc, views, bytes)?)
     }
 
     /// Makes a column of `views` into the one data buffer `bytes`. Fails only if there is no memory for the list of one
@@ -146,12 +149,13 @@ impl BinaryViews {
         true
     }
 
-    /// Returns the rows in `range`, which share the views and the data. Fails only if they can't be shared once more.
+    /// Returns the rows in `range`, which share the views and the data. Fails only with `OutOfMemory`.
     #[tactic(auto, using(crate::proofs::ViewsLemmas::lie_in_part))]
-    pub fn slice(&self, range: Range<usize>) -> Result<BinaryViews, AllocError>
+    pub fn slice(&self, range: Range<usize>) -> VortexResult<BinaryViews>
         requires order { range.start ≤ range.end }
         requires bounds { range.end ≤ length self.now.views }
-        ensures { IfOk result (λ column. column ≡ viewed_range range.start range.end self.now) }
+        ensures ok { IfOk result (λ column. column ≡ viewed_range range.start range.end self.now) }
+        ensures err { OnlyOutOfMemory result }
     {
         Ok(BinaryViews {
             views: self.views.slice(range)?,
@@ -159,12 +163,13 @@ impl BinaryViews {
         })
     }
 
-    /// Returns the rows at the true bits of `mask`, in order. They share the data. Fails only if there is no memory for
-    /// the views, or if the data can't be shared once more.
+    /// Returns the rows at the true bits of `mask`, in order. They share the data. Fails only with
+    /// `OutOfMemory`.
     #[tactic(auto, using(crate::proofs::ViewsLemmas::lie_in_chosen))]
-    pub fn filter(&self, alloc: Global, mask: &Mask) -> Result<BinaryViews, AllocError>
+    pub fn filter(&self, alloc: Global, mask: &Mask) -> VortexResult<BinaryViews>
         requires { length (bits_in mask.now) ≡ length self.now.views }
-        ensures { IfOk result (λ column. column ≡ viewed_choice (bits_in mask.now) self.now) }
+        ensures ok { IfOk result (λ column. column ≡ viewed_choice (bits_in mask.now) self.now) }
+        ensures err { OnlyOutOfMemory result }
     {
         let views = self.views.filter(alloc, mask)?;
         let buffers = self.buffers.clone()?;

@@ -91,7 +91,7 @@ returns-in-Text-clause-layout c =
     let n = c.args.len in
     let st = c.storage-storage.result in
     let valued : c.in_ok-bytes-in-Text.bytes ≡ unwrap_or (bytes_in s.value) [] = search rules in
-    let made = c.in_ok-rows-in-Text.ensures ∙ ap (repeated n) valued in
+    let made = c.in_ok-rows-in-Text.ensures.ok ∙ ap (repeated n) valued in
     let stored : storage_of s.of_type ≡ st = ap storage_of (sym c.dtype.ensures.dtype) ∙ sym c.storage-storage.ensures in
     IfOk-weaker c.varbinview_column.result _ _
     (λ u e. e ∙ (λ i. bytes_column st (made i) (c.repeated_validity-validity.ensures i)) ∙ sym (bytes_expanded s n st c.in-Text.is)
@@ -135,7 +135,7 @@ varbinview_column-requires-clause-stored c =
     let kept = ap (λ x. is_stored (nullability_of s.of_type) x s.value) (c.storage-storage.ensures ∙ ap storage_of c.dtype.ensures.dtype)
     ∙ c.dtype.ensures.typed in
     let one = ap (λ x. are_bytes_of st (x ∷ [])) valued ∙ bytes_kept (nullability_of s.of_type) st s.value c.in-Text.is kept in
-    ap (λ r. are_bytes_of st (rows_of r)) c.in_ok-rows-in-Text.ensures
+    ap (λ r. are_bytes_of st (rows_of r)) c.in_ok-rows-in-Text.ensures.ok
     ∙ ap (are_bytes_of st) (rows_repeated c.args.len c.in_ok-bytes-in-Text.bytes) ∙ bytes_copies st c.args.len c.in_ok-bytes-in-Text.bytes one
 
 pub returns-in-Text-clause-ok : goal.returns-in-Text-clause-ok
@@ -143,7 +143,7 @@ returns-in-Text-clause-ok c =
     let valued : c.in_ok-bytes-in-Text.bytes ≡ unwrap_or (bytes_in c.args.scalar.now.value) [] = search rules in
     bytes_repeated c.args.scalar.now c.args.len c.dtype.ensures.typed c.repeated_validity-validity.result c.repeated_validity-validity.ensures
     c.varbinview_column.result c.storage-storage.result c.in_ok-bytes-in-Text.bytes c.in_ok-rows-in-Text.rows
-    (ap storage_of (sym c.dtype.ensures.dtype) ∙ sym c.storage-storage.ensures) c.in-Text.is valued c.in_ok-rows-in-Text.ensures c.varbinview_column.ensures.ok
+    (ap storage_of (sym c.dtype.ensures.dtype) ∙ sym c.storage-storage.ensures) c.in-Text.is valued c.in_ok-rows-in-Text.ensures.ok c.varbinview_column.ensures.ok
 
 pub returns-clause-ok : goal.returns-clause-ok
 returns-clause-ok c =
@@ -172,7 +172,7 @@ pub varbinview_column-requires-clause-sized : goal.varbinview_column-requires-cl
 varbinview_column-requires-clause-sized c =
     let made = c.in_ok-rows-in-Text in
     repeated_has c.args.scalar.now c.args.len c.repeated_validity-validity.result c.repeated_validity-validity.ensures (ViewedRows.views made.rows) _
-    (ap (λ r. ViewedRows.views r) made.ensures)
+    (ap (λ r. ViewedRows.views r) made.ensures.ok)
 
 pub repeat-requires-in-Integers : goal.repeat-requires-in-Integers
 repeat-requires-in-Integers c =

@@ -125,7 +125,7 @@ varbinview_column-requires-clause-sized c =
     let flat = subst IsNodeOf c.in-VarBinView.ensures.0 c.in-VarBinView.ensures.1 in
     rows_chosen (bits_in c.args.mask.now) c.in-VarBinView.rows.now.views (ViewedRows.views c.in_ok-filter-in-VarBinView.field-0) c.as_array-array.result.now _
     c.in_ok-validity-in-VarBinView.validity (sym flat.0.2) c.requires c.as_array-array.ensures.of
-    (ap (λ r. ViewedRows.views r) c.in_ok-filter-in-VarBinView.ensures)
+    (ap (λ r. ViewedRows.views r) c.in_ok-filter-in-VarBinView.ensures.ok)
     c.in_ok-validity-in-VarBinView.ensures.sized
 
 pub varbinview_column-requires-clause-stored : goal.varbinview_column-requires-clause-stored
@@ -137,7 +137,7 @@ varbinview_column-requires-clause-stored c =
     let st = storage_of (dtype c.as_array-array.result.now) in
     let typed = second_so (all_lie_in rs) (are_bytes_of st (rows_of rs)) flat.1 in
     bytes_chosen c.storage-storage.result bits (rows_of rs) (rows_of c.in_ok-filter-in-VarBinView.field-0)
-    (ap (λ x. are_bytes_of x (rows_of rs)) kind ∙ typed) (ap rows_of c.in_ok-filter-in-VarBinView.ensures ∙ views_chosen bits rs)
+    (ap (λ x. are_bytes_of x (rows_of rs)) kind ∙ typed) (ap rows_of c.in_ok-filter-in-VarBinView.ensures.ok ∙ views_chosen bits rs)
 
 pub returns-in_ok-filter-in-VarBinView-clause-ok : goal.returns-in_ok-filter-in-VarBinView-clause-ok
 returns-in_ok-filter-in-VarBinView-clause-ok c =
@@ -154,7 +154,7 @@ returns-in_ok-filter-in-VarBinView-clause-ok c =
     (λ u made. subst (λ x. KeepsExactly (filter_of bits x) (canonical_tree u)) c.as_array-array.ensures.of
     (column_filtered (λ x. bytes (bytes_at rs.buffers x)) (λ vs. enc.views (viewed vs rs.buffers)) (bytes_type st) (λ m n xs css. refl) bits rs.views
     (chosen bits rs.views) c.in-VarBinView.validity.now validity.validity t (canonical_tree u) c.in-VarBinView.ensures.0 flat.0 long refl same
-    validity.ensures.chosen (made ∙ (λ i. bytes_column (kind i) (c.in_ok-filter-in-VarBinView.ensures i) validity.validity))))
+    validity.ensures.chosen (made ∙ (λ i. bytes_column (kind i) (c.in_ok-filter-in-VarBinView.ensures.ok i) validity.validity))))
     c.varbinview_column.ensures.ok
 
 pub returns-in_ok-new-in-Null-clause-ok : goal.returns-in_ok-new-in-Null-clause-ok
@@ -176,19 +176,19 @@ pub returns-in_ok-filter-in-Primitive-clause-stored : goal.returns-in_ok-filter-
 returns-in_ok-filter-in-Primitive-clause-stored c =
     data_chosen (bits_in c.args.mask.now) (canonical_tree c.args.column.now) c.as_array-array.result.now (enc.primitive (ptype_of c.in-Primitive.values.now) (values_of c.in-Primitive.values.now))
     (enc.primitive (ptype_of c.in_ok-filter-in-Primitive.field-0) (values_of c.in_ok-filter-in-Primitive.field-0)) _ c.primitive_column.result
-    c.as_array-array.ensures.of (ap datum c.in-Primitive.ensures.0) refl (λ i. enc.primitive (c.in_ok-filter-in-Primitive.ensures i).kind (c.in_ok-filter-in-Primitive.ensures i).numbers) c.primitive_column.ensures.ok
+    c.as_array-array.ensures.of (ap datum c.in-Primitive.ensures.0) refl (λ i. enc.primitive (c.in_ok-filter-in-Primitive.ensures.ok i).kind (c.in_ok-filter-in-Primitive.ensures.ok i).numbers) c.primitive_column.ensures.ok
 
 pub returns-in_ok-filter-in-Decimal-clause-stored : goal.returns-in_ok-filter-in-Decimal-clause-stored
 returns-in_ok-filter-in-Decimal-clause-stored c =
     data_chosen (bits_in c.args.mask.now) (canonical_tree c.args.column.now) c.as_array-array.result.now (enc.decimals (decimal_type_of c.in-Decimal.values.now) (numbers_of c.in-Decimal.values.now))
     (enc.decimals (decimal_type_of c.in_ok-filter-in-Decimal.field-0) (numbers_of c.in_ok-filter-in-Decimal.field-0)) _ c.decimal_column.result
-    c.as_array-array.ensures.of (ap datum c.in-Decimal.ensures.0) refl (λ i. enc.decimals (c.in_ok-filter-in-Decimal.ensures i).kind (c.in_ok-filter-in-Decimal.ensures i).numbers) c.decimal_column.ensures.ok
+    c.as_array-array.ensures.of (ap datum c.in-Decimal.ensures.0) refl (λ i. enc.decimals (c.in_ok-filter-in-Decimal.ensures.ok i).kind (c.in_ok-filter-in-Decimal.ensures.ok i).numbers) c.decimal_column.ensures.ok
 
 pub returns-in_ok-filter-in-VarBinView-clause-stored : goal.returns-in_ok-filter-in-VarBinView-clause-stored
 returns-in_ok-filter-in-VarBinView-clause-stored c =
     data_chosen (bits_in c.args.mask.now) (canonical_tree c.args.column.now) c.as_array-array.result.now (enc.views c.in-VarBinView.rows.now)
     (enc.views c.in_ok-filter-in-VarBinView.field-0) _ c.varbinview_column.result
-    c.as_array-array.ensures.of (ap datum c.in-VarBinView.ensures.0) refl (ap enc.views c.in_ok-filter-in-VarBinView.ensures) c.varbinview_column.ensures.ok
+    c.as_array-array.ensures.of (ap datum c.in-VarBinView.ensures.0) refl (ap enc.views c.in_ok-filter-in-VarBinView.ensures.ok) c.varbinview_column.ensures.ok
 
 pub returns-in_ok-new-in-Null-clause-stored : goal.returns-in_ok-new-in-Null-clause-stored
 returns-in_ok-new-in-Null-clause-stored c =

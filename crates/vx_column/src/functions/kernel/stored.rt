@@ -95,7 +95,7 @@ pub(crate) fn byte_rows(
         BytesRows::Rows(rows) => Ok(rows.clone()?),
         BytesRows::Value(value) => {
             let value = ByteBuffer::copy_from(alloc, value)?;
-            Ok(BinaryViews::repeat(alloc, value, len)?)
+            BinaryViews::repeat(alloc, value, len)
         }
     }
 }

@@ -38,11 +38,11 @@ loop-value-preserved g c =
 pub returns-clause-rows : goal.returns-clause-rows
 returns-clause-rows g c =
     let past = rw c.deref-value-items.ensures.value at c.loop-value-test.false in
-    past_all _ _ _ _ _ _ _ c.loop-value.invariant.read past _ (ap rows_of c.in_ok-finish.ensures ∙ rows_packed c.loop-value.rows)
+    past_all _ _ _ _ _ _ _ c.loop-value.invariant.read past _ (ap rows_of c.in_ok-finish.ensures.ok ∙ rows_packed c.loop-value.rows)
 
 pub returns-clause-packed : goal.returns-clause-packed
-returns-clause-packed g c = (packed_again _ _ c.in_ok-finish.ensures).0
+returns-clause-packed g c = (packed_again _ _ c.in_ok-finish.ensures.ok).0
 
 pub returns-clause-typed : goal.returns-clause-typed
 returns-clause-typed g c =
-    ap (are_bytes_of c.args.storage) (ap rows_of c.in_ok-finish.ensures ∙ rows_packed c.loop-value.rows) ∙ c.loop-value.invariant.typed
+    ap (are_bytes_of c.args.storage) (ap rows_of c.in_ok-finish.ensures.ok ∙ rows_packed c.loop-value.rows) ∙ c.loop-value.invariant.typed

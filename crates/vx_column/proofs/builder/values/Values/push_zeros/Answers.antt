@@ -29,7 +29,8 @@ returns-in-Decimals-clause-ok c =
     (ap stored_values c.in-Decimals.is) (ap zero_in c.in-Decimals.is))
     (on_ok_weaker _ (ap (λ v. v.numbers)) c.push_zeros-in-Decimals.ensures.ok)
 
-pub returns-in_ok-push_empty-in-Bytes-clause-ok : goal.returns-in_ok-push_empty-in-Bytes-clause-ok
-returns-in_ok-push_empty-in-Bytes-clause-ok c =
-    more_zeros c.args.self.now bytes [] c.in-Bytes.rows _ c.args.count (ap stored_values c.in-Bytes.is) (ap zero_in c.in-Bytes.is)
-    c.in_ok-push_empty-in-Bytes.ensures.ok
+pub returns-in-Bytes-clause-ok : goal.returns-in-Bytes-clause-ok
+returns-in-Bytes-clause-ok c =
+    on_ok_weaker _
+    (more_zeros c.args.self.now bytes [] c.in-Bytes.rows _ c.args.count (ap stored_values c.in-Bytes.is) (ap zero_in c.in-Bytes.is))
+    c.push_empty.ensures.ok

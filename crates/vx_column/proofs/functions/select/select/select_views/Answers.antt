@@ -18,6 +18,6 @@ loop-index-preserved c =
     ∙ items_more (selected_by bits l r) c.loop-index.rows i c.select_value.result.now c.loop-index.invariant
     (c.select_value.ensures ∙ ap (λ b. if b then l i else r i) (sym (get_or_from_slice_get bits i c.value-is_true.result false c.value-is_true.ensures)))
 
-pub returns : goal.returns
-returns c =
-    IfOk-weaker c.finish.result _ _ (λ r made. ap rows_of made ∙ rows_packed c.loop-index.rows ∙ c.loop-index.invariant) c.finish.ensures
+pub returns-clause-ok : goal.returns-clause-ok
+returns-clause-ok c =
+    IfOk-weaker c.finish.result _ _ (λ r made. ap rows_of made ∙ rows_packed c.loop-index.rows ∙ c.loop-index.invariant) c.finish.ensures.ok
