@@ -7,8 +7,9 @@ use vx_fn::ScalarFnRef;
 use vx_mask::{BitBuffer, Buffer, Mask};
 use vx_tree::{
     Array, ArrayRef, BinaryViews, BoolArray, Canonical, CanonicalView, Columnar, ColumnarView,
-    ConstantArray, DecimalArray, DecimalType, DecimalValues, FilterArray, IntoArray, MaskedArray, NullArray, PrimitiveArray, PrimitiveValues,
-    ScalarFnArray, ScalarFnValidityArray, SliceArray, VTable, Validity, VarBinViewArray, View,
+    ConstantArray, DecimalArray, DecimalType, DecimalValues, FilterArray, IntoArray, MaskedArray,
+    NullArray, PrimitiveArray, PrimitiveValues, ScalarFnArray, ScalarFnValidityArray, SliceArray,
+    VTable, Validity, VarBinViewArray, View,
 };
 use vx_value::{
     ArgKind, ByteBuffer, DType, DecimalDType, Nullability, PType, Scalar, VortexError, VortexResult,
