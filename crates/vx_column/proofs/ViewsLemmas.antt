@@ -1,5 +1,5 @@
 -- Rows of text and of bytes: what makes them values that are stored so.
-use Rattle.std.proofs.Common.{◌≡◌, ◌<◌, ℕ, true, List, [], ◌∷◌, length, map, get_or, refl, sym, subst}
+use Rattle.std.proofs.Common.{◌≡◌, ◌<◌, ℕ, true, List, [], ◌∷◌, length, map, get_or, refl, sym, subst, ◌∙◌}
 use Rattle.std.specs.Cmp.{first_so}
 use Rattle.std.specs.List.{list_all, range_with_len}
 use Rattle.std.specs.Str.{is_utf8}

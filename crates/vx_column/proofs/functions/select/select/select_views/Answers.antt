@@ -1,8 +1,8 @@
-use Rattle.std.proofs.Common.{if◌then◌else◌, false, sym, ap, ◌∙◌}
+use Rattle.std.proofs.Common.{◌≡◌, if◌then◌else◌, false, sym, ap, arith, ◌∙◌}
 use Rattle.std.proofs.lemmas.Option.{get_or_from_slice_get}
 use Rattle.vx_column.specs.Arguments.{bytes_in}
 use Rattle.vx_column.proofs.ComputedLemmas.{items_more}
-use Rattle.vx_column.specs.Selected.{selected_by}
+use Rattle.vx_column.specs.Selected.{selected_by, selected_rows}
 use Rattle.std.proofs.lemmas.Result.{IfOk-weaker}
 use Rattle.vx_tree.specs.Views.{rows_of}
 use Rattle.vx_tree.proofs.ViewsLemmas.{rows_packed}
@@ -20,4 +20,6 @@ loop-index-preserved c =
 
 pub returns-clause-ok : goal.returns-clause-ok
 returns-clause-ok c =
-    IfOk-weaker c.finish.result _ _ (λ r made. ap rows_of made ∙ rows_packed c.loop-index.rows ∙ c.loop-index.invariant) c.finish.ensures.ok
+    let all : c.loop-index.index ≡ c.args.len = omega arith in
+    let chosen = selected_rows c.args.choice.now (bytes_in c.args.left) (bytes_in c.args.right) in
+    IfOk-weaker c.finish.result _ _ (λ r made. ap rows_of made ∙ rows_packed c.loop-index.rows ∙ c.loop-index.invariant ∙ ap chosen all) c.finish.ensures.ok
