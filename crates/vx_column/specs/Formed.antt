@@ -1,4 +1,4 @@
--- The one form of a canonical column: its rows say what it stores.
+-- The layout of a function's column, as far as its rows tell it: its validity, and its bits.
 use Rattle.std.specs.Prelude.{◌≡◌, [], ◌∷◌, map, Bool, true, false, not}
 use Rattle.vx_value.specs.IsOf.{is_null}
 use Rattle.vx_value.specs.Values.{boolean}
