@@ -10,6 +10,7 @@ use Rattle.std.proofs.Common.{refl}
 use Rattle.std.proofs.Common.{sym}
 use Rattle.std.proofs.Common.{ap}
 use Rattle.std.proofs.Common.{ap₂}
+use Rattle.std.proofs.lemmas.Simd.{map-map}
 use Rattle.std.proofs.Common.{◌∙◌}
 use Rattle.std.proofs.Common.{arith}
 use Rattle.std.specs.Prelude.{is_some, ◌==◌, if◌then◌else◌}
@@ -23,7 +24,7 @@ use Rattle.vx_value.specs.Types as type
 use Rattle.vx_value.specs.Types.{DataType, nullability_of}
 use Rattle.vx_value.specs.Values as of
 use Rattle.vx_value.specs.Values.{Value, null}
-use Rattle.vx_value.specs.Cell.{value}
+use Rattle.vx_value.specs.Cell.{Cell, value}
 use Rattle.vx_value.specs.IsOf.{is_of, is_stored}
 use Rattle.vx_value.specs.Nullabilities.{with_nullability}
 use Rattle.vx_value.specs.Parts.{boolean_in, integer_in, bytes_in}
@@ -55,8 +56,8 @@ use Rattle.vx_column.specs.declared.builder.values.Values.{Values}
 use Rattle.vx_column.specs.declared.builder.values.Values.TheVariants.{Nulls, Bits, Integers, Decimals, Bytes}
 use Rattle.vx_column.specs.Growing.{HaveStorage, padded, masked_by, rows_kept, IsKept, told_rows, IsColumnOf}
 use Rattle.vx_column.proofs.GrowingLemmas.{length-masked_by, stored_as, rows_counted}
-use Rattle.vx_tree.specs.Views.{packed}
-use Rattle.vx_tree.proofs.ViewsLemmas.{length-views_from}
+use Rattle.vx_tree.specs.Views.{packed, bytes_at}
+use Rattle.vx_tree.proofs.ViewsLemmas.{length-views_from, rows_packed}
 
 -- ---- the validity
 
@@ -240,6 +241,19 @@ module _ {A : Type 0} (read : Value → Option A) (make : A → Value) (d : A) (
       length-map (map (item_or d) (map read vs)) (λ x. value (make x)) ∙ length-map (map read vs) (item_or d) ∙ sym (length-map (map read vs) is_some) in
       ap (λ css. valid_cells (cells_at css 0) cells) (one_slot (child_by bits)) ∙ child_told bits cells long ∙ cells_read p vs known all
 
+-- the cells of rows in one buffer
+cells_packed : (rs : List (List ℕ)) → map (λ v. value (of.bytes (bytes_at (packed rs).buffers v))) (packed rs).views ≡ map (λ r. value (of.bytes r)) rs
+cells_packed rs =
+    let cell : List ℕ → Cell = λ r. value (of.bytes r) in
+    sym (map-map cell (bytes_at (packed rs).buffers) (packed rs).views) ∙ ap (map cell) (rows_packed rs)
+
+bytes_read : (p : Value → Bool) (vs : List Value) → ((v : Value) → p v ≡ true → IsNullOr of.bytes v) → list_all p vs ≡ true
+    → (ty : DataType) → rows (bytes_rows ty (map bytes_in vs)) ≡ map (λ v. value v) vs
+bytes_read p vs known all ty =
+    let rs = map (item_or []) (map bytes_in vs) in
+    let css = slots_rows (slots_of (child_by (map is_some (map bytes_in vs)) ∷ [])) in
+    ap (valid_cells (cells_at css 0)) (cells_packed rs) ∙ rows_read bytes_in of.bytes [] (λ x. refl) refl p vs known all
+
 -- the values: a line for each type
 pub rows_built : (ty : DataType) (vs : List Value) → list_all (is_of ty) vs ≡ true → rows (built (record { of_type = ty; values = vs })) ≡ map (λ v. value v) vs
 rows_built type.null vs all = all_null vs all
@@ -248,5 +262,5 @@ rows_built (type.primitive p m) vs all =
     rows_read integer_in of.integer (pos 0) (λ x. refl) refl (is_of (type.primitive p m)) vs (null_or_integer m p) all
 rows_built (type.decimal p s m) vs all =
     rows_read without_point (λ z. of.decimal z s) (pos 0) (λ x. refl) refl (is_of (type.decimal p s m)) vs (null_or_decimal m p s) all
-rows_built (type.utf8 m) vs all = rows_read bytes_in of.bytes [] (λ x. refl) refl (is_of (type.utf8 m)) vs (null_or_text m) all
-rows_built (type.binary m) vs all = rows_read bytes_in of.bytes [] (λ x. refl) refl (is_of (type.binary m)) vs (null_or_bytes m) all
+rows_built (type.utf8 m) vs all = bytes_read (is_of (type.utf8 m)) vs (null_or_text m) all (type.utf8 m)
+rows_built (type.binary m) vs all = bytes_read (is_of (type.binary m)) vs (null_or_bytes m) all (type.binary m)

@@ -21,7 +21,7 @@ ghost use Rattle.vx_column.specs.Arguments.{IsUnread};
 ghost use Rattle.vx_column.specs.Nulls.{TellsRow, IsRowBy};
 ghost use Rattle.vx_column.specs.Read.{IsRow, IsUnreadRow};
 ghost use Rattle.vx_column.specs.ValidRows.{null_unless};
-ghost use Rattle.vx_tree.specs.Views.{rows_of};
+ghost use Rattle.vx_tree.specs.Views.{rows_of, bytes_at};
 
 use std::alloc::{AllocError, Global};
 use vx_fn::{ScalarFnRef, apply_row};
@@ -292,10 +292,11 @@ fn decimal_at(values: &DecimalValues, index: usize, array: &ArrayRef) -> Scalar
 }
 
 /// Returns the bytes that a column of type `dtype`, one of text or bytes, stores in row `index`. Fails only with `OutOfMemory`.
+#[tactic(auto, using(crate::proofs::ViewsLemmas::stored_row))]
 fn bytes_at(alloc: Global, rows: &BinaryViews, index: usize, dtype: &DType) -> VortexResult<Scalar>
     requires index { index < length rows.now.views }
     requires typed { is_of (type_of dtype.now) (bytes (slice_index_or (rows_of rows.now) index [])) ≡ true }
-    ensures row { IfOk result (λ s. slice_get (map (λ r. value (bytes r)) (rows_of rows.now)) index ≡ Some (value s.value)) }
+    ensures row { IfOk result (λ s. slice_get (map (λ v. value (bytes (bytes_at rows.now.buffers v))) rows.now.views) index ≡ Some (value s.value)) }
     ensures typed { IfOk result (λ s. s.of_type ≡ type_of dtype.now) }
     ensures err { OnlyOutOfMemory result }
 {

@@ -3,6 +3,7 @@ use Rattle.vx_tree.specs.Canonicals.{canonical_tree}
 use Rattle.vx_column.specs.Arguments.{bytes_in}
 use Rattle.vx_column.proofs.TextLemmas.{text_kept, text_made}
 use Rattle.vx_tree.specs.Views.{rows_of}
+use Rattle.vx_column.proofs.ViewsLemmas.{views_counted}
 use Rattle.vx_column.proofs.functions.cast.text.cast_to_text.Goals as goal
 
 pub returns-then-are_text-clause-ok : goal.returns-then-are_text-clause-ok
@@ -17,3 +18,6 @@ returns-clause-ok c =
     IfOk-weaker c.valid_bytes.result _ _
     (λ u h. (h.0, text_made (bytes_in c.args.bytes) c.args.valid.now c.args.len (rows_of c.in_ok-rows.rows) (canonical_tree u) made.rows made.text h.1))
     c.valid_bytes.ensures.ok
+
+pub valid_bytes-requires-clause-rows : goal.valid_bytes-requires-clause-rows
+valid_bytes-requires-clause-rows c = views_counted c.in_ok-rows.rows _ c.args.len c.in_ok-rows.ensures.rows

@@ -1,4 +1,4 @@
-use Rattle.std.proofs.Common.{◌≡◌, pos, false, [], refl, sym, ap, subst, ◌∙◌}
+use Rattle.std.proofs.Common.{◌≡◌, pos, false, [], refl, sym, ap, subst}
 use Rattle.vx_value.specs.Types.{primitive}
 use Rattle.vx_value.specs.Nullabilities.{with_nullability}
 use Rattle.vx_value.specs.Values.{boolean, integer, decimal, bytes}
@@ -12,9 +12,8 @@ use Rattle.vx_column.specs.ValidRows.{nullability_in}
 use Rattle.vx_column.specs.Computed.{IsColumnOfCells}
 use Rattle.vx_column.proofs.ValidRowsLemmas.{counted}
 use Rattle.vx_column.proofs.MadeLemmas.{nulls_made, rows_made}
-use Rattle.vx_column.proofs.ViewsLemmas.{rows_stored, row_stored}
-use Rattle.std.proofs.lemmas.List.{length-map}
-use Rattle.vx_tree.specs.Views.{rows_of, bytes_at}
+use Rattle.vx_column.proofs.ViewsLemmas.{rows_stored, row_stored, views_counted}
+use Rattle.vx_tree.specs.Views.{rows_of}
 use Rattle.vx_column.proofs.functions.kernel.stored.stored_column.Goals as goal
 
 pub bit_rows-requires : goal.bit_rows-requires
@@ -42,8 +41,7 @@ byte_rows-requires c = subst (λ r. HasStored r c.args.len) c.in-Bytes.is c.requ
 
 pub valid_bytes-requires-clause-rows : goal.valid_bytes-requires-clause-rows
 valid_bytes-requires-clause-rows c =
-    let rows = c.in_ok-rows-in-Bytes.rows in
-    sym (length-map rows.views (bytes_at rows.buffers)) ∙ counted (bytes_in c.in-Bytes.bytes) (rows_of rows) c.args.len c.in_ok-rows-in-Bytes.ensures.ok
+    views_counted c.in_ok-rows-in-Bytes.rows (bytes_in c.in-Bytes.bytes) c.args.len c.in_ok-rows-in-Bytes.ensures.ok
 
 pub returns-in_ok-new-in-Nulls-clause-ok : goal.returns-in_ok-new-in-Nulls-clause-ok
 returns-in_ok-new-in-Nulls-clause-ok c =

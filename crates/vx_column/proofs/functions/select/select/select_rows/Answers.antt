@@ -5,6 +5,7 @@ use Rattle.vx_column.specs.Arguments.{bytes_in, value_at}
 use Rattle.vx_column.proofs.SelectLemmas.{column_selected, column_either}
 use Rattle.vx_column.proofs.SelectedLemmas.{selected_stored}
 use Rattle.vx_tree.specs.Views.{rows_of}
+use Rattle.vx_column.proofs.ViewsLemmas.{views_counted}
 use Rattle.vx_column.proofs.functions.select.select.select_rows.Goals as goal
 
 pub returns-in-Nulls-Nulls-clause-ok : goal.returns-in-Nulls-Nulls-clause-ok
@@ -29,3 +30,6 @@ returns-in_ok-rows-in-Bytes-Bytes-clause-ok c =
     let arm = c.in-Bytes-Bytes in
     column_selected bytes [] c.args.choice.now c.args.if_true c.args.if_false _ _ (bytes_in arm.if_true) (bytes_in arm.if_false) c.args.valid.now c.args.len
     (rows_of c.in_ok-rows-in-Bytes-Bytes.rows) _ c.valid_bytes.result arm.is-0 arm.is-1 refl refl refl c.in_ok-rows-in-Bytes-Bytes.ensures.ok c.valid_bytes.ensures.ok
+
+pub valid_bytes-requires-clause-rows : goal.valid_bytes-requires-clause-rows
+valid_bytes-requires-clause-rows c = views_counted c.in_ok-rows-in-Bytes-Bytes.rows _ c.args.len c.in_ok-rows-in-Bytes-Bytes.ensures.ok
