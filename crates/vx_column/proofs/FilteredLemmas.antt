@@ -47,7 +47,6 @@ use Rattle.std.specs.Result.{IfOk}
 use Rattle.std.proofs.lemmas.Result.{IfOk-weaker}
 use Rattle.vx_tree.specs.Canonicals.{canonical_tree}
 use Rattle.vx_tree.specs.declared.canonical.canonical.Canonical.{Canonical}
-use Rattle.vx_tree.specs.Views.{viewed_choice}
 use Rattle.vx_column.specs.Filtered.{chosen_data}
 
 -- ---- cells chosen by a mask

@@ -35,7 +35,6 @@ use Rattle.vx_column.specs.Arguments.{types_of, row_of, plain_type, value_at}
 use Rattle.vx_column.specs.Computed.{IsColumnOfCells, IsCanonicalResult}
 use Rattle.vx_column.specs.Formed.{is_shown, is_true}
 use Rattle.vx_column.specs.Stored.{boolean_column, integer_column, decimal_column, bytes_column}
-use Rattle.vx_column.specs.Nulls.{validity_cells}
 use Rattle.vx_column.specs.ValidRows.{is_valid, HasValidity, nullability_in, child_in, IsValidityOf, null_unless}
 use Rattle.vx_column.specs.declared.rows.argument.Argument.{Argument}
 use Rattle.vx_column.specs.declared.rows.argument.ArgumentRows.{ArgumentRows}

@@ -10,7 +10,7 @@ use Rattle.vx_column.proofs.CellsLemmas.{row_told}
 use Rattle.vx_column.proofs.ValidRowsLemmas.{one_slot}
 use Rattle.std.proofs.Common.{◌≡◌, ◌⊎◌, inl, inr, ◌<◌, ℕ, zero, suc, ℤ, pos, List, [], ◌∷◌, map, length, replicate, get_or, Bool, true, false, Option, Some, None, refl, sym, ap, subst, ◌∙◌, arith}
 use Rattle.std.proofs.Math.Bool.{not}
-use Rattle.std.specs.Cmp.{unsigned_Decides, second_so}
+use Rattle.std.specs.Cmp.{second_so}
 use Rattle.vx_value.specs.Types.{DataType, bool, utf8, binary, nullability_of, same_type_Decides, decimal}
 use Rattle.vx_value.specs.Nullabilities.{with_nullability}
 use Rattle.vx_value.specs.View.{type_of}
@@ -29,11 +29,10 @@ use Rattle.vx_tree.specs.ColumnTypes.{bytes_type, are_bytes_of, are_decimals_of,
 use Rattle.vx_tree.specs.Tree.{Tree, Data, slots_of, dtype, len, column, nulls_of, constant_of}
 use Rattle.vx_tree.specs.Cells.{rows, slots_rows, node_cells, cells_at, valid_cells}
 use Rattle.vx_tree.specs.Well.{IsNodeOf}
-use Rattle.vx_tree.specs.Validities.{nullability_by, array_refusal, flat_refusal, bytes_refusal, HasRows, decimal_refusal}
+use Rattle.vx_tree.specs.Validities.{nullability_by, flat_refusal, bytes_refusal, HasRows, decimal_refusal}
 use Rattle.vx_tree.specs.Canonicals.{columnar_tree}
 use Rattle.vx_tree.specs.declared.canonical.columnar.Columnar.{Columnar}
 use Rattle.vx_tree.specs.declared.validity.Validity.{Validity}
-use Rattle.vx_tree.specs.declared.validity.Validity.TheVariants as validity
 use Rattle.vx_tree.proofs.ConditionsLemmas.{none_refused, none_unless}
 use Rattle.vx_tree.proofs.ValiditiesLemmas.{rows_allowed}
 use Rattle.vx_mask.specs.Logic.{bit_row}

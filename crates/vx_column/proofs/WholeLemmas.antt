@@ -1,7 +1,6 @@
 -- A column whose validity has no fault has none itself.
-use Rattle.std.proofs.Common.{◌≡◌, ℕ, List, [], ◌∷◌, length, map, Bool, true, false, Option, Some, None, refl, sym, subst, ap, ◌∙◌}
+use Rattle.std.proofs.Common.{◌≡◌, ℕ, List, [], ◌∷◌, length, map, true, false, Option, Some, sym, subst, ap}
 use Rattle.std.proofs.lemmas.Bool.{false≢true}
-use Rattle.std.specs.List.{AllByRecursion}
 use Rattle.vx_value.specs.Types as type
 use Rattle.vx_value.specs.Types.{DataType, nullability_of}
 use Rattle.vx_value.specs.Values.{Value, null, boolean, integer, decimal, bytes}
@@ -10,12 +9,12 @@ use Rattle.vx_value.specs.declared.dtype.Nullability.{Nullability}
 use Rattle.vx_value.specs.declared.dtype.Nullability.TheVariants.{NonNullable, Nullable}
 use Rattle.vx_tree.specs.Tree as enc
 use Rattle.vx_tree.specs.Tree.{Tree, Data, Slots, node, no_slots, absent, slot, dtype, len, datum, slots, is_canonical}
-use Rattle.vx_tree.specs.Well.{Shape, shape, shape_of, shapes, IsWell, AreWell, IsValidity, IsFlat}
-use Rattle.vx_tree.specs.Cells.{rows, slots_rows, cells_at, valid_cells, HasNoFault, IsClean, AreClean}
+use Rattle.vx_tree.specs.Well.{Shape, shape_of, shapes, IsWell, AreWell, IsValidity, IsFlat}
+use Rattle.vx_tree.specs.Cells.{rows, slots_rows, cells_at, valid_cells, HasNoFault, AreClean}
 use Rattle.vx_value.specs.Storage.{storage_of}
 use Rattle.vx_tree.specs.ColumnTypes.{scale_of, decimal_type, bytes_type}
 use Rattle.vx_tree.proofs.KindsLemmas.{type_in}
-use Rattle.vx_tree.proofs.TypedLemmas.{CellFits, AllFit, rows_fit}
+use Rattle.vx_tree.proofs.TypedLemmas.{AllFit, rows_fit}
 use Rattle.vx_tree.proofs.ValiditiesLemmas.{whole}
 use Rattle.vx_column.proofs.KeepsLemmas.{copies_clean}
 use Rattle.vx_tree.specs.Views.{bytes_at}

@@ -418,7 +418,7 @@ node_fits ty n enc.nulls css ss h k = All-replicate (CellFits ty) n (value null)
 node_fits ty n (enc.bool bs) css ss h k = column_fits _ bs (type.bool NonNullable) (length bs) ty n css ss (λ m b. refl) h k
 node_fits ty n (enc.primitive p zs) css ss h k = column_fits _ zs (type.primitive p NonNullable) (length zs) ty n css ss (λ m z. refl) h k
 node_fits ty n (enc.decimals w zs) css ss h k = column_fits _ zs (decimal_type (storage_of ty)) (length zs) ty n css ss (decimal_fits (storage_of ty)) h.0 k
-node_fits ty n (enc.views rs) css ss h k = 
+node_fits ty n (enc.views rs) css ss h k =
     column_fits _ rs.views (bytes_type (storage_of ty)) (length rs.views) ty n css ss (λ m v. bytes_fit (storage_of ty) m (bytes_at rs.buffers v)) h.0 k
 
 mutual

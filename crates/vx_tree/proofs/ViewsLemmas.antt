@@ -1,5 +1,5 @@
 -- The rows of views: of a part of them, of those that a mask chooses, of equal ones, and of rows that follow one another in one buffer.
-use Rattle.std.proofs.Common.{◌≡◌, ◌<◌, ◌≤◌, ◌+◌, ◌-◌, ℕ, zero, suc, Bool, true, false, List, [], ◌∷◌, ◌++◌, length, map, take, drop, replicate, slice_range}
+use Rattle.std.proofs.Common.{◌≡◌, ◌<◌, ◌+◌, ◌-◌, ℕ, zero, suc, Bool, true, false, List, [], ◌∷◌, ◌++◌, length, map, take, drop, replicate, slice_range}
 use Rattle.std.proofs.Common.{arith}
 use Rattle.std.proofs.Common.{refl}
 use Rattle.std.proofs.Common.{sym}
@@ -7,11 +7,11 @@ use Rattle.std.proofs.Common.{subst}
 use Rattle.std.proofs.Common.{◌∙◌}
 use Rattle.std.proofs.Common.{ap}
 use Rattle.std.proofs.Common.{ap₂}
-use Rattle.std.specs.Prelude.{slice_index_or, slice_get, Some, option_map, nat_lt, nat_le}
-use Rattle.std.specs.List.{All, AllPass, concat, list_all}
+use Rattle.std.specs.Prelude.{slice_index_or, slice_get, Some, option_map}
+use Rattle.std.specs.List.{All, concat}
 use Rattle.std.proofs.Math.Seq.{drop-append_seam, take-append_seam}
 use Rattle.std.proofs.lemmas.Bool.{and_from, lt-ltb, le-leb}
-use Rattle.std.proofs.lemmas.List.{append_assoc, append-nil, take_all, length-drop, length-append, length-map, get_or_read, take-map, drop-map}
+use Rattle.std.proofs.lemmas.List.{append_assoc, append-nil, take_all, length-drop, length-append, get_or_read, take-map, drop-map}
 use Rattle.std.proofs.lemmas.List.Elements.{All-nil, All-cons, All-head, All-tail, All-same, All-take, All-drop, All-weaker, All-replicate}
 use Rattle.std.proofs.lemmas.List.Folds.{concat-append}
 use Rattle.std.proofs.lemmas.List.Sums.{list_all-from_AllPass}
@@ -80,7 +80,7 @@ rows_after before [] = refl
 rows_after before (r ∷ rs) =
     let seen = ap (take (length r)) (drop-append_seam before (r ++ concat rs)) ∙ take-append_seam r (concat rs) in
     let moved =
-      ap₂ (λ b k. map (bytes_at (b ∷ [])) (views_from k rs)) (sym (append_assoc before r (concat rs))) (sym (length-append before r)) in
+    ap₂ (λ b k. map (bytes_at (b ∷ [])) (views_from k rs)) (sym (append_assoc before r (concat rs))) (sym (length-append before r)) in
     ap₂ (λ x l. x ∷ l) seen (moved ∙ rows_after (before ++ r) rs)
 
 lie_after : (before : List ℕ) (rs : List (List ℕ)) → AllLieIn ((before ++ concat rs) ∷ []) (views_from (length before) rs)
@@ -88,10 +88,10 @@ lie_after before [] = All-nil (LiesIn ((before ++ []) ∷ []))
 lie_after before (r ∷ rs) =
     let all = before ++ (r ++ concat rs) in
     let lies : LiesIn (all ∷ []) (view_at (length before) (length r)) =
-      (omega arith, omega (arith, length-append before (r ++ concat rs), length-append r (concat rs))) in
+    (omega arith, omega (arith, length-append before (r ++ concat rs), length-append r (concat rs))) in
     let later =
-      subst (λ k. AllLieIn (all ∷ []) (views_from k rs)) (length-append before r)
-      (subst (λ b. AllLieIn (b ∷ []) (views_from (length (before ++ r)) rs)) (append_assoc before r (concat rs)) (lie_after (before ++ r) rs)) in
+    subst (λ k. AllLieIn (all ∷ []) (views_from k rs)) (length-append before r)
+    (subst (λ b. AllLieIn (b ∷ []) (views_from (length (before ++ r)) rs)) (append_assoc before r (concat rs)) (lie_after (before ++ r) rs)) in
     All-cons (LiesIn (all ∷ [])) (view_at (length before) (length r)) (views_from (length before + length r) rs) lies later
 
 -- their views show just them, and lie in the buffer

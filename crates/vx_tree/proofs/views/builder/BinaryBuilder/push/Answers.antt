@@ -1,4 +1,4 @@
-use Rattle.std.proofs.Common.{◌≡◌, ◌∷◌, [], ◌++◌, ap, ap₂, ◌∙◌, length}
+use Rattle.std.proofs.Common.{◌≡◌, ◌∷◌, [], ◌++◌, ap, ◌∙◌, length}
 use Rattle.vx_tree.specs.Views.{viewed, rows_of, packed, view_at}
 use Rattle.vx_tree.proofs.ViewsLemmas.{packed_again, grown_push}
 use Rattle.vx_tree.proofs.views.builder.BinaryBuilder.push.Goals as goal

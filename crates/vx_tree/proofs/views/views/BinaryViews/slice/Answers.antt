@@ -1,4 +1,4 @@
-use Rattle.std.proofs.Common.{ap, ap₂, ◌∙◌, slice_range}
+use Rattle.std.proofs.Common.{ap, ap₂, ◌∙◌}
 use Rattle.vx_tree.specs.Views.{viewed, viewed_range}
 use Rattle.vx_tree.proofs.views.views.BinaryViews.slice.Goals as goal
 
