@@ -101,7 +101,7 @@ values_fit m (type.decimal p s k) ds (Decimals v) valid w h e kept =
     decimals_fit p s k (decimal_type_of v) (numbers_of v) w h.0 (rows_digits m p ds (numbers_of v) valid h.1)
     (not_refused (type.decimal p s NonNullable) k (length (numbers_of v)) w e kept)
 values_fit m (type.utf8 k) ds (Views rows) valid w h e kept =
-    none_refused _ _ (not_refused (type.utf8 NonNullable) k (length rows.views) w e kept) (none_unless _ _ h.1.0)
+    none_refused _ _ (not_refused (type.utf8 NonNullable) k (length rows.views) w e kept) (none_unless _ _ h.1)
 values_fit m (type.binary k) ds (Views rows) valid w h e kept =
     none_refused _ _ (not_refused (type.binary NonNullable) k (length rows.views) w e kept) refl
 values_fit m ty ds v valid w h e kept = absurd h
@@ -120,7 +120,7 @@ values_by (type.decimal p s k) ds (Decimals v) valid nulls h =
     (none_null (pos 0) (decimal_spelled p) ds (numbers_of v) valid h.1)
     ∙ ap (λ q. flat_of (type.decimal p s k) (length (numbers_of v)) (decimals q (numbers_of v)) nulls) (sym h.0)
 values_by (type.utf8 k) ds (Views rows) valid nulls h =
-    ap (option_and_then (λ rs. flat_of (type.utf8 k) (length rs) (views (packed rs)) nulls)) (none_null [] (bytes_spelled Text) ds (rows_of rows) valid h.1.1)
+    ap (option_and_then (λ rs. flat_of (type.utf8 k) (length rs) (views (packed rs)) nulls)) (none_null [] (bytes_spelled Text) ds (rows_of rows) valid h.2)
     ∙ (λ i. flat_of (type.utf8 k) (rows_long rows i) (views (sym h.0 i)) nulls)
 values_by (type.binary k) ds (Views rows) valid nulls h =
     ap (option_and_then (λ rs. flat_of (type.binary k) (length rs) (views (packed rs)) nulls)) (none_null [] (bytes_spelled Bytes) ds (rows_of rows) valid h.1)
@@ -141,7 +141,7 @@ values_counted : (m : Nullability) (ty : DataType) (vs : List Value) (v : Column
 values_counted m (type.bool k) vs (Bits bits) valid h = rows_counted false as_bool vs bits h
 values_counted m (type.primitive p k) vs (Integers v) valid h = rows_counted (pos 0) (integer_spelled p) vs (values_of v) h.1
 values_counted m (type.decimal p s k) vs (Decimals v) valid h = rows_counted (pos 0) (decimal_spelled p) vs (numbers_of v) h.1
-values_counted m (type.utf8 k) vs (Views rows) valid h = sym (rows_long rows) ∙ rows_counted [] (bytes_spelled Text) vs (rows_of rows) h.1.1
+values_counted m (type.utf8 k) vs (Views rows) valid h = sym (rows_long rows) ∙ rows_counted [] (bytes_spelled Text) vs (rows_of rows) h.2
 values_counted m (type.binary k) vs (Views rows) valid h = sym (rows_long rows) ∙ rows_counted [] (bytes_spelled Bytes) vs (rows_of rows) h.1
 values_counted m ty vs v valid h = absurd h
 
@@ -201,7 +201,7 @@ rows_by (type.decimal p s Nullable) ds (Decimals v) valid w n h tells =
     rows_column (pos 0) (type.decimal p s Nullable) (decimals (smallest_width p)) (decimal_spelled p) ds (numbers_of v) valid w h.1 tells
     ∙ ap (λ q. Some (column (type.decimal p s Nullable) (length (numbers_of v)) (decimals q (numbers_of v)) (child_of w (length (numbers_of v))))) (sym h.0)
 rows_by (type.utf8 Nullable) ds (Views rows) valid w n h tells =
-    rows_column [] (type.utf8 Nullable) (λ rs. views (packed rs)) (bytes_spelled Text) ds (rows_of rows) valid w h.1.1 tells
+    rows_column [] (type.utf8 Nullable) (λ rs. views (packed rs)) (bytes_spelled Text) ds (rows_of rows) valid w h.2 tells
     ∙ ap Some (λ i. column (type.utf8 Nullable) (rows_long rows i) (views (sym h.0 i)) (child_of w (rows_long rows i)))
 rows_by (type.binary Nullable) ds (Views rows) valid w n h tells =
     rows_column [] (type.binary Nullable) (λ rs. views (packed rs)) (bytes_spelled Bytes) ds (rows_of rows) valid w h.1 tells
@@ -222,7 +222,7 @@ bits_fit ty ds v valid w h tells = subst (λ n. array_refusal n w ≡ None) (lon
     long (type.bool k) (Bits bits) r = told_long false as_bool ds bits valid r
     long (type.primitive p k) (Integers zs) r = told_long (pos 0) (integer_spelled p) ds (values_of zs) valid r.1
     long (type.decimal p s k) (Decimals zs) r = told_long (pos 0) (decimal_spelled p) ds (numbers_of zs) valid r.1
-    long (type.utf8 k) (Views rows) r = told_long [] (bytes_spelled Text) ds (rows_of rows) valid r.1.1 ∙ rows_long rows
+    long (type.utf8 k) (Views rows) r = told_long [] (bytes_spelled Text) ds (rows_of rows) valid r.2 ∙ rows_long rows
     long (type.binary k) (Views rows) r = told_long [] (bytes_spelled Bytes) ds (rows_of rows) valid r.1 ∙ rows_long rows
     long t u r = absurd r
 

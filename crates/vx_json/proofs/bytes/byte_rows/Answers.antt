@@ -10,7 +10,7 @@ use Rattle.vx_tree.proofs.ViewsLemmas.{rows_packed, packed_again}
 use Rattle.vx_json.proofs.bytes.byte_rows.Goals as goal
 
 pub loop-value-init : goal.loop-value-init
-loop-value-init g c = record { read = none_yet _ _ _ _ _ _ c.in_ok-rows.ensures c.requires; typed = search rules }
+loop-value-init g c = record { read = none_yet _ _ _ _ _ _ c.in_ok-rows.ensures.ok c.requires; typed = search rules }
 
 pub returns-in_err-bytes_or_none-clause-rows : goal.returns-in_err-bytes_or_none-clause-rows
 returns-in_err-bytes_or_none-clause-rows g c =
