@@ -7,7 +7,8 @@ use vx_json::{column_text, tree_of_bytes};
 use vx_tree::{AnyCanonical, ArrayRef, Canonical, Columnar};
 use vx_value::VortexResult;
 
-const SLICE: &[u8] = b"{\"enc\":\"slice\",\"start\":1,\"stop\":3,\"child\":{\"enc\":\"constant\",\"type\":\"i32\",\"value\":7,\"len\":5}}";
+const SLICE: &[u8] =
+    b"{\"enc\":\"slice\",\"start\":1,\"stop\":3,\"child\":{\"enc\":\"constant\",\"type\":\"i32\",\"value\":7,\"len\":5}}";
 
 fn context(alloc: Global) -> ExecutionCtx {
     VortexSession::empty().create_execution_ctx(alloc)
