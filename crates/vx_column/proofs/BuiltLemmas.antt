@@ -1,4 +1,4 @@
--- The column of the rows that a builder keeps.
+-- The column of the rows that a builder keeps, and the rows of a column as values.
 use Rattle.std.proofs.Common.{◌≡◌, ◌⊎◌, inl, inr, ◌<◌, ◌≤◌, ◌+◌, ◌-◌, ℕ, zero, suc, ℤ, pos, Bool, true, false, Option, Some, None, List}
 use Rattle.std.proofs.Common.{[]}
 use Rattle.std.proofs.Common.{◌∷◌}
@@ -49,12 +49,28 @@ use Rattle.vx_tree.specs.Validities.{nullability_by, child_of, child_by, truths}
 use Rattle.vx_tree.specs.declared.validity.Validity.{Validity}
 use Rattle.vx_column.specs.Stored.{decimal_column}
 use Rattle.vx_column.specs.ValidRows.{child_in, nullability_in}
+use Rattle.std.specs.Prelude.{slice_get, slice_index_or}
+use Rattle.std.specs.List.{range_with_len}
+use Rattle.std.proofs.Common.{get_or}
+use Rattle.std.proofs.Common.{subst}
+use Rattle.vx_value.specs.Cell.{fault}
+use Rattle.vx_value.specs.Types.{is_nullable}
+use Rattle.vx_value.specs.declared.error.VortexError.{VortexError}
+use Rattle.vx_mask.proofs.Lists.{same_below}
+use Rattle.vx_tree.specs.Tree.{dtype, len, constant_of}
+use Rattle.vx_tree.specs.Cells.{HasNoFault}
+use Rattle.vx_tree.proofs.NativesLemmas.{map_copies}
+use Rattle.vx_column.specs.Arguments.{value_at, cell_at, IsUnread}
+use Rattle.vx_column.specs.ValidRows.{is_valid, null_unless}
+use Rattle.vx_column.specs.declared.rows.argument.Argument.{Argument}
+use Rattle.vx_column.proofs.KeepsLemmas.{copies_clean}
+use Rattle.vx_column.proofs.ValidRowsLemmas.{by_rows}
 use Rattle.vx_column.proofs.StoredLemmas.{column_of_bytes}
 use Rattle.vx_column.proofs.ValidRowsLemmas.{child_told, one_slot}
-use Rattle.vx_column.specs.Built.{without_point, built_stored, built}
+use Rattle.vx_column.specs.Built.{TypedRows, without_point, built_stored, built, value_in, values_in, column_refusal, IsUnappended}
 use Rattle.vx_column.specs.declared.builder.values.Values.{Values}
 use Rattle.vx_column.specs.declared.builder.values.Values.TheVariants.{Nulls, Bits, Integers, Decimals, Bytes}
-use Rattle.vx_column.specs.Growing.{HaveStorage, padded, masked_by, rows_kept, IsKept, told_rows, IsColumnOf}
+use Rattle.vx_column.specs.Growing.{HaveStorage, padded, masked_by, rows_kept, IsKept, IsNullConstant, told_rows, values_or, IsColumnOf}
 use Rattle.vx_column.proofs.GrowingLemmas.{length-masked_by, stored_as, rows_counted}
 use Rattle.vx_tree.specs.Views.{packed, bytes_at}
 use Rattle.vx_tree.proofs.ViewsLemmas.{length-views_from, rows_packed}
@@ -264,3 +280,53 @@ rows_built (type.decimal p s m) vs all =
     rows_read without_point (λ z. of.decimal z s) (pos 0) (λ x. refl) refl (is_of (type.decimal p s m)) vs (null_or_decimal m p s) all
 rows_built (type.utf8 m) vs all = bytes_read (is_of (type.utf8 m)) vs (null_or_text m) all (type.utf8 m)
 rows_built (type.binary m) vs all = bytes_read (is_of (type.binary m)) vs (null_or_bytes m) all (type.binary m)
+
+-- ---- the rows of a column, as values
+
+clean_row : (b : Bool) (v : Value) (cs : List Cell) → HasNoFault cs → HasNoFault (null_unless b (value v) ∷ cs)
+clean_row true v cs h = h
+clean_row false v cs h = h
+
+clean_from : (told : ℕ → Bool) (f : ℕ → Value) (s n : ℕ) → HasNoFault (map (λ i. null_unless (told i) (value (f i))) (range_with_len s n))
+clean_from told f s zero = tt
+clean_from told f s (suc n) = clean_row (told s) (f s) _ (clean_from told f (s + 1) n)
+
+value_read : (b : Bool) (v : Value) → value_in (null_unless b (value v)) ≡ (if b then v else null)
+value_read true v = refl
+value_read false v = refl
+
+pub values_back : (cs : List Cell) → HasNoFault cs → map (λ v. value v) (values_in cs) ≡ cs
+values_back [] h = refl
+values_back (value v ∷ cs) h = ap (λ l. value v ∷ l) (values_back cs h)
+values_back (fault ∷ cs) h = absurd h
+
+fault_found : (cs : List Cell) (i : ℕ) → slice_get cs i ≡ Some fault → HasNoFault cs → ⊥
+fault_found [] i e h = absurd (cc)
+fault_found (value v ∷ cs) zero e h = absurd (cc)
+fault_found (value v ∷ cs) (suc i) e h = fault_found cs i e h
+fault_found (fault ∷ cs) i e h = h
+
+module _ (t : Tree) (a : Argument) (counted : length (rows t) ≡ len t)
+    (shown : (i : ℕ) → i < len t → slice_index_or (rows t) i fault ≡ cell_at a i) where
+  rows_read_of : rows t ≡ map (cell_at a) (range_with_len 0 (len t))
+  rows_read_of = by_rows (rows t) fault (len t) counted ∙ same_below (len t) (λ i. get_or (rows t) i fault) (cell_at a) shown
+
+  pub values_shown : values_or null a.rows a.valid (len t) ≡ values_in (rows t)
+  values_shown =
+      sym (ap values_in rows_read_of ∙ map-map value_in (cell_at a) (range_with_len 0 (len t))
+      ∙ same_below (len t) _ _ (λ i lt. value_read (is_valid a.valid i) (value_at a.rows i)))
+
+  pub clean_shown : HasNoFault (rows t)
+  clean_shown = subst HasNoFault (sym rows_read_of) (clean_from (is_valid a.valid) (value_at a.rows) 0 (len t))
+
+-- why they can't be appended
+pub unread_unappended : (r : TypedRows) (t : Tree) (e : VortexError) → column_refusal r t ≡ None → IsUnread t e → IsUnappended r t e
+unread_unappended r t e none (inl m) = inl m
+unread_unappended r t e none (inr h) = inr (inr (none, h.0, fault_found (rows t) h.1 h.3))
+
+-- of nulls
+pub values_null : (t : Tree) → IsNullConstant t → replicate (len t) null ≡ values_in (rows t)
+values_null t is = sym (ap values_in is.0 ∙ map_copies value_in (len t) (value null))
+
+pub clean_null : (t : Tree) → IsNullConstant t → HasNoFault (rows t)
+clean_null t is = subst HasNoFault (sym is.0) (copies_clean (len t) null)

@@ -1,4 +1,4 @@
--- The rows that a builder keeps: more of them at the end, and their types.
+-- The rows that a builder keeps: more of them at the end, also those of a column, and their types.
 use Rattle.std.proofs.Common.{◌≡◌, inl, inr, ◌<◌, ◌≤◌, ◌+◌, ◌-◌, ℕ, zero, suc, Bool, true, false, Some, None, List, [], ◌∷◌, ◌++◌, length}
 use Rattle.std.proofs.Common.{map}
 use Rattle.std.proofs.Common.{take}
@@ -24,7 +24,7 @@ use Rattle.vx_value.specs.IsOf.{is_of, is_stored, in_range}
 use Rattle.vx_value.specs.Decimals.{smallest_width}
 use Rattle.vx_value.specs.Storage.{storage_of}
 use Rattle.vx_value.specs.Defaults.{zero_stored}
-use Rattle.vx_value.specs.View.{value_of}
+use Rattle.vx_value.specs.View.{type_of, value_of}
 use Rattle.vx_value.specs.declared.scalar.ScalarValue.{ScalarValue}
 use Rattle.vx_value.specs.declared.scalar.ScalarValue.TheVariants as scalar
 use Rattle.vx_value.specs.declared.decimal.DecimalType.{DecimalType}
@@ -46,8 +46,42 @@ use Rattle.vx_value.specs.declared.error.VortexError.TheVariants.{InvalidArgumen
 use Rattle.vx_value.specs.declared.error.ArgKind.TheVariants.{BadType}
 use Rattle.vx_tree.specs.Conditions.{unless}
 use Rattle.vx_tree.proofs.ConditionsLemmas.{none_unless, unless_none}
+use Rattle.std.specs.Prelude.{if◌then◌else◌}
+use Rattle.std.specs.List.{range_with_len}
+use Rattle.std.specs.Str.{is_utf8}
+use Rattle.std.proofs.Common.{◌⊎◌}
+use Rattle.std.proofs.Common.{get_or}
+use Rattle.std.proofs.lemmas.List.FromFn.{length-map-range_with_len}
+use Rattle.vx_value.specs.Values as of
+use Rattle.vx_value.specs.Nullabilities.{with_nullability}
+use Rattle.std.proofs.lemmas.Simd.{map-map}
+use Rattle.std.specs.Prelude.{◌&&◌}
+use Rattle.std.proofs.Common.{ℤ, pos, FitsSigned, to_z, of_z}
+use Rattle.std.proofs.Math.Facts.{to_z-of_z}
+use Rattle.std.specs.Int.{w128}
+use Rattle.vx_mask.specs.Logic.{bit_row}
+use Rattle.vx_mask.specs.Operands.{bit_in, HasBits}
+use Rattle.vx_mask.proofs.Lists.{same_below, all_below}
+use Rattle.vx_mask.specs.declared.operand.BitOperand.{BitOperand}
+use Rattle.vx_tree.specs.ColumnTypes.{bytes_type, are_bytes_of}
+use Rattle.vx_column.specs.Arguments.{value_at, ptype_in, integer_in, bytes_in, type_of_rows, type_of_argument, stored_decimals}
+use Rattle.vx_column.specs.Arguments.{AreIntegers, AreDecimals, AreBytes, AreStored, IsSized}
+use Rattle.vx_column.specs.ValidRows.{is_valid, HasValidity, nullability_in}
+use Rattle.vx_column.specs.declared.rows.argument.Argument.{Argument}
+use Rattle.vx_column.specs.declared.rows.argument.ArgumentRows.{ArgumentRows}
+use Rattle.vx_column.specs.declared.rows.argument.ArgumentRows.TheVariants as stored
+use Rattle.vx_column.specs.declared.rows.argument.IntegerOperand.{IntegerOperand}
+use Rattle.vx_column.specs.declared.rows.argument.DecimalOperand.{DecimalOperand}
+use Rattle.vx_column.specs.declared.rows.argument.BytesOperand.{BytesOperand}
+use Rattle.vx_column.specs.declared.rows.valid.ValidRows.{ValidRows}
+use Rattle.vx_column.specs.declared.rows.valid.ValidRows.TheVariants as valid
+use Rattle.vx_column.proofs.KernelArgumentsLemmas.{argument_nullability}
+use Rattle.vx_column.proofs.ValidRowsLemmas.{by_rows, counted, row_made, bit_made}
+use Rattle.vx_column.proofs.UnscaledLemmas.{row_digits}
+use Rattle.vx_column.proofs.ViewsLemmas.{row_stored}
 use Rattle.vx_column.specs.Built.{TypedRows, appended, type_refusal, length_refusal}
-use Rattle.vx_column.specs.Growing.{stored_values, zero_in, HaveStorage, Accepts, padded, masked_by, rows_kept, IsKept}
+use Rattle.vx_column.specs.Growing.{stored_values, zero_in, HaveStorage, Accepts, AcceptRows, AreRanged, rows_or, values_or, padded, told_more, masked_by}
+use Rattle.vx_column.specs.Growing.{rows_kept, IsKept}
 
 -- ---- values by bits
 
@@ -185,6 +219,61 @@ more_zeros old make d xs ys k stored none e =
 pub more_nulls : (old : Values) (n k : ℕ) → old ≡ Nulls n → stored_values (Nulls (n + k)) ≡ stored_values old ++ replicate k null
 more_nulls old n k e = sym (replicate-append-replicate n k null) ∙ ap (λ vs. stored_values vs ++ replicate k null) (sym e)
 
+-- rows of a column: all of a list, copies of an item, and those that a list has where they are valid
+pub all_rows_or : {A : Type 0} (d : A) (told : ValidRows) (m : Nullability) (xs : List A) → told ≡ valid.All m
+    → xs ≡ rows_or d told (λ i. get_or xs i d) (length xs)
+all_rows_or d told m xs is = by_rows xs d (length xs) refl ∙ ap (λ v. rows_or d v (λ i. get_or xs i d) (length xs)) (sym is)
+
+pub copies_rows_or : {A : Type 0} (d : A) (told : ValidRows) (m : Nullability) (f : ℕ → A) (x : A) (n : ℕ) → told ≡ valid.All m → ((i : ℕ) → f i ≡ x)
+    → replicate n x ≡ rows_or d told f n
+copies_rows_or d told m f x n is same = sym (ap (λ v. rows_or d v f n) is ∙ all_below n f x (λ i lt. same i))
+
+pub number_rows_or : (told : ValidRows) (m : Nullability) (f : ℕ → ℤ) (z : ℤ) (n : ℕ) → FitsSigned w128 z → told ≡ valid.All m → ((i : ℕ) → f i ≡ z)
+    → replicate n (to_z w128 (of_z w128 z)) ≡ rows_or (pos 0) told f n
+number_rows_or told m f z n fits is same = ap (replicate n) (to_z-of_z fits) ∙ copies_rows_or (pos 0) told m f z n is same
+
+pub made_rows_or : {A : Type 0} (d : A) (told : ValidRows) (f : ℕ → A) (n : ℕ) (xs : List A) → xs ≡ map f (range_with_len 0 n)
+    → rows_or d told (λ i. get_or xs i d) (length xs) ≡ rows_or d told f n
+made_rows_or d told f n xs made =
+    ap (rows_or d told (λ i. get_or xs i d)) (counted f xs n made)
+    ∙ same_below n _ _ (λ i lt. ap (λ x. if is_valid told i then x else d) (row_made d f xs n i made lt))
+
+and_if : (b c : Bool) → (b && c) ≡ (if b then c else false)
+and_if true c = refl
+and_if false c = refl
+
+pub bits_rows_or : (bits : BitOperand) (told : ValidRows) (n : ℕ) (rows kept : List Bool) → rows ≡ map (λ i. bit_in bits i) (range_with_len 0 n)
+    → kept ≡ map (λ i. is_valid told i && bit_row rows i) (range_with_len 0 n) → kept ≡ rows_or false told (bit_in bits) n
+bits_rows_or bits told n rows kept read made =
+    made
+    ∙ same_below n _ _ (λ i lt. ap (λ b. is_valid told i && b) (bit_made (bit_in bits) rows n i read lt) ∙ and_if (is_valid told i) (bit_in bits i))
+
+-- more rows of a column
+made_of : {A : Type 0} (make : A → Value) (b : Bool) (x d : A) (v z : Value) → v ≡ make x → z ≡ make d → make (if b then x else d) ≡ (if b then v else z)
+made_of make true x d v z first second = sym first
+made_of make false x d v z first second = sym second
+
+pub more_rows : {A : Type 0} (old : Values) (make : A → Value) (d : A) (rows : ArgumentRows) (f : ℕ → A) (told : ValidRows) (n : ℕ) (xs ys : List A)
+    → stored_values old ≡ map make xs → zero_in old ≡ make d → value_at rows ≡ (λ i. make (f i))
+    → ys ≡ xs ++ rows_or d told f n → map make ys ≡ stored_values old ++ values_or (zero_in old) rows told n
+more_rows old make d rows f told n xs ys shown none read e =
+    let row : ℕ → _ = λ i. if is_valid told i then f i else d in
+    let made : map make (rows_or d told f n) ≡ values_or (zero_in old) rows told n =
+    map-map make row (range_with_len 0 n)
+    ∙ same_below n _ _ (λ i lt. made_of make (is_valid told i) (f i) d (value_at rows i) (zero_in old) (ap (λ g. g i) read) none) in
+    ap (map make) e ∙ map-append make xs (rows_or d told f n) ∙ (λ i. sym shown i ++ made i)
+
+pub more_null_rows : (old : Values) (k n : ℕ) (rows : ArgumentRows) (told : ValidRows) → old ≡ Nulls k → rows ≡ stored.Nulls
+    → stored_values (Nulls (k + n)) ≡ stored_values old ++ values_or (zero_in old) rows told n
+more_null_rows old k n rows told is none =
+    let row = λ (i : ℕ). made_of (λ v. v) (is_valid told i) null null (value_at rows i) (zero_in old) (ap (λ r. value_at r i) none) (ap zero_in is) in
+    more_nulls old k n is
+    ∙ ap (λ l. stored_values old ++ l) (sym (all_below n _ null (λ i lt. sym (row i) ∙ either (is_valid told i))))
+  where
+    either : (b : Bool) → (if b then null else null) ≡ null
+    either true = refl
+    either false = refl
+
 -- ---- how many rows there may be
 
 pub too_long : (n m k : ℕ) → n ≡ m → 2 ^ 64 ≤ m + k → length_refusal n k ≡ Some (TooLong m k)
@@ -198,11 +287,160 @@ counted_on n k h = ltb-true (n + k) (2 ^ 64) (unless_none (nat_lt (n + k) (2 ^ 6
 
 -- ---- a value of the same type
 
+pub same_as : (r : TypedRows) (ty : DataType) → type_refusal r ty ≡ None → ty ≡ r.of_type
+same_as r ty h = (same_type_Decides ty r.of_type).0 (unless_none (same_type ty r.of_type) (InvalidArgument BadType) h)
+
 pub typed_so : (r : TypedRows) (ty of_value : DataType) (v w : Value) → type_refusal r of_value ≡ None → ty ≡ r.of_type → v ≡ w
     → is_of of_value w ≡ true → is_of ty v ≡ true
 typed_so r ty of_value v w h seen same typed =
     let one : of_value ≡ r.of_type = (same_type_Decides of_value r.of_type).0 (unless_none (same_type of_value r.of_type) (InvalidArgument BadType) h) in
     (λ i. is_of ((seen ∙ sym one) i) (same i)) ∙ typed
+
+-- ---- rows of a column
+
+-- rows of g, by bits
+masked_from : (d : Value) (g h : ℕ → Value) (s : ℕ) (bs : List Bool)
+    → ((i k : ℕ) → k ≡ s + i → i < length bs → (if get_or bs i false then g k else d) ≡ h k)
+    → masked_by d bs (map g (range_with_len s (length bs))) ≡ map h (range_with_len s (length bs))
+masked_from d g h s [] same = refl
+masked_from d g h s (b ∷ bs) same =
+    ap₂ (λ v l. v ∷ l) (same 0 s (omega arith) (omega arith))
+    (masked_from d g h (s + 1) bs (λ i k at lt. same (suc i) k (omega (arith, at)) (omega (arith, lt))))
+
+if_twice : (b : Bool) (v z d : Value) → (if b then (if b then v else z) else d) ≡ (if b then v else d)
+if_twice true v z d = refl
+if_twice false v z d = refl
+
+masked_rows : (d z : Value) (bs : List Bool) (f : ℕ → Value) (m : ℕ) → length bs ≡ m
+    → masked_by d bs (rows_or z (valid.Bits bs) f m) ≡ rows_or d (valid.Bits bs) f m
+masked_rows d z bs f m long =
+    subst (λ n. masked_by d bs (rows_or z (valid.Bits bs) f n) ≡ rows_or d (valid.Bits bs) f n) long
+    (masked_from d _ _ 0 bs (λ i k at lt.
+    let same : i ≡ k = omega (arith, at) in
+    ap (λ j. if get_or bs j false then (if get_or bs k false then f k else z) else d) same ∙ if_twice (get_or bs k false) (f k) z d))
+
+masked_appended : (d z : Value) (bits : List Bool) (vs : List Value) (n m : ℕ) (rows : ArgumentRows) (told : ValidRows) → length vs ≡ n → length bits ≤ n
+    → HasValidity told m → masked_by d (told_more n bits told) (vs ++ values_or z rows told m) ≡ masked_by d bits vs ++ values_or d rows told m
+masked_appended d z bits vs n m rows (valid.All k) long within sized = masked_more d bits vs (values_or z rows (valid.All k) m) (omega (arith, long, within))
+masked_appended d z bits vs n m rows (valid.Bits more) long within sized =
+    masked_both d (padded n bits) more vs (values_or z rows (valid.Bits more) m) (length-padded n bits within ∙ sym long)
+    ∙ ap₂ (λ l r. l ++ r) (masked_padded d bits (n - length bits) vs (omega (arith, long, within))) (masked_rows d z more (value_at rows) m sized)
+
+-- the bits before they came
+pub told_before : (n : ℕ) (bits : List Bool) (told : ValidRows) → take (length bits) (told_more n bits told) ≡ bits
+told_before n bits (valid.All m) = take_all (length bits) bits (omega arith)
+told_before n bits (valid.Bits more) =
+    ap (take (length bits)) (append_assoc bits (replicate (n - length bits) true) more)
+    ∙ take-append-le (length bits) bits (replicate (n - length bits) true ++ more) (omega arith)
+    ∙ take_all (length bits) bits (omega arith)
+
+pub told_longer : (n : ℕ) (bits : List Bool) (told : ValidRows) → length bits ≤ length (told_more n bits told)
+told_longer n bits (valid.All m) = omega arith
+told_longer n bits (valid.Bits more) =
+    omega (arith, length-append (padded n bits) more, length-append bits (replicate (n - length bits) true))
+
+told_within : (n m : ℕ) (bits : List Bool) (told : ValidRows) → length bits ≤ n → HasValidity told m → length (told_more n bits told) ≤ n + m
+told_within n m bits (valid.All k) within sized = omega (arith, within)
+told_within n m bits (valid.Bits more) within sized = omega (arith, length-append (padded n bits) more, length-padded n bits within, sized)
+
+told_nullable : (n : ℕ) (bits : List Bool) (told : ValidRows) (m : Nullability) → (0 < length bits → m ≡ Nullable) → m ≡ nullability_in told
+    → 0 < length (told_more n bits told) → m ≡ Nullable
+told_nullable n bits (valid.All k) m before same some = before some
+told_nullable n bits (valid.Bits more) m before same some = same
+
+-- each is a value of the type
+row_typed : (m : Nullability) (rows : ArgumentRows) (n i : ℕ) → AreStored m rows n → AreRanged rows n → i < n
+    → is_of (type_of_rows m rows) (value_at rows i) ≡ true
+row_typed m stored.Nulls n i are ranged lt = refl
+row_typed m (stored.Bits bs) n i are ranged lt = refl
+row_typed m (stored.Integers zs) n i are ranged lt =
+    ap (λ st. is_stored (nullability_of (type_of zs.dtype.now)) st (of.integer (integer_in zs i))) are.0.3 ∙ ranged i lt
+row_typed m (stored.Decimals ds) n i are ranged lt =
+    and_from _ _ ((unsigned_Decides ds.decimal.scale ds.decimal.scale).1 refl) (row_digits ds.decimal ds.rows n i are lt)
+row_typed m (stored.Bytes bs) n i are ranged lt = by_storage bs.storage (row_stored bs.storage bs.rows n i are lt)
+  where
+    by_storage : (st : Storage) → are_bytes_of st (bytes_in bs i ∷ []) ≡ true
+        → is_of (with_nullability m (bytes_type st)) (of.bytes (bytes_in bs i)) ≡ true
+    by_storage storage.Text h = first_so (is_utf8 (bytes_in bs i)) _ h
+    by_storage _ h = refl
+
+if_passes : (p : Value → Bool) (b : Bool) (v z : Value) → p v ≡ true → p z ≡ true → p (if b then v else z) ≡ true
+if_passes p true v z first second = first
+if_passes p false v z first second = second
+
+all_from : (p : Value → Bool) (f : ℕ → Value) (s m : ℕ) → ((i : ℕ) → i < s + m → p (f i) ≡ true) → list_all p (map f (range_with_len s m)) ≡ true
+all_from p f s zero h = refl
+all_from p f s (suc m) h = and_from _ _ (h s (omega arith)) (all_from p f (s + 1) m (λ i lt. h i (omega (arith, lt))))
+
+-- they are of the kind that is kept for the type: a line for each kind
+nulls_accepted : (n : ℕ) (values : Values) → HaveStorage storage.Nulls values → AcceptRows values stored.Nulls n
+nulls_accepted n (Nulls k) h = tt
+nulls_accepted n (Bits bs) h = absurd (cc)
+nulls_accepted n (Integers zs) h = let no = h.1 in absurd (cc)
+nulls_accepted n (Decimals zs s) h = let no = h.1 in absurd (cc)
+nulls_accepted n (Bytes rs) (inl e) = absurd (cc)
+nulls_accepted n (Bytes rs) (inr e) = absurd (cc)
+
+bits_accepted : (n : ℕ) (rows : BitOperand) (values : Values) → HaveStorage storage.Bits values → HasBits rows n → AcceptRows values (stored.Bits rows) n
+bits_accepted n rows (Nulls k) h are = absurd (cc)
+bits_accepted n rows (Bits bs) h are = are
+bits_accepted n rows (Integers zs) h are = let no = h.1 in absurd (cc)
+bits_accepted n rows (Decimals zs s) h are = let no = h.1 in absurd (cc)
+bits_accepted n rows (Bytes rs) (inl e) are = absurd (cc)
+bits_accepted n rows (Bytes rs) (inr e) are = absurd (cc)
+
+integers_accepted : (n : ℕ) (rows : IntegerOperand) (values : Values) → HaveStorage (storage.Integers (ptype_in rows)) values
+    → AreIntegers (ptype_in rows) rows n → AcceptRows values (stored.Integers rows) n
+integers_accepted n rows (Nulls k) h are = absurd (cc)
+integers_accepted n rows (Bits bs) h are = absurd (cc)
+integers_accepted n rows (Integers zs) h are =
+    let is = h.1 in
+    let same : ptype_in rows ≡ h.0 = cc in
+    (are, same ∙ sym h.2)
+integers_accepted n rows (Decimals zs s) h are = let no = h.1 in absurd (cc)
+integers_accepted n rows (Bytes rs) (inl e) are = absurd (cc)
+integers_accepted n rows (Bytes rs) (inr e) are = absurd (cc)
+
+decimals_accepted : (n : ℕ) (rows : DecimalOperand) (values : Values) → HaveStorage (stored_decimals rows.decimal) values
+    → AreDecimals rows n → AcceptRows values (stored.Decimals rows) n
+decimals_accepted n rows (Nulls k) h are = absurd (cc)
+decimals_accepted n rows (Bits bs) h are = absurd (cc)
+decimals_accepted n rows (Integers zs) h are = let no = h.1 in absurd (cc)
+decimals_accepted n rows (Decimals zs s) h are =
+    let is = h.1 in
+    let same : rows.decimal.precision ≡ h.0 = cc in
+    let scale : rows.decimal.scale ≡ s = cc in
+    (are, ap smallest_width same ∙ sym h.3, scale)
+decimals_accepted n rows (Bytes rs) (inl e) are = absurd (cc)
+decimals_accepted n rows (Bytes rs) (inr e) are = absurd (cc)
+
+bytes_accepted : (n : ℕ) (rows : BytesOperand) (values : Values) (st : Storage) → HaveStorage st values → (st ≡ storage.Text) ⊎ (st ≡ storage.Bytes)
+    → AreBytes rows n → AcceptRows values (stored.Bytes rows) n
+bytes_accepted n rows (Nulls k) st h (inl e) are = absurd (cc)
+bytes_accepted n rows (Nulls k) st h (inr e) are = absurd (cc)
+bytes_accepted n rows (Bits bs) st h (inl e) are = absurd (cc)
+bytes_accepted n rows (Bits bs) st h (inr e) are = absurd (cc)
+bytes_accepted n rows (Integers zs) st h (inl e) are = let no = h.1 in absurd (cc)
+bytes_accepted n rows (Integers zs) st h (inr e) are = let no = h.1 in absurd (cc)
+bytes_accepted n rows (Decimals zs s) st h (inl e) are = let no = h.1 in absurd (cc)
+bytes_accepted n rows (Decimals zs s) st h (inr e) are = let no = h.1 in absurd (cc)
+bytes_accepted n rows (Bytes rs) st h e are = are
+
+storage_of_bytes : (m : Nullability) (st : Storage)
+    → (storage_of (with_nullability m (bytes_type st)) ≡ storage.Text) ⊎ (storage_of (with_nullability m (bytes_type st)) ≡ storage.Bytes)
+storage_of_bytes m storage.Text = inl refl
+storage_of_bytes m _ = inr refl
+
+pub rows_accepted : (ty : DataType) (values : Values) (m : Nullability) (rows : ArgumentRows) (n : ℕ) → HaveStorage (storage_of ty) values
+    → ty ≡ type_of_rows m rows → AreStored m rows n → AcceptRows values rows n
+rows_accepted ty values m stored.Nulls n kind e are = nulls_accepted n values (subst (λ st. HaveStorage st values) (ap storage_of e) kind)
+rows_accepted ty values m (stored.Bits bs) n kind e are = bits_accepted n bs values (subst (λ st. HaveStorage st values) (ap storage_of e) kind) are
+rows_accepted ty values m (stored.Integers zs) n kind e are =
+    integers_accepted n zs values (subst (λ st. HaveStorage st values) (ap storage_of e ∙ are.0.3) kind) are.0
+rows_accepted ty values m (stored.Decimals ds) n kind e are =
+    decimals_accepted n ds values (subst (λ st. HaveStorage st values) (ap storage_of e) kind) are
+rows_accepted ty values m (stored.Bytes bs) n kind e are =
+    bytes_accepted n bs values _ (subst (λ st. HaveStorage st values) (ap storage_of e) kind) (storage_of_bytes m bs.storage) are
 
 -- ---- what a builder keeps
 
@@ -259,6 +497,40 @@ module _ (ty : DataType) (n : ℕ) (values : Values) (bits : List Bool) (kept : 
           zeros = (λ i. masked_by (same_zero i) (padded n bits ++ replicate k false) (e i))
               ∙ masked_nulls (zero_in values) (zero_in values) bits (stored_values values) n k kept.counted kept.told
               ∙ ap (λ l. l ++ copies) kept.zeros ∙ sym e;
+        }
+
+    -- with the rows of an argument
+    pub rows_appended : (rows : ArgumentRows) (told : ValidRows) (m : ℕ) → HasValidity told m
+        → stored_values new ≡ stored_values values ++ values_or (zero_in values) rows told m
+        → rows_kept new (told_more n bits told) ≡ rows_kept values bits ++ values_or null rows told m
+    rows_appended rows told m sized e =
+        ap (masked_by null (told_more n bits told)) e
+        ∙ masked_appended null (zero_in values) bits (stored_values values) n m rows told kept.counted kept.told sized
+
+    pub kept_appended : (a : Argument) (m : ℕ) → ty ≡ type_of_argument a → IsSized m a → AreRanged a.rows m
+        → stored_values new ≡ stored_values values ++ values_or (zero_in values) a.rows a.valid m
+        → IsKept ty (n + m) new (told_more n bits a.valid)
+    kept_appended a m same sized ranged e =
+        let more = values_or (zero_in values) a.rows a.valid m in
+        let zero = zero_of_type ty values kept.kind in
+        let each = λ (i : ℕ) (lt : i < m). ap (λ t. is_of t (value_at a.rows i)) same ∙ row_typed (nullability_in a.valid) a.rows m i sized.0 ranged lt in
+        record {
+          kind = kind (storage_of ty) kept.kind;
+          counted = omega (
+            arith,
+            ap length e,
+            length-append (stored_values values) more,
+            length-map-range_with_len (λ i. if is_valid a.valid i then value_at a.rows i else zero_in values) 0 m,
+            kept.counted,
+          );
+          typed = ap (list_all (is_of ty)) e ∙ list_all-append (is_of ty) (stored_values values) more
+              ∙ and_from _ _ kept.typed (all_from (is_of ty) _ 0 m
+              (λ i lt. if_passes (is_of ty) (is_valid a.valid i) (value_at a.rows i) (zero_in values) (each i (omega (arith, lt))) zero));
+          told = told_within n m bits a.valid kept.told sized.1;
+          nullable = told_nullable n bits a.valid (nullability_of ty) kept.nullable (ap nullability_of same ∙ argument_nullability m a sized);
+          zeros = (λ i. masked_by (same_zero i) (told_more n bits a.valid) (e i))
+              ∙ masked_appended (zero_in values) (zero_in values) bits (stored_values values) n m a.rows a.valid kept.counted kept.told sized.1
+              ∙ ap (λ l. l ++ more) kept.zeros ∙ sym e;
         }
 
   -- with nulls that nothing is stored of

@@ -13,6 +13,9 @@ pub mod MaskedRowsLemmas
 pub mod NullRowsLemmas
 pub mod ScalarFnValidityLemmas
 pub mod SliceLemmas
+pub mod DictRowsLemmas
+pub mod ChunkedRowsLemmas
+pub mod InterleaveRowsLemmas
 pub mod StoredLemmas
 pub mod ValidRowsLemmas
 pub mod KernelArgumentsLemmas
@@ -40,3 +43,7 @@ pub mod SelectedLemmas
 pub mod AppliedLemmas
 pub mod CallsLemmas
 pub mod WholeLemmas
+pub mod GatheredLemmas
+pub mod LookedUpLemmas
+pub mod EachLemmas
+pub mod InterleavedLemmas

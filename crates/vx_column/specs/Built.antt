@@ -1,19 +1,21 @@
 -- Rows of a type, and the column that is built of them.
-use Rattle.std.specs.Prelude.{ℕ, ℤ, ◌+◌, ◌^◌, ◌++◌, ◌==◌, if◌then◌else◌, nat_lt, refl, List, length, map, Option, Some, None}
+use Rattle.std.specs.Prelude.{◌≡◌, ◌⊎◌, ℕ, ℤ, ◌+◌, ◌^◌, ◌++◌, ◌==◌, if◌then◌else◌, nat_lt, refl, List, length, map, Option, Some, None}
 use Rattle.std.specs.Coded.{Coded, code_by, coded×, coded_list}
 use Rattle.vx_value.specs.Types.{DataType, coded_type, nullability_of, is_nullable, same_type}
-use Rattle.vx_value.specs.Values.{Value, coded_value, decimal}
+use Rattle.vx_value.specs.Values.{Value, coded_value, decimal, null}
+use Rattle.vx_value.specs.Cell.{Cell, value, fault}
 use Rattle.vx_value.specs.Typed.{Typed}
 use Rattle.vx_value.specs.Parts.{boolean_in, integer_in, bytes_in}
 use Rattle.vx_value.specs.Storage.{storage_of}
 use Rattle.vx_value.specs.declared.dtype.Storage.{Storage}
 use Rattle.vx_value.specs.declared.dtype.Storage.TheVariants.{Nulls, Bits, Integers, Decimals, Text, Bytes}
 use Rattle.vx_value.specs.declared.error.VortexError.{VortexError}
-use Rattle.vx_value.specs.declared.error.VortexError.TheVariants.{InvalidArgument, TooLong}
+use Rattle.vx_value.specs.declared.error.VortexError.TheVariants.{OutOfMemory, InvalidArgument, TooLong, Fault}
 use Rattle.vx_value.specs.declared.error.ArgKind.TheVariants.{BadType}
 use Rattle.vx_tree.specs.Conditions.{first_of_both, unless}
 use Rattle.vx_tree.specs.Rows.{boolean_rows, integer_rows, decimal_rows, bytes_rows}
-use Rattle.vx_tree.specs.Tree.{Tree, nulls_of}
+use Rattle.vx_tree.specs.Tree.{Tree, dtype, len, nulls_of}
+use Rattle.vx_tree.specs.Cells.{rows, HasNoFault}
 
 -- values of a type, null among them if it is nullable
 pub record TypedRows : Type 0 where
@@ -45,6 +47,24 @@ abbrev pub more_nulls_refusal : TypedRows → ℕ → Option VortexError
 more_nulls_refusal r k =
     if k == 0 then None else
     first_of_both (unless (is_nullable (nullability_of r.of_type)) (InvalidArgument BadType)) (length_refusal (length r.values) k)
+
+-- the value of a cell; null for a fault
+abbrev pub value_in : Cell → Value
+value_in (value v) = v
+value_in fault = null
+
+-- the values of cells
+abbrev pub values_in : List Cell → List Value
+values_in cs = map value_in cs
+
+-- why a column's rows can't be appended, whatever they are
+abbrev pub column_refusal : TypedRows → Tree → Option VortexError
+column_refusal r t = first_of_both (type_refusal r (dtype t)) (length_refusal (length r.values) (len t))
+
+-- why a column isn't appended: out of memory, a refusal, or, if there is none, a fault among its rows
+abbrev pub IsUnappended : TypedRows → Tree → VortexError → Type 0
+IsUnappended r t e =
+    (e ≡ OutOfMemory) ⊎ ((column_refusal r t ≡ Some e) ⊎ ((column_refusal r t ≡ None) × (e ≡ Fault) × (HasNoFault (rows t) → ⊥)))
 
 -- the number of a decimal without its point; None for any other value
 abbrev pub without_point : Value → Option ℤ

@@ -33,3 +33,5 @@ pub mod Truths
 pub mod Casts
 pub mod Selected
 pub mod Applied
+pub mod LookedUp
+pub mod Interleaved

@@ -9,18 +9,23 @@ ghost use Rattle.vx_value.specs.Values.{null};
 ghost use Rattle.vx_value.specs.View.{type_of};
 ghost use Rattle.vx_value.specs.Cell.{value};
 ghost use Rattle.vx_value.specs.IsOf.{is_of};
-ghost use Rattle.vx_tree.specs.Cells.{rows};
-ghost use Rattle.vx_tree.specs.Canonicals.{canonical_tree};
-ghost use Rattle.vx_column.specs.Built.{appended, type_refusal, length_refusal, scalar_refusal, more_nulls_refusal, built};
+ghost use Rattle.vx_tree.specs.Cells.{rows, HasNoFault};
+ghost use Rattle.vx_tree.specs.Canonicals.{canonical_tree, columnar_tree};
+ghost use Rattle.vx_column.specs.Arguments.{IsSized, type_of_argument};
+ghost use Rattle.vx_column.specs.Growing.{values_or, IsNullConstant};
+ghost use Rattle.vx_column.specs.Built.{appended, type_refusal, length_refusal, scalar_refusal, more_nulls_refusal, values_in, column_refusal, IsUnappended, built};
 
+mod rows;
 mod validity;
 mod values;
 
+use crate::rows::{Argument, argument_of};
+use rows::know_rows;
 use std::alloc::Global;
 use std::marker::Model;
 use validity::ValidityBuilder;
 use values::Values;
-use vx_tree::Canonical;
+use vx_tree::{ArrayKind, Canonical, Columnar};
 use vx_value::{ArgKind, DType, Scalar, VortexError, VortexResult};
 
 /// Builds a column row by row. (own)
@@ -132,6 +137,30 @@ impl Builder {
         self.push_nulls(count)
     }
 
+    /// Appends the rows of `column`. Copies the values of a column in runs and those of a constant in one pass; text and bytes row
+    /// by row. The builder is unchanged after an error.
+    ///
+    /// The first condition that fails gives the error: `InvalidArgument` with `BadType` exactly if `column` isn't of the
+    /// builder's type, nullability included, then `TooLong` exactly if there would be more than `usize::MAX` rows, then `Fault`
+    /// exactly if a row of `column` is a fault. Otherwise the only error is `OutOfMemory`.
+    pub fn append_column(&mut self, alloc: Global, column: &Columnar) -> VortexResult<()>
+        ensures ok { OnOk result (self.new ≡ appended self.old (values_in (rows (columnar_tree column.now)))) }
+        ensures err { OnErr result (self.new ≡ self.old) }
+        ensures valid { OnOk result ((column_refusal self.old (columnar_tree column.now) ≡ None) × HasNoFault (rows (columnar_tree column.now))) }
+        ensures refused { IfErr result (IsUnappended self.old (columnar_tree column.now)) }
+    {
+        self.check_type(column.dtype())?;
+        self.check_len(column.len())?;
+        if is_null_constant(column) {
+            return self.push_nulls(column.len());
+        }
+        column.as_array().well_formed_tree();
+        match argument_of(alloc, column) {
+            Ok(argument) => self.push_argument(alloc, &argument, column.len()),
+            Err(e) => Err(e),
+        }
+    }
+
     /// Checks that `dtype` is the type of the rows.
     fn check_type(&self, dtype: &DType) -> VortexResult<()>
         ensures { MatchResult result (λ _. type_refusal self.now (type_of dtype.now) ≡ None) (λ e. type_refusal self.now (type_of dtype.now) ≡ Some e) }
@@ -180,6 +209,34 @@ impl Builder {
         Ok(())
     }
 
+    /// Appends the rows of `argument`, `len` of the builder's type. Fails only with `OutOfMemory`; the builder is then unchanged.
+    fn push_argument(
+        &mut self,
+        alloc: Global,
+        argument: &Argument<'_>,
+        len: usize,
+    ) -> VortexResult<()>
+        requires typed { self.old.of_type ≡ type_of_argument argument.now }
+        requires sized { IsSized len argument.now }
+        requires fits { length self.old.values + len < 2 ^ 64 }
+        ensures ok { OnOk result (self.new ≡ appended self.old (values_or null argument.now.rows argument.now.valid len)) }
+        ensures err { OnErr result (self.new ≡ self.old) }
+        ensures refused { OnlyOutOfMemory result }
+    {
+        know_rows(argument.rows, len);
+        let before = self.validity.len();
+        self.validity.push_valid(self.len, &argument.valid, len)?;
+        if let Err(e) = self
+            .values
+            .push_rows(alloc, argument.rows, &argument.valid, len)
+        {
+            self.validity.truncate(before);
+            return Err(e);
+        }
+        self.len += len;
+        Ok(())
+    }
+
     /// Returns the rows as a column, without copying them. Its validity has one form for given rows: `NonNullable` or
     /// `AllValid` if no row is null, `AllInvalid` if there is a row and all are null. Fails only with `OutOfMemory`.
     pub fn finish(self, alloc: Global) -> VortexResult<Canonical>
@@ -196,5 +253,16 @@ impl Builder {
         let valid = validity.finish(alloc, len, dtype.nullability())?;
         let validity = valid.validity(alloc, len)?;
         values.finish(alloc, &dtype, &validity)
+    }
+}
+
+/// Returns whether `column` is a constant of null, or of type `Null`.
+fn is_null_constant(column: &Columnar) -> bool
+    ensures { IsTrue result → IsNullConstant (columnar_tree column.now) }
+{
+    match column.as_array().kind() {
+        ArrayKind::Null => true,
+        ArrayKind::Constant(scalar) => scalar.is_null(),
+        _ => false,
     }
 }

@@ -6,6 +6,7 @@ mod builder;
 mod canonicalize;
 mod filter;
 mod functions;
+mod lookup;
 mod mask;
 mod rows;
 mod validity;
@@ -14,6 +15,7 @@ pub use builder::Builder;
 pub use canonicalize::constant_canonicalize;
 pub use filter::filter_canonical;
 pub use functions::apply::apply_fn;
+pub use lookup::{interleave_rows, take_rows};
 pub use mask::mask_validity_canonical;
 pub use rows::{
     Argument, ArgumentRows, BytesOperand, BytesRows, DecimalOperand, DecimalRows, IntegerOperand,

@@ -1,2 +1,4 @@
+pub mod BuildersLemmas
 pub mod FramesLemmas
 pub mod MovesLemmas
+pub mod AppendingLemmas

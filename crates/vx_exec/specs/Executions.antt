@@ -8,6 +8,10 @@ use Rattle.vx_tree.specs.Cost.{cost}
 use Rattle.vx_step.specs.Steps.{IsStopped}
 use Rattle.vx_exec.specs.Budgets.{Budget}
 use Rattle.vx_exec.specs.Moves.{IsExecuted, GoesOn, FaultsIn}
+use Rattle.std.specs.Prelude.{Some, None}
+use Rattle.vx_tree.specs.Tree.{datum, is_columnar}
+use Rattle.vx_tree.specs.Cells.{rows, HasNoFault}
+use Rattle.vx_column.specs.Built.{TypedRows, appended, values_in, column_refusal}
 
 -- t is executed until its root passes `fits` or is canonical; `tree_in` is the tree of a result
 pub record IsExecution {R : Type 0} (fits : Tree → Bool) (tree_in : R → Tree) (t : Tree) (old new : Budget) (result : Result R VortexError) : Type 0 where
@@ -21,5 +25,26 @@ pub record IsExecution {R : Type 0} (fits : Tree → Bool) (tree_in : R → Tree
   pub limit : (l : ℕ) → result ≡ Err (IterationLimit l) → (l ≡ old.limit) × (new.turns ≡ l) × (l < cost t) × GoesOn fits t l
   pub err : IfErr result (λ e. (e ≡ IterationLimit old.limit) ⊎ IsStopped t e)
   pub fault : result ≡ Err Fault → FaultsIn fits t new.turns
+  pub told : new.turns ≤ old.limit
+  pub kept : new.limit ≡ old.limit
+
+-- a tree that is a column of the tree t, executed in n turns, has a row without a value
+abbrev pub HasFaultIn : Tree → ℕ → Type 0
+HasFaultIn t n = (u : Tree) × IsExecuted (λ x. is_columnar (datum x)) t n u × (¬ (HasNoFault (rows u)))
+
+-- t is executed to a column, whose rows are appended to the builder b
+pub record IsAppending (t : Tree) (b : TypedRows) (old new : Budget) (result : Result TypedRows VortexError) : Type 0 where
+  pub ok : IfOk result (λ c. c ≡ appended b (values_in (rows t)))
+  pub clean : IfOk result (λ c. HasNoFault (rows t))
+  pub executed : IfOk result (λ c. (u : Tree) × IsExecuted (λ x. is_columnar (datum x)) t new.turns u)
+  -- a refusal comes before anything is executed
+  pub valid : IfOk result (λ c. column_refusal b t ≡ None)
+  pub refused : (e : VortexError) → column_refusal b t ≡ Some e → (result ≡ Err e) × (new.turns ≡ 0)
+  pub bound : OnOk result (new.turns ≤ cost t)
+  pub within : OnOk result ((1 ≤ new.turns) × (new.turns ≤ old.limit))
+  pub limit : (l : ℕ) → result ≡ Err (IterationLimit l)
+      → (l ≡ old.limit) × (new.turns ≡ l) × (l < cost t) × GoesOn (λ x. is_columnar (datum x)) t l
+  pub err : IfErr result (λ e. (column_refusal b t ≡ Some e) ⊎ ((e ≡ IterationLimit old.limit) ⊎ IsStopped t e))
+  pub fault : result ≡ Err Fault → FaultsIn (λ x. is_columnar (datum x)) t new.turns ⊎ HasFaultIn t new.turns
   pub told : new.turns ≤ old.limit
   pub kept : new.limit ≡ old.limit

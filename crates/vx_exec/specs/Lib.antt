@@ -5,6 +5,10 @@ pub use Rattle.vx_tree.specs.Cost
 pub use Rattle.vx_tree.specs.Canonicals
 pub use Rattle.vx_step.specs.Steps
 pub use Rattle.vx_step.specs.Turns
+pub use Rattle.vx_step.specs.Contents
+pub use Rattle.vx_column.specs.Built
+pub use Rattle.vx_value.specs.Errors
+pub use Rattle.vx_tree.specs.Slots
 pub mod Frames
 pub mod Moves
 pub mod Limits

@@ -9,7 +9,7 @@ ghost use Rattle.vx_exec.specs.Moves.{IsExecuted, GoesOn, FaultsIn};
 ghost use Rattle.vx_exec.specs.Limits.{default_turns};
 
 use crate::session::VortexSession;
-use crate::turn::{Frame, Turn, take_turn};
+use crate::turn::{Focus, Frame, Turn, take_turn};
 use std::alloc::Global;
 use std::fmt;
 use std::marker::Model;
@@ -91,6 +91,13 @@ impl ExecutionCtx {
         self.limit
     }
 
+    /// Counts turns from 0.
+    pub(crate) fn restart(&mut self)
+        ensures { self.new ≡ record { limit = self.old.limit; turns = 0 } }
+    {
+        self.turns = 0;
+    }
+
     /// Returns the turns that the last call took. (own)
     pub fn turns(&self) -> u64
         ensures { result ≡ self.now.turns }
@@ -131,7 +138,8 @@ pub fn execute_until<M: Matcher>(array: ArrayRef, ctx: &mut ExecutionCtx) -> Vor
     ensures kept { ctx.new.limit ≡ ctx.old.limit }
 {
     let mut frames: Vec<Frame> = Vec::new(ctx.alloc);
-    let mut current = array;
+    array.well_formed_tree();
+    let mut current = Focus::Whole(array);
     ctx.turns = 0;
     while ctx.turns < ctx.limit {
         ctx.turns += 1;

@@ -3,10 +3,12 @@
 
 mod context;
 mod executable;
+mod into_builder;
 mod session;
 mod turn;
 
 pub use context::{DEFAULT_TURNS, ExecutionCtx, execute_until};
 pub use executable::{ArrayExecute, Executable};
+pub use into_builder::execute_into_builder;
 pub use session::{ArrayKernels, VortexSession, VortexSessionExecute};
-pub use turn::{Frame, Turn, take_turn};
+pub use turn::{Focus, Frame, Turn, take_turn};

@@ -11,3 +11,8 @@ IsRefused fact e = (e ≡ OutOfMemory) ⊎ ((e ≡ InvalidArgument BadValue) × 
 -- the result is what is spelled; if nothing is, the value is refused
 abbrev pub IsRead : {A : Type 0} → Option A → Result A VortexError → Type 0
 IsRead spelled result = MatchResult result (λ a. spelled ≡ Some a) (IsRefused (spelled ≡ None))
+
+-- the answer, if there is no refusal
+abbrev pub unless_refused : {A : Type 0} → Option VortexError → A → Option A
+unless_refused None answer = Some answer
+unless_refused (Some e) answer = None

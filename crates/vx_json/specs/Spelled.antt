@@ -25,6 +25,9 @@ named_nodes d child children =
     ∷ (codes "masked", option_and_then (λ t. option_and_then (nodes.Masked.masked_spelled d t) (nulls_at d (child (codes "validity")))) (child (codes "child")))
     ∷ (codes "is_valid", option_and_then (nodes.IsValid.is_valid_spelled d) (child (codes "child")))
     ∷ (codes "fn", option_and_then (nodes.Call.call_spelled d) (children (codes "args")))
+    ∷ (codes "dict", option_and_then (λ c. option_and_then (nodes.Dict.dict_spelled d c) (child (codes "values"))) (child (codes "codes")))
+    ∷ (codes "chunked", option_and_then (nodes.Chunked.chunked_spelled d) (children (codes "chunks")))
+    ∷ (codes "interleave", option_and_then (λ a. option_and_then (λ r. option_and_then (nodes.Interleave.interleave_spelled d a r) (children (codes "values"))) (child (codes "rows"))) (child (codes "arrays")))
     ∷ []
 
 abbrev pub node_named : Data → (List ℕ → Option Tree) → (List ℕ → Option (List Tree)) → List ℕ → Option Tree

@@ -6,3 +6,6 @@ pub mod Filter
 pub mod Masked
 pub mod IsValid
 pub mod Call
+pub mod Dict
+pub mod Chunked
+pub mod Interleave

@@ -9,6 +9,11 @@ pub(crate) enum Key {
     Child,
     Args,
     Validity,
+    Codes,
+    Values,
+    Chunks,
+    Arrays,
+    Rows,
 }
 
 impl Key {
@@ -20,6 +25,11 @@ impl Key {
             Key::Child => "child",
             Key::Args => "args",
             Key::Validity => "validity",
+            Key::Codes => "codes",
+            Key::Values => "values",
+            Key::Chunks => "chunks",
+            Key::Arrays => "arrays",
+            Key::Rows => "rows",
         }
     }
 }

@@ -4,8 +4,9 @@
 //! `{"enc":"col","type":"i32?","rows":[1,null]}`, `{"enc":"flat","type":"i32?","values":[1,-2],"validity":{..}}`, of which
 //! `validity` may be absent, `{"enc":"constant","type":"bool","value":true,"len":3}`, `{"enc":"null","len":3}`,
 //! `{"enc":"slice","start":0,"stop":1,"child":{..}}`, `{"enc":"filter","mask":[true,false],"child":{..}}`,
-//! `{"enc":"masked","child":{..},"validity":{..}}`, of which `validity` may be absent, `{"enc":"is_valid","child":{..}}` and
-//! `{"enc":"fn","fn":"add","args":[{..},{..}]}`.
+//! `{"enc":"masked","child":{..},"validity":{..}}`, of which `validity` may be absent, `{"enc":"is_valid","child":{..}}`,
+//! `{"enc":"fn","fn":"add","args":[{..},{..}]}`, `{"enc":"dict","codes":{..},"values":{..}}`,
+//! `{"enc":"chunked","type":"i32","chunks":[{..},{..}]}` and `{"enc":"interleave","arrays":{..},"rows":{..},"values":[{..},{..}]}`.
 //!
 //! A type is a name, followed by `?` if the type is nullable; `null` is always nullable, and takes no `?`. A type of decimals
 //! is an object: `{"decimal":[4,2]}` has 4 digits, 2 of them behind the point, and `{"decimal":[4,2],"null":true}` is nullable.
@@ -99,6 +100,17 @@ fn node(alloc: Global, value: &Value, name: &str) -> VortexResult<ArrayRef>
         }
         "is_valid" => nodes::is_valid::read(alloc, value, child(alloc, value, Key::Child)?),
         "fn" => nodes::call::read(alloc, value, children(alloc, value, Key::Args)?),
+        "dict" => {
+            let codes = child(alloc, value, Key::Codes)?;
+            nodes::dict::read(alloc, value, codes, child(alloc, value, Key::Values)?)
+        }
+        "chunked" => nodes::chunked::read(alloc, value, children(alloc, value, Key::Chunks)?),
+        "interleave" => {
+            let arrays = child(alloc, value, Key::Arrays)?;
+            let rows = child(alloc, value, Key::Rows)?;
+            let values = children(alloc, value, Key::Values)?;
+            nodes::interleave::read(alloc, value, arrays, rows, values)
+        }
         _ => Err(BAD_VALUE),
     }
 }

@@ -1,18 +1,18 @@
--- The bits of a builder: more of them above those that it has, copies of a bit, and the first ones alone.
+-- The bits of a builder: more of them above those that it has, copies of a bit, those of a buffer, and the first ones alone.
 use Rattle.std.specs.Prelude.{◌==◌, bit_and}
 use Rattle.std.proofs.Common.{◌≡◌, ◌<◌, ◌≤◌, ◌+◌, ◌-◌, ◌*◌, ◌/◌, ◌%◌, ◌^◌, ℕ, zero, suc, Bool, true, false, cond}
 use Rattle.std.proofs.Common.{List, [], ◌∷◌, ◌++◌, length, take, drop, get_or, replicate}
 use Rattle.std.proofs.Common.{arith, sym, ◌∙◌, ap, ap₂, refl, pow-suc, add-zero, drop-cons}
 use Rattle.std.proofs.Math.Nat.{div-div-eq-div-mul, zero-div}
 use Rattle.std.proofs.Math.Seq.{take-append-add}
-use Rattle.std.proofs.lemmas.List.{append_assoc, append-nil, take-append-drop, take-take, take-replicate, replicate-append-replicate, length-append}
+use Rattle.std.proofs.lemmas.List.{append_assoc, append-nil, take-append-drop, take-take, take-replicate, take_all, take-append-le, replicate-append-replicate, length-append, length-take, length-drop}
 use Rattle.std.proofs.lemmas.Nat.{pow_pos, pow-add, mod-pow-add, div-mul-add, mod-mul-add, mul-add-lt, and_mask, one_shl}
 use mir.Val.{bool_byte}
 use Rattle.vx_mask.specs.Bits.{bit_of, bits_of}
 use Rattle.vx_mask.specs.Words.{low_bits}
 use Rattle.vx_mask.proofs.BitsLemmas.{before, first_bits}
 use Rattle.vx_mask.proofs.CombinedWords.{length-bits_of, bits_of_push}
-use Rattle.vx_mask.proofs.Parts.{take-low_bits, low_bits-rest, low_bits-falses, low_bits-trues}
+use Rattle.vx_mask.proofs.Parts.{IsWordFrom, part_of_word, next_word, take-low_bits, low_bits-rest, low_bits-falses, low_bits-trues}
 
 -- ---- a number with `last` below place `fill`, and w from there on
 -- what a word keeps of it
@@ -220,3 +220,34 @@ cut ws vs rest w last fill len are long within =
     ∙ sym (up_to_word vs w rest n (omega arith))
     ∙ ap₂ (λ k l. take k (bits_of l)) size (sym are)
     ∙ sym (take-take len (64 * length ws + fill) (bits_of (ws ++ last ∷ [])) within)
+
+-- ---- the bits of a buffer: those up to the next word's end, and those past the last full word
+pub appended_word : (old bits : List Bool) (k w : ℕ) → IsWordFrom bits (64 * k) w → 64 * k + 64 ≤ length bits
+    → (old ++ take (64 * k) bits) ++ low_bits 64 w ≡ old ++ take (64 * (k + 1)) bits
+appended_word old bits k w is within =
+    let next : 64 * k + 64 ≡ 64 * (k + 1) = omega arith in
+    append_assoc old (take (64 * k) bits) (low_bits 64 w)
+    ∙ ap (λ l. old ++ l) (sym (next_word bits (64 * k) w is within) ∙ ap (λ n. take n bits) next)
+
+pub appended_rest : (old bits : List Bool) (k w rest : ℕ) → IsWordFrom bits (64 * k) w → 64 * k + rest ≡ length bits → rest < 64
+    → (old ++ take (64 * k) bits) ++ low_bits rest (bit_and w (1 * 2 ^ rest % 2 ^ 64 - 1)) ≡ old ++ bits
+appended_rest old bits k w rest is all small =
+    let word : bit_and w (1 * 2 ^ rest % 2 ^ 64 - 1) ≡ w % 2 ^ rest = ap (λ m. bit_and w (m - 1)) (one_shl rest 64 small) ∙ and_mask w rest in
+    let left : take rest (drop (64 * k) bits) ≡ drop (64 * k) bits = take_all rest (drop (64 * k) bits) (omega (arith, length-drop (64 * k) bits)) in
+    append_assoc old (take (64 * k) bits) (low_bits rest (bit_and w (1 * 2 ^ rest % 2 ^ 64 - 1)))
+    ∙ ap (λ l. old ++ (take (64 * k) bits ++ l))
+    (ap (low_bits rest) word ∙ low_bits-mod rest w ∙ part_of_word bits (64 * k) w rest is (omega arith) (omega arith) ∙ left)
+    ∙ ap (λ l. old ++ l) (take-append-drop (64 * k) bits)
+
+-- ---- how many bits a builder has, and those that it had before more came
+pub length_held : (ws : List ℕ) (last fill : ℕ) → fill ≤ 64 → length (take (64 * length ws + fill) (bits_of (ws ++ last ∷ []))) ≡ 64 * length ws + fill
+length_held ws last fill few =
+    omega (arith, length-take (64 * length ws + fill) (bits_of (ws ++ last ∷ [])), length-bits_of (ws ++ last ∷ []), length-append ws (last ∷ []))
+
+pub held_before : (old new more : List Bool) (len : ℕ) → len ≡ length old → new ≡ old ++ more → take len new ≡ old
+held_before old new more len all e =
+    ap (take len) e ∙ take-append-le len old more (omega (arith, all)) ∙ take_all len old (omega (arith, all))
+
+pub held_count : (ws same : List ℕ) (last fill k n : ℕ) → fill < 64 → same ≡ ws → k ≡ length ws → n ≡ 64 * k + fill
+    → n ≡ length (take (64 * length same + fill) (bits_of (same ++ last ∷ [])))
+held_count ws same last fill k n few is count all = omega (arith, length_held same last fill (omega arith), ap length is, count, all)

@@ -1,6 +1,6 @@
 //! Building bit buffers bit by bit.
 
-ghost use Rattle.std.specs.Prelude.{◌≡◌, ◌<◌, ◌≤◌, ◌^◌, ◌∷◌, [], ◌++◌, IfOk, OnOk, OnErr, length, take, replicate};
+ghost use Rattle.std.specs.Prelude.{◌≡◌, ◌+◌, ◌<◌, ◌≤◌, ◌^◌, ◌∷◌, [], ◌++◌, ℕ, IfOk, OnOk, OnErr, length, take, replicate};
 ghost use Rattle.vx_mask.specs.Words.{low_bits};
 
 use crate::bits::{BitBuffer, filled_word};
@@ -120,6 +120,38 @@ impl BitBuilder {
         self.last = repeated_bit(bit, rest % 64);
         self.fill = rest % 64;
         Ok(())
+    }
+
+    /// Appends `bits`, a word at a time and in one allocation; a `usize` must be able to count all bits. Fails only if there is no
+    /// memory for the words; the bits are then unchanged.
+    pub fn append(&mut self, bits: &BitBuffer) -> Result<(), AllocError>
+        requires { length self.old + length bits.now < 2 ^ 64 }
+        ensures ok { OnOk result (self.new ≡ self.old ++ bits.now) }
+        ensures err { OnErr result (self.new ≡ self.old) }
+    {
+        let len = 64 * self.words.len() + self.fill;
+        self.words.reserve(bits.len() / 64 + 1)?;
+        if let Err(e) = self.push_words(bits) {
+            self.truncate(len);
+            return Err(e);
+        }
+        Ok(())
+    }
+
+    /// Appends `bits`, a word at a time. Fails only if there is no memory for the words; some of the bits may then be appended.
+    fn push_words(&mut self, bits: &BitBuffer) -> Result<(), AllocError>
+        ensures ok { OnOk result (self.new ≡ self.old ++ bits.now) }
+        ensures err { OnErr result ((n : ℕ) × (self.new ≡ self.old ++ take n bits.now)) }
+    {
+        let full = bits.len() / 64;
+        for k in 0..full {
+            self.push_bits(bits.full_word(k), 64)?;
+        }
+        let rest = bits.len() % 64;
+        if rest == 0 {
+            return Ok(());
+        }
+        self.push_bits(bits.word(full) & ((1 << rest) - 1), rest)
     }
 
     /// Keeps only the first `len` bits, which must exist.

@@ -7,7 +7,7 @@ use Rattle.vx_value.specs.declared.error.VortexError.{VortexError}
 use Rattle.vx_value.specs.declared.error.VortexError.TheVariants.{OutOfMemory}
 use Rattle.vx_fn.specs.declared.function.ScalarFnRef.{ScalarFnRef}
 use Rattle.vx_fn.specs.declared.function.ScalarFnRef.TheVariants as fn_of
-use Rattle.vx_tree.specs.Tree.{Tree, dtype, len}
+use Rattle.vx_tree.specs.Tree.{Tree, dtype, len, interleave_of, interleaved_refusal}
 use Rattle.vx_tree.specs.Calls.{called, call_refusal}
 use Rattle.vx_tree.specs.Keeps.{Keeps}
 use Rattle.vx_opt.specs.Answers.{IsOptimized, IsLimited}
@@ -50,3 +50,12 @@ pub record CastsTo (target : DType) (t : Tree) (r : Result Tree VortexError) : T
 -- a cast to the type
 abbrev pub Casts : DataType → Tree → Result Tree VortexError → Type 0
 Casts ty t r = (target : DType) × (type_of target ≡ ty) × CastsTo target t r
+
+-- the trees aren't refused, and t interleaves them
+abbrev pub IsInterleaved : Tree → Tree → List Tree → Tree → Type 0
+IsInterleaved arrays rows ts t = (interleaved_refusal arrays rows ts ≡ None) × (t ≡ interleave_of arrays rows ts)
+
+-- the result interleaves them, or there is no memory, or they are refused
+abbrev pub Interleaves : Tree → Tree → List Tree → Result Tree VortexError → Type 0
+Interleaves arrays rows ts r =
+    MatchResult r (IsInterleaved arrays rows ts) (λ e. (e ≡ OutOfMemory) ⊎ (interleaved_refusal arrays rows ts ≡ Some e))

@@ -6,19 +6,21 @@ ghost use Rattle.vx_value.specs.View.{type_of};
 ghost use Rattle.vx_tree.specs.Tree.{Tree, dtype, len, constant_of};
 ghost use Rattle.vx_fn.specs.declared.function.ScalarFnRef.TheVariants as fn_of;
 ghost use Rattle.vx_opt.specs.Select.{GivesJust};
-ghost use Rattle.vx_opt.specs.Builtins.{Calls, Casts, CastsTo, MakesCall, StandsForCall};
+ghost use Rattle.vx_opt.specs.Builtins.{Calls, Casts, CastsTo, MakesCall, StandsForCall, Interleaves};
 
 use crate::optimizer::ArrayOptimizer;
 use std::alloc::Global;
 use vx_fn::{BetweenOptions, Operator, ScalarFnRef};
-use vx_tree::{ArrayRef, ConstantArray, IntoArray, ScalarFnArray};
+use vx_tree::{ArrayRef, ConstantArray, InterleaveArray, IntoArray, ScalarFnArray};
 use vx_value::{DType, Scalar, VortexResult};
 
-/// The functions as methods. Each makes the node of its function over the array and optimizes it; only `zip` doesn't optimize.
+/// The functions as methods. Each makes the node of its function over the array and optimizes it; only `zip` and
+/// `interleave` don't optimize.
 ///
 /// # Errors
 ///
-/// Those of `ScalarFnArray::try_new_with_len` for the array's length, then those of `ArrayOptimizer::optimize`.
+/// Those of `ScalarFnArray::try_new_with_len` for the array's length, of `interleave` those of `InterleaveArray::try_new`; then
+/// those of `ArrayOptimizer::optimize`.
 pub trait ArrayBuiltins: Sized {
     // the tree that is the function's argument
     ghost tree: { Self → Tree };
@@ -72,6 +74,16 @@ pub trait ArrayBuiltins: Sized {
         options: BetweenOptions,
     ) -> VortexResult<ArrayRef>
         ensures { Calls (fn_of.Between options) (tree self.now ∷ lower ∷ upper ∷ []) (len (tree self.now)) result };
+
+    /// Returns the array whose row i is row `row_indices[i]` of `values[j]`, where j is row i of the array. The node isn't
+    /// optimized.
+    fn interleave(
+        &self,
+        alloc: Global,
+        values: Vec<ArrayRef>,
+        row_indices: ArrayRef,
+    ) -> VortexResult<ArrayRef>
+        ensures { Interleaves (tree self.now) row_indices values.items result };
 }
 
 impl ArrayBuiltins for ArrayRef {
@@ -124,6 +136,16 @@ impl ArrayBuiltins for ArrayRef {
     ) -> VortexResult<ArrayRef> {
         let children = vec![in alloc; self.clone()?, lower, upper]?;
         call(alloc, ScalarFnRef::Between(options), children, self.len())
+    }
+
+    fn interleave(
+        &self,
+        alloc: Global,
+        values: Vec<ArrayRef>,
+        row_indices: ArrayRef,
+    ) -> VortexResult<ArrayRef> {
+        let node = InterleaveArray::try_new(alloc, values, self.clone()?, row_indices)?;
+        Ok(node.into_array())
     }
 }
 

@@ -1,22 +1,22 @@
-//! Slices and filters of an array.
+//! Rows of an array: by a range, by a mask, and by indices.
 
 ghost use Rattle.std.specs.Prelude.{◌≡◌, ◌≤◌, ◌<◌, IfOk, IfErr, OnOk};
 ghost use Rattle.vx_mask.specs.Masks.{bits_in};
-ghost use Rattle.vx_tree.specs.Tree.{Tree, dtype, len, slice_of, filter_of};
+ghost use Rattle.vx_tree.specs.Tree.{Tree, dtype, len, slice_of, filter_of, dict_of};
 ghost use Rattle.vx_tree.specs.Columns.{empty_of};
 ghost use Rattle.vx_tree.specs.Keeps.{Keeps};
 ghost use Rattle.vx_rule.specs.Rules.{IsPartOf};
 ghost use Rattle.vx_opt.specs.Answers.{IsOptimized};
-ghost use Rattle.vx_opt.specs.Select.{IsRange, IsMaskOf, GivesJust, IsNoSlice, IsNoFilter};
+ghost use Rattle.vx_opt.specs.Select.{IsRange, IsMaskOf, AreIndices, GivesJust, IsNoSlice, IsNoFilter, IsNoTake};
 
 use crate::optimizer::ArrayOptimizer;
 use std::alloc::Global;
 use std::ops::Range;
 use vx_mask::Mask;
-use vx_tree::{ArrayRef, Canonical, FilterArray, IntoArray, SliceArray};
+use vx_tree::{ArrayRef, Canonical, DictArray, FilterArray, IntoArray, SliceArray};
 use vx_value::VortexResult;
 
-/// Lazy slices and filters, optimized. (own)
+/// Lazy slices, filters and dictionaries, optimized. (own)
 ///
 /// # Errors
 ///
@@ -43,6 +43,14 @@ pub trait ArraySelect: Sized {
         ensures optimized { IfOk result (λ t. IsOptimized (filter_of (bits_in mask) (tree self.now)) t 0) }
         ensures valid { OnOk result (IsMaskOf (bits_in mask) (tree self.now)) }
         ensures refused { IfErr result (IsNoFilter (bits_in mask) (tree self.now)) };
+
+    /// Returns the rows that `indices` names, null where an index is; an index that names no row is a fault of its row.
+    /// `InvalidArgument` with `SlotType` exactly if the indices aren't integers.
+    fn take(&self, alloc: Global, indices: ArrayRef) -> VortexResult<ArrayRef>
+        ensures keeps { IfOk result (Keeps (dict_of indices (tree self.now))) }
+        ensures optimized { IfOk result (λ t. IsOptimized (dict_of indices (tree self.now)) t 0) }
+        ensures valid { OnOk result (AreIndices indices) }
+        ensures refused { IfErr result (IsNoTake indices (tree self.now)) };
 }
 
 impl ArraySelect for ArrayRef {
@@ -62,6 +70,11 @@ impl ArraySelect for ArrayRef {
 
     fn filter(&self, alloc: Global, mask: Mask) -> VortexResult<ArrayRef> {
         let node = FilterArray::try_new(alloc, self.clone()?, mask)?;
+        node.into_array().optimize(alloc)
+    }
+
+    fn take(&self, alloc: Global, indices: ArrayRef) -> VortexResult<ArrayRef> {
+        let node = DictArray::try_new(alloc, indices, self.clone()?)?;
         node.into_array().optimize(alloc)
     }
 }

@@ -1,5 +1,5 @@
--- One who is asked has at most one answer.
-use Rattle.std.proofs.Common.{◌≡◌, ℕ, ◌+◌, ◌-◌, ◌<◌, ◌≤◌, List, [], ◌∷◌, Option, Some, None, Bool, true, refl, sym, ap, ◌∙◌, arith}
+-- One who is asked has at most one answer, and a constant that is the values of a dictionary has one.
+use Rattle.std.proofs.Common.{◌≡◌, ℕ, ◌+◌, ◌-◌, ◌<◌, ◌≤◌, List, [], ◌∷◌, Option, Some, None, Bool, true, refl, sym, subst, ap, ◌∙◌, arith}
 use Rattle.std.specs.Prelude.{◌==◌, ◌&&◌, if◌then◌else◌}
 use Rattle.std.proofs.lemmas.Bool.{eq-eqb, ne_eqb}
 use Rattle.vx_value.specs.Types.{DataType}
@@ -8,13 +8,16 @@ use Rattle.vx_value.specs.Cell.{Cell, value}
 use Rattle.vx_mask.specs.Places.{IsRun}
 use Rattle.vx_mask.proofs.Runs.{no_run_of_none}
 use Rattle.vx_tree.specs.Tree as enc
-use Rattle.vx_tree.specs.Tree.{Tree, Data, Slots, node, no_slots, slot, dtype, len, constant_of, slice_of, is_canonical}
-use Rattle.vx_tree.specs.Slots.{map_slots, present_from, present_in}
+use Rattle.vx_tree.specs.Tree.{Tree, Data, Slots, node, no_slots, absent, slot, dtype, len, datum, constant_of, slice_of, is_constant, is_dict, is_canonical}
+use Rattle.vx_tree.specs.Slots.{map_slots, present_from, present_in, HoldsAt, HasSlot}
 use Rattle.vx_tree.specs.Parts.{part_of, column_range}
 use Rattle.vx_tree.specs.Columns.{empty_of}
-use Rattle.vx_rule.specs.Rules.{Row, IsPart, constants, F1, F2, F3, C1, N1_null, N1_valid, S_whole, S_empty, S1, S2, S3, S4, S5, F5, F6, F7, F8, M1, K1, K2, K3, K4}
+use Rattle.vx_tree.specs.NodeValidities.{node_validity}
+use Rattle.vx_tree.specs.Well.{IsWell}
+use Rattle.vx_tree.proofs.SlotsLemmas.{no_shapes}
+use Rattle.vx_rule.specs.Rules.{Row, IsPart, constants, named_by, F1, F2, F3, C1, N1_null, N1_valid, S_whole, S_empty, S1, S2, S3, S4, S5, S6, F5, F6, F7, F8, F9, M1, D1, D2, K1, K2, K3, K4}
 use Rattle.vx_rule.proofs.PushedLemmas.{chosen_if, chosen_else, all_rows, not_all_rows}
-use Rattle.vx_rule.proofs.QuietLemmas.{row_first}
+use Rattle.vx_rule.proofs.QuietLemmas.{row_slot}
 
 -- ---- the node itself
 
@@ -58,6 +61,7 @@ part_answer a b (node ty n (enc.function f) ss) =
     (node ty (b - a) (enc.function f) (map_slots (slice_of a b) ss), present_from 0 (map_slots (slice_of a b) ss))
 part_answer a b (node ty n enc.masked (slot c vs)) =
     (node ty (b - a) enc.masked (slot (slice_of a b c) (map_slots (part_of a b) vs)), 0 ∷ present_from 1 (map_slots (part_of a b) vs))
+part_answer a b (node ty n enc.dict (slot c vs)) = (node ty (b - a) enc.dict (slot (slice_of a b c) vs), 0 ∷ [])
 part_answer a b t = (column_range a b t, present_in (column_range a b t))
 
 column_answer : (a b : ℕ) (ty : DataType) (n : ℕ) (d : Data) (ss : Slots) → is_canonical d ≡ true
@@ -66,6 +70,7 @@ column_answer a b ty n (enc.slice s e) ss h = absurd (cc (h))
 column_answer a b ty n (enc.constant v) ss h = absurd (cc (h))
 column_answer a b ty n (enc.function f) ss h = absurd (cc (h))
 column_answer a b ty n enc.masked ss h = absurd (cc (h))
+column_answer a b ty n enc.dict ss h = absurd (cc (h))
 column_answer a b ty n d ss h = refl
 
 abbrev slice_answer : ℕ → ℕ → Tree → Tree × List ℕ
@@ -94,6 +99,7 @@ slice_answered ty n a b c u os (S2 _ cty _ _ _ k v p) = answer_of_part a b c p
 slice_answered ty n a b c u os (S3 _ cty _ _ _ k d ss h p) = column_answer a b cty k d ss h ∙ answer_of_part a b c p
 slice_answered ty n a b c u os (S4 _ fty _ _ _ k f ss p) = answer_of_part a b c p
 slice_answered ty n a b c u os (S5 _ mty _ _ _ k x vs p) = answer_of_part a b c p
+slice_answered ty n a b c u os (S6 _ dty _ _ _ k x vs p) = answer_of_part a b c p
 
 slice_determined : (ty : DataType) (n a b : ℕ) (c u v : Tree) (os ps : List ℕ) → Row (Some 0) (node ty n (enc.slice a b) (slot c no_slots)) u os
     → Row (Some 0) (node ty n (enc.slice a b) (slot c no_slots)) v ps → (u ≡ v) × (os ≡ ps)
@@ -114,11 +120,15 @@ child_determined i t u v os ps (S2 ty cty n a b k x p) row = slice_determined ty
 child_determined i t u v os ps (S3 ty cty n a b k d ss h p) row = slice_determined ty n a b _ u v os ps (S3 ty cty n a b k d ss h p) row
 child_determined i t u v os ps (S4 ty fty n a b k f ss p) row = slice_determined ty n a b _ u v os ps (S4 ty fty n a b k f ss p) row
 child_determined i t u v os ps (S5 ty mty n a b k c vs p) row = slice_determined ty n a b _ u v os ps (S5 ty mty n a b k c vs p) row
+child_determined i t u v os ps (S6 ty dty n a b k c vs p) row = slice_determined ty n a b _ u v os ps (S6 ty dty n a b k c vs p) row
 child_determined i t u v os ps (F5 ty fty n k outer inner c) (F5 _ _ _ _ _ _ _) = (refl, refl)
 child_determined i t u v os ps (F6 ty cty n k bits x) (F6 _ _ _ _ _ _) = (refl, refl)
 child_determined i t u v os ps (F7 ty fty n k bits f ss) (F7 _ _ _ _ _ _ _) = (refl, refl)
 child_determined i t u v os ps (F8 ty mty n k bits c vs) (F8 _ _ _ _ _ _ _) = (refl, refl)
+child_determined i t u v os ps (F9 ty dty n k bits c vs) (F9 _ _ _ _ _ _ _) = (refl, refl)
 child_determined i t u v os ps (M1 ty mty n k c m vs) (M1 _ _ _ _ _ _ _) = (refl, refl)
+child_determined i t u v os ps (D1 ty s n k c x) (D1 _ _ _ _ _ _) = (refl, refl)
+child_determined i t u v os ps (D2 ty mty n k codes c vs f g one) (D2 _ _ _ _ _ _ _ _ _ _) = (refl, refl)
 child_determined i t u v os ps (K1 ty s n k target x w e) (K1 _ _ _ _ _ _ w' e') = (one_value ty n _ w w' e e', refl)
 child_determined i t u v os ps (K2 ty s n k x w e) (K2 _ _ _ _ _ w' e') = (one_value ty n _ w w' e e', refl)
 child_determined i t u v os ps (K3 ty s r q n h j k options x y z w e) (K3 _ _ _ _ _ _ _ _ _ _ _ _ w' e') = (one_value ty n _ w w' e e', refl)
@@ -129,4 +139,30 @@ row_determined None t u v os ps row other = own_determined t u v os ps row other
 row_determined (Some i) t u v os ps row other = child_determined i t u v os ps row other
 
 pub row_one_child : (i j : ℕ) (t u v : Tree) (os ps : List ℕ) → Row (Some i) t u os → Row (Some j) t v ps → i ≡ j
-row_one_child i j t u v os ps row other = row_first i t u os row ∙ sym (row_first j t v ps other)
+row_one_child i j t u v os ps row other = row_slot i t u os row ∙ sym (row_slot j t v ps other)
+
+-- ---- the values of a dictionary
+
+-- some row of the child in slot 1 fits
+abbrev HasAnswer : Tree → Type 0
+HasAnswer t = (u : Tree) × (os : List ℕ) × Row (Some 1) t u os
+
+module _ (ty : DataType) (n : ℕ) where
+  constant_answer : (k v : Tree) → IsWell v → is_constant (datum v) ≡ true → HasAnswer (node ty n enc.dict (slot k (slot v no_slots)))
+  constant_answer k (node s m (enc.constant x) vs) w h =
+      subst (λ ss. HasAnswer (node ty n enc.dict (slot k (slot (node s m (enc.constant x) ss) no_slots)))) (sym (no_shapes vs w.0.2))
+      (named_by ty n x.value (node_validity k), [], D1 ty s n m k x)
+  constant_answer k (node s m _ vs) w h = absurd (cc (h))
+
+  slots_answer : (ss : Slots) (c : Tree) → IsWell (node ty n enc.dict ss) → HoldsAt 1 c ss → is_constant (datum c) ≡ true → HasAnswer (node ty n enc.dict ss)
+  slots_answer no_slots c w held h = absurd held
+  slots_answer (absent ss) c w held h = absurd (cc (w.0.3))
+  slots_answer (slot k no_slots) c w held h = absurd held
+  slots_answer (slot k (absent ss)) c w held h = absurd held
+  slots_answer (slot k (slot v no_slots)) c w held h = constant_answer k v w.1.1.0 (subst (λ y. is_constant (datum y) ≡ true) (sym held) h)
+  slots_answer (slot k (slot v (absent ss))) c w held h = absurd (cc (w.0.3))
+  slots_answer (slot k (slot v (slot x ss))) c w held h = absurd (cc (w.0.3))
+
+pub values_answer : (t c : Tree) → IsWell t → is_dict (datum t) ≡ true → HasSlot 1 c t → is_constant (datum c) ≡ true → HasAnswer t
+values_answer (node ty n enc.dict ss) c w d held h = slots_answer ty n ss c w held h
+values_answer (node ty n _ ss) c w d held h = absurd (cc (d))

@@ -3,7 +3,7 @@ use Rattle.std.proofs.Common.{◌≡◌, List, [], ◌∷◌, Option, Some, subs
 use Rattle.vx_fn.specs.Functions.{arity}
 use Rattle.vx_fn.specs.declared.function.ScalarFnRef.{ScalarFnRef}
 use Rattle.vx_tree.specs.Tree as enc
-use Rattle.vx_tree.specs.Tree.{Tree, Data, Slots, node, no_slots, slot, slots_of, filled_slots, dtype, len, datum, slice_of, filter_of}
+use Rattle.vx_tree.specs.Tree.{Tree, Data, Slots, node, no_slots, slot, slots_of, filled_slots, dtype, len, datum, slice_of, filter_of, dict_of}
 use Rattle.vx_tree.specs.Slots.{HoldsAt, HasSlot}
 use Rattle.vx_tree.specs.Well.{IsNode, shapes}
 use Rattle.vx_rule.specs.Calls.{IsCallOf}
@@ -30,3 +30,7 @@ module _ (f : ScalarFnRef) (xs : List (Option Tree)) (c t : Tree) (is : t ≡ no
   pub call_of_three : (x y z : Tree) → xs ≡ Some x ∷ Some y ∷ Some z ∷ [] → IsCallOf f (c ∷ y ∷ z ∷ []) t
   call_of_three x y z e =
       called_on (c ∷ y ∷ z ∷ []) (ap slots_of e ∙ ap (λ w. slot w (slot y (slot z no_slots))) (first_is x (Some y ∷ Some z ∷ []) e))
+
+-- t is a dictionary, whose values stand in slot 1
+pub values_of : (k v c t : Tree) → t ≡ dict_of k v → HasSlot 1 c t → t ≡ dict_of k c
+values_of k v c t is held = is ∙ ap (dict_of k) (subst (HasSlot 1 c) is held)

@@ -1,25 +1,30 @@
 -- Children whose encoding has no row for a parent.
-use Rattle.std.proofs.Common.{◌≡◌, ℕ, zero, suc, List, Some, None, Bool, true, false, refl, sym, subst, ap}
+use Rattle.std.proofs.Common.{◌≡◌, ℕ, zero, suc, List, Some, None, Bool, true, false, refl, sym, subst, ap, arith}
 use Rattle.std.specs.Prelude.{◌||◌, ◌&&◌}
 use Rattle.vx_fn.specs.declared.function.ScalarFnRef.{ScalarFnRef}
 use Rattle.vx_fn.specs.declared.function.ScalarFnRef.TheVariants as fn_of
 use Rattle.vx_value.specs.Typed.{Typed}
 use Rattle.vx_tree.specs.Tree as enc
-use Rattle.vx_tree.specs.Tree.{Tree, Data, Slots, node, no_slots, slot, dtype, datum, is_filter, is_constant, is_function, is_masked, is_slice, is_canonical}
+use Rattle.vx_tree.specs.Tree.{Tree, Data, Slots, node, no_slots, slot, dtype, datum, is_filter, is_constant, is_function, is_masked, is_dict, is_slice, is_canonical}
 use Rattle.vx_tree.specs.Slots.{HasSlot}
 use Rattle.vx_rule.specs.Tags.{is_mask, is_cast, is_not, is_between, is_fill_null, applies}
 use Rattle.vx_rule.specs.Calls.{is_null_test}
 use Rattle.vx_rule.specs.Constants.{folds}
-use Rattle.vx_rule.specs.Rules.{IsQuiet, lets_slice, S_whole, S_empty, S1, S2, S3, S4, S5, F5, F6, F7, F8, M1, K1, K2, K3, K4}
+use Rattle.vx_rule.specs.Rules.{IsQuiet, lets_slice, S_whole, S_empty, S1, S2, S3, S4, S5, S6, F5, F6, F7, F8, F9, M1, D1, D2, K1, K2, K3, K4}
 use Rattle.vx_rule.specs.SliceLaws.{column_lets}
-use Rattle.vx_rule.proofs.QuietLemmas.{lets_filter, later_quiet, has_own, function_own_quiet}
+use Rattle.vx_rule.proofs.QuietLemmas.{lets_filter, slot_asked, row_slot, has_own, function_own_quiet}
 
--- whether a parent with the one node data has a row of a child with the other
+-- whether a parent with the one node data has a row of a child in its first slot with the other
 abbrev pub has_row : Data → Data → Bool
 has_row (enc.slice a b) d = lets_slice d
 has_row (enc.filter bits) d = lets_filter d
 has_row (enc.function f) d = (is_masked d && is_mask f) || (is_constant d && folds f)
 has_row _ d = false
+
+-- the same of the second slot
+abbrev pub has_second_row : Data → Data → Bool
+has_second_row enc.dict d = is_constant d || is_masked d
+has_second_row _ d = false
 
 -- the same of the parent and the child in its first slot
 none_of : (x c : Tree) (p : Data) → x ≡ c → has_row p (datum c) ≡ false → has_row p (datum x) ≡ false
@@ -33,10 +38,12 @@ first_quiet c t e h u os (S2 ty cty n a b k v p) = absurd (cc (none_of (node cty
 first_quiet c t e h u os (S3 ty cty n a b k d ss i p) = absurd (cc (column_lets d i, none_of (node cty k d ss) c (enc.slice a b) e h))
 first_quiet c t e h u os (S4 ty fty n a b k f ss p) = absurd (cc (none_of (node fty k (enc.function f) ss) c (enc.slice a b) e h))
 first_quiet c t e h u os (S5 ty mty n a b k x vs p) = absurd (cc (none_of (node mty k enc.masked (slot x vs)) c (enc.slice a b) e h))
+first_quiet c t e h u os (S6 ty dty n a b k x vs p) = absurd (cc (none_of (node dty k enc.dict (slot x vs)) c (enc.slice a b) e h))
 first_quiet c t e h u os (F5 ty fty n k outer inner x) = absurd (cc (none_of (node fty k (enc.filter outer) (slot x no_slots)) c (enc.filter inner) e h))
 first_quiet c t e h u os (F6 ty cty n k bits v) = absurd (cc (none_of (node cty k (enc.constant v) no_slots) c (enc.filter bits) e h))
 first_quiet c t e h u os (F7 ty fty n k bits f ss) = absurd (cc (none_of (node fty k (enc.function f) ss) c (enc.filter bits) e h))
 first_quiet c t e h u os (F8 ty mty n k bits x vs) = absurd (cc (none_of (node mty k enc.masked (slot x vs)) c (enc.filter bits) e h))
+first_quiet c t e h u os (F9 ty dty n k bits x vs) = absurd (cc (none_of (node dty k enc.dict (slot x vs)) c (enc.filter bits) e h))
 first_quiet c t e h u os (M1 ty mty n k x m vs) = absurd (cc (none_of (node mty k enc.masked (slot x vs)) c (enc.function fn_of.Mask) e h))
 first_quiet c t e h u os (K1 ty s n k target v w g) = absurd (cc (none_of (node s k (enc.constant v) no_slots) c (enc.function (fn_of.Cast target)) e h))
 first_quiet c t e h u os (K2 ty s n k v w g) = absurd (cc (none_of (node s k (enc.constant v) no_slots) c (enc.function fn_of.Not) e h))
@@ -44,29 +51,52 @@ first_quiet c t e h u os (K3 ty s r q n i j k options x y z w g) = absurd (cc (n
     (enc.function (fn_of.Between options)) e h))
 first_quiet c t e h u os (K4 ty s r n j k x y w g) = absurd (cc (none_of (node s j (enc.constant x) no_slots) c (enc.function fn_of.FillNull) e h))
 
-child_quiet : (i : ℕ) (c t : Tree) → HasSlot i c t → has_row (datum t) (datum c) ≡ false → IsQuiet (Some i) t
-child_quiet zero c t e h = first_quiet c t e h
-child_quiet (suc i) c t e h = later_quiet (suc i) t (λ z. absurd (cc (z)))
+second_none : (x c : Tree) (p : Data) → x ≡ c → has_second_row p (datum c) ≡ false → has_second_row p (datum x) ≡ false
+second_none x c p e h = subst (λ y. has_second_row p (datum y) ≡ false) (sym e) h
+
+second_quiet : (c t : Tree) → HasSlot 1 c t → has_second_row (datum t) (datum c) ≡ false → IsQuiet (Some 1) t
+second_quiet c t e h u os (D1 ty s n k x v) = absurd (cc (second_none (node s k (enc.constant v) no_slots) c enc.dict e h))
+second_quiet c t e h u os (D2 ty mty n k codes x vs f g one) = absurd (cc (second_none (node mty k enc.masked (slot x vs)) c enc.dict e h))
+
+-- no row is one of the third slot
+third_quiet : (i : ℕ) (d : Data) → suc (suc i) ≡ slot_asked d → ⊥
+third_quiet i enc.dict e = absurd (omega (arith, e))
+third_quiet i _ e = absurd (omega (arith, e))
+
+child_quiet : (i : ℕ) (c t : Tree) → HasSlot i c t → has_row (datum t) (datum c) ≡ false → has_second_row (datum t) (datum c) ≡ false → IsQuiet (Some i) t
+child_quiet zero c t e h k = first_quiet c t e h
+child_quiet (suc zero) c t e h k = second_quiet c t e k
+child_quiet (suc (suc i)) c t e h k = λ u os row. third_quiet i (datum t) (row_slot (suc (suc i)) t u os row)
 
 -- for a child with such node data
-quiet_by : (i : ℕ) (d : Data) (c t : Tree) → d ≡ datum c → HasSlot i c t → has_row (datum t) d ≡ false → IsQuiet (Some i) t
-quiet_by i d c t e held h = child_quiet i c t held (subst (λ x. has_row (datum t) x ≡ false) e h)
+quiet_by : (i : ℕ) (d : Data) (c t : Tree) → d ≡ datum c → HasSlot i c t → has_row (datum t) d ≡ false → has_second_row (datum t) d ≡ false → IsQuiet (Some i) t
+quiet_by i d c t e held h k =
+    child_quiet i c t held (subst (λ x. has_row (datum t) x ≡ false) e h) (subst (λ x. has_second_row (datum t) x ≡ false) e k)
 
 -- ---- by encoding: of which parents no row is
+
+-- the values of a dictionary have one if they are a constant or a masked array
+no_second : (p d : Data) → is_constant d ≡ false → is_masked d ≡ false → has_second_row p d ≡ false
+no_second enc.dict d k m = λ i. k i || m i
+no_second _ d k m = refl
+
+other_second : (p d : Data) → is_dict p ≡ false → has_second_row p d ≡ false
+other_second enc.dict d h = absurd (cc (h))
+other_second _ d h = refl
 
 slice_rows : (a b : ℕ) (p : Data) → is_slice p ≡ false → has_row p (enc.slice a b) ≡ false
 slice_rows a b (enc.slice s t) h = absurd (cc (h))
 slice_rows a b _ h = refl
 
 pub slice_quiet : (i a b : ℕ) (c t : Tree) → enc.slice a b ≡ datum c → HasSlot i c t → is_slice (datum t) ≡ false → IsQuiet (Some i) t
-slice_quiet i a b c t e held h = quiet_by i (enc.slice a b) c t e held (slice_rows a b (datum t) h)
+slice_quiet i a b c t e held h = quiet_by i (enc.slice a b) c t e held (slice_rows a b (datum t) h) (no_second (datum t) (enc.slice a b) refl refl)
 
 filter_rows : (bits : List Bool) (p : Data) → is_filter p ≡ false → has_row p (enc.filter bits) ≡ false
 filter_rows bits (enc.filter outer) h = absurd (cc (h))
 filter_rows bits _ h = refl
 
 pub filter_quiet : (i : ℕ) (bits : List Bool) (c t : Tree) → enc.filter bits ≡ datum c → HasSlot i c t → is_filter (datum t) ≡ false → IsQuiet (Some i) t
-filter_quiet i bits c t e held h = quiet_by i (enc.filter bits) c t e held (filter_rows bits (datum t) h)
+filter_quiet i bits c t e held h = quiet_by i (enc.filter bits) c t e held (filter_rows bits (datum t) h) (no_second (datum t) (enc.filter bits) refl refl)
 
 -- an encoding that no parent has a row of
 no_rows : (p d : Data) → lets_slice d ≡ false → lets_filter d ≡ false → is_masked d ≡ false → is_constant d ≡ false → has_row p d ≡ false
@@ -78,7 +108,7 @@ no_rows _ d s f m k = refl
 pub quiet : (i : ℕ) (d : Data) (c t : Tree) → d ≡ datum c → HasSlot i c t → lets_slice d ≡ false → lets_filter d ≡ false → is_masked d ≡ false
     → is_constant d ≡ false
     → IsQuiet (Some i) t
-quiet i d c t e held s f m k = quiet_by i d c t e held (no_rows (datum t) d s f m k)
+quiet i d c t e held s f m k = quiet_by i d c t e held (no_rows (datum t) d s f m k) (no_second (datum t) d k m)
 
 function_rows : (f : ScalarFnRef) (p : Data) → is_slice p ≡ false → is_filter p ≡ false → has_row p (enc.function f) ≡ false
 function_rows f (enc.slice a b) s h = absurd (cc (s))
@@ -87,7 +117,15 @@ function_rows f _ s h = refl
 
 pub function_quiet : (i : ℕ) (f : ScalarFnRef) (c t : Tree) → enc.function f ≡ datum c → HasSlot i c t → is_slice (datum t) ≡ false
     → is_filter (datum t) ≡ false → IsQuiet (Some i) t
-function_quiet i f c t e held s h = quiet_by i (enc.function f) c t e held (function_rows f (datum t) s h)
+function_quiet i f c t e held s h = quiet_by i (enc.function f) c t e held (function_rows f (datum t) s h) (no_second (datum t) (enc.function f) refl refl)
+
+dict_rows : (p : Data) → is_slice p ≡ false → is_filter p ≡ false → has_row p enc.dict ≡ false
+dict_rows (enc.slice a b) s h = absurd (cc (s))
+dict_rows (enc.filter bits) s h = absurd (cc (h))
+dict_rows _ s h = refl
+
+pub dict_quiet : (i : ℕ) (c t : Tree) → enc.dict ≡ datum c → HasSlot i c t → is_slice (datum t) ≡ false → is_filter (datum t) ≡ false → IsQuiet (Some i) t
+dict_quiet i c t e held s h = quiet_by i enc.dict c t e held (dict_rows (datum t) s h) (no_second (datum t) enc.dict refl refl)
 
 masked_rows : (p : Data) → is_slice p ≡ false → is_filter p ≡ false → applies is_mask p ≡ false → has_row p enc.masked ≡ false
 masked_rows (enc.slice a b) s h m = absurd (cc (s))
@@ -96,9 +134,9 @@ masked_rows (enc.function f) s h m = ap (λ b. b || false) m
 masked_rows _ s h m = refl
 
 pub masked_quiet : (i : ℕ) (c t : Tree) → enc.masked ≡ datum c → HasSlot i c t → is_slice (datum t) ≡ false → is_filter (datum t) ≡ false
-    → applies is_mask (datum t) ≡ false
+    → applies is_mask (datum t) ≡ false → is_dict (datum t) ≡ false
     → IsQuiet (Some i) t
-masked_quiet i c t e held s h m = quiet_by i enc.masked c t e held (masked_rows (datum t) s h m)
+masked_quiet i c t e held s h m k = quiet_by i enc.masked c t e held (masked_rows (datum t) s h m) (other_second (datum t) enc.masked k)
 
 unfolded : (f : ScalarFnRef) → is_between f ≡ false → is_cast f ≡ false → is_fill_null f ≡ false → is_not f ≡ false → folds f ≡ false
 unfolded (fn_of.Between options) b c n k = absurd (cc (b))
@@ -116,8 +154,10 @@ constant_rows v _ b c n h k s = refl
 
 pub constant_quiet : (i : ℕ) (v : Typed) (x t : Tree) → enc.constant v ≡ datum x → HasSlot i x t → applies is_between (datum t) ≡ false
     → applies is_cast (datum t) ≡ false
-    → applies is_fill_null (datum t) ≡ false → is_filter (datum t) ≡ false → applies is_not (datum t) ≡ false → is_slice (datum t) ≡ false → IsQuiet (Some i) t
-constant_quiet i v x t e held b c n h k s = quiet_by i (enc.constant v) x t e held (constant_rows v (datum t) b c n h k s)
+    → applies is_fill_null (datum t) ≡ false → is_filter (datum t) ≡ false → applies is_not (datum t) ≡ false → is_slice (datum t) ≡ false
+    → is_dict (datum t) ≡ false → IsQuiet (Some i) t
+constant_quiet i v x t e held b c n h k s m =
+    quiet_by i (enc.constant v) x t e held (constant_rows v (datum t) b c n h k s) (other_second (datum t) (enc.constant v) m)
 
 plain_rows : (p d : Data) → lets_filter d ≡ false → is_masked d ≡ false → is_constant d ≡ false → is_slice p ≡ false → has_row p d ≡ false
 plain_rows (enc.slice a b) d f m k s = absurd (cc (s))
@@ -133,8 +173,16 @@ column_rows p (enc.decimals w zs) k s = plain_rows p (enc.decimals w zs) refl re
 column_rows p (enc.views rs) k s = plain_rows p (enc.views rs) refl refl refl s
 column_rows p _ k s = absurd (cc (k))
 
+column_second : (p d : Data) → is_canonical d ≡ true → has_second_row p d ≡ false
+column_second p enc.nulls k = no_second p enc.nulls refl refl
+column_second p (enc.bool bs) k = no_second p (enc.bool bs) refl refl
+column_second p (enc.primitive q zs) k = no_second p (enc.primitive q zs) refl refl
+column_second p (enc.decimals w zs) k = no_second p (enc.decimals w zs) refl refl
+column_second p (enc.views rs) k = no_second p (enc.views rs) refl refl
+column_second p _ k = absurd (cc (k))
+
 pub column_quiet : (i : ℕ) (c t : Tree) → is_canonical (datum c) ≡ true → HasSlot i c t → is_slice (datum t) ≡ false → IsQuiet (Some i) t
-column_quiet i c t k held s = child_quiet i c t held (column_rows (datum t) (datum c) k s)
+column_quiet i c t k held s = child_quiet i c t held (column_rows (datum t) (datum c) k s) (column_second (datum t) (datum c) k)
 
 -- ---- the rules of a function itself
 

@@ -1,4 +1,4 @@
--- What the rows of filters keep: F1 to F3 and F5 to F8.
+-- What the rows of filters keep: F1 to F3 and F5 to F9.
 use Rattle.std.proofs.Common.{◌≡◌, ℕ, ◌-◌, ◌≤◌, Bool, true, List, length, map, drop, refl, sym, ap, subst, ◌∙◌, arith}
 use Rattle.std.specs.List.{range_with_len}
 use Rattle.std.specs.Cmp.{unsigned_Decides}
@@ -18,7 +18,8 @@ use Rattle.vx_tree.specs.Tree.{Tree, Slots, node, no_slots, slot, dtype, len, co
 use Rattle.vx_tree.specs.Slots.{map_slots}
 use Rattle.vx_tree.specs.Parts.{choice_of}
 use Rattle.vx_tree.specs.Columns.{empty_of}
-use Rattle.vx_tree.specs.Cells.{rows, HasNoFault, IsClean}
+use Rattle.vx_tree.specs.Cells.{rows, slots_rows, cells_at, HasNoFault, IsClean}
+use Rattle.vx_tree.specs.Lookups.{taken}
 use Rattle.vx_tree.specs.Keeps.{KeepsExactly}
 use Rattle.vx_tree.specs.Well.{shape, shape_of, shapes, IsNode, IsWell}
 use Rattle.vx_tree.proofs.CellsLemmas.{rows_counted}
@@ -156,3 +157,16 @@ F8_keeps ty mty n k bits c vs w =
     (λ t well counted. sym (choice_kept bits t well (long ∙ sym counted)).equal) mty c (filter_of bits c) vs w.1.0 refl in
     exactly_by (filter_of bits child) u refl refl shown
     (λ d. (subst HasNoFault shown d.0, (filter_clean bits c d.1.0.1.0, map_clean (choice_of bits) vs (choice_of_clean bits) d.1.0.1.1))))
+
+-- ---- of a dictionary
+
+pub F9_keeps : (ty dty : DataType) (n k : ℕ) (bits : List Bool) (c : Tree) (vs : Slots)
+    → IsWell (node ty n (enc.filter bits) (slot (node dty k enc.dict (slot c vs)) no_slots))
+    → KeepsExactly (node ty n (enc.filter bits) (slot (node dty k enc.dict (slot c vs)) no_slots))
+    (node dty (true_count bits) enc.dict (slot (filter_of bits c) vs))
+F9_keeps ty dty n k bits c vs w =
+    let child = node dty k enc.dict (slot c vs) in
+    let u = node dty (true_count bits) enc.dict (slot (filter_of bits c) vs) in
+    of_filter ty n bits child u w (λ long.
+    let shown : rows (filter_of bits child) ≡ rows u = chosen_map (taken (cells_at (slots_rows vs) 0)) bits (rows c) in
+    exactly_by (filter_of bits child) u refl refl shown (λ d. (subst HasNoFault shown d.0, (filter_clean bits c d.1.0.1.0, d.1.0.1.1))))

@@ -2,6 +2,7 @@
 use Rattle.std.proofs.Common.{◌≡◌, ℕ, ◌+◌, ◌-◌, ◌<◌, List, [], ◌∷◌, Option, Some, None, Result, Ok, Err, Bool, true, false, refl, sym, subst, ap, ◌∙◌}
 use Rattle.std.specs.Prelude.{option_map}
 use Rattle.vx_value.specs.Types.{DataType, nullability_of}
+use Rattle.vx_value.specs.Typed.{Typed}
 use Rattle.vx_value.specs.View.{type_of}
 use Rattle.vx_value.specs.declared.dtype.DType.{DType}
 use Rattle.vx_value.specs.declared.dtype.Nullability.TheVariants.{NonNullable}
@@ -11,16 +12,17 @@ use Rattle.vx_mask.specs.Places.{true_count, combined, IsRun}
 use Rattle.vx_fn.specs.declared.function.ScalarFnRef.{ScalarFnRef}
 use Rattle.vx_fn.specs.declared.function.ScalarFnRef.TheVariants as fn_of
 use Rattle.vx_tree.specs.Tree as enc
-use Rattle.vx_tree.specs.Tree.{Tree, Slots, node, no_slots, slot, slots, slots_of, dtype, len, datum, constant_of, slice_of, filter_of, masked_of, is_canonical}
-use Rattle.vx_tree.specs.Slots.{map_slots, present_from, present_in}
+use Rattle.vx_tree.specs.Tree.{Tree, Slots, node, no_slots, slot, slots, slots_of, dtype, len, datum, constant_of, slice_of, filter_of, masked_of, dict_of, is_canonical, is_columnar}
+use Rattle.vx_tree.specs.Slots.{map_slots, present_from, present_in, count_slots}
 use Rattle.vx_tree.specs.Parts.{part_of, choice_of, column_range}
 use Rattle.vx_tree.specs.Columns.{empty_of}
 use Rattle.vx_tree.specs.Validities.{truths}
-use Rattle.vx_tree.specs.NodeValidities.{both_of}
+use Rattle.vx_tree.specs.NodeValidities.{both_of, node_validity}
+use Rattle.vx_tree.specs.declared.validity.Validity.{Validity}
 use Rattle.vx_rule.specs.declared.raw_node.RawNode.{RawNode}
-use Rattle.vx_rule.specs.Answers.{Answers, IsRaw}
+use Rattle.vx_rule.specs.Answers.{Answers, IsRaw, IsRawFirst}
 use Rattle.vx_rule.specs.Pushes.{IsConstantLike}
-use Rattle.vx_rule.specs.Rules.{Row, IsPart, lets_slice, validity_column, F1, F2, F3, C1, N1_null, N1_valid, S_whole, S_empty, S1, S2, S3, S4, S5, F5, F6, F7, F8, M1}
+use Rattle.vx_rule.specs.Rules.{Row, IsPart, lets_slice, named_by, taken_of, validity_column, F1, F2, F3, C1, N1_null, N1_valid, S_whole, S_empty, S1, S2, S3, S4, S5, S6, F5, F6, F7, F8, F9, M1, D1, D2}
 use Rattle.vx_rule.proofs.PushLemmas.{masked_mapped}
 use Rattle.vx_rule.specs.Calls.{null_test}
 
@@ -38,6 +40,13 @@ pub raw_row : (w : Option ℕ) (t u : Tree) (r : Result (Option RawNode) VortexE
 raw_row w t u (Ok None) h k = absurd h
 raw_row w t u (Ok (Some x)) h k = k x.tree x.optimize.items h.0 (h.1 ∙ ap (λ y. present_from 0 (slots y)) (sym h.0))
 raw_row w t u (Err e) h k = h
+
+-- one whose first slot is
+pub first_row : (w : Option ℕ) (t u : Tree) (r : Result (Option RawNode) VortexError) → IsRawFirst u r
+    → ((x : Tree) (os : List ℕ) → x ≡ u → os ≡ 0 ∷ [] → Row w t x os) → Answers w t r
+first_row w t u (Ok None) h k = absurd h
+first_row w t u (Ok (Some x)) h k = k x.tree x.optimize.items h.0 h.1
+first_row w t u (Err e) h k = h
 
 -- ---- of a filter by its mask alone
 
@@ -119,6 +128,14 @@ fit_S5 a b x c s u v w os e p slices parts made g =
     (S5 ty ty (b - a) a b (len c) c vs (subst (λ y. IsPart a b (len y)) e p)) (ap (slice_of a b) (sym e)) (sym made)
     (sym (g ∙ ap (λ y. present_from 0 (slots y)) made))
 
+pub fit_S6 : (a b : ℕ) (x c v s w u : Tree) (os : List ℕ) → x ≡ dict_of c v → IsPart a b (len x) → s ≡ slice_of a b c → w ≡ v → u ≡ dict_of s w → os ≡ 0 ∷ []
+    → Row (Some 0) (slice_of a b x) u os
+fit_S6 a b x c v s w u os e p slices same made g =
+    let ty = dtype (dict_of c v) in
+    let made : u ≡ node ty (b - a) enc.dict (slot (slice_of a b c) (slot v no_slots)) = made ∙ (λ i. dict_of (slices i) (same i)) in
+    row_by (Some 0) (slice_of a b (dict_of c v)) (slice_of a b x) (node ty (b - a) enc.dict (slot (slice_of a b c) (slot v no_slots))) u (0 ∷ []) os
+    (S6 ty ty (b - a) a b (len c) c (slot v no_slots) (subst (λ y. IsPart a b (len y)) e p)) (ap (slice_of a b) (sym e)) (sym made) (sym g)
+
 -- ---- of a child for a filter
 
 pub fit_F5 : (outer inner : List Bool) (x c u : Tree) (os : List ℕ) → x ≡ filter_of outer c → u ≡ filter_of (combined outer inner) c → os ≡ []
@@ -155,6 +172,43 @@ fit_F8 bits x c s u v w os e filters parts made g =
     ∙ ap (node ty (true_count bits) enc.masked) (masked_mapped (choice_of bits) (filter_of bits c) v) in
     row_by (Some 0) (filter_of bits (masked_of c v)) (filter_of bits x) (node ty (true_count bits) enc.masked validity_column) u (present_from 0 validity_column) os
     (F8 ty ty (true_count bits) (len c) bits c vs) (ap (filter_of bits) (sym e)) (sym made) (sym (g ∙ ap (λ y. present_from 0 (slots y)) made))
+
+pub fit_F9 : (bits : List Bool) (x c v s w u : Tree) (os : List ℕ) → x ≡ dict_of c v → s ≡ filter_of bits c → w ≡ v → u ≡ dict_of s w → os ≡ 0 ∷ []
+    → Row (Some 0) (filter_of bits x) u os
+fit_F9 bits x c v s w u os e filters same made g =
+    let ty = dtype (dict_of c v) in
+    let made : u ≡ node ty (true_count bits) enc.dict (slot (filter_of bits c) (slot v no_slots)) = made ∙ (λ i. dict_of (filters i) (same i)) in
+    row_by (Some 0) (filter_of bits (dict_of c v)) (filter_of bits x) (node ty (true_count bits) enc.dict (slot (filter_of bits c) (slot v no_slots))) u (0 ∷ []) os
+    (F9 ty ty (true_count bits) (len c) bits c (slot v no_slots)) (ap (filter_of bits) (sym e)) (sym made) (sym g)
+
+-- ---- of the values of a dictionary
+
+pub fit_D1 : (t c y u : Tree) (v : Typed) (w : Validity) (os : List ℕ) → t ≡ dict_of c y → y ≡ constant_of v (len y) → w ≡ node_validity c
+    → u ≡ named_by (dtype t) (len t) v.value w → os ≡ [] → Row (Some 1) t u os
+fit_D1 t c y u v w os e like told made g =
+    let whole : t ≡ dict_of c (constant_of v (len y)) = e ∙ ap (dict_of c) like in
+    let ty = dtype (dict_of c (constant_of v (len y))) in
+    row_by (Some 1) (dict_of c (constant_of v (len y))) t (named_by ty (len c) v.value (node_validity c)) u [] os (D1 ty v.of_type (len c) (len y) c v) (sym whole)
+    (sym (made ∙ (λ i. named_by (dtype (whole i)) (len (whole i)) v.value (told i)))) (sym g)
+
+pub fit_D2 : (t codes x c s u : Tree) (v w : Option Tree) (os : List ℕ) → t ≡ dict_of codes x → x ≡ masked_of c v → nullability_of (dtype codes) ≡ NonNullable
+    → is_columnar (datum codes) ≡ true → s ≡ dict_of codes c → w ≡ option_map (taken_of codes) v
+    → u ≡ node (dtype t) (len s) enc.masked (slots_of (Some s ∷ w ∷ [])) → os ≡ present_from 0 (slots u) → Row (Some 1) t u os
+fit_D2 t codes x c s u v w os e is never column names takes made g =
+    let whole : t ≡ dict_of codes (masked_of c v) = e ∙ ap (dict_of codes) is in
+    let ty = dtype (dict_of codes (masked_of c v)) in
+    let vs = slots_of (v ∷ []) in
+    let parts = slot (dict_of codes c) (map_slots (taken_of codes) vs) in
+    let made : u ≡ node ty (len codes) enc.masked parts =
+    made ∙ (λ i. node (dtype (whole i)) (len (names i)) enc.masked (slots_of (Some (names i) ∷ takes i ∷ [])))
+    ∙ ap (node ty (len codes) enc.masked) (masked_mapped (taken_of codes) (dict_of codes c) v) in
+    row_by (Some 1) (dict_of codes (masked_of c v)) t (node ty (len codes) enc.masked parts) u (present_from 0 parts) os
+    (D2 ty (dtype (masked_of c v)) (len codes) (len c) codes c vs never column (one_slot v)) (sym whole) (sym made)
+    (sym (g ∙ ap (λ y. present_from 0 (slots y)) made))
+  where
+    one_slot : (v : Option Tree) → count_slots (slots_of (v ∷ [])) ≡ 1
+    one_slot None = refl
+    one_slot (Some z) = refl
 
 -- ---- of a masked array for a mask
 

@@ -5,6 +5,7 @@ pub mod RangesLemmas
 pub mod FiltersLemmas
 pub mod FunctionsLemmas
 pub mod MasksLemmas
+pub mod DictsLemmas
 pub mod CastsLemmas
 pub mod KeepsLemmas
 pub mod PushedLemmas

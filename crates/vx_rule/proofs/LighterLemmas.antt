@@ -1,17 +1,25 @@
 -- What each row does to the weight of its tree, and where it stands.
-use Rattle.std.proofs.Common.{◌≡◌, ℕ, zero, suc, ◌+◌, ◌-◌, ◌*◌, ◌<◌, ◌≤◌, List, [], ◌∷◌, Option, Some, Bool, true, refl, subst, arith, zero-add}
-use Rattle.vx_value.specs.Types.{DataType}
+use Rattle.std.proofs.Common.{◌≡◌, ℕ, zero, suc, ◌+◌, ◌-◌, ◌*◌, ◌<◌, ◌≤◌, List, [], ◌∷◌, Option, Some, None, Bool, true, false, refl, sym, subst, arith, zero-add}
+use Rattle.vx_value.specs.Types.{DataType, nullability_of}
+use Rattle.vx_value.specs.Values.{Value, null, boolean}
+use Rattle.vx_value.specs.declared.dtype.Nullability.{Nullability}
+use Rattle.vx_value.specs.declared.dtype.Nullability.TheVariants.{NonNullable, Nullable}
 use Rattle.vx_value.specs.Storage.{storage_of}
 use Rattle.vx_value.specs.declared.dtype.Storage.{Storage}
 use Rattle.vx_value.specs.declared.dtype.Storage.TheVariants.{Nulls}
 use Rattle.vx_tree.specs.Tree as enc
-use Rattle.vx_tree.specs.Tree.{Tree, Data, Slots, node, no_slots, absent, slot, datum, constant_of, slice_of, filter_of, is_canonical}
-use Rattle.vx_tree.specs.Slots.{map_slots, present_from, present_in, IsPresent, IsPresentAt}
+use Rattle.vx_tree.specs.Tree.{Tree, Data, Slots, node, no_slots, absent, slot, slots_of, datum, constant_of, slice_of, filter_of, dict_of, is_canonical}
+use Rattle.vx_tree.specs.Slots.{map_slots, present_from, present_in, count_slots, IsPresent, IsPresentAt}
 use Rattle.vx_tree.specs.Parts.{part_of, part_by, choice_of, choice_by, column_range}
 use Rattle.vx_tree.specs.Columns.{empty_of, empty_stored}
+use Rattle.vx_tree.specs.Validities.{of_truth, of_data, validity_of}
+use Rattle.vx_tree.specs.NodeValidities.{slot_tree, on_array, constant_validity, joined, data_validity, if_nullable, node_validity, first_validity}
+use Rattle.vx_tree.specs.declared.validity.Validity.{Validity}
+use Rattle.vx_tree.specs.declared.validity.Validity.TheVariants as validity
 use Rattle.vx_tree.specs.Weight.{weight, slots_weights, column_weight, total, excess}
 use Rattle.vx_tree.proofs.WeightLemmas.{weight_low}
-use Rattle.vx_rule.specs.Rules.{Row, ArePresent, validity_column, F1, F2, F3, C1, N1_null, N1_valid, S_whole, S_empty, S1, S2, S3, S4, S5, F5, F6, F7, F8, M1, K1, K2, K3, K4}
+use Rattle.vx_rule.specs.Rules.{Row, ArePresent, validity_column, masked_by, named_by, taken_by, taken_of, F1, F2, F3, C1, N1_null, N1_valid, S_whole, S_empty, S1, S2, S3, S4, S5, S6, F5, F6, F7, F8, F9, M1, D1, D2, K1, K2, K3, K4}
+use Rattle.vx_rule.proofs.PicksLemmas.{only_slot}
 
 -- ---- weights of what rows make
 
@@ -81,6 +89,152 @@ canonical_heavy k ty (enc.decimals w zs) ss h some = column_heavy k (slots_weigh
 canonical_heavy k ty (enc.views rs) ss h some = column_heavy k (slots_weights ss) some
 canonical_heavy k ty _ ss h some = absurd (cc)
 
+-- ---- dictionaries
+
+-- what the codes take of a validity
+taken_by_light : (d : Data) (codes t : Tree) → weight (taken_by d codes t) ≤ weight codes * weight t + 10
+taken_by_light (enc.constant v) codes t = omega arith
+taken_by_light _ codes t = omega arith
+
+-- of a slot of its own
+taken_light : (codes : Tree) (vs : Slots) → count_slots vs ≡ 1 → total (slots_weights (map_slots (taken_of codes) vs)) ≤ weight codes * total (slots_weights vs) + 10
+taken_light codes vs one =
+    let o = only_slot vs one in
+    subst (λ ss. total (slots_weights (map_slots (taken_of codes) ss)) ≤ weight codes * total (slots_weights ss) + 10) (sym o.1) (by_slot o.0)
+  where
+    by_slot : (v : Option Tree) → total (slots_weights (map_slots (taken_of codes) (slots_of (v ∷ [])))) ≤ weight codes * total (slots_weights (slots_of (v ∷ []))) + 10
+    by_slot None = omega arith
+    by_slot (Some t) = omega (arith, taken_by_light (datum t) codes t)
+
+-- the weight of a validity's array; 0 if it has none
+abbrev array_weight : Validity → ℕ
+array_weight (validity.Array u) = weight u
+array_weight _ = 0
+
+named_light : (ty : DataType) (n : ℕ) (x : Value) (w : Validity) → weight (named_by ty n x w) ≤ 11 + array_weight w
+named_light ty n x validity.NonNullable = omega arith
+named_light ty n x validity.AllValid = omega arith
+named_light ty n x validity.AllInvalid = omega arith
+named_light ty n x (validity.Array u) = by_value x
+  where
+    by_value : (x : Value) → weight (masked_by ty n x u) ≤ 11 + weight u
+    by_value null = omega arith
+    by_value _ = omega arith
+
+-- ---- a tree's validity weighs less than three times as much as the tree
+
+abbrev IsLight : ℕ → Validity → Type 0
+IsLight w v = array_weight v + 2 ≤ 3 * w
+
+read_light : (d : Data) (t : Tree) → array_weight (of_data d t) ≤ weight t
+read_light (enc.constant v) t = by_value v.value
+  where
+    by_value : (x : Value) → array_weight (of_truth x t) ≤ weight t
+    by_value (boolean true) = omega arith
+    by_value (boolean false) = omega arith
+    by_value _ = omega arith
+read_light _ t = omega arith
+
+-- the validity in the first slots
+told_slot_light : (i : ℕ) (ss : Slots) → array_weight (validity_of Nullable (slot_tree i ss)) ≤ total (slots_weights ss)
+told_slot_light i no_slots = omega arith
+told_slot_light zero (absent ss) = omega arith
+told_slot_light zero (slot t ss) = omega (arith, read_light (datum t) t)
+told_slot_light (suc i) (absent ss) = told_slot_light i ss
+told_slot_light (suc i) (slot t ss) = omega (arith, told_slot_light i ss)
+
+sliced_light : (a b w : ℕ) (v : Validity) → IsLight w v → IsLight (2 * w) (on_array (slice_of a b) v)
+sliced_light a b w (validity.Array u) h = omega (arith, h)
+sliced_light a b w validity.NonNullable h = omega (arith, h)
+sliced_light a b w validity.AllValid h = omega (arith, h)
+sliced_light a b w validity.AllInvalid h = omega (arith, h)
+
+filtered_light : (bits : List Bool) (w : ℕ) (v : Validity) → IsLight w v → IsLight (3 * w) (on_array (filter_of bits) v)
+filtered_light bits w (validity.Array u) h = omega (arith, h)
+filtered_light bits w validity.NonNullable h = omega (arith, h)
+filtered_light bits w validity.AllValid h = omega (arith, h)
+filtered_light bits w validity.AllInvalid h = omega (arith, h)
+
+joined_light : (n : ℕ) (v w : Validity) → array_weight (joined n v w) ≤ 4 + array_weight v + array_weight w
+joined_light n validity.AllInvalid w = omega arith
+joined_light n (validity.Array t) validity.AllInvalid = omega arith
+joined_light n (validity.Array t) (validity.Array u) = omega arith
+joined_light n (validity.Array t) validity.NonNullable = omega arith
+joined_light n (validity.Array t) validity.AllValid = omega arith
+joined_light n validity.NonNullable validity.AllInvalid = omega arith
+joined_light n validity.NonNullable (validity.Array u) = omega arith
+joined_light n validity.NonNullable validity.NonNullable = omega arith
+joined_light n validity.NonNullable validity.AllValid = omega arith
+joined_light n validity.AllValid validity.AllInvalid = omega arith
+joined_light n validity.AllValid (validity.Array u) = omega arith
+joined_light n validity.AllValid validity.NonNullable = omega arith
+joined_light n validity.AllValid validity.AllValid = omega arith
+
+if_light : (m : Nullability) (w : ℕ) (v : Validity) → 3 ≤ w → IsLight w v → IsLight w (if_nullable m v)
+if_light NonNullable w v l h = omega (arith, l)
+if_light Nullable w v l h = h
+
+-- of the first slot's tree, if there is one
+abbrev FirstLight : Slots → Type 0
+FirstLight (slot t ss) = IsLight (weight t) (node_validity t)
+FirstLight _ = Unit {0}
+
+slice_light : (ty : DataType) (n a b : ℕ) (ss : Slots) → FirstLight ss → IsLight (weight (node ty n (enc.slice a b) ss)) (on_array (slice_of a b) (first_validity ss))
+slice_light ty n a b no_slots f = omega arith
+slice_light ty n a b (absent ss) f = omega (arith, weight_low (node ty n (enc.slice a b) (absent ss)))
+slice_light ty n a b (slot t ss) f = omega (arith, sliced_light a b (weight t) (node_validity t) f)
+
+filter_light : (ty : DataType) (n : ℕ) (bits : List Bool) (ss : Slots) → FirstLight ss
+    → IsLight (weight (node ty n (enc.filter bits) ss)) (on_array (filter_of bits) (first_validity ss))
+filter_light ty n bits no_slots f = omega arith
+filter_light ty n bits (absent ss) f = omega (arith, weight_low (node ty n (enc.filter bits) (absent ss)))
+filter_light ty n bits (slot t ss) f = omega (arith, filtered_light bits (weight t) (node_validity t) f)
+
+masked_light : (ty : DataType) (n : ℕ) (ss : Slots) → FirstLight ss
+    → IsLight (weight (node ty n enc.masked ss)) (joined n (validity_of Nullable (slot_tree 1 ss)) (first_validity ss))
+masked_light ty n no_slots f = omega arith
+masked_light ty n (absent ss) f = omega (arith, told_slot_light 0 ss, joined_light n (validity_of Nullable (slot_tree 0 ss)) validity.NonNullable)
+masked_light ty n (slot t ss) f = omega (arith, f, told_slot_light 0 ss, joined_light n (validity_of Nullable (slot_tree 0 ss)) (node_validity t))
+
+column_told_light : (n : ℕ) (ss : Slots) → IsLight (column_weight n (slots_weights ss)) (validity_of Nullable (slot_tree 0 ss))
+column_told_light zero no_slots = omega arith
+column_told_light zero (absent ss) = omega arith
+column_told_light zero (slot t ss) = omega (arith, read_light (datum t) t)
+column_told_light (suc n) no_slots = omega arith
+column_told_light (suc n) (absent ss) = omega arith
+column_told_light (suc n) (slot t ss) = omega (arith, read_light (datum t) t)
+
+constant_light : (w : ℕ) (x : Value) → 3 ≤ w → IsLight w (constant_validity x)
+constant_light w null l = omega (arith, l)
+constant_light w _ l = omega (arith, l)
+
+data_light : (ty : DataType) (n : ℕ) (d : Data) (ss : Slots) → FirstLight ss → IsLight (weight (node ty n d ss)) (data_validity ty n d ss (first_validity ss))
+data_light ty n (enc.constant v) ss f = constant_light (weight (node ty n (enc.constant v) ss)) v.value (weight_low (node ty n (enc.constant v) ss))
+data_light ty n (enc.slice a b) ss f = slice_light ty n a b ss f
+data_light ty n (enc.filter bits) ss f = filter_light ty n bits ss f
+data_light ty n enc.masked ss f = masked_light ty n ss f
+data_light ty n enc.is_valid ss f = omega arith
+data_light ty n (enc.function g) ss f = omega (arith, weight_low (node ty n (enc.function g) ss))
+data_light ty n enc.dict ss f = omega (arith, weight_low (node ty n enc.dict ss))
+data_light ty n enc.chunked ss f = omega (arith, weight_low (node ty n enc.chunked ss))
+data_light ty n enc.interleave ss f = omega (arith, weight_low (node ty n enc.interleave ss))
+data_light ty n enc.nulls ss f = omega (arith, weight_low (node ty n enc.nulls ss))
+data_light ty n (enc.bool bs) ss f = column_told_light n ss
+data_light ty n (enc.primitive p zs) ss f = column_told_light n ss
+data_light ty n (enc.decimals w zs) ss f = column_told_light n ss
+data_light ty n (enc.views rs) ss f = column_told_light n ss
+
+mutual
+  validity_light : (t : Tree) → IsLight (weight t) (node_validity t)
+  validity_light (node ty n d ss) =
+      if_light (nullability_of ty) (weight (node ty n d ss)) (data_validity ty n d ss (first_validity ss)) (weight_low (node ty n d ss))
+      (data_light ty n d ss (first_light ss))
+
+  first_light : (ss : Slots) → FirstLight ss
+  first_light no_slots = tt
+  first_light (absent ss) = tt
+  first_light (slot t ss) = validity_light t
+
 -- ---- each answer weighs less: a line for each row
 pub row_lighter : (w : Option ℕ) (t u : Tree) (os : List ℕ) → Row w t u os → weight u < weight t
 row_lighter w t u os (F1 ty n bits c e) = omega (arith, weight_low c)
@@ -101,11 +255,16 @@ row_lighter w t u os (S3 ty cty n a b k d ss h p) = omega (
 )
 row_lighter w t u os (S4 ty fty n a b k f ss p) = omega (arith, slices_light a b ss)
 row_lighter w t u os (S5 ty mty n a b k c vs p) = omega (arith, parts_light a b vs)
+row_lighter w t u os (S6 ty dty n a b k c vs p) = omega arith
 row_lighter w t u os (F5 ty fty n k outer inner c) = omega (arith, weight_low c)
 row_lighter w t u os (F6 ty cty n k bits v) = omega arith
 row_lighter w t u os (F7 ty fty n k bits f ss) = omega (arith, choices_light bits ss)
 row_lighter w t u os (F8 ty mty n k bits c vs) = omega (arith, choices_light bits vs)
+row_lighter w t u os (F9 ty dty n k bits c vs) = omega arith
 row_lighter w t u os (M1 ty mty n k c m vs) = omega (arith, told_light n vs)
+row_lighter w t u os (D1 ty s n k c v) = omega (arith, weight_low c, named_light ty n v.value (node_validity c), validity_light c)
+row_lighter w t u os (D2 ty mty n k codes c vs f g one) =
+    omega (arith, weight_low codes, taken_light codes vs one)
 row_lighter w t u os (K1 ty s n k target v x e) = omega arith
 row_lighter w t u os (K2 ty s n k v x e) = omega arith
 row_lighter w t u os (K3 ty s r q n i j k options x y z v e) = omega arith
@@ -144,17 +303,21 @@ row_present w t u os (S2 ty cty n a b k v p) = tt
 row_present w t u os (S3 ty cty n a b k d ss h p) = all_present u
 row_present w t u os (S4 ty fty n a b k f ss p) = all_present u
 row_present w t u os (S5 ty mty n a b k c vs p) = all_present u
+row_present w t u os (S6 ty dty n a b k c vs p) = (tt, tt)
 row_present w t u os (F5 ty fty n k outer inner c) = tt
 row_present w t u os (F6 ty cty n k bits v) = tt
 row_present w t u os (F7 ty fty n k bits f ss) = all_present u
 row_present w t u os (F8 ty mty n k bits c vs) = all_present u
+row_present w t u os (F9 ty dty n k bits c vs) = (tt, tt)
 row_present w t u os (M1 ty mty n k c m vs) = tt
+row_present w t u os (D1 ty s n k c v) = tt
+row_present w t u os (D2 ty mty n k codes c vs f g one) = all_present u
 row_present w t u os (K1 ty s n k target v x e) = tt
 row_present w t u os (K2 ty s n k v x e) = tt
 row_present w t u os (K3 ty s r q n i j k options x y z v e) = tt
 row_present w t u os (K4 ty s r n j k x y v e) = tt
 
--- ---- a row of a slot is one of a slot that holds a tree: of the first
+-- ---- a row of a slot is one of a slot that holds a tree
 pub row_asked : (i : ℕ) (t u : Tree) (os : List ℕ) → Row (Some i) t u os → IsPresent i t
 row_asked i t u os (S_whole ty n a b c l z y) = tt
 row_asked i t u os (S_empty ty n a b c l z y) = tt
@@ -163,11 +326,15 @@ row_asked i t u os (S2 ty cty n a b k v p) = tt
 row_asked i t u os (S3 ty cty n a b k d ss h p) = tt
 row_asked i t u os (S4 ty fty n a b k f ss p) = tt
 row_asked i t u os (S5 ty mty n a b k c vs p) = tt
+row_asked i t u os (S6 ty dty n a b k c vs p) = tt
 row_asked i t u os (F5 ty fty n k outer inner c) = tt
 row_asked i t u os (F6 ty cty n k bits v) = tt
 row_asked i t u os (F7 ty fty n k bits f ss) = tt
 row_asked i t u os (F8 ty mty n k bits c vs) = tt
+row_asked i t u os (F9 ty dty n k bits c vs) = tt
 row_asked i t u os (M1 ty mty n k c m vs) = tt
+row_asked i t u os (D1 ty s n k c v) = tt
+row_asked i t u os (D2 ty mty n k codes c vs f g one) = tt
 row_asked i t u os (K1 ty s n k target v x e) = tt
 row_asked i t u os (K2 ty s n k v x e) = tt
 row_asked i t u os (K3 ty s r q n i' j k options x y z v e) = tt

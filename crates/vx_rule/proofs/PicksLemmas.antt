@@ -1,5 +1,6 @@
 -- Rows that are picked by their places, as a range and a filter pick them: of what a function gives, and of rows by a validity.
-use Rattle.std.proofs.Common.{◌≡◌, ℕ, suc, ◌+◌, ◌<◌, List, [], ◌∷◌, length, map, get_or, Option, Some, refl, sym, ap, subst, ◌∙◌, arith}
+use Rattle.std.proofs.Common.{◌≡◌, ℕ, suc, ◌+◌, ◌<◌, List, [], ◌∷◌, length, map, get_or, Option, Some, None, refl, sym, ap, subst, ◌∙◌, arith}
+use Rattle.std.specs.Prelude.{option_map}
 use Rattle.std.specs.List.{range_with_len}
 use Rattle.std.proofs.lemmas.List.{length-map, get_or-map}
 use Rattle.vx_value.specs.Types as type
@@ -9,8 +10,8 @@ use Rattle.vx_value.specs.declared.dtype.Nullability.TheVariants.{NonNullable, N
 use Rattle.vx_fn.specs.Apply.{apply}
 use Rattle.vx_fn.specs.declared.function.ScalarFnRef.{ScalarFnRef}
 use Rattle.vx_tree.specs.Tree as enc
-use Rattle.vx_tree.specs.Tree.{Tree, Slots, node, no_slots, absent, slot, dtype, len}
-use Rattle.vx_tree.specs.Slots.{map_slots}
+use Rattle.vx_tree.specs.Tree.{Tree, Slots, node, no_slots, absent, slot, slots_of, dtype, len}
+use Rattle.vx_tree.specs.Slots.{map_slots, count_slots}
 use Rattle.vx_tree.specs.Cells.{rows, slots_rows, row_at, valid_cell, valid_cells, IsClean, AreClean}
 use Rattle.vx_tree.specs.Keeps.{KeepsExactly}
 use Rattle.vx_tree.specs.Well.{Shape, shape, shape_of, shapes, IsValidity, IsNode, IsWell, AreWell}
@@ -31,6 +32,21 @@ pub map_clean : (f : Tree → Tree) (ss : Slots) → ((t : Tree) → IsClean t �
 map_clean f no_slots h c = tt
 map_clean f (absent ss) h c = map_clean f ss h c
 map_clean f (slot t ss) h c = (h t c.0, map_clean f ss h c.1)
+
+-- ---- a single slot
+
+pub only_slot : (ss : Slots) → count_slots ss ≡ 1 → (v : Option Tree) × (ss ≡ slots_of (v ∷ []))
+only_slot no_slots one = absurd (omega (arith, one))
+only_slot (absent no_slots) one = (None, refl)
+only_slot (absent (absent ss)) one = absurd (omega (arith, one))
+only_slot (absent (slot t ss)) one = absurd (omega (arith, one))
+only_slot (slot t no_slots) one = (Some t, refl)
+only_slot (slot t (absent ss)) one = absurd (omega (arith, one))
+only_slot (slot t (slot u ss)) one = absurd (omega (arith, one))
+
+pub slot_mapped : (f : Tree → Tree) (v : Option Tree) → slots_of (option_map f v ∷ []) ≡ map_slots f (slots_of (v ∷ []))
+slot_mapped f None = refl
+slot_mapped f (Some t) = refl
 
 -- ---- rows, one by one
 

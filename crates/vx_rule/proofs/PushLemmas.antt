@@ -7,27 +7,31 @@ use Rattle.vx_value.specs.Types as type
 use Rattle.vx_value.specs.Types.{DataType, null}
 use Rattle.vx_value.specs.Nullabilities.{with_nullability}
 use Rattle.vx_value.specs.declared.dtype.Nullability.TheVariants.{NonNullable, Nullable}
+use Rattle.vx_fn.specs.Meanings.{widen}
 use Rattle.vx_fn.specs.declared.function.ScalarFnRef.{ScalarFnRef}
 use Rattle.vx_tree.specs.Tree as enc
-use Rattle.vx_tree.specs.Tree.{Tree, Slots, node, no_slots, absent, slot, slots_of, height, slots_height, dtype, len, datum, constant_of, slice_of, masked_of, is_canonical}
+use Rattle.vx_tree.specs.Tree.{Tree, Slots, node, no_slots, absent, slot, slots_of, height, slots_height, dtype, len, datum, constant_of, slice_of, masked_of, dict_of, is_canonical}
 use Rattle.vx_tree.specs.Slots.{map_slots}
 use Rattle.vx_tree.specs.Parts.{part_of}
 use Rattle.vx_tree.specs.Cells.{node_cells, slots_rows, AreClean}
 use Rattle.vx_tree.specs.Columns.{empty_of}
+use Rattle.vx_tree.specs.Charges.{put_back}
 use Rattle.vx_tree.specs.Cost.{all, cost, slots_cost, slots_extra, all_reached}
 use Rattle.vx_tree.specs.Keeps.{KeepsExactly}
+use Rattle.vx_tree.specs.SlotTypes.{is_integer}
 use Rattle.vx_tree.specs.Validities.{HasRange}
 use Rattle.vx_tree.specs.Well.{shape, shape_of, shapes, IsValidity, IsNode, IsWell, AreWell}
-use Rattle.vx_tree.proofs.CostLemmas.{cost_positive, column_cost, masked_cost, masked_reach}
+use Rattle.vx_tree.proofs.CostLemmas.{column_cost, masked_cost, masked_reach}
+use Rattle.vx_tree.proofs.WeightLemmas.{cost_positive}
 use Rattle.vx_tree.proofs.KeepsLemmas.{exactly_refl, exactly_trans, exactly_of_rows, put_exactly}
 use Rattle.vx_tree.proofs.PartsLemmas.{part_exact}
 use Rattle.vx_tree.proofs.KindsLemmas.{type_in, len_in}
 use Rattle.vx_tree.proofs.SlotsLemmas.{IsBelow, slot_below, one_shape}
 use Rattle.vx_rule.specs.Rules.{lets_slice, IsPart, IsPartOf}
 use Rattle.vx_rule.specs.Pushes.{pushed, pushed_slots, IsPushed, IsColumnSlice, IsConstantLike}
-use Rattle.vx_rule.proofs.PushedLemmas.{whole_is, empty_is, constant_is, slice_is, function_is, masked_is, column_is, lazily_is, uncut}
-use Rattle.vx_rule.proofs.PicksLemmas.{IsSecond, masked_slots}
-use Rattle.vx_rule.proofs.RangesLemmas.{S_whole_keeps, S_empty_keeps, S1_keeps, S2_keeps, S4_keeps, S5_keeps}
+use Rattle.vx_rule.proofs.PushedLemmas.{whole_is, empty_is, constant_is, slice_is, function_is, masked_is, dict_is, column_is, lazily_is, uncut}
+use Rattle.vx_rule.proofs.PicksLemmas.{IsSecond, first_of, masked_slots}
+use Rattle.vx_rule.proofs.RangesLemmas.{S_whole_keeps, S_empty_keeps, S1_keeps, S2_keeps, S4_keeps, S5_keeps, S6_keeps}
 
 pub canonical_cost : (c : Tree) → is_canonical (datum c) ≡ true → cost c ≡ 1
 canonical_cost (node ty n d ss) h = column_cost ty n d ss h
@@ -155,14 +159,14 @@ module _ (a b : ℕ) where
       let kept = h.0.exactly.keeps in
       λ i. Some (shape ((sym kept.same_type ∙ typed) i) (sym kept.same_len i)) ∷ slots_sized n tys xs ys h.1 rest i
 
-  slots_bounded : (f : ScalarFnRef) (xs ys : List (Option Tree)) → AllZip (IsSlotPushed a b) xs ys
-      → slots_cost (enc.function f) all (slots_of ys) ≤ slots_cost (enc.function f) all (slots_of xs) + 3 * all_reached (slots_extra all (slots_of xs))
-  slots_bounded f [] [] h = omega arith
-  slots_bounded f [] (y ∷ ys) h = absurd h
-  slots_bounded f (x ∷ xs) [] h = absurd h
-  slots_bounded f (None ∷ xs) (y ∷ ys) h = absurd h.0
-  slots_bounded f (Some t ∷ xs) (None ∷ ys) h = absurd h.0
-  slots_bounded f (Some t ∷ xs) (Some u ∷ ys) h = omega (arith, h.0.bounded, slots_bounded f xs ys h.1)
+  slots_bounded : (xs ys : List (Option Tree)) → AllZip (IsSlotPushed a b) xs ys
+      → slots_cost put_back all (slots_of ys) ≤ slots_cost put_back all (slots_of xs) + 3 * all_reached (slots_extra all (slots_of xs))
+  slots_bounded [] [] h = omega arith
+  slots_bounded [] (y ∷ ys) h = absurd h
+  slots_bounded (x ∷ xs) [] h = absurd h
+  slots_bounded (None ∷ xs) (y ∷ ys) h = absurd h.0
+  slots_bounded (Some t ∷ xs) (None ∷ ys) h = absurd h.0
+  slots_bounded (Some t ∷ xs) (Some u ∷ ys) h = omega (arith, h.0.bounded, slots_bounded xs ys h.1)
 
 -- x is the function's node over xs
 module _ (x : Tree) (f : ScalarFnRef) (xs : List (Option Tree)) (shown : x ≡ node (dtype x) (len x) (enc.function f) (slots_of xs))
@@ -199,7 +203,7 @@ module _ (x : Tree) (f : ScalarFnRef) (xs : List (Option Tree)) (shown : x ≡ n
               ap (node ty (b - a) (enc.function f)) (slots_down a b xs ys slots_pushed)
               ∙ sym (function_is a b ty n f ss (subst (λ y. IsPart a b (len y)) shown part.0));
           exactly = exactly_trans (slice_of a b child) lazily made kept swapped;
-          bounded = omega (arith, slots_bounded a b f xs ys slots_pushed);
+          bounded = omega (arith, slots_bounded a b xs ys slots_pushed);
           canonical = λ h. absurd (cc (h));
         }))
 
@@ -273,3 +277,36 @@ module _ (a b : ℕ) (x c : Tree) (v : Option Tree) (shown : x ≡ masked_of c v
               omega (arith, below.bounded, masked_cost ty (b - a) u (map_slots (part_of a b) vs), masked_cost ty (len c) c vs, masked_reach ty (len c) c vs);
           canonical = λ h. absurd (cc (h));
         }))
+
+-- ---- a dictionary
+
+module _ (a b : ℕ) (x c v : Tree) (shown : x ≡ dict_of c v) (well : IsWell x) (range : IsPartOf a b x) where
+  -- the codes are integers, and so are their rows from a to b
+  pub codes_pushed : (u : Tree) → IsPushed a b c u → is_integer (dtype u) ≡ true
+  codes_pushed u below =
+      let here : IsWell (dict_of c v) = subst IsWell shown well in
+      let is : dtype c ≡ here.0.0 = ap type_in (first_of here.0.3) in
+      ap is_integer (sym below.exactly.keeps.same_type ∙ is) ∙ here.0.4
+
+  pub dict_pushed : (u w : Tree) → IsPushed a b c u → w ≡ v → (t : Tree) → t ≡ dict_of u w → IsPushed a b x t
+  dict_pushed u w below same t e =
+      let child = dict_of c v in
+      let ty = dtype child in
+      let in_order : a ≤ b = omega (arith, range.0.some_rows) in
+      let lazily = node ty (b - a) enc.dict (slot (slice_of a b c) (slot v no_slots)) in
+      let whole = node ty (b - a) enc.dict (slot u (slot v no_slots)) in
+      let kept : KeepsExactly (slice_of a b child) lazily =
+      S6_keeps ty ty (b - a) a b (len c) c (slot v no_slots) (subst (λ y. IsWell (slice_of a b y)) shown (sliced a b x well in_order range.1)) in
+      let swapped : KeepsExactly lazily whole = put_exactly 0 (slice_of a b c) u lazily below.exactly in
+      let sized = sym below.exactly.keeps.same_len in
+      let typed : dtype u ≡ dtype c = sym below.exactly.keeps.same_type in
+      let made : t ≡ whole =
+      e ∙ ap (dict_of u) same ∙ (λ i. node (widen (typed i) (dtype v)) (sized i) enc.dict (slot u (slot v no_slots))) in
+      subst (λ y. IsPushed a b y t) (sym shown) (subst (IsPushed a b child) (sym made) (record {
+        pushed_down =
+            (λ i. node ty (b - a) enc.dict (slot (below.pushed_down i) (slot v no_slots)))
+            ∙ sym (dict_is a b ty (len c) c (slot v no_slots) (subst (λ y. IsPart a b (len y)) shown range.0));
+        exactly = exactly_trans (slice_of a b child) lazily whole kept swapped;
+        bounded = omega (arith, below.bounded);
+        canonical = λ h. absurd (cc (h));
+      }))

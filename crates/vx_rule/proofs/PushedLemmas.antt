@@ -49,6 +49,7 @@ by_range a b (node ty n (enc.constant v) no_slots) = (constant_of v (b - a), ref
 by_range a b (node ty n (enc.slice s e) (slot c no_slots)) = (pushed (s + a) (s + b) c, refl)
 by_range a b (node ty n (enc.function f) ss) = (node ty (b - a) (enc.function f) (pushed_slots a b ss), refl)
 by_range a b (node ty n enc.masked (slot c vs)) = (node ty (b - a) enc.masked (slot (pushed a b c) (map_slots (part_of a b) vs)), refl)
+by_range a b (node ty n enc.dict (slot c vs)) = (node ty (b - a) enc.dict (slot (pushed a b c) vs), refl)
 by_range a b (node ty n d ss) = ((if is_canonical d then column_range a b (node ty n d ss) else slice_of a b (node ty n d ss)), refl)
 
 pub whole_is : (a b : ℕ) (t : Tree) → a ≡ 0 → b ≡ len t → pushed a b t ≡ t
@@ -81,11 +82,16 @@ pub masked_is : (a b : ℕ) (ty : DataType) (n : ℕ) (c : Tree) (vs : Slots) �
 masked_is a b ty n c vs part =
     ranged_part a b (node ty n enc.masked (slot c vs)) (node ty (b - a) enc.masked (slot (pushed a b c) (map_slots (part_of a b) vs))) part
 
+pub dict_is : (a b : ℕ) (ty : DataType) (n : ℕ) (c : Tree) (vs : Slots) → IsPart a b n
+    → pushed a b (node ty n enc.dict (slot c vs)) ≡ node ty (b - a) enc.dict (slot (pushed a b c) vs)
+dict_is a b ty n c vs part = ranged_part a b (node ty n enc.dict (slot c vs)) (node ty (b - a) enc.dict (slot (pushed a b c) vs)) part
+
 pub column_is : (a b : ℕ) (t : Tree) → is_canonical (datum t) ≡ true → IsPart a b (len t) → pushed a b t ≡ column_range a b t
 column_is a b (node ty n (enc.constant v) ss) h part = absurd (cc (h))
 column_is a b (node ty n (enc.slice s e) ss) h part = absurd (cc (h))
 column_is a b (node ty n (enc.function f) ss) h part = absurd (cc (h))
 column_is a b (node ty n enc.masked ss) h part = absurd (cc (h))
+column_is a b (node ty n enc.dict ss) h part = absurd (cc (h))
 column_is a b (node ty n d ss) h part =
     let t = node ty n d ss in
     ranged_part a b t (if is_canonical d then column_range a b t else slice_of a b t) part ∙ chosen_if (is_canonical d) (column_range a b t) (slice_of a b t) h
@@ -96,6 +102,7 @@ lazily_is a b (node ty n (enc.constant v) ss) h part = absurd (cc (h))
 lazily_is a b (node ty n (enc.slice s e) ss) h part = absurd (cc (h))
 lazily_is a b (node ty n (enc.function f) ss) h part = absurd (cc (h))
 lazily_is a b (node ty n enc.masked ss) h part = absurd (cc (h))
+lazily_is a b (node ty n enc.dict ss) h part = absurd (cc (h))
 lazily_is a b (node ty n d ss) h part =
     let t = node ty n d ss in
     ranged_part a b t (if is_canonical d then column_range a b t else slice_of a b t) part

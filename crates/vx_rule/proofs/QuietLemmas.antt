@@ -1,5 +1,5 @@
 -- Where no row fits.
-use Rattle.std.proofs.Common.{◌≡◌, ℕ, List, Some, None, Bool, true, false, refl, sym, subst}
+use Rattle.std.proofs.Common.{◌≡◌, ℕ, List, Option, Some, None, Bool, true, false, refl, sym, subst, ap, ◌∙◌}
 use Rattle.std.specs.Prelude.{◌||◌}
 use Rattle.vx_value.specs.Types.{DataType, nullability_of}
 use Rattle.vx_value.specs.View.{type_of}
@@ -10,9 +10,10 @@ use Rattle.vx_mask.specs.Places.{true_count, IsRun}
 use Rattle.vx_fn.specs.declared.function.ScalarFnRef.{ScalarFnRef}
 use Rattle.vx_fn.specs.declared.function.ScalarFnRef.TheVariants as fn_of
 use Rattle.vx_tree.specs.Tree as enc
-use Rattle.vx_tree.specs.Tree.{Tree, Data, Slots, node, no_slots, slot, dtype, datum, slice_of, filter_of, is_filter, is_constant, is_function, is_masked, is_slice}
+use Rattle.vx_tree.specs.Tree.{Tree, Data, Slots, node, no_slots, slot, dtype, datum, slice_of, filter_of, dict_of, masked_of, is_filter, is_constant, is_function, is_masked, is_dict, is_slice, is_columnar}
 use Rattle.vx_rule.specs.Calls.{null_test}
-use Rattle.vx_rule.specs.Rules.{Row, IsQuiet, F1, F2, F3, C1, N1_null, N1_valid, S_whole, S_empty, S1, S2, S3, S4, S5, F5, F6, F7, F8, M1, K1, K2, K3, K4}
+use Rattle.vx_rule.specs.Tags.{applies}
+use Rattle.vx_rule.specs.Rules.{Row, IsQuiet, F1, F2, F3, C1, N1_null, N1_valid, S_whole, S_empty, S1, S2, S3, S4, S5, S6, F5, F6, F7, F8, F9, M1, D1, D2, K1, K2, K3, K4}
 
 -- ---- the node itself
 
@@ -64,27 +65,59 @@ own_quiet t f g u os (N1_valid ty n c e) = absurd (cc (g))
 
 -- the encodings that a filter passes through
 abbrev pub lets_filter : Data → Bool
-lets_filter d = is_filter d || is_constant d || is_function d || is_masked d
+lets_filter d = is_filter d || is_constant d || is_function d || is_masked d || is_dict d
 
--- each row of a slot is one of the first
-pub row_first : (i : ℕ) (t u : Tree) (os : List ℕ) → Row (Some i) t u os → i ≡ 0
-row_first i t u os (S_whole ty n a b c l z y) = refl
-row_first i t u os (S_empty ty n a b c l z y) = refl
-row_first i t u os (S1 ty sty n a b k s' r c p) = refl
-row_first i t u os (S2 ty cty n a b k v p) = refl
-row_first i t u os (S3 ty cty n a b k d ss e p) = refl
-row_first i t u os (S4 ty fty n a b k f' ss p) = refl
-row_first i t u os (S5 ty mty n a b k c vs p) = refl
-row_first i t u os (F5 ty fty n k outer inner c) = refl
-row_first i t u os (F6 ty cty n k bits v) = refl
-row_first i t u os (F7 ty fty n k bits f' ss) = refl
-row_first i t u os (F8 ty mty n k bits c vs) = refl
-row_first i t u os (M1 ty mty n k c m vs) = refl
-row_first i t u os (K1 ty s' n k target v x e) = refl
-row_first i t u os (K2 ty s' n k v x e) = refl
-row_first i t u os (K3 ty s' r q n i' j k options x y z v e) = refl
-row_first i t u os (K4 ty s' r n j k x y v e) = refl
+-- the slot whose child has rows: of a dictionary that of its values, and else the first
+abbrev pub slot_asked : Data → ℕ
+slot_asked enc.dict = 1
+slot_asked _ = 0
 
--- so none is one of a later slot
-pub later_quiet : (i : ℕ) (t : Tree) → (i ≡ 0 → ⊥) → IsQuiet (Some i) t
-later_quiet i t h u os row = h (row_first i t u os row)
+pub row_slot : (i : ℕ) (t u : Tree) (os : List ℕ) → Row (Some i) t u os → i ≡ slot_asked (datum t)
+row_slot i t u os (S_whole ty n a b c l z y) = refl
+row_slot i t u os (S_empty ty n a b c l z y) = refl
+row_slot i t u os (S1 ty sty n a b k s' r c p) = refl
+row_slot i t u os (S2 ty cty n a b k v p) = refl
+row_slot i t u os (S3 ty cty n a b k d ss e p) = refl
+row_slot i t u os (S4 ty fty n a b k f' ss p) = refl
+row_slot i t u os (S5 ty mty n a b k c vs p) = refl
+row_slot i t u os (S6 ty dty n a b k c vs p) = refl
+row_slot i t u os (F5 ty fty n k outer inner c) = refl
+row_slot i t u os (F6 ty cty n k bits v) = refl
+row_slot i t u os (F7 ty fty n k bits f' ss) = refl
+row_slot i t u os (F8 ty mty n k bits c vs) = refl
+row_slot i t u os (F9 ty dty n k bits c vs) = refl
+row_slot i t u os (M1 ty mty n k c m vs) = refl
+row_slot i t u os (D1 ty s' n k c v) = refl
+row_slot i t u os (D2 ty mty n k codes c vs f g h) = refl
+row_slot i t u os (K1 ty s' n k target v x e) = refl
+row_slot i t u os (K2 ty s' n k v x e) = refl
+row_slot i t u os (K3 ty s' r q n i' j k options x y z v e) = refl
+row_slot i t u os (K4 ty s' r n j k x y v e) = refl
+
+-- so none is one of a later slot of a function
+pub later_quiet : (i : ℕ) (p : ScalarFnRef → Bool) (t : Tree) → applies p (datum t) ≡ true → (i ≡ 0 → ⊥) → IsQuiet (Some i) t
+later_quiet i p t f h u os row = h (row_slot i t u os row ∙ of_function (datum t) f)
+  where
+    of_function : (d : Data) → applies p d ≡ true → slot_asked d ≡ 0
+    of_function (enc.function g) f = refl
+    of_function _ f = absurd (cc (f))
+
+-- nor of another slot of a dictionary than that of its values
+pub codes_quiet : (i : ℕ) (t : Tree) → is_dict (datum t) ≡ true → (i ≡ 1 → ⊥) → IsQuiet (Some i) t
+codes_quiet i t f h u os row = h (row_slot i t u os row ∙ of_dict (datum t) f)
+  where
+    of_dict : (d : Data) → is_dict d ≡ true → slot_asked d ≡ 1
+    of_dict enc.dict f = refl
+    of_dict _ f = absurd (cc (f))
+
+-- ---- the values of a dictionary
+
+-- a masked array has a row if the codes are a column without nulls
+masked_values_by : (codes c : Tree) (v : Option Tree) → (nullability_of (dtype codes) ≡ NonNullable → is_columnar (datum codes) ≡ false)
+    → IsQuiet (Some 1) (dict_of codes (masked_of c v))
+masked_values_by codes c v h u os (D2 ty mty n k codes' c' vs f g one) = absurd (cc (h f, g))
+
+pub masked_values_quiet : (t codes x c : Tree) (v : Option Tree) → t ≡ dict_of codes x → x ≡ masked_of c v
+    → (nullability_of (dtype codes) ≡ NonNullable → is_columnar (datum codes) ≡ false) → IsQuiet (Some 1) t
+masked_values_quiet t codes x c v is inner h =
+    subst (IsQuiet (Some 1)) (sym (is ∙ ap (dict_of codes) inner)) (masked_values_by codes c v h)

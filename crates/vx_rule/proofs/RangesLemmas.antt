@@ -1,4 +1,4 @@
--- What the rows of slices keep: S1 to S5.
+-- What the rows of slices keep: S1 to S6.
 use Rattle.std.proofs.Common.{◌≡◌, ℕ, zero, suc, ◌+◌, ◌-◌, ◌≤◌, List, [], ◌∷◌, length, map, take, drop, Option, Some, None, true, refl}
 use Rattle.std.proofs.Common.{sym}
 use Rattle.std.proofs.Common.{ap}
@@ -21,7 +21,8 @@ use Rattle.vx_tree.specs.Tree.{is_flat}
 use Rattle.vx_tree.specs.Slots.{map_slots}
 use Rattle.vx_tree.specs.Parts.{part_of, column_range}
 use Rattle.vx_tree.specs.Columns.{empty_of}
-use Rattle.vx_tree.specs.Cells.{rows, HasNoFault, IsClean}
+use Rattle.vx_tree.specs.Cells.{rows, slots_rows, cells_at, HasNoFault, IsClean}
+use Rattle.vx_tree.specs.Lookups.{taken}
 use Rattle.vx_tree.specs.Keeps.{KeepsExactly}
 use Rattle.vx_tree.specs.Well.{Shape, shape, shape_of, shapes, IsNode, IsNodeOf, IsWell}
 use Rattle.vx_tree.proofs.CellsLemmas.{rows_counted}
@@ -176,3 +177,16 @@ S5_keeps ty mty n a b k c vs w =
     (λ t well long. sym (part_exact a b t well h (subst (λ m. b ≤ m) (sym long) l)).equal) mty c (slice_of a b c) vs w.1.0 refl in
     exactly_by (slice_of a b child) u refl refl shown
     (λ d. (subst HasNoFault shown d.0, (part_clean a b c d.1.0.1.0, map_clean (part_of a b) vs (part_of_clean a b) d.1.0.1.1))))
+
+-- ---- of a dictionary
+
+pub S6_keeps : (ty dty : DataType) (n a b k : ℕ) (c : Tree) (vs : Slots)
+    → IsWell (node ty n (enc.slice a b) (slot (node dty k enc.dict (slot c vs)) no_slots))
+    → KeepsExactly (node ty n (enc.slice a b) (slot (node dty k enc.dict (slot c vs)) no_slots)) (node dty (b - a) enc.dict (slot (slice_of a b c) vs))
+S6_keeps ty dty n a b k c vs w =
+    let child = node dty k enc.dict (slot c vs) in
+    let u = node dty (b - a) enc.dict (slot (slice_of a b c) vs) in
+    of_slice ty n a b child u w (λ h l.
+    let f = taken (cells_at (slots_rows vs) 0) in
+    let shown : rows (slice_of a b child) ≡ rows u = ap (take (b - a)) (drop-map f a (rows c)) ∙ take-map f (b - a) (drop a (rows c)) in
+    exactly_by (slice_of a b child) u refl refl shown (λ d. (subst HasNoFault shown d.0, (part_clean a b c d.1.0.1.0, d.1.0.1.1))))

@@ -4,17 +4,31 @@ use Rattle.std.specs.Prelude.{option_map, IfSome, ◌==◌, ◌&&◌}
 use Rattle.std.specs.Cmp.{unsigned_Decides}
 use Rattle.std.proofs.lemmas.Bool.{and_parts}
 use Rattle.vx_value.specs.Types as type
-use Rattle.vx_value.specs.Types.{DataType}
-use Rattle.vx_value.specs.Nullabilities.{with_nullability}
+use Rattle.vx_value.specs.Types.{DataType, nullability_of}
+use Rattle.vx_value.specs.Typed.{Typed}
+use Rattle.vx_value.specs.Values.{Value, null}
+use Rattle.vx_value.specs.IsOf.{is_of}
+use Rattle.vx_value.specs.Nullabilities.{with_nullability, union}
+use Rattle.vx_value.specs.declared.dtype.Nullability.{Nullability}
 use Rattle.vx_value.specs.declared.dtype.Nullability.TheVariants.{NonNullable, Nullable}
+use Rattle.vx_value.proofs.NullabilitiesLemmas.{is_of_either, nullable_typed, union_second}
 use Rattle.vx_mask.specs.Places.{true_count}
+use Rattle.vx_fn.specs.Meanings.{widen}
 use Rattle.vx_fn.specs.Functions.{meaning, arity}
 use Rattle.vx_fn.specs.declared.function.ScalarFnRef.{ScalarFnRef}
 use Rattle.vx_tree.specs.Tree as enc
-use Rattle.vx_tree.specs.Tree.{Tree, Data, Slots, node, no_slots, absent, slot, slots_of, dtype, len, datum, slice_of, filter_of, masked_of, all_long}
+use Rattle.vx_tree.specs.Tree.{Tree, Data, Slots, node, no_slots, absent, slot, slots_of, dtype, len, datum, slice_of, filter_of, masked_of, dict_of, constant_of, all_long}
 use Rattle.vx_tree.specs.Slots.{map_slots}
 use Rattle.vx_tree.specs.Parts.{part_of, part_by, choice_of, choice_by, HasLen}
+use Rattle.vx_tree.specs.SlotTypes.{is_integer}
+use Rattle.vx_tree.specs.Validities.{nullability_by, HasRows}
+use Rattle.vx_tree.specs.NodeValidities.{node_validity}
+use Rattle.vx_tree.specs.declared.validity.Validity.{Validity}
+use Rattle.vx_tree.specs.declared.validity.Validity.TheVariants as validity
+use Rattle.vx_tree.proofs.NodeValiditiesLemmas.{told_by_node}
+use Rattle.vx_tree.proofs.ValiditiesLemmas.{nullable_set}
 use Rattle.vx_tree.specs.Well.{shape, shape_of, shapes, IsNode, IsNodeOf, IsWell, AreWell, IsValidity}
+use Rattle.vx_rule.specs.Rules.{taken_by, taken_of}
 
 -- ---- one slot more
 
@@ -235,3 +249,88 @@ module _ (x c s : Tree) (v w : Option Tree) (well : IsWell x) (is : x ≡ masked
   -- the validity has as many rows
   pub told_len : (n : ℕ) → n ≡ len x → HasLen n v
   told_len n h = len_by n (len c) v (let e : len x ≡ len c = ap len is in h ∙ e) (masked_parts c v (known.0))
+
+-- ---- dictionaries
+
+-- codes that are never null leave a type as it is
+pub widen_fixed : (c s : DataType) → nullability_of c ≡ NonNullable → widen c s ≡ s
+widen_fixed c s h = ap (λ m. with_nullability (union m (nullability_of s)) s) h ∙ own s
+  where
+    own : (s : DataType) → with_nullability (nullability_of s) s ≡ s
+    own type.null = refl
+    own _ = refl
+
+taken_shape_by : (codes : Tree) (d : Data) (t : Tree) → nullability_of (dtype codes) ≡ NonNullable → datum t ≡ d → IsWell t
+    → shape_of (taken_by d codes t) ≡ shape (dtype t) (len codes)
+taken_shape_by codes (enc.constant v) (node ty n (enc.constant u) ss) h e w = let same : u ≡ v = cc (e) in ap (λ x. shape x (len codes))
+    (sym (w.0.0 ∙ ap (λ x. x.of_type) same))
+taken_shape_by codes (enc.constant v) (node ty n _ ss) h e w = absurd (cc (e))
+taken_shape_by codes _ t h e w = ap (λ x. shape x (len codes)) (widen_fixed (dtype codes) (dtype t) h)
+
+pub taken_shape : (codes : Tree) → nullability_of (dtype codes) ≡ NonNullable → (t : Tree) → IsWell t → MapsTo (taken_of codes) (len codes) t
+taken_shape codes h t w = taken_shape_by codes (datum t) t h refl w
+
+-- a value stays one of a type that may become nullable
+pub named_typed : (m : Nullability) (s : DataType) (x : Value) → is_of s x ≡ true → is_of (with_nullability (union m (nullability_of s)) s) x ≡ true
+named_typed m s null h =
+    subst (λ k. is_of (with_nullability k s) null ≡ true) (sym (union_second m (nullability_of s) h)) (nullable_typed s null h)
+named_typed m s x h = is_of_either (union m (nullability_of s)) s x refl ∙ h
+
+-- p is the dictionary of x by codes
+module _ (p codes x : Tree) (well : IsWell p) (is : p ≡ dict_of codes x) where
+  here : IsWell (dict_of codes x)
+  here = subst IsWell is well
+
+  coded : dtype codes ≡ here.0.0
+  coded = let e : Some (shape_of codes) ≡ Some (shape here.0.0 (len codes)) = cc (here.0.3) in cc (e)
+
+  pub codes_whole : is_integer (dtype codes) ≡ true
+  codes_whole = ap is_integer coded ∙ here.0.4
+
+  -- what x masks, if the codes are never null
+  module _ (c : Tree) (v : Option Tree) (inner : x ≡ masked_of c v) (never : nullability_of (dtype codes) ≡ NonNullable) where
+    pub taken_masked : (s : Tree) (w : Option Tree) → s ≡ dict_of codes c → w ≡ option_map (taken_of codes) v
+        → IsNode (dtype p) (len s) enc.masked (shapes (slots_of (Some s ∷ w ∷ [])))
+    taken_masked s w names e =
+        let typed : dtype (masked_of c v) ≡ dtype p =
+        sym (ap dtype is ∙ widen_fixed (dtype codes) (dtype x) never ∙ ap dtype inner) in
+        let made : IsNode (dtype (masked_of c v)) (len codes) enc.masked (shapes (slots_of (Some (dict_of codes c) ∷ w ∷ []))) =
+        masked_mapped_node (taken_of codes) c (dict_of codes c) v w (taken_shape codes never) (subst IsWell inner here.1.1.0)
+        (widen_fixed (dtype codes) (dtype c) never) e in
+        subst (λ y. IsNode (dtype p) (len y) enc.masked (shapes (slots_of (Some y ∷ w ∷ [])))) (sym names)
+        (subst (λ ty. IsNode ty (len codes) enc.masked (shapes (slots_of (Some (dict_of codes c) ∷ w ∷ [])))) typed made)
+
+  -- of a constant, by the validity of the codes
+  pub value_typed : (v : Typed) → x ≡ constant_of v (len x) → is_of v.of_type v.value ≡ true → is_of (dtype p) v.value ≡ true
+  value_typed v like h =
+      let typed : widen (dtype codes) v.of_type ≡ dtype p = sym (ap dtype is ∙ ap (λ y. widen (dtype codes) (dtype y)) like) in
+      subst (λ ty. is_of ty v.value ≡ true) typed (named_typed (nullability_of (dtype codes)) v.of_type v.value h)
+
+  pub told_nullable : (w : Validity) → w ≡ node_validity codes → nullability_by w ≡ Nullable → nullability_of (dtype p) ≡ Nullable
+  told_nullable w told h =
+      let own : nullability_of (dtype codes) ≡ Nullable = sym (ap nullability_by told ∙ (told_by_node codes here.1.0).nullable) ∙ h in
+      ap (λ t. nullability_of (dtype t)) is ∙ ap (λ m. nullability_of (with_nullability (union m (nullability_of (dtype x))) (dtype x))) own
+      ∙ nullable_set (dtype x)
+
+  pub told_sized : (w : Validity) → w ≡ node_validity codes → HasRows w (len p)
+  told_sized w told =
+      subst (λ n. HasRows w n) (sym (ap len is)) (subst (λ y. HasRows y (len codes)) (sym told) (told_by_node codes here.1.0).sized)
+
+-- n rows of a nullable type, masked by as many truth values
+pub masked_copies : (ty : DataType) (c u : Tree) → nullability_of ty ≡ Nullable → dtype c ≡ ty → HasRows (validity.Array u) (len c)
+    → IsNode ty (len c) enc.masked (shapes (slots_of (Some c ∷ Some u ∷ [])))
+masked_copies ty c u h e r = (
+  ty,
+  Some (shape_of u),
+  (λ i. Some (shape (e i) (len c)) ∷ Some (shape_of u) ∷ []),
+  sym (set_own ty h),
+  (λ i. shape (r.1 i) (r.2 i)),
+)
+  where
+    set_own : (s : DataType) → nullability_of s ≡ Nullable → with_nullability Nullable s ≡ s
+    set_own type.null h = refl
+    set_own (type.bool m) h = ap type.bool (sym h)
+    set_own (type.primitive q m) h = ap (type.primitive q) (sym h)
+    set_own (type.decimal q r m) h = ap (type.decimal q r) (sym h)
+    set_own (type.utf8 m) h = ap type.utf8 (sym h)
+    set_own (type.binary m) h = ap type.binary (sym h)

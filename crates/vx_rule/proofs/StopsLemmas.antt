@@ -12,9 +12,9 @@ use Rattle.vx_tree.specs.Tree.{Tree, Data, Slots, node, no_slots, absent, slot, 
 use Rattle.vx_tree.specs.Slots.{map_slots}
 use Rattle.vx_tree.specs.Parts.{part_of, part_by, column_range}
 use Rattle.vx_tree.specs.Columns.{empty_of, empty_stored, data_range}
-use Rattle.vx_rule.specs.Rules.{Row, IsQuiet, IsPart, S_whole, S_empty, S1, S2, S3, S4, S5}
+use Rattle.vx_rule.specs.Rules.{Row, IsQuiet, IsPart, S_whole, S_empty, S1, S2, S3, S4, S5, S6}
 use Rattle.vx_rule.specs.Pushes.{ranged, pushed, pushed_slots}
-use Rattle.vx_rule.proofs.PushedLemmas.{chosen_else, ranged_part, whole_is, empty_is, function_is, masked_is, column_is}
+use Rattle.vx_rule.proofs.PushedLemmas.{chosen_else, ranged_part, whole_is, empty_is, function_is, masked_is, dict_is, column_is}
 
 -- ---- where no row fits
 
@@ -23,6 +23,7 @@ stops a b (node ty n (enc.constant v) no_slots) part quiet = absurd (quiet _ _ (
 stops a b (node ty n (enc.slice s e) (slot c no_slots)) part quiet = absurd (quiet _ _ (S1 ty ty (b - a) a b n s e c part))
 stops a b (node ty n (enc.function f) ss) part quiet = absurd (quiet _ _ (S4 ty ty (b - a) a b n f ss part))
 stops a b (node ty n enc.masked (slot c vs)) part quiet = absurd (quiet _ _ (S5 ty ty (b - a) a b n c vs part))
+stops a b (node ty n enc.dict (slot c vs)) part quiet = absurd (quiet _ _ (S6 ty ty (b - a) a b n c vs part))
 stops a b (node ty n d ss) part quiet =
     let t = node ty n d ss in
     let cut = if is_canonical d then column_range a b t else slice_of a b t in
@@ -83,6 +84,12 @@ mutual
       let under : max (height (pushed a b c)) (slots_height (map_slots (part_of a b) vs)) ≤ max (height c) (slots_height vs) + 1 =
       max-le (omega (arith, pushed_low a b c)) (omega (arith, parts_low a b vs)) in
       ranged_low a b (node ty n enc.masked (slot c vs)) (node ty (b - a) enc.masked (slot (pushed a b c) (map_slots (part_of a b) vs))) (omega (arith, under))
+  pushed_low a b (node ty n enc.dict (slot c vs)) =
+      let first = le-max_left (height c) (slots_height vs) in
+      let rest = le-max_right (height c) (slots_height vs) in
+      let under : max (height (pushed a b c)) (slots_height vs) ≤ max (height c) (slots_height vs) + 1 =
+      max-le (omega (arith, pushed_low a b c)) (omega (arith, rest)) in
+      ranged_low a b (node ty n enc.dict (slot c vs)) (node ty (b - a) enc.dict (slot (pushed a b c) vs)) (omega (arith, under))
   pushed_low a b (node ty n d ss) =
       ranged_low a b (node ty n d ss) (if is_canonical d then column_range a b (node ty n d ss) else slice_of a b (node ty n d ss))
       (cut_low (is_canonical d) a b ty n d ss)
@@ -130,6 +137,7 @@ row_passes ty n a b t u os (S3 _ cty _ _ _ k d ss h part) e =
     column_passes a b child (column_range a b child) (range_canonical a b d ∙ h) (sym (column_is a b child h part) ∙ e)
 row_passes ty n a b t u os (S4 _ fty _ _ _ k f ss part) e = absurd (cc (ap datum (sym (function_is a b fty k f ss part) ∙ e)))
 row_passes ty n a b t u os (S5 _ mty _ _ _ k c vs part) e = absurd (cc (ap datum (sym (masked_is a b mty k c vs part) ∙ e)))
+row_passes ty n a b t u os (S6 _ dty _ _ _ k c vs part) e = absurd (cc (ap datum (sym (dict_is a b dty k c vs part) ∙ e)))
 
 pub passes : (a b : ℕ) (t u : Tree) (os : List ℕ) → Row (Some 0) (slice_of a b t) u os → pushed a b t ≡ slice_of a b t → ⊥
 passes a b t u os row = row_passes (dtype t) (b - a) a b t u os row
@@ -145,6 +153,7 @@ row_column ty n a b t u os h (S2 _ cty _ _ _ k v part) = ranged_part a b (node c
 row_column ty n a b t u os h (S3 _ cty _ _ _ k d ss i part) = column_is a b (node cty k d ss) i part
 row_column ty n a b t u os h (S4 _ fty _ _ _ k f ss part) = absurd (cc (h))
 row_column ty n a b t u os h (S5 _ mty _ _ _ k c vs part) = absurd (cc (h))
+row_column ty n a b t u os h (S6 _ dty _ _ _ k c vs part) = absurd (cc (h))
 
 pub column_as_row : (a b : ℕ) (t u : Tree) (os : List ℕ) → is_columnar (datum t) ≡ true → Row (Some 0) (slice_of a b t) u os → pushed a b t ≡ u
 column_as_row a b t u os h row = row_column (dtype t) (b - a) a b t u os h row

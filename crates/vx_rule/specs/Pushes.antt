@@ -21,6 +21,7 @@ abbrev mutual
   pushed a b (node ty n (enc.function f) ss) = ranged a b (node ty n (enc.function f) ss) (node ty (b - a) (enc.function f) (pushed_slots a b ss))
   pushed a b (node ty n enc.masked (slot c vs)) =
       ranged a b (node ty n enc.masked (slot c vs)) (node ty (b - a) enc.masked (slot (pushed a b c) (map_slots (part_of a b) vs)))
+  pushed a b (node ty n enc.dict (slot c vs)) = ranged a b (node ty n enc.dict (slot c vs)) (node ty (b - a) enc.dict (slot (pushed a b c) vs))
   -- a canonical column is cut, and whatever else is left under a lazy slice
   pushed a b (node ty n d ss) =
       ranged a b (node ty n d ss) (if is_canonical d then column_range a b (node ty n d ss) else slice_of a b (node ty n d ss))

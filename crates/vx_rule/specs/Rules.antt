@@ -3,7 +3,7 @@ use Rattle.std.specs.Prelude.{◌≡◌, ℕ, ◌+◌, ◌-◌, ◌<◌, ◌≤�
 use Rattle.vx_value.specs.Types.{DataType, nullability_of}
 use Rattle.vx_value.specs.Typed.{Typed}
 use Rattle.vx_value.specs.Cell.{value}
-use Rattle.vx_value.specs.Values.{Value}
+use Rattle.vx_value.specs.Values.{Value, null}
 use Rattle.vx_value.specs.View.{type_of}
 use Rattle.vx_value.specs.declared.dtype.DType.{DType}
 use Rattle.vx_value.specs.declared.dtype.Nullability.TheVariants.{NonNullable}
@@ -14,16 +14,18 @@ use Rattle.vx_fn.specs.declared.function.ScalarFnRef.{ScalarFnRef}
 use Rattle.vx_fn.specs.declared.function.ScalarFnRef.TheVariants as fn_of
 use Rattle.vx_fn.specs.declared.functions.between.BetweenOptions.{BetweenOptions}
 use Rattle.vx_tree.specs.Tree as enc
-use Rattle.vx_tree.specs.Tree.{Tree, Data, Slots, node, no_slots, absent, slot, dtype, len, datum, constant_of, slice_of, filter_of, is_slice, is_constant, is_function, is_masked, is_canonical}
-use Rattle.vx_tree.specs.Slots.{map_slots, present_from, present_in, IsPresent}
+use Rattle.vx_tree.specs.Tree.{Tree, Data, Slots, node, no_slots, absent, slot, dtype, len, datum, constant_of, slice_of, filter_of, dict_of, is_slice, is_constant, is_function, is_masked, is_dict, is_canonical, is_columnar}
+use Rattle.vx_tree.specs.Slots.{map_slots, present_from, present_in, count_slots, IsPresent}
 use Rattle.vx_tree.specs.Parts.{part_of, choice_of, column_range}
 use Rattle.vx_tree.specs.Columns.{empty_of}
 use Rattle.vx_tree.specs.Validities.{truths}
-use Rattle.vx_tree.specs.NodeValidities.{both_of}
+use Rattle.vx_tree.specs.NodeValidities.{both_of, node_validity}
+use Rattle.vx_tree.specs.declared.validity.Validity.{Validity}
+use Rattle.vx_tree.specs.declared.validity.Validity.TheVariants as validity
 
 -- the encodings that a slice passes through
 abbrev pub lets_slice : Data → Bool
-lets_slice d = is_canonical d || is_slice d || is_constant d || is_function d || is_masked d
+lets_slice d = is_canonical d || is_slice d || is_constant d || is_function d || is_masked d || is_dict d
 
 -- a range with some but not all of k rows
 pub record IsPart (a b k : ℕ) : Type 0 where
@@ -43,6 +45,25 @@ abbrev pub validity_column : ℕ → Slots → Tree
 validity_column n (slot t ss) = t
 validity_column n _ = truths true n
 
+-- n rows of one value of a type, null where the tree is false
+abbrev pub masked_by : DataType → ℕ → Value → Tree → Tree
+masked_by ty n null u = constants ty null n
+masked_by ty n x u = node ty n enc.masked (slot (constants ty x n) (slot u no_slots))
+
+-- the rows of a dictionary whose values are all the same, by the validity of its codes
+abbrev pub named_by : DataType → ℕ → Value → Validity → Tree
+named_by ty n x validity.AllInvalid = constants ty null n
+named_by ty n x (validity.Array u) = masked_by ty n x u
+named_by ty n x _ = constants ty x n
+
+abbrev pub taken_by : Data → Tree → Tree → Tree
+taken_by (enc.constant v) codes t = constant_of v (len codes)
+taken_by _ codes t = dict_of codes t
+
+-- the rows of a validity's tree that the codes name: a constant stays a constant, and anything else becomes a dictionary
+abbrev pub taken_of : Tree → Tree → Tree
+taken_of codes t = taken_by (datum t) codes t
+
 -- Who answers (the node itself, or the child in a slot), the tree, the answer, and the answer's slots that are to be optimized.
 pub data Row : Option ℕ → Tree → Tree → List ℕ → Type 0 where
   -- a filter that chooses all rows is its child, one that chooses none is the empty column, one of consecutive rows is a slice
@@ -59,7 +80,7 @@ pub data Row : Option ℕ → Tree → Tree → List ℕ → Type 0 where
       → Row None (node ty n (enc.function fn_of.IsNull) (slot c no_slots)) (truths false n) []
   N1_valid : (ty : DataType) (n : ℕ) (c : Tree) → nullability_of (dtype c) ≡ NonNullable
       → Row None (node ty n (enc.function fn_of.IsNotNull) (slot c no_slots)) (truths true n) []
-  -- S1 to S5 start with these: a slice of all rows is the child, and a slice of no rows is the empty column
+  -- S1 to S6 start with these: a slice of all rows is the child, and a slice of no rows is the empty column
   S_whole : (ty : DataType) (n a b : ℕ) (c : Tree) → lets_slice (datum c) ≡ true → a ≡ 0 → b ≡ len c
       → Row (Some 0) (node ty n (enc.slice a b) (slot c no_slots)) c []
   S_empty : (ty : DataType) (n a b : ℕ) (c : Tree) → lets_slice (datum c) ≡ true → a ≡ b → 0 < len c
@@ -82,6 +103,10 @@ pub data Row : Option ℕ → Tree → Tree → List ℕ → Type 0 where
   S5 : (ty mty : DataType) (n a b k : ℕ) (c : Tree) (vs : Slots) → IsPart a b k
       → Row (Some 0) (node ty n (enc.slice a b) (slot (node mty k enc.masked (slot c vs)) no_slots))
       (node mty (b - a) enc.masked (slot (slice_of a b c) (map_slots (part_of a b) vs))) (0 ∷ present_from 1 (map_slots (part_of a b) vs))
+  -- a slice passes to the codes of a dictionary
+  S6 : (ty dty : DataType) (n a b k : ℕ) (c : Tree) (vs : Slots) → IsPart a b k
+      → Row (Some 0) (node ty n (enc.slice a b) (slot (node dty k enc.dict (slot c vs)) no_slots))
+      (node dty (b - a) enc.dict (slot (slice_of a b c) vs)) (0 ∷ [])
   -- a filter of a filter is one filter
   F5 : (ty fty : DataType) (n k : ℕ) (outer inner : List Bool) (c : Tree)
       → Row (Some 0) (node ty n (enc.filter inner) (slot (node fty k (enc.filter outer) (slot c no_slots)) no_slots)) (filter_of (combined outer inner) c) []
@@ -96,10 +121,22 @@ pub data Row : Option ℕ → Tree → Tree → List ℕ → Type 0 where
   F8 : (ty mty : DataType) (n k : ℕ) (bits : List Bool) (c : Tree) (vs : Slots)
       → Row (Some 0) (node ty n (enc.filter bits) (slot (node mty k enc.masked (slot c vs)) no_slots))
       (node mty (true_count bits) enc.masked (slot (filter_of bits c) (map_slots (choice_of bits) vs))) (0 ∷ present_from 1 (map_slots (choice_of bits) vs))
+  -- a filter passes to the codes of a dictionary
+  F9 : (ty dty : DataType) (n k : ℕ) (bits : List Bool) (c : Tree) (vs : Slots)
+      → Row (Some 0) (node ty n (enc.filter bits) (slot (node dty k enc.dict (slot c vs)) no_slots))
+      (node dty (true_count bits) enc.dict (slot (filter_of bits c) vs)) (0 ∷ [])
   -- a mask of a masked array masks its child by both
   M1 : (ty mty : DataType) (n k : ℕ) (c m : Tree) (vs : Slots)
       → Row (Some 0) (node ty n (enc.function fn_of.Mask) (slot (node mty k enc.masked (slot c vs)) (slot m no_slots)))
       (node ty n (enc.function fn_of.Mask) (slot c (slot (both_of n m (validity_column n vs)) no_slots))) []
+  -- a dictionary of one value is a constant, null where the codes are
+  D1 : (ty s : DataType) (n k : ℕ) (c : Tree) (v : Typed)
+      → Row (Some 1) (node ty n enc.dict (slot c (slot (node s k (enc.constant v) no_slots) no_slots))) (named_by ty n v.value (node_validity c)) []
+  -- a dictionary of a masked array, by codes that are never null, is the masked dictionary
+  D2 : (ty mty : DataType) (n k : ℕ) (codes c : Tree) (vs : Slots) → nullability_of (dtype codes) ≡ NonNullable → is_columnar (datum codes) ≡ true
+      → count_slots vs ≡ 1
+      → Row (Some 1) (node ty n enc.dict (slot codes (slot (node mty k enc.masked (slot c vs)) no_slots)))
+      (node ty n enc.masked (slot (dict_of codes c) (map_slots (taken_of codes) vs))) (0 ∷ present_from 1 (map_slots (taken_of codes) vs))
   -- a cast, negation, `between` or `fill_null` of constants is a constant, if it has a value
   K1 : (ty s : DataType) (n k : ℕ) (target : DType) (v : Typed) (w : Value) → apply (fn_of.Cast target) ty (value v.value ∷ []) ≡ value w
       → Row (Some 0) (node ty n (enc.function (fn_of.Cast target)) (slot (node s k (enc.constant v) no_slots) no_slots)) (constants ty w n) []

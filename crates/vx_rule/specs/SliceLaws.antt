@@ -3,7 +3,7 @@ use Rattle.std.proofs.Common.{◌≡◌, true, refl}
 use Rattle.std.specs.Prelude.{◌||◌}
 use Rattle.std.proofs.lemmas.Bool.{or_right}
 use Rattle.vx_tree.specs.Tree as enc
-use Rattle.vx_tree.specs.Tree.{Data, is_slice, is_constant, is_function, is_masked, is_nulls, is_bool, is_primitive, is_decimals, is_views, is_flat, is_canonical}
+use Rattle.vx_tree.specs.Tree.{Data, is_slice, is_constant, is_function, is_masked, is_dict, is_nulls, is_bool, is_primitive, is_decimals, is_views, is_flat, is_canonical}
 use Rattle.vx_rule.specs.Rules.{lets_slice}
 
 pub slice_lets : (d : Data) → is_slice d ≡ true → lets_slice d ≡ true
@@ -22,8 +22,12 @@ pub masked_lets : (d : Data) → is_masked d ≡ true → lets_slice d ≡ true
 masked_lets enc.masked h = refl
 masked_lets _ h = absurd (cc (h))
 
+pub dict_lets : (d : Data) → is_dict d ≡ true → lets_slice d ≡ true
+dict_lets enc.dict h = refl
+dict_lets _ h = absurd (cc (h))
+
 pub column_lets : (d : Data) → is_canonical d ≡ true → lets_slice d ≡ true
-column_lets d h = λ i. h i || is_slice d || is_constant d || is_function d || is_masked d
+column_lets d h = λ i. h i || is_slice d || is_constant d || is_function d || is_masked d || is_dict d
 
 -- ---- the canonical encodings
 

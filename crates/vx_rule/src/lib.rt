@@ -17,15 +17,15 @@ mod table;
 pub use adaptors::{
     BetweenReduce, BetweenReduceAdaptor, CastReduce, CastReduceAdaptor, FillNullReduce,
     FillNullReduceAdaptor, FilterReduce, FilterReduceAdaptor, MaskReduce, MaskReduceAdaptor,
-    NotReduce, NotReduceAdaptor, SliceReduce, SliceReduceAdaptor,
+    NotReduce, NotReduceAdaptor, SliceReduce, SliceReduceAdaptor, TakeReduce, TakeReduceAdaptor,
 };
 pub use encodings::CanonicalEncoding;
-pub use laws::{push_laws, rule_laws};
+pub use laws::{push_laws, rule_laws, take_laws};
 pub use push::push_slice;
 pub use raw_node::RawNode;
 pub use rule::{
     ArrayParentReduceRule, ArrayReduceRule, DynArrayParentReduceRule, ParentReduceRuleAdapter,
 };
-pub use rule_set::{ParentRuleSet, ReduceRuleSet, ReduceVTable};
+pub use rule_set::{ParentRuleSet, ReduceRuleSet, ReduceVTable, TAKE_RULES};
 pub use scalar_fns::{ExactScalarFn, ScalarFnTag};
 pub use table::{reduce, reduce_parent};

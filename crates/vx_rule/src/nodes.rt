@@ -3,20 +3,24 @@
 ghost use Rattle.std.specs.Prelude.{◌≡◌, ◌≤◌, [], ◌∷◌, Some, IfOk, true};
 ghost use Rattle.vx_value.specs.Errors.{OnlyOutOfMemory};
 ghost use Rattle.vx_value.specs.View.{type_of};
-ghost use Rattle.vx_tree.specs.Tree.{dtype, len, datum, node, function, masked, slots_of, masked_of, is_function, is_masked, is_constant, is_canonical};
+ghost use Rattle.vx_tree.specs.Tree.{dtype, len, datum, node, function, masked, slots_of, masked_of, dict_of, is_function, is_masked, is_dict, is_constant, is_canonical};
 ghost use Rattle.vx_tree.specs.Well.{IsNode, IsWell, shapes};
+ghost use Rattle.vx_value.specs.IsOf.{is_of};
+ghost use Rattle.vx_value.specs.View.{cell_of};
+ghost use Rattle.vx_tree.specs.SlotTypes.{is_integer};
 ghost use Rattle.vx_tree.specs.Columns.{empty_of};
 ghost use Rattle.vx_tree.specs.Canonicals.{canonical_tree};
+ghost use Rattle.vx_rule.specs.Rules.{constants};
 ghost use Rattle.vx_rule.specs.Pushes.{IsConstantLike, IsColumnSlice};
 
 use std::alloc::Global;
 use std::ops::Range;
 use vx_fn::ScalarFnRef;
 use vx_tree::{
-    Array, ArrayKind, ArrayParts, ArrayRef, Canonical, ConstantArray, IntoArray, Masked,
+    Array, ArrayKind, ArrayParts, ArrayRef, Canonical, ConstantArray, DictArray, IntoArray, Masked,
     MaskedData, ScalarFn, ScalarFnData, slice_canonical,
 };
-use vx_value::{DType, VortexResult};
+use vx_value::{DType, Scalar, ScalarValue, VortexResult};
 
 /// Returns the function of `array`, which must apply one, and the slots of its arguments.
 pub(crate) fn function_parts(array: &ArrayRef) -> (&ScalarFnRef, &[Option<ArrayRef>])
@@ -80,6 +84,43 @@ pub(crate) fn masked_node(
     let slots = vec![in alloc; Some(child), validity]?;
     let parts = ArrayParts::new(Masked, original.dtype().clone()?, len, MaskedData, slots);
     Ok(Array::from_parts_unchecked(alloc, parts)?.into_array())
+}
+
+/// Returns the codes and the values of `array`, which must be a dictionary.
+pub(crate) fn dict_parts(array: &ArrayRef) -> (&ArrayRef, &ArrayRef)
+    requires { is_dict (datum array.now) ≡ true }
+    ensures shape { array.now ≡ dict_of result.0.now result.1.now }
+    ensures well { IsWell array.now }
+{
+    array.well_formed_tree();
+    let ArrayKind::Dict(codes, values) = array.kind() else {
+        unreachable!()
+    };
+    (codes, values)
+}
+
+/// Makes the dictionary of `values` by `codes`, which must be integers. Fails only with `OutOfMemory`.
+pub(crate) fn dict_node(alloc: Global, codes: ArrayRef, values: ArrayRef) -> VortexResult<ArrayRef>
+    requires { is_integer (dtype codes) ≡ true }
+    ensures ok { IfOk result (λ t. t ≡ dict_of codes values) }
+    ensures err { OnlyOutOfMemory result }
+{
+    Ok(DictArray::try_new(alloc, codes, values)?.into_array())
+}
+
+/// Returns the constant of `array`'s type and length with the value `value`, which must be of that type. Fails only with
+/// `OutOfMemory`.
+pub(crate) fn repeated(
+    alloc: Global,
+    array: &ArrayRef,
+    value: Option<ScalarValue>,
+) -> VortexResult<ArrayRef>
+    requires { is_of (dtype array.now) (cell_of value) ≡ true }
+    ensures ok { IfOk result (λ t. t ≡ constants (dtype array.now) (cell_of value) (len array.now)) }
+    ensures err { OnlyOutOfMemory result }
+{
+    let scalar = Scalar::new_unchecked(array.dtype().clone()?, value);
+    Ok(ConstantArray::new(alloc, scalar, array.len())?.into_array())
 }
 
 /// Returns the constant of `len` rows with the value of `array`, which must be a constant. Fails only with `OutOfMemory`.

@@ -2,14 +2,15 @@
 
 ghost use Rattle.std.specs.Prelude.{◌≡◌, ◌≤◌, ◌*◌, ◌+◌, IfOk, true, false};
 ghost use Rattle.vx_value.specs.Errors.{OnlyOutOfMemory};
-ghost use Rattle.vx_tree.specs.Tree.{len, datum, masked_of, slice_of, is_canonical, is_function};
+ghost use Rattle.vx_tree.specs.Tree.{len, datum, masked_of, dict_of, slice_of, is_canonical, is_function};
 ghost use Rattle.vx_tree.specs.Keeps.{KeepsExactly};
 ghost use Rattle.vx_tree.specs.Cost.{cost, reach};
 ghost use Rattle.vx_rule.specs.Rules.{lets_slice, IsPartOf};
 ghost use Rattle.vx_rule.specs.Pushes.{pushed, IsPushed};
 
 use crate::nodes::{
-    column_slice, constant_like, empty_column, function_node, function_parts, masked_node,
+    column_slice, constant_like, dict_node, empty_column, function_node, function_parts,
+    masked_node,
 };
 use std::alloc::Global;
 use std::ops::Range;
@@ -17,7 +18,7 @@ use vx_tree::{AnyCanonical, ArrayKind, ArrayRef, IntoArray, SliceArray, slice_va
 use vx_value::VortexResult;
 
 /// Returns the rows of `array` in `range`, which must be in order and in bounds, with the slice pushed down as far as the rows
-/// S1 to S5 reach. A range of all rows gives the tree itself, and one of no rows the empty column. A node that no row reaches,
+/// S1 to S6 reach. A range of all rows gives the tree itself, and one of no rows the empty column. A node that no row reaches,
 /// such as a filter, is sliced lazily. No buffer of values is copied. The only lazy slices that it adds stand above such nodes,
 /// and in the slots of validities, whose rows are sliced lazily unless they are constant. Fails only with `OutOfMemory`. (own)
 pub fn push_slice(alloc: Global, array: &ArrayRef, range: Range<usize>) -> VortexResult<ArrayRef>
@@ -52,6 +53,10 @@ fn push(alloc: Global, array: &ArrayRef, range: Range<usize>) -> VortexResult<Ar
         ArrayKind::ScalarFn(_, _) => push_function(alloc, array, range),
         ArrayKind::Masked(child, validity) => match push(alloc, child, start..end) {
             Ok(part) => masked_part(alloc, array, child, validity, part, range),
+            Err(e) => Err(e),
+        },
+        ArrayKind::Dict(codes, values) => match push(alloc, codes, start..end) {
+            Ok(part) => dict_part(alloc, array, codes, values, part, range),
             Err(e) => Err(e),
         },
         _ if array.is::<AnyCanonical>() => column_slice(alloc, array, range),
@@ -112,4 +117,24 @@ fn masked_part(
     array.well_formed_tree();
     let validity = slice_validity(alloc, validity, range)?;
     masked_node(alloc, array, part, validity)
+}
+
+/// Returns the rows of `array`, the dictionary of `values` by `codes`, in `range`; `part` holds those of `codes`. Fails only with
+/// `OutOfMemory`.
+fn dict_part(
+    alloc: Global,
+    array: &ArrayRef,
+    codes: &ArrayRef,
+    values: &ArrayRef,
+    part: ArrayRef,
+    range: Range<usize>,
+) -> VortexResult<ArrayRef>
+    requires shape { array.now ≡ dict_of codes.now values.now }
+    requires within { IsPartOf range.start range.end array.now }
+    requires part { IsPushed range.start range.end codes.now part }
+    ensures ok { IfOk result (λ t. IsPushed range.start range.end array.now t) }
+    ensures err { OnlyOutOfMemory result }
+{
+    array.well_formed_tree();
+    dict_node(alloc, part, values.clone()?)
 }

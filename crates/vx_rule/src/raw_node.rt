@@ -4,7 +4,7 @@ ghost use Rattle.std.specs.Prelude.{◌≡◌, [], IfOk};
 ghost use Rattle.vx_value.specs.Errors.{OnlyOutOfMemory};
 ghost use Rattle.vx_tree.specs.Tree.{slots_of};
 ghost use Rattle.vx_tree.specs.Slots.{present_from};
-ghost use Rattle.vx_rule.specs.Answers.{IsRaw};
+ghost use Rattle.vx_rule.specs.Answers.{IsRaw, IsRawFirst};
 
 use std::alloc::Global;
 use vx_tree::ArrayRef;
@@ -28,6 +28,14 @@ impl RawNode {
             tree,
             optimize: Vec::new(alloc),
         }
+    }
+
+    /// Returns `tree` as an answer whose first slot, which must hold a tree, is to be optimized. Fails only with `OutOfMemory`.
+    pub fn raw_first(alloc: Global, tree: ArrayRef) -> VortexResult<Option<RawNode>>
+        ensures { IsRawFirst tree result }
+    {
+        let optimize = vec![in alloc; 0]?;
+        Ok(Some(RawNode { tree, optimize }))
     }
 
     /// Returns `tree` as an answer all of whose slots are to be optimized. Fails only with `OutOfMemory`.

@@ -52,8 +52,8 @@ pub fn reduce(alloc: Global, array: &ArrayRef) -> VortexResult<Option<RawNode>>
     by_encoding!(array.encoding(), evaluate(alloc, array))
 }
 
-/// Returns the answer of `child`, which is in `slot` of `parent`, by the rows S1 to S5, F5 to F8, M1 and K1 to K4: `None`
-/// exactly if none of them fits there. Fails only with `OutOfMemory`.
+/// Returns the answer of `child`, which is in `slot` of `parent`, by the rows S1 to S6, F5 to F9, M1, D1, D2 and K1 to
+/// K4: `None` exactly if none of them fits there. Fails only with `OutOfMemory`.
 pub fn reduce_parent(
     alloc: Global,
     child: &ArrayRef,

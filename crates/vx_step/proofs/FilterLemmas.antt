@@ -1,5 +1,5 @@
 -- The steps of a filter: by its mask alone, and of its child as a column.
-use Rattle.std.proofs.Common.{◌≡◌, ◌⊎◌, inl, inr, ℕ, ◌+◌, ◌*◌, ◌<◌, ◌≤◌, List, [], length, Bool, true, false, refl, sym, ◌∙◌, ap, subst, arith}
+use Rattle.std.proofs.Common.{◌≡◌, ◌⊎◌, inl, inr, ℕ, ◌+◌, ◌*◌, ◌<◌, ◌≤◌, List, [], length, Bool, true, false, refl, sym, ap, subst, arith}
 use Rattle.std.proofs.lemmas.Bool.{cases_Bool}
 use Rattle.vx_mask.specs.Masks.{is_all_true}
 use Rattle.vx_mask.specs.Places.{true_count, IsRun}
@@ -13,8 +13,8 @@ use Rattle.vx_tree.proofs.KeepsLemmas.{exactly_trans}
 use Rattle.vx_rule.proofs.FiltersLemmas.{whole_exactly, nothing_exactly, run_exactly}
 use Rattle.vx_rule.proofs.PushLemmas.{canonical_cost}
 use Rattle.vx_step.specs.Turns.{slot_potential, node_potential}
-use Rattle.vx_step.specs.Steps.{IsShort, HasNoShortcut, IsDone, IsStep}
-use Rattle.vx_step.specs.declared.steps.ExecutionStep.TheVariants.{ExecuteSlot}
+use Rattle.vx_step.specs.Steps.{IsShort, HasNoShortcut, IsDone, IsAnswer}
+use Rattle.vx_step.specs.declared.whole.Answer.TheVariants.{Wait}
 use Rattle.vx_step.specs.declared.steps.SlotTarget.TheVariants.{Canonical}
 use Rattle.vx_step.proofs.StepsLemmas.{canonical_done}
 use Rattle.vx_step.proofs.TurnsLemmas.{top_paid}
@@ -66,14 +66,14 @@ module _ (bits : List Bool) (c : Tree) (counted_bits : length bits ≡ len c) (c
     where
       by_target : (is_canonical (datum c) ≡ true) ⊎ (is_canonical (datum c) ≡ false) → node_potential c < node_potential (filter_of bits c)
       by_target (inl h) = omega (arith, top_paid c, canonical_cost c h)
-      by_target (inr h) = omega (arith, top_paid c, ap (λ b. slot_potential b (slot_cost (enc.filter bits) (cost c) (extra c))) h)
+      by_target (inr h) = omega (arith, top_paid c, ap (λ b. slot_potential 0 b (slot_cost (enc.filter bits) (cost c) (extra c))) h)
 
   pub run_done : (a b : ℕ) (u : Tree) → is_all_true bits ≡ false → is_canonical (datum c) ≡ false → IsRun bits a b
       → KeepsExactly (slice_of a b c) u → cost u ≤ cost c + 3 * reach c → IsDone (filter_of bits c) u
   run_done a b u not_all unready run same bound = record {
     by = inl (bits, c, refl, inr (inr (not_all, unready, a, b, run, same, bound)));
     exactly = exactly_trans (filter_of bits c) (slice_of a b c) u (run_exactly bits c counted_bits counted_rows a b run) same;
-    falls = omega (arith, top_paid u, bound, ap (λ x. slot_potential x (slot_cost (enc.filter bits) (cost c) (extra c))) unready);
+    falls = omega (arith, top_paid u, bound, ap (λ x. slot_potential 0 x (slot_cost (enc.filter bits) (cost c) (extra c))) unready);
   }
 
   -- the child is a column, and so is u
@@ -84,7 +84,7 @@ module _ (bits : List Bool) (c : Tree) (counted_bits : length bits ≡ len c) (c
         canonical_done (filter_of bits c) u known (direct (none_short some not_all (inl whole))) ((λ h. whole), tt) same canonical refl (omega arith)
 
   pub filter_waits : 0 < true_count bits → is_all_true bits ≡ false → is_canonical (datum c) ≡ false → ((a b : ℕ) → IsRun bits a b → ⊥)
-      → IsStep (filter_of bits c) (ExecuteSlot 0 Canonical)
+      → IsAnswer (filter_of bits c) (Wait 0 Canonical)
   filter_waits some not_all unready no_run = (direct (none_short some not_all (inr no_run)), (refl, unready), refl)
 
 -- ---- consecutive rows

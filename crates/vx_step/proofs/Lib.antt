@@ -3,3 +3,6 @@ pub mod StepsLemmas
 pub mod FilterLemmas
 pub mod MaskedLemmas
 pub mod WaitingLemmas
+pub mod ContentsLemmas
+pub mod DictLemmas
+pub mod InterleaveLemmas

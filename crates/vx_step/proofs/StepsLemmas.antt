@@ -17,9 +17,9 @@ use Rattle.vx_tree.specs.Well.{IsNode, IsWell, shapes}
 use Rattle.vx_tree.specs.Keeps.{KeepsExactly}
 use Rattle.vx_tree.proofs.CallsLemmas.{filled_types}
 use Rattle.vx_tree.proofs.RefusalsLemmas.{types_back, present_types}
-use Rattle.vx_step.specs.Steps.{HasNoShortcut, IsStep, AwaitsAt, IsDone, IsReady, IsDue, IsFailed, AreReady, are_constant, gives_constant}
+use Rattle.vx_step.specs.Steps.{HasNoShortcut, IsAnswer, AwaitsAt, IsDone, IsReady, IsDue, IsFailed, AreReady, are_constant, gives_constant}
 use Rattle.vx_step.specs.Waiting.{AreColumns}
-use Rattle.vx_step.specs.declared.steps.ExecutionStep.TheVariants.{ExecuteSlot}
+use Rattle.vx_step.specs.declared.whole.Answer.TheVariants.{Wait}
 use Rattle.vx_step.specs.declared.steps.SlotTarget.TheVariants.{Canonical, Columnar}
 use Rattle.vx_tree.proofs.CellsLemmas.{no_fault_at}
 use Rattle.vx_column.specs.Arguments.{IsUnread}
@@ -34,7 +34,7 @@ unless_filter t h u k = absurd (cc (ap (λ x. is_filter (datum x)) k.2, h))
 
 -- a column that stands for a node whose slots are ready
 module _ (t u : Tree) (known : IsColumn u) (direct : HasNoShortcut t) (ready : IsReady t) (same : KeepsExactly t u) where
-  column_done : is_columnar (datum u) ≡ true → is_constant (datum u) ≡ gives_constant t → cost u < base_cost (datum t) → IsDone t u
+  pub column_done : is_columnar (datum u) ≡ true → is_constant (datum u) ≡ gives_constant t → cost u < base_cost (datum t) → IsDone t u
   column_done column kept less = record {
     by = inr (record { direct = direct; ready = ready; column = column; constant_kept = kept });
     exactly = same;
@@ -87,17 +87,17 @@ validity_done c t u shown whole known canonical same =
 
 -- ---- nodes whose child isn't ready
 
-pub slice_waits : (a b : ℕ) (c t : Tree) → t ≡ slice_of a b c → is_canonical (datum c) ≡ false → IsStep t (ExecuteSlot 0 Canonical)
+pub slice_waits : (a b : ℕ) (c t : Tree) → t ≡ slice_of a b c → is_canonical (datum c) ≡ false → IsAnswer t (Wait 0 Canonical)
 slice_waits a b c t shown unready =
-    subst (λ x. IsStep x (ExecuteSlot 0 Canonical)) (sym shown) (unless_filter (slice_of a b c) refl, (refl, unready), refl)
+    subst (λ x. IsAnswer x (Wait 0 Canonical)) (sym shown) (unless_filter (slice_of a b c) refl, (refl, unready), refl)
 
-pub masked_waits : (c t : Tree) (v : Option Tree) → t ≡ masked_of c v → is_canonical (datum c) ≡ false → IsStep t (ExecuteSlot 0 Canonical)
+pub masked_waits : (c t : Tree) (v : Option Tree) → t ≡ masked_of c v → is_canonical (datum c) ≡ false → IsAnswer t (Wait 0 Canonical)
 masked_waits c t v shown unready =
-    subst (λ x. IsStep x (ExecuteSlot 0 Canonical)) (sym shown) (unless_filter (masked_of c v) refl, (refl, unready), refl)
+    subst (λ x. IsAnswer x (Wait 0 Canonical)) (sym shown) (unless_filter (masked_of c v) refl, (refl, unready), refl)
 
-pub validity_waits : (c t : Tree) → t ≡ validity_in c → is_columnar (datum c) ≡ false → IsStep t (ExecuteSlot 0 Columnar)
+pub validity_waits : (c t : Tree) → t ≡ validity_in c → is_columnar (datum c) ≡ false → IsAnswer t (Wait 0 Columnar)
 validity_waits c t shown unready =
-    subst (λ x. IsStep x (ExecuteSlot 0 Columnar)) (sym shown) (unless_filter (validity_in c) refl, (refl, unready), refl)
+    subst (λ x. IsAnswer x (Wait 0 Columnar)) (sym shown) (unless_filter (validity_in c) refl, (refl, unready), refl)
 
 -- a row of the child that is a fault is one of the node's
 pub unread_failed : (c t : Tree) (e : VortexError) → t ≡ validity_in c → is_columnar (datum c) ≡ true → IsUnread c e → IsFailed t e
@@ -112,7 +112,7 @@ unread_failed c t e shown whole (inr h) = inr (
     child_clean (node ty n d ss) k = k.1.0.0
 
 -- slots that are columns are ready for a function, and it gives a constant where each is one
-columns_ready : (ss : Slots) → AreColumns ss → AreReady Columnar all ss
+pub columns_ready : (ss : Slots) → AreColumns ss → AreReady Columnar all ss
 columns_ready no_slots h = tt
 columns_ready (absent ss) h = absurd h
 columns_ready (slot t ss) h = ((λ e. h.0), columns_ready ss h.1)
@@ -122,14 +122,14 @@ constants_filled [] = refl
 constants_filled (t ∷ ts) = ap (λ b. is_constant (datum t) && b) (constants_filled ts)
 
 -- a slot of a function that isn't ready is executed first
-each_executed : (i : ℕ) → is_executed all i ≡ true
+pub each_executed : (i : ℕ) → is_executed all i ≡ true
 each_executed zero = refl
 each_executed (suc i) = each_executed i
 
 pub function_waits : (f : ScalarFnRef) (t : Tree) (ss : Slots) (i : ℕ) → t ≡ node (dtype t) (len t) (function f) ss → AwaitsAt Columnar i ss
-    → IsStep t (ExecuteSlot i Columnar)
+    → IsAnswer t (Wait i Columnar)
 function_waits f t ss i shown awaited =
-    subst (λ x. IsStep x (ExecuteSlot i Columnar)) (sym shown)
+    subst (λ x. IsAnswer x (Wait i Columnar)) (sym shown)
     (unless_filter (node (dtype t) (len t) (function f) ss) refl, (each_executed i, awaited), refl)
 
 module _ (f : ScalarFnRef) (t : Tree) (ss : Slots) (ts : List Tree) (shown : t ≡ node (dtype t) (len t) (function f) ss)

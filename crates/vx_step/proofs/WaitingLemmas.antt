@@ -9,11 +9,11 @@ use Rattle.vx_step.specs.Steps.{AwaitsAt}
 use Rattle.vx_step.specs.Waiting.{AreColumns, HoldsColumn, waits, trees_of}
 use Rattle.vx_step.specs.declared.steps.SlotTarget.TheVariants.{Columnar}
 
-not_false : (b : Bool) → not b ≡ false → b ≡ true
+pub not_false : (b : Bool) → not b ≡ false → b ≡ true
 not_false true h = refl
 not_false false h = absurd (cc)
 
-not_true : (b : Bool) → not b ≡ true → b ≡ false
+pub not_true : (b : Bool) → not b ≡ true → b ≡ false
 not_true true h = absurd (cc)
 not_true false h = refl
 

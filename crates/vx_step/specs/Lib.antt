@@ -6,6 +6,7 @@ pub use Rattle.vx_tree.specs.Slots
 pub use Rattle.vx_tree.specs.Well
 pub use Rattle.vx_tree.specs.Canonicals
 pub mod Turns
+pub mod Contents
 pub mod Steps
 pub mod Waiting
 pub mod Told

@@ -2,7 +2,7 @@
 use Rattle.std.specs.Prelude.{◌≡◌, ◌⊎◌, ℕ, zero, suc, ◌+◌, ◌*◌, ◌<◌, ◌≤◌, List, Bool, true, false, ◌&&◌, nat_lt}
 use Rattle.vx_mask.specs.Masks.{is_all_true}
 use Rattle.vx_mask.specs.Places.{true_count, IsRun}
-use Rattle.vx_tree.specs.Tree.{Tree, Slots, node, no_slots, absent, slot, filter_of, slice_of, dtype, datum, is_constant, is_function, is_canonical, is_columnar}
+use Rattle.vx_tree.specs.Tree.{Tree, Slots, node, no_slots, absent, slot, filter_of, slice_of, dtype, datum, function, dict, interleave, is_constant, is_canonical, is_columnar}
 use Rattle.vx_tree.specs.Cost.{Executed, executed, is_next, after, is_executed, cost, reach}
 use Rattle.vx_tree.specs.Columns.{empty_of}
 use Rattle.vx_value.specs.declared.error.VortexError.{VortexError}
@@ -11,8 +11,13 @@ use Rattle.vx_tree.specs.Cells.{IsClean}
 use Rattle.vx_tree.specs.Keeps.{KeepsExactly}
 use Rattle.vx_step.specs.Turns.{meets, slot_target, target_of, node_potential}
 use Rattle.vx_step.specs.declared.steps.SlotTarget.{SlotTarget}
+use Rattle.vx_step.specs.declared.steps.ExecutionStep.TheVariants.{ExecuteSlot, AppendChild, Done as Ended}
+use Rattle.vx_step.specs.declared.steps.ExecutionResult.{ExecutionResult}
+use Rattle.vx_step.specs.declared.whole.Answer.{Answer}
+use Rattle.vx_step.specs.declared.whole.Answer.TheVariants.{Wait, Done}
 use Rattle.vx_step.specs.declared.steps.ExecutionStep.{ExecutionStep}
-use Rattle.vx_step.specs.declared.steps.ExecutionStep.TheVariants.{ExecuteSlot, Done}
+use Rattle.vx_step.specs.Contents.{IsUsed, IsAppend, IsUsedUp}
+use Rattle.vx_tree.specs.Well.{IsNodeOf}
 
 -- slot i is the first whose tree hasn't reached the target g
 abbrev pub AwaitsAt : SlotTarget → ℕ → Slots → Type 0
@@ -41,9 +46,23 @@ are_constant no_slots = true
 are_constant (absent ss) = false
 are_constant (slot t ss) = is_constant (datum t) && are_constant ss
 
--- whether a node steps to a constant: a function of constants does, if it has a row
+-- whether the first slot holds a constant
+abbrev pub is_first_constant : Slots → Bool
+is_first_constant no_slots = false
+is_first_constant (absent ss) = false
+is_first_constant (slot t ss) = is_constant (datum t)
+
+-- whether each of the first two slots does
+abbrev pub are_two_constant : Slots → Bool
+are_two_constant (slot s (slot t ss)) = is_constant (datum s) && is_constant (datum t)
+are_two_constant _ = false
+
+-- whether a node steps to a constant: a function of constants does, and so do a dictionary and interleaved rows whose indices are constants, if there is a row
 abbrev pub gives_constant : Tree → Bool
-gives_constant (node ty n d ss) = is_function d && (nat_lt 0 n && are_constant ss)
+gives_constant (node ty n (function f) ss) = nat_lt 0 n && are_constant ss
+gives_constant (node ty n dict ss) = nat_lt 0 n && is_first_constant ss
+gives_constant (node ty n interleave ss) = nat_lt 0 n && are_two_constant ss
+gives_constant (node ty n _ ss) = false
 
 -- why a turn or an execution of the tree fails: out of memory, or a fault in one of its nodes
 abbrev pub IsStopped : Tree → VortexError → Type 0
@@ -86,6 +105,20 @@ pub record IsDone (t u : Tree) : Type 0 where
   pub exactly : KeepsExactly t u
   pub falls : node_potential u < node_potential t
 
-abbrev pub IsStep : Tree → ExecutionStep → Type 0
-IsStep t (ExecuteSlot i g) = HasNoShortcut t × Awaits i t × (g ≡ target_of t)
-IsStep t (Done u) = IsDone t u
+-- the step of a node with all of its slots
+abbrev pub IsAnswer : Tree → Answer → Type 0
+IsAnswer t (Wait i g) = HasNoShortcut t × Awaits i t × (g ≡ target_of t)
+IsAnswer t (Done u) = IsDone t u
+
+-- nodes that can be stepped: those with all of their slots, and chunks of which some are used up
+abbrev pub IsOpen : Tree → Type 0
+IsOpen t = IsNodeOf t ⊎ IsUsed t
+
+-- what a step makes of t: u, and what comes next
+abbrev pub IsStepTo : Tree → Tree → ExecutionStep → Type 0
+IsStepTo t u (ExecuteSlot i g) = (u ≡ t) × HasNoShortcut t × Awaits i t × (g ≡ target_of t)
+IsStepTo t u (AppendChild i) = (u ≡ t) × IsAppend i t
+IsStepTo t u Ended = (IsNodeOf t × IsNodeOf u × IsDone t u) ⊎ ((u ≡ t) × IsUsedUp t)
+
+abbrev pub IsStep : Tree → ExecutionResult → Type 0
+IsStep t r = IsStepTo t r.array r.step

@@ -5,10 +5,11 @@ ghost use Rattle.vx_tree.specs.Tree.{Tree, dtype, len, datum, node, function, sl
 ghost use Rattle.vx_tree.specs.Well.{IsNode, shapes};
 ghost use Rattle.vx_tree.specs.Canonicals.{columnar_tree};
 ghost use Rattle.vx_step.specs.Waiting.{AreColumns, HoldsColumn, waits, trees_of};
-ghost use Rattle.vx_step.specs.Steps.{IsStep, IsFailed, AwaitsAt};
+ghost use Rattle.vx_step.specs.Steps.{IsAnswer, IsFailed, AwaitsAt};
 ghost use Rattle.vx_step.specs.declared.steps.SlotTarget.TheVariants as target;
 
-use crate::steps::{ExecutionStep, SlotTarget};
+use crate::steps::SlotTarget;
+use crate::whole::Answer;
 use std::alloc::{AllocError, Global};
 use vx_column::apply_fn;
 use vx_fn::ScalarFnRef;
@@ -22,25 +23,25 @@ pub(crate) fn apply_or_wait(
     array: &ArrayRef,
     scalar_fn: &ScalarFnRef,
     slots: &[Option<ArrayRef>],
-) -> VortexResult<ExecutionStep>
+) -> VortexResult<Answer>
     requires shape { array.now ≡ node (dtype array.now) (len array.now) (function scalar_fn.now) (slots_of slots.now) }
     requires well { IsNode (dtype array.now) (len array.now) (function scalar_fn.now) (shapes (slots_of slots.now)) }
-    ensures ok { IfOk result (λ s. IsStep array.now s) }
+    ensures ok { IfOk result (λ s. IsAnswer array.now s) }
     ensures err { IfErr result (IsFailed array.now) }
 {
     match first_waiting(slots) {
-        Some(slot) => Ok(ExecutionStep::ExecuteSlot(slot, SlotTarget::Columnar)),
+        Some(slot) => Ok(Answer::Wait(slot, SlotTarget::Columnar)),
         None => {
             let columns = columns_of(alloc, slots)?;
             let column = apply_fn(alloc, scalar_fn, columns.as_slice(), array.len())?;
             column.as_array().well_formed_tree();
-            Ok(ExecutionStep::Done(column.into_array()))
+            Ok(Answer::Done(column.into_array()))
         }
     }
 }
 
 /// Returns the first slot that isn't a column yet, counted from 0.
-fn first_waiting(slots: &[Option<ArrayRef>]) -> Option<usize>
+pub(crate) fn first_waiting(slots: &[Option<ArrayRef>]) -> Option<usize>
     requires { all_present (shapes (slots_of slots.now)) ≡ true }
     ensures { MatchOption result (AreColumns (slots_of slots.now)) (λ i. AwaitsAt target.Columnar i (slots_of slots.now)) }
 {
@@ -53,7 +54,7 @@ fn first_waiting(slots: &[Option<ArrayRef>]) -> Option<usize>
 }
 
 /// Returns whether `slot` holds a tree that isn't a column yet.
-fn is_waiting(slot: &Option<ArrayRef>) -> bool
+pub(crate) fn is_waiting(slot: &Option<ArrayRef>) -> bool
     ensures { result ≡ waits slot.now }
 {
     match slot {
@@ -63,7 +64,10 @@ fn is_waiting(slot: &Option<ArrayRef>) -> bool
 }
 
 /// Returns the columns in `slots`, which share their storage.
-fn columns_of(alloc: Global, slots: &[Option<ArrayRef>]) -> Result<Vec<Columnar>, AllocError>
+pub(crate) fn columns_of(
+    alloc: Global,
+    slots: &[Option<ArrayRef>],
+) -> Result<Vec<Columnar>, AllocError>
     requires { AreColumns (slots_of slots.now) }
     ensures { IfOk result (λ columns. filled_slots (map columnar_tree columns.items) ≡ slots_of slots.now) }
 {

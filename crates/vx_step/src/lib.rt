@@ -1,12 +1,19 @@
 //! One execution step of a node.
 #![tactic(auto)]
 
+mod builders;
+mod chunked;
+mod dict;
 mod filter;
 mod function;
+mod interleave;
 mod masked;
+mod require;
 mod slice;
 mod steps;
 mod validity;
+mod whole;
 
-pub use steps::{ExecutionStep, SlotTarget, step};
-pub use vx_tree::Suspended;
+pub use builders::append_to_builder;
+pub use steps::{DonePredicate, ExecutionResult, ExecutionStep, SlotTarget, step};
+pub use vx_tree::{Bool, Primitive, Suspended};

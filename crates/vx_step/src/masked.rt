@@ -2,10 +2,11 @@
 
 ghost use Rattle.std.specs.Prelude.{◌≡◌, IfOk, IfErr};
 ghost use Rattle.vx_tree.specs.Tree.{masked_of};
-ghost use Rattle.vx_step.specs.Steps.{IsStep, IsFailed};
+ghost use Rattle.vx_step.specs.Steps.{IsAnswer, IsFailed};
 ghost use Rattle.vx_step.specs.Told.{told_by};
 
-use crate::steps::{ExecutionStep, SlotTarget, done};
+use crate::steps::SlotTarget;
+use crate::whole::{Answer, done};
 use std::alloc::{AllocError, Global};
 use vx_column::mask_validity_canonical;
 use vx_tree::{ArrayRef, Canonical, Validity};
@@ -18,9 +19,9 @@ pub(crate) fn mask_or_wait(
     array: &ArrayRef,
     child: &ArrayRef,
     validity: &Option<ArrayRef>,
-) -> VortexResult<ExecutionStep>
+) -> VortexResult<Answer>
     requires { array.now ≡ masked_of child.now validity.now }
-    ensures ok { IfOk result (λ s. IsStep array.now s) }
+    ensures ok { IfOk result (λ s. IsAnswer array.now s) }
     ensures err { IfErr result (IsFailed array.now) }
 {
     array.well_formed_tree();
@@ -29,7 +30,7 @@ pub(crate) fn mask_or_wait(
             let validity = told_by(validity)?;
             Ok(done(mask_validity_canonical(alloc, &column, &validity)?))
         }
-        Err(_) => Ok(ExecutionStep::ExecuteSlot(0, SlotTarget::Canonical)),
+        Err(_) => Ok(Answer::Wait(0, SlotTarget::Canonical)),
     }
 }
 

@@ -2,9 +2,10 @@
 
 ghost use Rattle.std.specs.Prelude.{◌≡◌, ◌≤◌, IfOk, IfErr};
 ghost use Rattle.vx_tree.specs.Tree.{len, slice_of};
-ghost use Rattle.vx_step.specs.Steps.{IsStep, IsFailed};
+ghost use Rattle.vx_step.specs.Steps.{IsAnswer, IsFailed};
 
-use crate::steps::{ExecutionStep, SlotTarget};
+use crate::steps::SlotTarget;
+use crate::whole::Answer;
 use std::alloc::Global;
 use std::ops::Range;
 use vx_rule::push_slice;
@@ -18,16 +19,16 @@ pub(crate) fn slice_or_wait(
     array: &ArrayRef,
     child: &ArrayRef,
     range: Range<usize>,
-) -> VortexResult<ExecutionStep>
+) -> VortexResult<Answer>
     requires shape { array.now ≡ slice_of range.start range.end child.now }
     requires within { (range.start ≤ range.end) × (range.end ≤ len child.now) }
-    ensures ok { IfOk result (λ s. IsStep array.now s) }
+    ensures ok { IfOk result (λ s. IsAnswer array.now s) }
     ensures err { IfErr result (IsFailed array.now) }
 {
     if !child.is::<AnyCanonical>() {
-        return Ok(ExecutionStep::ExecuteSlot(0, SlotTarget::Canonical));
+        return Ok(Answer::Wait(0, SlotTarget::Canonical));
     }
     let part = push_slice(alloc, child, range)?;
     part.well_formed_tree();
-    Ok(ExecutionStep::Done(part))
+    Ok(Answer::Done(part))
 }

@@ -2,9 +2,10 @@
 
 ghost use Rattle.std.specs.Prelude.{◌≡◌, IfOk, IfErr};
 ghost use Rattle.vx_tree.specs.Tree.{validity_in};
-ghost use Rattle.vx_step.specs.Steps.{IsStep, IsFailed};
+ghost use Rattle.vx_step.specs.Steps.{IsAnswer, IsFailed};
 
-use crate::steps::{ExecutionStep, SlotTarget, done};
+use crate::steps::SlotTarget;
+use crate::whole::{Answer, done};
 use std::alloc::Global;
 use vx_column::validity_canonical;
 use vx_tree::{ArrayRef, Columnar};
@@ -16,9 +17,9 @@ pub(crate) fn validity_or_wait(
     alloc: Global,
     array: &ArrayRef,
     child: &ArrayRef,
-) -> VortexResult<ExecutionStep>
+) -> VortexResult<Answer>
     requires { array.now ≡ validity_in child.now }
-    ensures ok { IfOk result (λ s. IsStep array.now s) }
+    ensures ok { IfOk result (λ s. IsAnswer array.now s) }
     ensures err { IfErr result (IsFailed array.now) }
 {
     match Columnar::try_from_array_ref(child.clone()?) {
@@ -26,6 +27,6 @@ pub(crate) fn validity_or_wait(
             Ok(valid) => Ok(done(valid)),
             Err(e) => Err(e),
         },
-        Err(_) => Ok(ExecutionStep::ExecuteSlot(0, SlotTarget::Columnar)),
+        Err(_) => Ok(Answer::Wait(0, SlotTarget::Columnar)),
     }
 }

@@ -3,7 +3,8 @@
 use std::alloc::Global;
 use std::test::Fail;
 use vx_column::Builder;
-use vx_tree::{ArrayKind, Validity};
+use vx_exec::{VortexSession, VortexSessionExecute, execute_into_builder};
+use vx_tree::{ArrayKind, Columnar, IntoArray, Validity};
 use vx_value::{ArgKind, DType, Nullability, PType, Scalar, VortexError, VortexResult};
 
 const NULLABLE: DType = DType::Primitive(PType::I32, Nullability::Nullable);
@@ -71,5 +72,58 @@ fn more_rows_than_can_be_counted(rt: HostRuntime) -> Result<(), Fail> {
     assert!(rt; is_refused(nulls.append_scalar(&Scalar::null(DType::Null)), too_long));
     assert!(rt; is_refused(nulls.append_nulls(1), too_long));
     assert!(rt; nulls.finish(alloc)?.as_array().len() == usize::MAX);
+    Ok(())
+}
+
+/// Returns the constant nine, twice.
+fn nines(alloc: Global, nullability: Nullability) -> VortexResult<Columnar> {
+    Columnar::constant(alloc, nine(nullability), 2)
+}
+
+#[test]
+fn columns_are_appended(rt: HostRuntime) -> Result<(), Fail> {
+    let alloc = rt.alloc();
+    let mut builder = builder_of_rows(alloc)?;
+    builder.append_column(alloc, &nines(alloc, Nullability::Nullable)?)?;
+    let refused = builder.append_column(alloc, &nines(alloc, Nullability::NonNullable)?);
+    assert!(rt; is_refused(refused, BAD_TYPE));
+    assert!(rt; builder.len() == 74);
+    Ok(())
+}
+
+/// Executes `column` into `builder`.
+fn executed(alloc: Global, column: Columnar, builder: Builder) -> VortexResult<Builder> {
+    let mut ctx = VortexSession::empty().create_execution_ctx(alloc);
+    execute_into_builder(column.into_array(), builder, &mut ctx)
+}
+
+/// Checks that `column` isn't executed into `builder`, for `error`.
+fn is_unexecuted(alloc: Global, column: Columnar, builder: Builder, error: VortexError) -> bool {
+    matches!(executed(alloc, column, builder), Err(e) if e == error)
+}
+
+#[test]
+fn trees_are_executed_into_builders(rt: HostRuntime) -> Result<(), Fail> {
+    let alloc = rt.alloc();
+    let builder = executed(
+        alloc,
+        nines(alloc, Nullability::Nullable)?,
+        builder_of_rows(alloc)?,
+    )?;
+    assert!(rt; builder.len() == 74);
+    let wide = DType::Primitive(PType::I64, Nullability::Nullable);
+    let builder = Builder::with_capacity(alloc, wide, 0)?;
+    assert!(rt;
+        is_unexecuted(
+            alloc,
+            nines(alloc, Nullability::Nullable)?,
+            builder,
+            BAD_TYPE
+        )
+    );
+    let len = usize::MAX;
+    let one = Columnar::constant(alloc, Scalar::null(DType::Null), 1)?;
+    let too_long = VortexError::TooLong { len, factor: 1 };
+    assert!(rt; is_unexecuted(alloc, one, builder_of_nulls(alloc, len)?, too_long));
     Ok(())
 }

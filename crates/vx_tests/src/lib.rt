@@ -22,10 +22,14 @@ mod rows;
 #[cfg(test)]
 mod sharing;
 #[cfg(test)]
+mod steps;
+#[cfg(test)]
 mod targets;
 mod values;
 mod weights;
 
-pub use refusals::{worked_columns, worked_functions, worked_lazy_nodes, worked_values};
+pub use refusals::{
+    worked_columns, worked_functions, worked_lazy_nodes, worked_lookups, worked_values,
+};
 pub use values::{worked_orders, worked_types};
 pub use weights::worked_weights;

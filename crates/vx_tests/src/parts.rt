@@ -6,10 +6,10 @@ use std::test::Fail;
 use vx_fn::ScalarFnRef;
 use vx_mask::{BitBuffer, Buffer, Mask};
 use vx_tree::{
-    Array, ArrayRef, BinaryViews, BoolArray, Canonical, CanonicalView, Columnar, ColumnarView,
-    ConstantArray, DecimalArray, DecimalType, DecimalValues, FilterArray, IntoArray, MaskedArray,
-    NullArray, PrimitiveArray, PrimitiveValues, ScalarFnArray, ScalarFnValidityArray, SliceArray,
-    VTable, Validity, VarBinViewArray, View,
+    Array, ArrayRef, BinaryViews, BoolArray, Canonical, CanonicalView, ChunkedArray, Columnar,
+    ColumnarView, ConstantArray, DecimalArray, DecimalType, DecimalValues, DictArray, FilterArray,
+    InterleaveArray, IntoArray, MaskedArray, NullArray, PrimitiveArray, PrimitiveValues,
+    ScalarFnArray, ScalarFnValidityArray, SliceArray, VTable, Validity, VarBinViewArray, View,
 };
 use vx_value::{
     ArgKind, ByteBuffer, DType, DecimalDType, Nullability, PType, Scalar, VortexError, VortexResult,
@@ -90,6 +90,55 @@ fn part(alloc: Global) -> VortexResult<SliceArray> {
 fn test(alloc: Global) -> VortexResult<ScalarFnArray> {
     let children = vec![in alloc; integers(alloc)?.into_array()]?;
     ScalarFnArray::try_new(alloc, ScalarFnRef::IsNull, children)
+}
+
+fn named(alloc: Global) -> VortexResult<DictArray> {
+    DictArray::try_new(
+        alloc,
+        integers(alloc)?.into_array(),
+        texts(alloc)?.into_array(),
+    )
+}
+
+fn joined(alloc: Global) -> VortexResult<ChunkedArray> {
+    let chunks = vec![in alloc; integers(alloc)?.into_array(), part(alloc)?.into_array()]?;
+    ChunkedArray::try_new(alloc, chunks, DType::Primitive(PType::I32, NEVER))
+}
+
+fn picked(alloc: Global) -> VortexResult<InterleaveArray> {
+    let values = vec![in alloc; texts(alloc)?.into_array()]?;
+    let rows = integers(alloc)?.into_array();
+    InterleaveArray::try_new(alloc, values, integers(alloc)?.into_array(), rows)
+}
+
+#[test]
+fn nodes_of_several_slots_are_made_of_their_parts(rt: HostRuntime) -> Result<(), Fail> {
+    let alloc = rt.alloc();
+    assert!(rt; joined(alloc)?.len() == 5);
+    assert!(rt; is_remade(alloc, named(alloc)?));
+    assert!(rt; is_remade(alloc, joined(alloc)?));
+    assert!(rt; is_remade(alloc, picked(alloc)?));
+    Ok(())
+}
+
+fn has_name(alloc: Global, array: &ArrayRef, slot: usize, text: &str) -> VortexResult<bool> {
+    match array.slot_name(slot) {
+        Some(name) => Ok(format!(in alloc; "{name}")?.as_str() == text),
+        None => Ok(false),
+    }
+}
+
+#[test]
+fn slots_have_names(rt: HostRuntime) -> Result<(), Fail> {
+    let alloc = rt.alloc();
+    let chunks = joined(alloc)?.into_array();
+    let rows = picked(alloc)?.into_array();
+    assert!(rt; has_name(alloc, &named(alloc)?.into_array(), 1, "values")?);
+    assert!(rt; has_name(alloc, &chunks, 1, "chunk1")?);
+    assert!(rt; chunks.slot_name(2).is_none());
+    assert!(rt; has_name(alloc, &rows, 1, "row_indices")?);
+    assert!(rt; has_name(alloc, &rows, 2, "value0")?);
+    Ok(())
 }
 
 #[test]

@@ -1,16 +1,16 @@
 //! Why worked nodes are refused, each for the first reason: their slots, then types, then lengths and ranges, then values.
 
-ghost use Rattle.std.specs.Prelude.{◌≡◌, pos, true, [], ◌∷◌, Some, None};
+ghost use Rattle.std.specs.Prelude.{◌≡◌, ◌^◌, pos, true, [], ◌∷◌, Some, None};
 ghost use Rattle.vx_value.specs.Types as type;
 ghost use Rattle.vx_value.specs.declared.dtype.PType.TheVariants.{I32};
 ghost use Rattle.vx_value.specs.declared.dtype.Nullability.TheVariants.{NonNullable, Nullable};
 ghost use Rattle.vx_value.specs.declared.decimal.DecimalType.TheVariants.{I16};
 ghost use Rattle.vx_value.specs.declared.id.Id.TheVariants as id;
-ghost use Rattle.vx_value.specs.declared.error.VortexError.TheVariants.{OutOfBounds};
+ghost use Rattle.vx_value.specs.declared.error.VortexError.TheVariants.{OutOfBounds, TooLong};
 ghost use Rattle.vx_value.specs.declared.error.ArgKind.TheVariants.{SlotCount, SlotMissing, SlotType, SlotLen, FnSlotMissing};
 ghost use Rattle.vx_value.specs.declared.error.ArgKind.TheVariants.{Arity, ChildLen, NoChildren, NoRow};
 ghost use Rattle.vx_value.specs.declared.error.ArgKind.TheVariants.{NodeType, NodeLen, MaskLen, BadType, BadValue};
-ghost use Rattle.vx_tree.specs.Tree.{function, nulls, booleans};
+ghost use Rattle.vx_tree.specs.Tree.{function, dict, chunked, interleave, chunks_refusal, nulls, booleans};
 ghost use Rattle.vx_tree.specs.Well.{shape};
 ghost use Rattle.vx_tree.specs.Refusals.{refusal};
 ghost use Rattle.vx_tree.specs.Validities.{decimal_refusal, bytes_refusal};
@@ -82,4 +82,29 @@ pub fn worked_functions()
     ensures two_types { inferred_refusal add (argument u8 3 ∷ argument i8 3 ∷ []) ≡ because NoRow }
     ensures of_booleans { inferred_refusal add (argument bool 3 ∷ argument bool 3 ∷ []) ≡ because NoRow }
     ensures call_fits { inferred_refusal add (argument i32 3 ∷ argument i32 3 ∷ []) ≡ None }
+{}
+
+/// States why dictionaries, chunks and interleaved rows are refused.
+pub fn worked_lookups()
+    ensures dict_slots { refusal id.Dict i32 9 dict (three ∷ []) ≡ because SlotCount }
+    ensures dict_missing { refusal id.Dict i32 9 dict (three ∷ None ∷ []) ≡ because (SlotMissing 1) }
+    ensures dict_codes { refusal id.Dict i32 9 dict (flags ∷ three ∷ []) ≡ because (SlotType 0) }
+    ensures dict_type { refusal id.Dict nullable 9 dict (three ∷ two ∷ []) ≡ because NodeType }
+    ensures dict_len { refusal id.Dict i32 9 dict (three ∷ two ∷ []) ≡ because NodeLen }
+    ensures dict_fits { refusal id.Dict i32 3 dict (three ∷ two ∷ []) ≡ None }
+    ensures dict_of_null_codes { refusal id.Dict nullable 2 dict (Some (shape nullable 2) ∷ three ∷ []) ≡ None }
+    ensures chunk_missing { refusal id.Chunked i32 9 chunked (three ∷ None ∷ []) ≡ because (SlotMissing 1) }
+    ensures chunk_type { refusal id.Chunked i32 9 chunked (three ∷ flags ∷ []) ≡ because (SlotType 1) }
+    ensures chunks_len { refusal id.Chunked i32 4 chunked (three ∷ two ∷ []) ≡ because NodeLen }
+    ensures chunks_fit { refusal id.Chunked i32 5 chunked (three ∷ two ∷ []) ≡ None }
+    ensures no_chunks_fit { refusal id.Chunked i32 0 chunked [] ≡ None }
+    ensures chunks_too_long { chunks_refusal i32 (argument i32 (2 ^ 63) ∷ argument i32 (2 ^ 63) ∷ []) ≡ Some (TooLong (2 ^ 63) (2 ^ 63)) }
+    ensures interleave_slots { refusal id.Interleave i32 9 interleave (three ∷ three ∷ []) ≡ because SlotCount }
+    ensures interleave_missing { refusal id.Interleave i32 9 interleave (three ∷ three ∷ None ∷ []) ≡ because (SlotMissing 2) }
+    ensures interleave_nulls { refusal id.Interleave i32 9 interleave (Some (shape nullable 3) ∷ flags ∷ two ∷ []) ≡ because (SlotType 0) }
+    ensures interleave_rows { refusal id.Interleave i32 9 interleave (three ∷ flags ∷ two ∷ []) ≡ because (SlotType 1) }
+    ensures interleave_types { refusal id.Interleave i32 9 interleave (three ∷ two ∷ two ∷ flags ∷ []) ≡ because (SlotType 3) }
+    ensures interleave_lens { refusal id.Interleave i32 9 interleave (three ∷ two ∷ two ∷ []) ≡ because (SlotLen 1) }
+    ensures interleave_len { refusal id.Interleave i32 9 interleave (two ∷ two ∷ three ∷ []) ≡ because NodeLen }
+    ensures interleave_fits { refusal id.Interleave i32 2 interleave (two ∷ two ∷ three ∷ []) ≡ None }
 {}

@@ -80,3 +80,13 @@ fn nodes_are_optimized_as_they_are_made(rt: HostRuntime) -> Result<(), Fail> {
     assert!(rt; repeats(&nulls.fill_null(alloc, one)?, 1, 3));
     Ok(())
 }
+
+#[test]
+fn taken_rows_are_optimized_and_interleaved_ones_are_not(rt: HostRuntime) -> Result<(), Fail> {
+    let alloc = rt.alloc();
+    assert!(rt; repeats(&sevens(alloc, 10)?.take(alloc, sevens(alloc, 2)?)?, 7, 2));
+    let values = vec![in alloc; sevens(alloc, 8)?]?;
+    let node = sevens(alloc, 2)?.interleave(alloc, values, sevens(alloc, 2)?)?;
+    assert!(rt; matches!(node.kind(), ArrayKind::Interleave(_)) && node.len() == 2);
+    Ok(())
+}

@@ -7,12 +7,12 @@ ghost use Rattle.vx_value.specs.declared.dtype.PType.TheVariants.{I32};
 ghost use Rattle.vx_value.specs.declared.dtype.Nullability.TheVariants.{NonNullable};
 ghost use Rattle.vx_fn.specs.declared.function.ScalarFnRef.TheVariants.{Binary};
 ghost use Rattle.vx_fn.specs.declared.function.Operator.TheVariants.{Add};
-ghost use Rattle.vx_tree.specs.Tree.{integers, constant_of, slice_of, filter_of, call_of};
+ghost use Rattle.vx_tree.specs.Tree.{integers, constant_of, slice_of, filter_of, call_of, dict_of, chunked_of};
 ghost use Rattle.vx_tree.specs.Cost.{cost};
 ghost use Rattle.vx_tree.specs.Weight.{weight};
 
-/// States the weights and costs of three trees: a column of three rows, a slice of a slice of a column, and a filter of the sum
-/// of a column and a constant.
+/// States the weights and costs of five trees: a column of three rows, a slice of a slice of a column, and a filter of the sum
+/// of a column and a constant; then those of a dictionary of two columns, and of two chunks.
 pub fn worked_weights()
     ensures column { weight (integers I32 (pos 1 ∷ pos 2 ∷ pos 3 ∷ [])) ≡ 3 }
     ensures slices { weight (slice_of 1 4 (slice_of 2 8 (integers I32
@@ -23,4 +23,8 @@ pub fn worked_weights()
         (integers I32 (pos 0 ∷ pos 1 ∷ pos 2 ∷ pos 3 ∷ []) ∷ constant_of (record { of_type = type.primitive I32 NonNullable; value = integer (pos 10) }) 4 ∷ []))) ≡ 30 }
     ensures filter_cost { cost (filter_of (false ∷ true ∷ true ∷ false ∷ []) (call_of (Binary Add) (type.primitive I32 NonNullable) 4
         (integers I32 (pos 0 ∷ pos 1 ∷ pos 2 ∷ pos 3 ∷ []) ∷ constant_of (record { of_type = type.primitive I32 NonNullable; value = integer (pos 10) }) 4 ∷ []))) ≡ 18 }
+    ensures dict { weight (dict_of (integers I32 (pos 0 ∷ pos 1 ∷ [])) (integers I32 (pos 5 ∷ []))) ≡ 19 }
+    ensures dict_cost { cost (dict_of (integers I32 (pos 0 ∷ pos 1 ∷ [])) (integers I32 (pos 5 ∷ []))) ≡ 7 }
+    ensures chunks { weight (chunked_of (type.primitive I32 NonNullable) (integers I32 (pos 1 ∷ []) ∷ integers I32 (pos 2 ∷ []) ∷ [])) ≡ 13 }
+    ensures chunks_cost { cost (chunked_of (type.primitive I32 NonNullable) (integers I32 (pos 1 ∷ []) ∷ integers I32 (pos 2 ∷ []) ∷ [])) ≡ 8 }
 {}

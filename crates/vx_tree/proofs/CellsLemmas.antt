@@ -1,7 +1,9 @@
 -- A well-formed tree has a cell for each row; and rows without a fault.
 use Rattle.std.proofs.Common.{ℤ, ◌≡◌, ℕ, zero, suc, ◌-◌, ◌≤◌, Bool, List, [], ◌∷◌, length, map, take, drop, slice_get, Option, Some, None}
 use Rattle.std.proofs.Common.{refl, sym, ap, ◌∙◌, subst, arith, length-drop}
-use Rattle.std.proofs.lemmas.List.{length-take, length-map, length-replicate}
+use Rattle.std.specs.Prelude.{sum}
+use Rattle.std.proofs.lemmas.List.Sums.{sum_by-cons}
+use Rattle.std.proofs.lemmas.List.{length-append, length-take, length-map, length-replicate}
 use Rattle.std.proofs.lemmas.List.FromFn.{length-map-range_with_len}
 use Rattle.vx_value.specs.Types.{DataType, bool, primitive, nullability_of}
 use Rattle.vx_value.specs.declared.dtype.Nullability.{Nullability}
@@ -15,7 +17,9 @@ use Rattle.vx_value.specs.Cell.{Cell, value, fault}
 use Rattle.vx_mask.specs.Places.{true_count, chosen}
 use Rattle.vx_mask.proofs.PlacesLemmas.{length-chosen}
 use Rattle.vx_fn.specs.Apply.{apply}
-use Rattle.vx_tree.specs.Cells.{row_at, rows, slots_rows, node_cells, cells_at, shown_cell, valid_cells, HasNoFault}
+use Rattle.vx_tree.specs.Lookups.{taken, paired_cells}
+use Rattle.vx_tree.specs.SlotTypes.{of_lengths}
+use Rattle.vx_tree.specs.Cells.{chained, row_at, rows, slots_rows, node_cells, cells_at, shown_cell, valid_cells, HasNoFault}
 use Rattle.vx_tree.specs.Views.{bytes_at}
 use Rattle.vx_tree.specs.declared.views.view.View.{View}
 use Rattle.vx_tree.specs.Well.{Shape, shape, shapes, IsValidity, IsFlat, IsNode, IsWell, AreWell}
@@ -77,6 +81,31 @@ mask_counted : (s : DataType) (n : ℕ) (v : Option Shape) (css : List (List Cel
 mask_counted s n v [] h k = absurd k
 mask_counted s n v (cs ∷ vss) h k = by_validity Nullable n v vss cs h k.1 k.0
 
+-- the first of several slots
+head_counted : (css : List (List Cell)) (ty : DataType) (m : ℕ) (ss : List (Option Shape)) → AreCounted css (Some (shape ty m) ∷ ss) → length (cells_at css 0) ≡ m
+head_counted [] ty m ss h = absurd h
+head_counted (cs ∷ css) ty m ss h = h.0
+
+next_counted : (css : List (List Cell)) (s ty : DataType) (m n : ℕ) (ss : List (Option Shape))
+    → AreCounted css (Some (shape s m) ∷ Some (shape ty n) ∷ ss) → length (cells_at css 1) ≡ n
+next_counted [] s ty m n ss h = absurd h
+next_counted (cs ∷ css) s ty m n ss h = head_counted css ty n ss h.1
+
+-- the rows of chunks
+chunks_counted : (css : List (List Cell)) (ty : DataType) (ms : List ℕ) → AreCounted css (of_lengths ty ms) → length (chained css) ≡ sum ms
+chunks_counted [] ty [] h = refl
+chunks_counted [] ty (m ∷ ms) h = absurd h
+chunks_counted (cs ∷ css) ty [] h = absurd h
+chunks_counted (cs ∷ css) ty (m ∷ ms) h =
+    omega (arith, length-append cs (chained css), h.0, chunks_counted css ty ms h.1, sum_by-cons (λ x. x) m ms)
+
+-- the rows that pairs of indices name
+pairs_counted : (css : List (List Cell)) (is ks : List Cell) (n : ℕ) → length is ≡ n → length ks ≡ n → length (paired_cells css is ks) ≡ n
+pairs_counted css [] ks n h k = h
+pairs_counted css (i ∷ is) [] n h k = absurd (omega (arith, h, k))
+pairs_counted css (i ∷ is) (j ∷ ks) zero h k = absurd (omega (arith, h))
+pairs_counted css (i ∷ is) (j ∷ ks) (suc n) h k = ap suc (pairs_counted css is ks n (omega (arith, h)) (omega (arith, k)))
+
 -- a line for each encoding
 node_counted : (ty : DataType) (n : ℕ) (d : Data) (css : List (List Cell)) (ss : List (Option Shape)) →
     IsNode ty n d ss → AreCounted css ss → length (node_cells ty n d css) ≡ n
@@ -86,6 +115,14 @@ node_counted ty n (enc.filter bits) css ss h k = choice_counted ty n bits css ss
 node_counted ty n enc.masked css ss h k = mask_counted h.0 n h.1 css h.4 (subst (AreCounted css) h.2 k)
 node_counted ty n enc.is_valid css ss h k = length-map (cells_at css 0) shown_cell ∙ one_counted css h.0 n (subst (AreCounted css) h.1 k)
 node_counted ty n (enc.function f) css ss h k = length-map-range_with_len (λ i. apply f ty (row_at css i)) 0 n
+node_counted ty n enc.dict css ss h k =
+    length-map (cells_at css 0) (taken (cells_at css 1)) ∙ head_counted css h.0 n (Some (shape h.1 h.2) ∷ []) (subst (AreCounted css) h.3 k)
+node_counted ty n enc.chunked css ss h k = chunks_counted css ty h.0 (subst (AreCounted css) h.1 k) ∙ sym h.2
+node_counted ty n enc.interleave css ss h k =
+    let more = of_lengths ty (h.2 ∷ h.3) in
+    let counted = subst (AreCounted css) h.4 k in
+    pairs_counted (drop 2 css) (cells_at css 0) (cells_at css 1) n (head_counted css h.0 n (Some (shape h.1 n) ∷ more) counted)
+    (next_counted css h.0 h.1 n n more counted)
 node_counted ty n enc.nulls css ss h k = length-replicate n (value null)
 node_counted ty n (enc.bool bs) css ss h k = flat_counted (bool NonNullable) _ ty n css ss (map (λ b. value (boolean b)) bs) h k
     (length-map bs (λ b. value (boolean b)))

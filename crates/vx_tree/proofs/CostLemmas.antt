@@ -1,23 +1,17 @@
 -- The bound on turns.
-use Rattle.std.proofs.Common.{◌≡◌, ◌<◌, ◌+◌, ℕ, true, [], ◌∷◌, arith, ap, refl}
+use Rattle.std.proofs.Common.{◌≡◌, ◌+◌, ℕ, true, [], ◌∷◌, arith, ap, refl}
 use Rattle.vx_tree.specs.Tree as enc
 use Rattle.vx_tree.specs.Tree.{Tree, Data, Slots, node, no_slots, absent, slot, is_canonical}
-use Rattle.vx_tree.specs.Cost.{none, all, cost, base_cost, slots_cost, all_reached, extra, slots_extra, slots_sum, reach}
+use Rattle.vx_tree.specs.Charges.{put_back, appended}
+use Rattle.vx_tree.specs.Cost.{none, all, cost, slots_cost, all_reached, extra, slots_extra, slots_sum, reach}
 use Rattle.vx_value.specs.Types.{DataType}
 use Rattle.vx_fn.specs.declared.function.ScalarFnRef.{ScalarFnRef}
 
-pub base_positive : (d : Data) → 0 < base_cost d
-base_positive (enc.constant v) = omega arith
-base_positive _ = omega arith
-
-pub cost_positive : (t : Tree) → 0 < cost t
-cost_positive (node ty n d ss) = omega (arith, base_positive d)
-
 -- a function's bounds are sums over its slots
-slots_paid : (f : ScalarFnRef) (ss : Slots) → slots_cost (enc.function f) all ss ≡ slots_sum (λ c. 1 + cost c) ss
-slots_paid f no_slots = omega arith
-slots_paid f (absent ss) = slots_paid f ss
-slots_paid f (slot t ss) = omega (arith, slots_paid f ss)
+slots_paid : (ss : Slots) → slots_cost put_back all ss ≡ slots_sum (λ c. 1 + cost c) ss
+slots_paid no_slots = omega arith
+slots_paid (absent ss) = slots_paid ss
+slots_paid (slot t ss) = omega (arith, slots_paid ss)
 
 slots_reached : (ss : Slots) → all_reached (slots_extra all ss) ≡ slots_sum reach ss
 slots_reached no_slots = omega arith
@@ -25,16 +19,16 @@ slots_reached (absent ss) = slots_reached ss
 slots_reached (slot t ss) = omega (arith, slots_reached ss)
 
 pub function_cost : (ty : DataType) (n : ℕ) (f : ScalarFnRef) (ss : Slots) → cost (node ty n (enc.function f) ss) ≡ 3 + slots_sum (λ c. 1 + cost c) ss
-function_cost ty n f ss = omega (arith, slots_paid f ss)
+function_cost ty n f ss = omega (arith, slots_paid ss)
 
 pub function_reach : (ty : DataType) (n : ℕ) (f : ScalarFnRef) (ss : Slots) → reach (node ty n (enc.function f) ss) ≡ 1 + slots_sum reach ss
 function_reach ty n f ss = omega (arith, slots_reached ss)
 
 -- slots that aren't executed cost nothing, and reach nowhere
-pub unpaid : (d : Data) (ss : Slots) → slots_cost d none ss ≡ 0
-unpaid d no_slots = refl
-unpaid d (absent ss) = unpaid d ss
-unpaid d (slot t ss) = omega (arith, unpaid d ss)
+pub unpaid : (turns : ℕ → ℕ → ℕ) (ss : Slots) → slots_cost turns none ss ≡ 0
+unpaid turns no_slots = refl
+unpaid turns (absent ss) = unpaid turns ss
+unpaid turns (slot t ss) = omega (arith, unpaid turns ss)
 
 pub unreached : (ss : Slots) → slots_extra none ss ≡ []
 unreached no_slots = refl
@@ -43,11 +37,11 @@ unreached (slot t ss) = unreached ss
 
 -- a column costs one turn
 pub column_cost : (ty : DataType) (n : ℕ) (d : Data) (ss : Slots) → is_canonical d ≡ true → cost (node ty n d ss) ≡ 1
-column_cost ty n enc.nulls ss h = omega (arith, unpaid enc.nulls ss)
-column_cost ty n (enc.bool bs) ss h = omega (arith, unpaid (enc.bool bs) ss)
-column_cost ty n (enc.primitive p zs) ss h = omega (arith, unpaid (enc.primitive p zs) ss)
-column_cost ty n (enc.decimals w zs) ss h = omega (arith, unpaid (enc.decimals w zs) ss)
-column_cost ty n (enc.views rs) ss h = omega (arith, unpaid (enc.views rs) ss)
+column_cost ty n enc.nulls ss h = omega (arith, unpaid put_back ss)
+column_cost ty n (enc.bool bs) ss h = omega (arith, unpaid put_back ss)
+column_cost ty n (enc.primitive p zs) ss h = omega (arith, unpaid put_back ss)
+column_cost ty n (enc.decimals w zs) ss h = omega (arith, unpaid put_back ss)
+column_cost ty n (enc.views rs) ss h = omega (arith, unpaid put_back ss)
 column_cost ty n _ ss h = absurd (cc)
 
 pub column_reach : (ty : DataType) (n : ℕ) (d : Data) (ss : Slots) → is_canonical d ≡ true → reach (node ty n d ss) ≡ 1
@@ -60,7 +54,19 @@ column_reach ty n _ ss h = absurd (cc)
 
 -- of a masked node its child alone counts
 pub masked_cost : (ty : DataType) (n : ℕ) (c : Tree) (ss : Slots) → cost (node ty n enc.masked (slot c ss)) ≡ cost c + 4
-masked_cost ty n c ss = omega (arith, unpaid enc.masked ss)
+masked_cost ty n c ss = omega (arith, unpaid put_back ss)
 
 pub masked_reach : (ty : DataType) (n : ℕ) (c : Tree) (ss : Slots) → reach (node ty n enc.masked (slot c ss)) ≡ 1 + reach c
 masked_reach ty n c ss = omega (arith, ap (λ es. all_reached (extra c ∷ es)) (unreached ss))
+
+-- of chunks each counts, with a turn that appends it
+chunks_paid : (ss : Slots) → slots_cost appended all ss ≡ slots_sum (λ c. 2 + cost c) ss
+chunks_paid no_slots = omega arith
+chunks_paid (absent ss) = chunks_paid ss
+chunks_paid (slot t ss) = omega (arith, chunks_paid ss)
+
+pub chunked_cost : (ty : DataType) (n : ℕ) (ss : Slots) → cost (node ty n enc.chunked ss) ≡ 2 + slots_sum (λ c. 2 + cost c) ss
+chunked_cost ty n ss = omega (arith, chunks_paid ss)
+
+pub interleave_cost : (ty : DataType) (n : ℕ) (ss : Slots) → cost (node ty n enc.interleave ss) ≡ 3 + slots_sum (λ c. 1 + cost c) ss
+interleave_cost ty n ss = omega (arith, slots_paid ss)

@@ -1,14 +1,15 @@
 -- `Keeps` is a preorder that is kept in a slot; `KeepsExactly` as well.
-use Rattle.std.proofs.Common.{◌≡◌, ℕ, zero, suc, ◌-◌, Bool, true, false, List, [], ◌∷◌, take, drop, map, replicate, get_or, refl, ◌∙◌, ap, subst}
+use Rattle.std.proofs.Common.{◌≡◌, ℕ, pos, zero, suc, ◌-◌, Bool, true, false, List, [], ◌∷◌, ◌++◌, take, drop, map, replicate, get_or, refl, ◌∙◌, ap, subst}
 use Rattle.std.specs.List.{range_with_len}
 use Rattle.vx_value.specs.Types.{DataType}
-use Rattle.vx_value.specs.Values.{Value, null, boolean}
+use Rattle.vx_value.specs.Values.{Value, null, boolean, integer}
 use Rattle.vx_tree.specs.Tree as enc
 use Rattle.vx_tree.specs.Tree.{Tree, Data, Slots, node, no_slots, absent, slot, dtype, len}
 use Rattle.vx_value.specs.Cell.{Cell, value, fault}
 use Rattle.vx_mask.specs.Places.{chosen}
 use Rattle.vx_fn.specs.Apply.{on_values, value_of}
-use Rattle.vx_tree.specs.Cells.{row_at, rows, slots_rows, node_cells, cells_at, valid_cell, valid_cells, shown_cell, IsClean, AreClean, HasNoFault}
+use Rattle.vx_tree.specs.Lookups.{taken, taken_cells, paired, paired_cells}
+use Rattle.vx_tree.specs.Cells.{chained, row_at, rows, slots_rows, node_cells, cells_at, valid_cell, valid_cells, shown_cell, IsClean, AreClean, HasNoFault}
 use Rattle.vx_tree.specs.Slots.{set_slot, put}
 use Rattle.vx_tree.specs.Keeps.{CellKeeps, RowsKeep, Keeps, KeepsExactly}
 
@@ -141,6 +142,53 @@ shown_keep [] (d ∷ ds) h = absurd h
 shown_keep (c ∷ cs) [] h = absurd h
 shown_keep (c ∷ cs) (d ∷ ds) h = (shown_cell_keep c d h.0, shown_keep cs ds h.1)
 
+-- of codes and values
+taken_cell_keep : (vs ws : List Cell) (c d : Cell) → RowsKeep vs ws → CellKeeps c d → CellKeeps (taken vs c) (taken ws d)
+taken_cell_keep vs ws (value (integer (pos k))) d h e = rw e (cell_keep k vs ws h)
+taken_cell_keep vs ws (value null) d h e = rw e refl
+taken_cell_keep vs ws _ d h e = tt
+
+taken_keep : (cs ds vs ws : List Cell) → RowsKeep cs ds → RowsKeep vs ws → RowsKeep (taken_cells cs vs) (taken_cells ds ws)
+taken_keep [] [] vs ws h k = tt
+taken_keep [] (d ∷ ds) vs ws h k = absurd h
+taken_keep (c ∷ cs) [] vs ws h k = absurd h
+taken_keep (c ∷ cs) (d ∷ ds) vs ws h k = (taken_cell_keep vs ws c d k h.0, taken_keep cs ds vs ws h.1 k)
+
+-- of chunks
+append_keep : (aa bb cs ds : List Cell) → RowsKeep aa bb → RowsKeep cs ds → RowsKeep (aa ++ cs) (bb ++ ds)
+append_keep [] [] cs ds h k = k
+append_keep [] (b ∷ bb) cs ds h k = absurd h
+append_keep (a ∷ aa) [] cs ds h k = absurd h
+append_keep (a ∷ aa) (b ∷ bb) cs ds h k = (h.0, append_keep aa bb cs ds h.1 k)
+
+chained_keep : (css dss : List (List Cell)) → AllKeep css dss → RowsKeep (chained css) (chained dss)
+chained_keep [] [] h = tt
+chained_keep [] (d ∷ ds) h = absurd h
+chained_keep (c ∷ cs) [] h = absurd h
+chained_keep (c ∷ cs) (d ∷ ds) h = append_keep c d (chained cs) (chained ds) h.0 (chained_keep cs ds h.1)
+
+-- of pairs of indices
+paired_cell_keep : (css dss : List (List Cell)) (i j k l : Cell) → AllKeep css dss → CellKeeps i j → CellKeeps k l → CellKeeps (paired css i k) (paired dss j l)
+paired_cell_keep css dss (value (integer (pos i))) j (value (integer (pos k))) l h e f = rw (e, f) (cell_keep k _ _ (at_keep css dss i h))
+paired_cell_keep css dss _ j _ l h e f = tt
+
+paired_keep : (css dss : List (List Cell)) (is js ks ls : List Cell) → AllKeep css dss → RowsKeep is js → RowsKeep ks ls
+    → RowsKeep (paired_cells css is ks) (paired_cells dss js ls)
+paired_keep css dss [] [] ks ls h e f = tt
+paired_keep css dss [] (j ∷ js) ks ls h e f = absurd e
+paired_keep css dss (i ∷ is) [] ks ls h e f = absurd e
+paired_keep css dss (i ∷ is) (j ∷ js) [] [] h e f = tt
+paired_keep css dss (i ∷ is) (j ∷ js) [] (l ∷ ls) h e f = absurd f
+paired_keep css dss (i ∷ is) (j ∷ js) (k ∷ ks) [] h e f = absurd f
+paired_keep css dss (i ∷ is) (j ∷ js) (k ∷ ks) (l ∷ ls) h e f = (paired_cell_keep css dss i j k l h e.0 f.0, paired_keep css dss is js ks ls h e.1 f.1)
+
+drop_all_keep : (k : ℕ) (css dss : List (List Cell)) → AllKeep css dss → AllKeep (drop k css) (drop k dss)
+drop_all_keep zero css dss h = h
+drop_all_keep (suc k) [] [] h = tt
+drop_all_keep (suc k) [] (d ∷ ds) h = absurd h
+drop_all_keep (suc k) (c ∷ cs) [] h = absurd h
+drop_all_keep (suc k) (c ∷ cs) (d ∷ ds) h = drop_all_keep k cs ds h.1
+
 -- a node keeps what its slots keep: a line for each encoding, and one for those that hold their rows themselves
 pub node_mono : (ty : DataType) (n : ℕ) (d : Data) (css dss : List (List Cell)) → AllKeep css dss → RowsKeep (node_cells ty n d css) (node_cells ty n d dss)
 node_mono ty n (enc.constant v) css dss h = rows_refl (replicate n (value v.value))
@@ -150,6 +198,10 @@ node_mono ty n enc.masked css dss h = valid_keep _ _ _ _ (at_keep css dss 1 h) (
 node_mono ty n enc.is_valid css dss h = shown_keep _ _ (at_keep css dss 0 h)
 node_mono ty n (enc.function f) css dss h =
     map_keep _ _ (range_with_len 0 n) (λ i. values_keep (value_of f ty) _ _ (row_keep i css dss h))
+node_mono ty n enc.dict css dss h = taken_keep _ _ _ _ (at_keep css dss 0 h) (at_keep css dss 1 h)
+node_mono ty n enc.chunked css dss h = chained_keep css dss h
+node_mono ty n enc.interleave css dss h =
+    paired_keep _ _ _ _ _ _ (drop_all_keep 2 css dss h) (at_keep css dss 0 h) (at_keep css dss 1 h)
 node_mono ty n enc.nulls css dss h = rows_refl (replicate n (value null))
 node_mono ty n _ css dss h = column_keep css dss _ h
 

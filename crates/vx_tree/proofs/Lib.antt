@@ -1,4 +1,5 @@
 pub mod SlotsLemmas
+pub mod SuspendedLemmas
 pub mod ColumnTypesLemmas
 pub mod KindsLemmas
 pub mod CellsLemmas
@@ -11,6 +12,7 @@ pub mod TypedLemmas
 pub mod ReplacementsLemmas
 pub mod NativesLemmas
 pub mod DecimalNumbersLemmas
+mod VecsLemmas
 pub mod ViewsLemmas
 pub mod BytesLemmas
 pub mod RefusalsLemmas
@@ -23,6 +25,10 @@ pub mod SliceLemmas
 pub mod FilterLemmas
 pub mod MaskedLemmas
 pub mod ScalarFnLemmas
+pub mod SlotTypesLemmas
+pub mod DictLemmas
+pub mod ChunkedLemmas
+pub mod InterleaveLemmas
 pub mod ScalarFnValidityLemmas
 pub mod RefusedExactlyLemmas
 pub mod NodeValiditiesLemmas

@@ -1,5 +1,5 @@
 -- The node of a function: its parts, and which of its rows are null.
-use Rattle.std.proofs.Common.{◌≡◌, ℕ, List, [], ◌∷◌, length, map, true, Option, Some, None, refl, sym, ap, subst, ◌∙◌}
+use Rattle.std.proofs.Common.{◌≡◌, ℕ, List, [], ◌∷◌, length, map, Bool, true, false, Option, Some, None, refl, sym, ap, subst, ◌∙◌}
 use Rattle.std.proofs.lemmas.List.{length-map}
 use Rattle.std.specs.Cmp.{unsigned_Decides}
 use Rattle.std.specs.Prelude.{◌==◌}
@@ -17,14 +17,14 @@ use Rattle.vx_fn.specs.Functions.{arity, function_id}
 use Rattle.vx_fn.specs.ReturnTypes.{return_type}
 use Rattle.vx_fn.proofs.ReturnTypesLemmas.{arity_of_row}
 use Rattle.vx_tree.specs.Tree as enc
-use Rattle.vx_tree.specs.Tree.{Tree, node, dtype, datum, is_function, validity_in, function_refusal, slots_refusal, types_refusal, lengths_refusal}
+use Rattle.vx_tree.specs.Tree.{Tree, Data, Slots, node, dtype, datum, dict_of, validity_in, function_refusal, slots_refusal, types_refusal, lengths_refusal}
 use Rattle.vx_tree.specs.Tree.{result_refusal}
 use Rattle.vx_tree.specs.Tree.{arity_refusal}
 use Rattle.vx_tree.specs.Tree.{all_present}
 use Rattle.vx_tree.specs.Tree.{types_in}
 use Rattle.vx_tree.specs.Well.{shape, IsNode, IsWell, Shape}
 use Rattle.vx_tree.specs.Cells.{rows, shown_cell, HasNoFault}
-use Rattle.vx_tree.specs.NodeValidities.{if_nullable, node_validity}
+use Rattle.vx_tree.specs.NodeValidities.{if_nullable, data_validity, first_validity, node_validity}
 use Rattle.vx_tree.specs.declared.validity.Validity.TheVariants as validity
 use Rattle.vx_tree.specs.Conditions.{unless, first_of_both}
 use Rattle.vx_tree.proofs.KeepsLemmas.{rows_refl}
@@ -68,8 +68,8 @@ taken ty n f ss h =
 
 -- ---- which of its rows are null
 
-pub function_tells : (t : Tree) → IsWell t → nullability_of (dtype t) ≡ Nullable → Tells t (validity.Array (validity_in t))
-function_tells t w e =
+pub tested_tells : (t : Tree) → IsWell t → nullability_of (dtype t) ≡ Nullable → Tells t (validity.Array (validity_in t))
+tested_tells t w e =
     record {
       nullable = sym e;
       sized = (((dtype t, refl, refl), (w, tt)), refl, refl);
@@ -83,11 +83,40 @@ function_tells t w e =
     shown_clean (value _ ∷ cs) h = shown_clean cs h
     shown_clean (fault ∷ cs) h = absurd h
 
-pub function_told : (t : Tree) → is_function (datum t) ≡ true → is_nullable (nullability_of (dtype t)) ≡ true → node_validity t ≡ validity.Array (validity_in t)
-function_told (node ty n (enc.function f) ss) h e = by_nullability (nullability_of ty) e
-  where
-    by_nullability : (m : Nullability) → is_nullable m ≡ true
-        → if_nullable m (validity.Array (validity_in (node ty n (enc.function f) ss))) ≡ validity.Array (validity_in (node ty n (enc.function f) ss))
-    by_nullability NonNullable e = absurd (cc)
-    by_nullability Nullable e = refl
-function_told (node ty n _ ss) h e = absurd (cc)
+-- the encodings whose validity is a test of themselves
+abbrev tests_itself : Data → Bool
+tests_itself (enc.function f) = true
+tests_itself enc.dict = true
+tests_itself enc.chunked = true
+tests_itself enc.interleave = true
+tests_itself _ = false
+
+tested_node : (ty : DataType) (n : ℕ) (d : Data) (ss : Slots) (m : Nullability) → tests_itself d ≡ true → is_nullable m ≡ true
+    → if_nullable m (data_validity ty n d ss (first_validity ss)) ≡ validity.Array (validity_in (node ty n d ss))
+tested_node ty n d ss NonNullable h e = absurd (cc)
+tested_node ty n (enc.function f) ss Nullable h e = refl
+tested_node ty n enc.dict ss Nullable h e = refl
+tested_node ty n enc.chunked ss Nullable h e = refl
+tested_node ty n enc.interleave ss Nullable h e = refl
+tested_node ty n _ ss Nullable h e = absurd (cc)
+
+tested_told : (t : Tree) → tests_itself (datum t) ≡ true → is_nullable (nullability_of (dtype t)) ≡ true → node_validity t ≡ validity.Array (validity_in t)
+tested_told (node ty n d ss) h e = tested_node ty n d ss (nullability_of ty) h e
+
+pub function_told : (t : Tree) (ty : DataType) (n : ℕ) (f : ScalarFnRef) (ss : Slots) → t ≡ node ty n (enc.function f) ss
+    → is_nullable (nullability_of (dtype t)) ≡ true → node_validity t ≡ validity.Array (validity_in t)
+function_told t ty n f ss is e = tested_told t (ap (λ x. tests_itself (datum x)) is) e
+
+pub dict_told : (t c v : Tree) → t ≡ dict_of c v → is_nullable (nullability_of (dtype t)) ≡ true → node_validity t ≡ validity.Array (validity_in t)
+dict_told t c v is e = tested_told t (ap (λ x. tests_itself (datum x)) is) e
+
+pub chunked_told : (t : Tree) (ty : DataType) (n : ℕ) (ss : Slots) → t ≡ node ty n enc.chunked ss → is_nullable (nullability_of (dtype t)) ≡ true
+    → node_validity t ≡ validity.Array (validity_in t)
+chunked_told t ty n ss is e = tested_told t (ap (λ x. tests_itself (datum x)) is) e
+
+pub interleave_told : (t : Tree) (ty : DataType) (n : ℕ) (ss : Slots) → t ≡ node ty n enc.interleave ss → is_nullable (nullability_of (dtype t)) ≡ true
+    → node_validity t ≡ validity.Array (validity_in t)
+interleave_told t ty n ss is e = tested_told t (ap (λ x. tests_itself (datum x)) is) e
+
+-- a node whose validity is a test of itself
+pub ruleset told_by_test = (function_told, dict_told, chunked_told, interleave_told)

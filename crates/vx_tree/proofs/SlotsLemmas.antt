@@ -1,10 +1,11 @@
 -- Slots as a list and as a tree has them: taking one out, filling it, and what a node's conditions say of them.
-use Rattle.std.proofs.Common.{◌≡◌, ◌≢◌, ◌⊎◌, inl, inr, ℕ, zero, suc, ◌<◌, List, [], ◌∷◌, ◌++◌, length, map, get_or, set, Option, Some, None, IfSome, refl, sym, ap, arith, subst, ◌∙◌}
-use Rattle.std.specs.Prelude.{option_map}
+use Rattle.std.proofs.Common.{◌≡◌, ◌≢◌, ◌⊎◌, inl, inr, ℕ, zero, suc, ◌<◌, ◌≤◌, List, [], ◌∷◌, ◌++◌, length, map, get_or, set, Option, Some, None, IfSome, refl, sym, ap, arith, subst, ◌∙◌}
+use Rattle.std.specs.Prelude.{option_map, if◌then◌else◌}
+use Rattle.std.proofs.lemmas.Bool.{lt-ltb, le-ltb}
 use Rattle.vx_value.specs.Types.{DataType}
-use Rattle.vx_tree.specs.Tree.{Tree, Data, Slots, node, no_slots, absent, slot, slots_of, dtype, len, height, slots_height}
+use Rattle.vx_tree.specs.Tree.{Tree, Data, Slots, node, no_slots, absent, slot, slots_of, slots, datum, meaning, dtype, len, height, slots_height}
 use Rattle.vx_tree.specs.Well.{Shape, shape, shape_of, shapes, AreWell, IsWell, IsNode, IsNodeOf}
-use Rattle.vx_tree.specs.Slots.{set_slot, put, IsAbsentAt, IsHole, IsPresentAt, IsPresent, HoldsAt, HasSlot}
+use Rattle.vx_tree.specs.Slots.{set_slot, put, IsAbsentAt, IsHole, IsPresentAt, IsPresent, HoldsAt, HasSlot, count_slots as slots_in, name_at}
 
 pub well_append : (xs : List (Option Tree)) (s : Option Tree) → AreWell (slots_of xs) → IfSome s IsWell → AreWell (slots_of (xs ++ s ∷ []))
 well_append [] None h w = tt
@@ -93,6 +94,17 @@ two_slots (Some t ∷ None ∷ None ∷ xs) ty m s h = absurd (cc)
 two_slots (Some t ∷ None ∷ Some u ∷ xs) ty m s h = absurd (cc)
 two_slots (Some t ∷ Some r ∷ None ∷ xs) ty m s h = absurd (cc)
 two_slots (Some t ∷ Some r ∷ Some u ∷ xs) ty m s h = absurd (cc)
+
+-- the two slots of a dictionary
+pub pair_slots : (xs : List (Option Tree)) (c s : DataType) (n k : ℕ) → shapes (slots_of xs) ≡ Some (shape c n) ∷ Some (shape s k) ∷ []
+    → (t : Tree) × (u : Tree) × (xs ≡ Some t ∷ Some u ∷ []) × (shape_of t ≡ shape c n) × (shape_of u ≡ shape s k)
+pair_slots [] c s n k h = absurd (cc)
+pair_slots (None ∷ xs) c s n k h = absurd (cc)
+pair_slots (Some t ∷ []) c s n k h = absurd (cc)
+pair_slots (Some t ∷ None ∷ xs) c s n k h = absurd (cc)
+pair_slots (Some t ∷ Some u ∷ []) c s n k h = (t, u, refl, cc, cc)
+pair_slots (Some t ∷ Some u ∷ None ∷ xs) c s n k h = absurd (cc)
+pair_slots (Some t ∷ Some u ∷ Some v ∷ xs) c s n k h = absurd (cc)
 
 pub none_there : (xs : List (Option Tree)) → shapes (slots_of xs) ≡ [] → xs ≡ []
 none_there [] h = refl
@@ -243,3 +255,22 @@ slot_below n (Some t ∷ xs) [] k d h e l lt = absurd (cc)
 slot_below n (Some t ∷ xs) (ty ∷ tys) zero d h e l lt = let same : len t ≡ n = cc in (same, omega arith)
 slot_below n (Some t ∷ xs) (ty ∷ tys) (suc k) d h e l lt =
     let rest : shapes (slots_of xs) ≡ map (λ s. Some (shape s n)) tys = cc in slot_below n xs tys k d h rest (omega arith) (omega arith)
+
+-- ---- what the slots are called
+
+slots_counted : (xs : List (Option Tree)) → slots_in (slots_of xs) ≡ length xs
+slots_counted [] = refl
+slots_counted (None ∷ xs) = omega (arith, slots_counted xs)
+slots_counted (Some t ∷ xs) = omega (arith, slots_counted xs)
+
+pub name_past : (t : Tree) (xs : List (Option Tree)) (i : ℕ) → slots_of xs ≡ slots t → length xs ≤ i → None ≡ name_at i t
+name_past (node ty n d ss) xs i e h =
+    sym (ap (λ b. if b then (meaning d).name i else None) (le-ltb i (slots_in ss) (omega (arith, h, ap slots_in e, slots_counted xs))))
+
+pub name_within : (t : Tree) (xs : List (Option Tree)) (d : Data) (i : ℕ) (x : Option (List ℕ)) → slots_of xs ≡ slots t → d ≡ datum t → i < length xs
+    → x ≡ (meaning d).name i → x ≡ name_at i t
+name_within (node ty n e ss) xs d i x h k l m =
+    m ∙ ap (λ z. (meaning z).name i) k
+    ∙ sym (ap (λ b. if b then (meaning e).name i else None) (lt-ltb i (slots_in ss) (omega (arith, l, ap slots_in h, slots_counted xs))))
+
+pub ruleset names = (name_past, name_within)

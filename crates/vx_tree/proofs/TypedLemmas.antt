@@ -1,5 +1,5 @@
 -- What the cells of a well-formed tree are: null only if its type is nullable, and else values of the kind that the type stores.
-use Rattle.std.proofs.Common.{◌≡◌, ℕ, zero, suc, ℤ, List, [], ◌∷◌, length, map, get_or, Bool, true, false, Option, Some, None}
+use Rattle.std.proofs.Common.{◌≡◌, ℕ, zero, suc, ℤ, pos, drop, List, [], ◌∷◌, length, map, get_or, Bool, true, false, Option, Some, None}
 use Rattle.std.proofs.Common.{refl, sym, ap, subst, ◌∙◌, if◌then◌else◌}
 use Rattle.std.specs.Prelude.{◌==◌, ◌&&◌}
 use Rattle.std.proofs.Math.Bool.{not}
@@ -7,7 +7,7 @@ use Rattle.std.specs.Cmp.{unsigned_Decides, first_so}
 use Rattle.std.specs.List.{All, AllByRecursion, AllZip, range_with_len}
 use Rattle.std.proofs.lemmas.Bool.{false≢true}
 use Rattle.std.proofs.lemmas.Option.{none-some}
-use Rattle.std.proofs.lemmas.List.Elements.{All-nil, All-cons, All-head, All-tail, All-take, All-drop, All-replicate, All-map, All-weaker}
+use Rattle.std.proofs.lemmas.List.Elements.{All-nil, All-cons, All-head, All-tail, All-take, All-drop, All-replicate, All-map, All-weaker, All-append}
 use Rattle.std.proofs.lemmas.List.Elements.{recursion_from_All}
 use Rattle.vx_value.specs.Types as type
 use Rattle.vx_value.specs.Types.{DataType, nullability_of, is_nullable}
@@ -52,8 +52,10 @@ use Rattle.vx_fn.proofs.LogicLemmas.{Knows, and_knows, or_knows}
 use Rattle.vx_fn.proofs.MeaningsLemmas.{nullable_by_argument}
 use Rattle.vx_tree.specs.ColumnTypes.{decimal_type, scale_of, bytes_type}
 use Rattle.vx_tree.specs.Tree as enc
-use Rattle.vx_tree.specs.Tree.{Tree, Data, Slots, node, no_slots, absent, slot, dtype, IsMasked}
-use Rattle.vx_tree.specs.Cells.{rows, slots_rows, node_cells, cells_at, row_at, valid_cell, valid_cells, shown_cell}
+use Rattle.vx_tree.specs.Tree.{Tree, Data, Slots, node, no_slots, absent, slot, dtype, IsMasked, IsDict}
+use Rattle.vx_tree.specs.Lookups.{taken, taken_cells, paired, paired_cells}
+use Rattle.vx_tree.specs.SlotTypes.{of_lengths}
+use Rattle.vx_tree.specs.Cells.{rows, slots_rows, node_cells, cells_at, chained, row_at, valid_cell, valid_cells, shown_cell}
 use Rattle.vx_tree.specs.Views.{bytes_at}
 use Rattle.vx_tree.specs.Well.{Shape, shape, shapes, IsValidity, IsFlat, IsNode, IsWell, AreWell}
 
@@ -405,6 +407,68 @@ bytes_fit : (s : Storage) (m : Nullability) (bs : List ℕ) → fits (bytes bs) 
 bytes_fit Text m bs = refl
 bytes_fit _ m bs = refl
 
+-- a value that a code names is null if the code is, so its type is nullable if the codes' is
+taken_fits : (c s : DataType) (vs : List Cell) (k : Cell) → AllFit s vs → CellFits c k → CellFits (widen c s) (taken vs k)
+taken_fits c s vs (value (integer (pos k))) h e =
+    let m = nullability_of c in
+    let n = nullability_of s in
+    set_fits (union m n) s (get_or vs k fault) (λ is. ap is_nullable (union_second m n is)) (fit_at s vs k h)
+taken_fits c s vs (value null) h e = set_nullable (union (nullability_of c) (nullability_of s)) s (ap is_nullable (union_first (nullability_of c) (nullability_of s) e))
+taken_fits c s vs _ h e = tt
+
+all_taken_fit : (c s : DataType) (vs ks : List Cell) → AllFit s vs → All (CellFits c) ks → All (CellFits (widen c s)) (taken_cells ks vs)
+all_taken_fit c s vs [] h e = All-nil (CellFits (widen c s))
+all_taken_fit c s vs (k ∷ ks) h e =
+    All-cons (CellFits (widen c s)) (taken vs k) (taken_cells ks vs) (taken_fits c s vs k h (All-head (CellFits c) k ks e))
+    (all_taken_fit c s vs ks h (All-tail (CellFits c) k ks e))
+
+-- the cells of slot 1
+next_fits : (css : List (List Cell)) (s ty : DataType) (m n : ℕ) (more : List (Option Shape)) → AllZip SlotFits css (Some (shape s m) ∷ Some (shape ty n) ∷ more)
+    → All (CellFits ty) (cells_at css 1)
+next_fits [] s ty m n more h = absurd h
+next_fits (cs ∷ css) s ty m n more h = first_fits css ty n _ more refl h.1
+
+dict_fits : (ty : DataType) (n : ℕ) (css : List (List Cell)) (ss : List (Option Shape)) → IsDict ty n ss → AllZip SlotFits css ss
+    → All (CellFits ty) (taken_cells (cells_at css 0) (cells_at css 1))
+dict_fits ty n css ss h k =
+    let c = h.0 in
+    let s = h.1 in
+    let fit = subst (AllZip SlotFits css) h.3 k in
+    let values = recursion_from_All (CellFits s) (cells_at css 1) (next_fits css c s n h.2 [] fit) in
+    subst (λ x. All (CellFits x) (taken_cells (cells_at css 0) (cells_at css 1))) (sym h.5)
+    (all_taken_fit c s (cells_at css 1) (cells_at css 0) values (first_fits css c n ss _ h.3 k))
+
+-- the cells of slots of one type
+chained_fit : (ty : DataType) (css : List (List Cell)) (ms : List ℕ) → AllZip SlotFits css (of_lengths ty ms) → All (CellFits ty) (chained css)
+chained_fit ty [] [] h = All-nil (CellFits ty)
+chained_fit ty [] (m ∷ ms) h = absurd h
+chained_fit ty (cs ∷ css) [] h = absurd h
+chained_fit ty (cs ∷ css) (m ∷ ms) h = All-append (CellFits ty) cs (chained css) h.0 (chained_fit ty css ms h.1)
+
+at_fit : (ty : DataType) (css : List (List Cell)) (ms : List ℕ) (i : ℕ) → AllZip SlotFits css (of_lengths ty ms) → AllFit ty (cells_at css i)
+at_fit ty [] [] i h = tt
+at_fit ty [] (m ∷ ms) i h = absurd h
+at_fit ty (cs ∷ css) [] i h = absurd h
+at_fit ty (cs ∷ css) (m ∷ ms) zero h = recursion_from_All (CellFits ty) cs h.0
+at_fit ty (cs ∷ css) (m ∷ ms) (suc i) h = at_fit ty css ms i h.1
+
+paired_fits : (ty : DataType) (css : List (List Cell)) (ms : List ℕ) (i k : Cell) → AllZip SlotFits css (of_lengths ty ms) → CellFits ty (paired css i k)
+paired_fits ty css ms (value (integer (pos i))) (value (integer (pos k))) h = fit_at ty (cells_at css i) k (at_fit ty css ms i h)
+paired_fits ty css ms _ _ h = tt
+
+all_paired_fit : (ty : DataType) (css : List (List Cell)) (ms : List ℕ) (is ks : List Cell) → AllZip SlotFits css (of_lengths ty ms)
+    → All (CellFits ty) (paired_cells css is ks)
+all_paired_fit ty css ms [] ks h = All-nil (CellFits ty)
+all_paired_fit ty css ms (i ∷ is) [] h = All-nil (CellFits ty)
+all_paired_fit ty css ms (i ∷ is) (k ∷ ks) h =
+    All-cons (CellFits ty) (paired css i k) (paired_cells css is ks) (paired_fits ty css ms i k h) (all_paired_fit ty css ms is ks h)
+
+-- the slots past the first two
+third_fits : (css : List (List Cell)) (s r : Option Shape) (more : List (Option Shape)) → AllZip SlotFits css (s ∷ r ∷ more) → AllZip SlotFits (drop 2 css) more
+third_fits [] s r more h = absurd h
+third_fits (cs ∷ []) s r more h = absurd h.1
+third_fits (cs ∷ ds ∷ css) s r more h = h.1.1
+
 -- a line for each encoding
 node_fits : (ty : DataType) (n : ℕ) (d : Data) (css : List (List Cell)) (ss : List (Option Shape)) → IsNode ty n d ss → AllZip SlotFits css ss
     → All (CellFits ty) (node_cells ty n d css)
@@ -414,6 +478,10 @@ node_fits ty n (enc.filter bits) css ss h k = chosen_fit ty bits (cells_at css 0
 node_fits ty n enc.masked css ss h k = masked_fits ty n css ss h k
 node_fits ty n enc.is_valid css ss h k = map_fits ty shown_cell (cells_at css 0) (λ c. shown_fits ty c h.2)
 node_fits ty n (enc.function f) css ss h k = map_fits ty (λ i. apply f ty (row_at css i)) (range_with_len 0 n) (λ i. function_fits f ty n css ss i h k)
+node_fits ty n enc.dict css ss h k = dict_fits ty n css ss h k
+node_fits ty n enc.chunked css ss h k = chained_fit ty css h.0 (subst (AllZip SlotFits css) h.1 k)
+node_fits ty n enc.interleave css ss h k =
+    all_paired_fit ty (drop 2 css) (h.2 ∷ h.3) (cells_at css 0) (cells_at css 1) (third_fits css _ _ _ (subst (AllZip SlotFits css) h.4 k))
 node_fits ty n enc.nulls css ss h k = All-replicate (CellFits ty) n (value null) (ap (λ t. is_nullable (nullability_of t)) h.0)
 node_fits ty n (enc.bool bs) css ss h k = column_fits _ bs (type.bool NonNullable) (length bs) ty n css ss (λ m b. refl) h k
 node_fits ty n (enc.primitive p zs) css ss h k = column_fits _ zs (type.primitive p NonNullable) (length zs) ty n css ss (λ m z. refl) h k

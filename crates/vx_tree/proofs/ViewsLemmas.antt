@@ -11,7 +11,7 @@ use Rattle.std.specs.Prelude.{slice_index_or, slice_get, Some, option_map}
 use Rattle.std.specs.List.{All, concat}
 use Rattle.std.proofs.Math.Seq.{drop-append_seam, take-append_seam}
 use Rattle.std.proofs.lemmas.Bool.{and_from, lt-ltb, le-leb}
-use Rattle.std.proofs.lemmas.List.{append_assoc, append-nil, take_all, length-drop, length-append, get_or_read, take-map, drop-map}
+use Rattle.std.proofs.lemmas.List.{append_assoc, append-nil, take_all, take-append-drop, length-drop, length-append, get_or_read, take-map, drop-map}
 use Rattle.std.proofs.lemmas.List.Elements.{All-nil, All-cons, All-head, All-tail, All-same, All-take, All-drop, All-weaker, All-replicate}
 use Rattle.std.proofs.lemmas.List.Folds.{concat-append}
 use Rattle.std.proofs.lemmas.List.Sums.{list_all-from_AllPass}
@@ -141,6 +141,24 @@ packed_empty rs n =
     ap₂ (λ vs b. viewed (views_from 0 rs ++ vs) (b ∷ [])) (sym (no_bytes start n)) (sym (ap (λ b. concat rs ++ b) (concat_none n) ∙ append-nil (concat rs)))
     ∙ packed_more rs (replicate n [])
 
+-- the first n of them
+start_at : (k : ℕ) (rs : List (List ℕ)) (n : ℕ) (other : View) → n < length rs
+    → View.start (slice_index_or (views_from k rs) n other) ≡ k + length (concat (take n rs))
+start_at k [] n other h = absurd (omega arith)
+start_at k (r ∷ rs) zero other h = omega arith
+start_at k (r ∷ rs) (suc n) other h = omega (arith, start_at (k + length r) rs n other (omega arith), length-append r (concat (take n rs)))
+
+first_views : (k : ℕ) (rs : List (List ℕ)) (n : ℕ) → take n (views_from k rs) ≡ views_from k (take n rs)
+first_views k [] zero = refl
+first_views k [] (suc n) = refl
+first_views k (r ∷ rs) zero = refl
+first_views k (r ∷ rs) (suc n) = ap (λ l. view_at k (length r) ∷ l) (first_views (k + length r) rs n)
+
+first_bytes : (rs : List (List ℕ)) (n : ℕ) → take (length (concat (take n rs))) (concat rs) ≡ concat (take n rs)
+first_bytes rs n =
+    let first = concat (take n rs) in
+    ap (take (length first)) (ap concat (sym (take-append-drop n rs)) ∙ concat-append (take n rs) (drop n rs)) ∙ take-append_seam first (concat (drop n rs))
+
 -- ---- a builder's views and bytes
 
 -- what is packed is packed of the rows that it shows
@@ -174,6 +192,16 @@ module _ (vs : List View) (bs : List ℕ) (is : viewed vs (bs ∷ []) ≡ packed
       ap (λ l. viewed l (bs ∷ [])) (views ∙ ap (λ x. vs ++ replicate n x) seen)
       ∙ ap₂ (λ l b. viewed (l ++ replicate n (view_at (length b) 0)) (b ∷ [])) the_views the_bytes
       ∙ packed_empty the_rows n
+
+  -- the first n alone
+  pub grown_first : (n : ℕ) (v other : View) → n < length vs → v ≡ slice_index_or vs n other
+      → viewed (take n vs) (take v.start bs ∷ []) ≡ packed (take n (rows_of (viewed vs (bs ∷ []))))
+  grown_first n v other within seen =
+      let first = take n the_rows in
+      let here : n < length the_rows = omega (arith, ap length the_views, length-views_from 0 the_rows) in
+      let start : v.start ≡ length (concat first) =
+      ap (λ w. View.start w) (seen ∙ ap (λ l. slice_index_or l n other) the_views) ∙ start_at 0 the_rows n other here ∙ omega arith in
+      ap₂ (λ l b. viewed l (b ∷ [])) (ap (take n) the_views ∙ first_views 0 the_rows n) (ap₂ take start the_bytes ∙ first_bytes the_rows n)
 
   -- its views lie in its bytes
   pub builder_lies : AllLieIn (bs ∷ []) vs

@@ -3,7 +3,7 @@ use Rattle.std.specs.Prelude.{ℕ, List, [], ◌∷◌}
 use Rattle.vx_value.specs.Types.{DataType}
 use Rattle.vx_value.specs.Cell.{Cell, value, fault}
 use Rattle.vx_tree.specs.Tree.{Tree, Data, Slots, node, no_slots, absent, slot, meaning}
-pub use Rattle.vx_tree.specs.SlotCells.{cells_at, row_at, valid_cell, valid_cells, shown_cell}
+pub use Rattle.vx_tree.specs.SlotCells.{cells_at, chained, row_at, valid_cell, valid_cells, shown_cell}
 
 -- the cells of a node, from those of its slots
 abbrev pub node_cells : DataType → ℕ → Data → List (List Cell) → List Cell

@@ -1,7 +1,7 @@
 -- What bounds the turns of an execution.
-use Rattle.std.specs.Prelude.{ℕ, zero, suc, ◌+◌, ◌*◌, Bool, true, false, List, [], ◌∷◌}
+use Rattle.std.specs.Prelude.{ℕ, zero, suc, ◌+◌, Bool, true, false, List, [], ◌∷◌}
 use Rattle.vx_tree.specs.Tree.{Tree, Data, Slots, node, no_slots, absent, slot, meaning}
-pub use Rattle.vx_tree.specs.Charges.{Executed, none, first, all, all_reached, extended, Charge}
+pub use Rattle.vx_tree.specs.Charges.{Executed, none, first, all, all_reached, Charge}
 
 abbrev pub charge : Data → Charge
 charge d = (meaning d).charge
@@ -36,7 +36,7 @@ listed false n ns = ns
 -- how far a slice may have to be pushed down, less one
 abbrev mutual
   pub extra : Tree → ℕ
-  extra (node ty n d ss) = extended (charge d).extent (slots_extra (executed d) ss)
+  extra (node ty n d ss) = (charge d).extra (slots_extra (executed d) ss)
 
   pub slots_extra : Executed → Slots → List ℕ
   slots_extra e no_slots = []
@@ -51,17 +51,18 @@ abbrev pub base_cost : Data → ℕ
 base_cost d = (charge d).own
 
 abbrev pub slot_cost : Data → ℕ → ℕ → ℕ
-slot_cost d c e = c + 1 + (charge d).by_reach * e
+slot_cost d c e = (charge d).for_slot c e
 
 -- a bound on the turns that an execution of the tree takes
 abbrev mutual
   pub cost : Tree → ℕ
-  cost (node ty n d ss) = base_cost d + slots_cost d (executed d) ss
+  cost (node ty n d ss) = base_cost d + slots_cost (slot_cost d) (executed d) ss
 
-  pub slots_cost : Data → Executed → Slots → ℕ
-  slots_cost d e no_slots = 0
-  slots_cost d e (absent ss) = slots_cost d (after e) ss
-  slots_cost d e (slot t ss) = counted (is_next e) (slot_cost d (cost t) (extra t)) + slots_cost d (after e) ss
+  -- of the executed slots, each by its cost and extra
+  pub slots_cost : (ℕ → ℕ → ℕ) → Executed → Slots → ℕ
+  slots_cost turns e no_slots = 0
+  slots_cost turns e (absent ss) = slots_cost turns (after e) ss
+  slots_cost turns e (slot t ss) = counted (is_next e) (turns (cost t) (extra t)) + slots_cost turns (after e) ss
 
 -- a number for each tree in the slots, added up
 abbrev pub slots_sum : (Tree → ℕ) → Slots → ℕ

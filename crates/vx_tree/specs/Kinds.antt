@@ -19,6 +19,10 @@ IsKindOf (kind.Masked c v) t = (t ≡ enc.masked_of c.now v.now) × IsNodeOf t
 IsKindOf (kind.ScalarFnValidity c) t = t ≡ enc.validity_in c.now
 IsKindOf (kind.ScalarFn f ss) t =
     (t ≡ node (dtype t) (len t) (enc.function f.now) (slots_of ss.now)) × IsNode (dtype t) (len t) (enc.function f.now) (shapes (slots_of ss.now))
+IsKindOf (kind.Dict k v) t = (t ≡ enc.dict_of k.now v.now) × IsNodeOf t
+IsKindOf (kind.Chunked ss) t = (t ≡ node (dtype t) (len t) enc.chunked (slots_of ss.now)) × IsNode (dtype t) (len t) enc.chunked (shapes (slots_of ss.now))
+IsKindOf (kind.Interleave ss) t =
+    (t ≡ node (dtype t) (len t) enc.interleave (slots_of ss.now)) × IsNode (dtype t) (len t) enc.interleave (shapes (slots_of ss.now))
 IsKindOf kind.Null t = t ≡ enc.nulls_of (len t)
 IsKindOf (kind.Bool bs v) t = (t ≡ column (dtype t) (len t) (enc.bool bs.now) v.now) × IsNodeOf t
 IsKindOf (kind.Primitive vs v) t = (t ≡ column (dtype t) (len t) (enc.primitive (ptype_of vs.now) (values_of vs.now)) v.now) × IsNodeOf t

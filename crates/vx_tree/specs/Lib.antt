@@ -11,7 +11,10 @@ pub mod ColumnTypes
 pub mod Conditions
 pub mod Shapes
 pub mod SlotCells
+pub mod Lookups
 pub mod SlotRefusals
+pub mod SlotTypes
+pub mod Names
 pub mod SlotValidities
 pub mod Charges
 pub mod Meanings

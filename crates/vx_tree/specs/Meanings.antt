@@ -1,5 +1,5 @@
 -- What the data of a node mean.
-use Rattle.std.specs.Prelude.{ℕ, List, [], ◌∷◌, Option, codes}
+use Rattle.std.specs.Prelude.{ℕ, List, [], ◌∷◌, slice_get, Option, codes}
 use Rattle.vx_value.specs.Types.{DataType}
 use Rattle.vx_value.specs.Cell.{Cell}
 use Rattle.vx_value.specs.declared.dtype.Nullability.TheVariants.{Nullable}
@@ -15,8 +15,8 @@ use Rattle.vx_tree.specs.declared.validity.Validity.{Validity}
 -- of a node, from its type and its n rows
 pub record Meaning : Type 1 where
   pub id : Id
-  -- what the slots are called, in their order
-  pub names : List (List ℕ)
+  -- what slot i is called
+  pub name : ℕ → Option (List ℕ)
   -- the conditions on the node, its slots' own apart
   pub IsNode : DataType → ℕ → List (Option Shape) → Type 0
   -- why no node is made under an id, None if one is
@@ -32,7 +32,7 @@ abbrev pub column_meaning : Id → (DataType → ℕ → List (Option Shape) →
     → (DataType → List Cell) → Meaning
 column_meaning i condition refused stored = record {
   id = i;
-  names = codes "validity" ∷ [];
+  name = slice_get (codes "validity" ∷ []);
   IsNode = condition;
   refusal = λ i. refused;
   cells = λ ty n css. valid_cells (cells_at css 0) (stored ty);

@@ -1,5 +1,5 @@
 -- The cells of a node's slots, and cells masked by a validity.
-use Rattle.std.specs.Prelude.{ℕ, zero, suc, true, false, List, [], ◌∷◌, map, slice_index_or}
+use Rattle.std.specs.Prelude.{ℕ, zero, suc, true, false, List, [], ◌∷◌, ◌++◌, map, slice_index_or}
 use Rattle.vx_value.specs.Values.{null, boolean}
 use Rattle.vx_value.specs.Cell.{Cell, value, fault}
 
@@ -8,6 +8,11 @@ abbrev pub cells_at : List (List Cell) → ℕ → List Cell
 cells_at [] k = []
 cells_at (cs ∷ css) zero = cs
 cells_at (cs ∷ css) (suc k) = cells_at css k
+
+-- the cells of the slots, one slot after the other
+abbrev pub chained : List (List Cell) → List Cell
+chained [] = []
+chained (cs ∷ css) = cs ++ chained css
 
 -- row i of each slot, a fault if the slot has no such row
 abbrev pub row_at : List (List Cell) → ℕ → List Cell

@@ -1,6 +1,6 @@
 -- A tree with one slot replaced, a node with a slot taken out, and all slots mapped.
-use Rattle.std.specs.Prelude.{◌≡◌, ℕ, zero, suc, ◌+◌, List, [], ◌∷◌}
-use Rattle.vx_tree.specs.Tree.{Tree, Slots, node, no_slots, absent, slot}
+use Rattle.std.specs.Prelude.{◌≡◌, ℕ, zero, suc, ◌+◌, List, [], ◌∷◌, nat_lt, if◌then◌else◌, Option, None}
+use Rattle.vx_tree.specs.Tree.{Tree, Slots, node, no_slots, absent, slot, meaning}
 
 -- slot i replaced
 abbrev pub set_slot : ℕ → Tree → Slots → Slots
@@ -47,6 +47,33 @@ HoldsAt (suc i) t (slot s ss) = HoldsAt i t ss
 abbrev pub HasSlot : ℕ → Tree → Tree → Type 0
 HasSlot i t (node ty n d ss) = HoldsAt i t ss
 
+-- no slot holds a tree
+abbrev pub AllAbsent : Slots → Type 0
+AllAbsent no_slots = Unit {0}
+AllAbsent (absent ss) = AllAbsent ss
+AllAbsent (slot s ss) = ⊥
+
+-- none of the first k slots holds a tree
+abbrev pub NoneBefore : ℕ → Slots → Type 0
+NoneBefore zero ss = Unit {0}
+NoneBefore (suc k) no_slots = Unit {0}
+NoneBefore (suc k) (absent ss) = NoneBefore k ss
+NoneBefore (suc k) (slot s ss) = ⊥
+
+-- slot i is the first that holds a tree
+abbrev pub IsFirstAt : ℕ → Slots → Type 0
+IsFirstAt i no_slots = ⊥
+IsFirstAt zero (absent ss) = ⊥
+IsFirstAt zero (slot s ss) = Unit {0}
+IsFirstAt (suc i) (absent ss) = IsFirstAt i ss
+IsFirstAt (suc i) (slot s ss) = ⊥
+
+-- the slots that hold a tree, in order
+abbrev pub present_slots : Slots → Slots
+present_slots no_slots = no_slots
+present_slots (absent ss) = present_slots ss
+present_slots (slot s ss) = slot s (present_slots ss)
+
 -- each tree replaced
 abbrev pub map_slots : (Tree → Tree) → Slots → Slots
 map_slots f no_slots = no_slots
@@ -67,3 +94,7 @@ abbrev pub count_slots : Slots → ℕ
 count_slots no_slots = 0
 count_slots (absent ss) = count_slots ss + 1
 count_slots (slot t ss) = count_slots ss + 1
+
+-- what slot i of a tree's root is called, None if there is no such slot
+abbrev pub name_at : ℕ → Tree → Option (List ℕ)
+name_at i (node ty n d ss) = if nat_lt i (count_slots ss) then (meaning d).name i else None

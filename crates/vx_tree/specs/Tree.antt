@@ -6,13 +6,16 @@ pub mod Filter
 pub mod Masked
 pub mod ScalarFnValidity
 pub mod ScalarFn
+pub mod Dict
+pub mod Chunked
+pub mod Interleave
 pub mod Null
 pub mod Bool
 pub mod Primitive
 pub mod Decimal
 pub mod VarBinView
 use Rattle.std.specs.Prelude as prelude
-use Rattle.std.specs.Prelude.{◌||◌, ℕ, List}
+use Rattle.std.specs.Prelude.{◌||◌}
 use Rattle.vx_value.specs.declared.id.Id.{Id}
 use Rattle.vx_tree.specs.Meanings.{Meaning}
 pub use Rattle.vx_tree.specs.Tree.Nodes.{Data, Tree, node, Slots, no_slots, absent, slot, slots_of, filled_slots, column, dtype, len, datum, slots}
@@ -24,6 +27,10 @@ pub use Rattle.vx_tree.specs.Tree.Masked.{masked, masked_of, is_masked, IsMasked
 pub use Rattle.vx_tree.specs.Tree.ScalarFnValidity.{is_valid, validity_in, is_validity, validity_refusal, validity_meaning}
 pub use Rattle.vx_tree.specs.Tree.ScalarFn.{function, call_of, is_function, all_present, types_in, all_long, arity_refusal, result_refusal, slots_refusal}
 pub use Rattle.vx_tree.specs.Tree.ScalarFn.{types_refusal, lengths_refusal, function_refusal, function_meaning}
+pub use Rattle.vx_tree.specs.Tree.Dict.{dict, dict_of, is_dict, codes_refusal, named_refusal, pair_refusal, dict_refusal, IsDict, dict_meaning}
+pub use Rattle.vx_tree.specs.Tree.Chunked.{chunked, chunked_of, is_chunked, joined_refusal, chunks_refusal, chunked_refusal, IsChunked, chunked_meaning}
+pub use Rattle.vx_tree.specs.Tree.Interleave.{interleave, first_type, interleave_of, is_interleave, index_refusal, indices_refusal, present_refusal, interleave_refusal}
+pub use Rattle.vx_tree.specs.Tree.Interleave.{interleaved_refusal, IsInterleave, interleave_name, interleave_meaning}
 pub use Rattle.vx_tree.specs.Tree.Null.{nulls, nulls_of, is_nulls, nulls_refusal, nulls_meaning}
 pub use Rattle.vx_tree.specs.Tree.Bool.{bool, booleans, is_bool, bool_meaning}
 pub use Rattle.vx_tree.specs.Tree.Primitive.{primitive, integers, is_primitive, primitive_meaning}
@@ -38,6 +45,9 @@ meaning (filter bits) = filter_meaning bits
 meaning masked = masked_meaning
 meaning is_valid = validity_meaning
 meaning (function f) = function_meaning f
+meaning dict = dict_meaning
+meaning chunked = chunked_meaning
+meaning interleave = interleave_meaning
 meaning nulls = nulls_meaning
 meaning (bool bs) = bool_meaning bs
 meaning (primitive p zs) = primitive_meaning p zs
@@ -47,10 +57,6 @@ meaning (views rs) = views_meaning rs
 -- the id of a node
 abbrev pub id_of : Data → Id
 id_of d = (meaning d).id
-
--- what its slots are called, in their order
-abbrev pub slot_names : Data → List (List ℕ)
-slot_names d = (meaning d).names
 
 -- the encodings that hold their rows themselves, beside a validity
 abbrev pub is_flat : Data → prelude.Bool

@@ -1,5 +1,7 @@
 -- The integers that the numbers in a vector stand for, and their type.
-use Rattle.std.specs.Prelude.{ℤ, pos, List, map}
+use Rattle.std.specs.Prelude.{ℕ, ℤ, pos, Bool, List, map, length, slice_index_or, if◌then◌else◌}
+use Rattle.std.specs.List.{range_with_len}
+use Rattle.vx_mask.specs.Logic.{bit_row}
 use Rattle.vx_tree.specs.declared.native.native.NativeType.{NativeType}
 use Rattle.vx_tree.specs.declared.native.native.NativeType.TheVariants as native
 use Rattle.vx_tree.specs.declared.native.vec.AnyVec.{AnyVec}
@@ -26,3 +28,11 @@ native_of_vec (I16 xs) = native.I16
 native_of_vec (I32 xs) = native.I32
 native_of_vec (I64 xs) = native.I64
 native_of_vec (I128 xs) = native.I128
+
+-- number i if its bit is true, else 0
+abbrev pub valid_number : List Bool → List ℤ → ℕ → ℤ
+valid_number bits zs i = if bit_row bits i then slice_index_or zs i (pos 0) else pos 0
+
+-- the numbers, 0 in place of each whose bit is false
+abbrev pub valid_numbers : List Bool → List ℤ → List ℤ
+valid_numbers bits zs = map (valid_number bits zs) (range_with_len 0 (length zs))

@@ -2,11 +2,11 @@
 use Rattle.std.specs.Prelude.{ℕ, List, [], ◌∷◌}
 use Rattle.vx_tree.specs.Tree.{Tree, Data, Slots, node, no_slots, absent, slot}
 use Rattle.vx_tree.specs.Cost.{charge}
-pub use Rattle.vx_tree.specs.Charges.{total, excess, column_weight, times, weighed}
+pub use Rattle.vx_tree.specs.Charges.{total, excess, column_weight, times}
 
 -- the weight of a node of n rows, from those of its slots
 abbrev pub node_weight : ℕ → Data → List ℕ → ℕ
-node_weight n d ws = weighed (charge d).weighing n ws
+node_weight n d ws = (charge d).weight n ws
 
 abbrev mutual
   pub weight : Tree → ℕ

@@ -15,36 +15,104 @@ mod types;
 mod validity;
 mod views;
 
-pub use array::{
-    Array, ArrayId, ArrayKind, ArrayParts, ArrayRef, ArraySlots, ArrayVTable, ArrayView, Encoded,
-    Encoding, EncodingKind, EncodingVariant, IntoArray, Node, VTable,
-};
-pub use arrays::boolean::{Bool, BoolArray, BoolData};
-pub use arrays::constant::{Constant, ConstantArray, ConstantData};
-pub use arrays::decimal::{Decimal, DecimalArray, DecimalData};
-pub use arrays::filter::{Filter, FilterArray, FilterData, FilterDataParts};
-pub use arrays::masked::{Masked, MaskedArray, MaskedData};
-pub use arrays::null::{Null, NullArray};
-pub use arrays::primitive::{Primitive, PrimitiveArray, PrimitiveData};
-pub use arrays::scalar_fn::{ScalarFn, ScalarFnArray, ScalarFnData};
-pub use arrays::scalar_fn_validity::{EmptyArrayData, ScalarFnValidity, ScalarFnValidityArray};
-pub use arrays::slice::{Slice, SliceArray, SliceData, SliceDataParts};
-pub use arrays::varbinview::{VarBinView, VarBinViewArray, VarBinViewData, bytes_type};
-pub use canonical::{Canonical, CanonicalView, Columnar, ColumnarView, slice_canonical};
-pub use laws::{
-    choice_laws, column_laws, execution_bounds, keeping_laws, node_validity_laws, refused_exactly,
-    validity_laws, weight_laws,
-};
-pub use matcher::{AnyArray, AnyCanonical, AnyColumnar, AnyScalarFn, Matcher};
-pub use native::{
-    DecimalType, DecimalValues, NativeBuffer, NativeDecimalType, NativeInteger, NativeKind,
-    NativeNumber, NativeType, NativeValues, NativeVec, PType, PrimitiveValues, narrowed, native_of,
-};
+pub use array::Array;
+pub use array::ArrayId;
+pub use array::ArrayKind;
+pub use array::ArrayParts;
+pub use array::ArrayRef;
+pub use array::ArraySlots;
+pub use array::ArrayVTable;
+pub use array::ArrayView;
+pub use array::Encoded;
+pub use array::Encoding;
+pub use array::EncodingKind;
+pub use array::EncodingVariant;
+pub use array::IntoArray;
+pub use array::Node;
+pub use array::SlotName;
+pub use array::VTable;
+pub use arrays::boolean::Bool;
+pub use arrays::boolean::BoolArray;
+pub use arrays::boolean::BoolData;
+pub use arrays::chunked::Chunked;
+pub use arrays::chunked::ChunkedArray;
+pub use arrays::constant::Constant;
+pub use arrays::constant::ConstantArray;
+pub use arrays::constant::ConstantData;
+pub use arrays::decimal::Decimal;
+pub use arrays::decimal::DecimalArray;
+pub use arrays::decimal::DecimalData;
+pub use arrays::dict::Dict;
+pub use arrays::dict::DictArray;
+pub use arrays::filter::Filter;
+pub use arrays::filter::FilterArray;
+pub use arrays::filter::FilterData;
+pub use arrays::filter::FilterDataParts;
+pub use arrays::interleave::Interleave;
+pub use arrays::interleave::InterleaveArray;
+pub use arrays::masked::Masked;
+pub use arrays::masked::MaskedArray;
+pub use arrays::masked::MaskedData;
+pub use arrays::null::Null;
+pub use arrays::null::NullArray;
+pub use arrays::primitive::Primitive;
+pub use arrays::primitive::PrimitiveArray;
+pub use arrays::primitive::PrimitiveData;
+pub use arrays::scalar_fn::ScalarFn;
+pub use arrays::scalar_fn::ScalarFnArray;
+pub use arrays::scalar_fn::ScalarFnData;
+pub use arrays::scalar_fn_validity::EmptyArrayData;
+pub use arrays::scalar_fn_validity::ScalarFnValidity;
+pub use arrays::scalar_fn_validity::ScalarFnValidityArray;
+pub use arrays::slice::Slice;
+pub use arrays::slice::SliceArray;
+pub use arrays::slice::SliceData;
+pub use arrays::slice::SliceDataParts;
+pub use arrays::varbinview::VarBinView;
+pub use arrays::varbinview::VarBinViewArray;
+pub use arrays::varbinview::VarBinViewData;
+pub use arrays::varbinview::bytes_type;
+pub use canonical::Canonical;
+pub use canonical::CanonicalView;
+pub use canonical::Columnar;
+pub use canonical::ColumnarView;
+pub use canonical::slice_canonical;
+pub use laws::choice_laws;
+pub use laws::column_laws;
+pub use laws::execution_bounds;
+pub use laws::keeping_laws;
+pub use laws::node_validity_laws;
+pub use laws::refused_exactly;
+pub use laws::validity_laws;
+pub use laws::weight_laws;
+pub use matcher::AnyArray;
+pub use matcher::AnyCanonical;
+pub use matcher::AnyColumnar;
+pub use matcher::AnyScalarFn;
+pub use matcher::Matcher;
+pub use native::DecimalType;
+pub use native::DecimalValues;
+pub use native::NativeBuffer;
+pub use native::NativeDecimalType;
+pub use native::NativeInteger;
+pub use native::NativeKind;
+pub use native::NativeNumber;
+pub use native::NativeType;
+pub use native::NativeValues;
+pub use native::NativeVec;
+pub use native::PType;
+pub use native::PrimitiveValues;
+pub use native::narrowed;
+pub use native::native_of;
 pub use node_validity::and_lazily;
 pub use suspended::Suspended;
 pub use types::is_same_type;
-pub use validity::{
-    Validity, child_to_validity, choose_validity, slice_validity, validity_nchildren,
-    validity_to_child,
-};
-pub use views::{BinaryBuilder, BinaryViews, View};
+pub use validity::Validity;
+pub use validity::child_to_validity;
+pub use validity::choose_validity;
+pub use validity::slice_validity;
+pub use validity::validity_nchildren;
+pub use validity::validity_to_child;
+pub use views::BinaryBuilder;
+pub use views::BinaryViews;
+pub use views::View;

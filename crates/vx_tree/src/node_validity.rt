@@ -32,7 +32,7 @@ impl ArrayRef {
 }
 
 /// Returns which rows of `array` are null: a line for each encoding. Fails only with `OutOfMemory`.
-#[tactic(auto, using(crate::proofs::ScalarFnLemmas::function_told))]
+#[tactic(auto, using(crate::proofs::ScalarFnLemmas::told_by_test))]
 fn node_validity(alloc: Global, array: &ArrayRef) -> VortexResult<Validity>
     ensures ok { IfOk result (λ v. v ≡ node_validity array.now) }
     ensures err { OnlyOutOfMemory result }
@@ -59,6 +59,9 @@ fn node_validity(alloc: Global, array: &ArrayRef) -> VortexResult<Validity>
         }
         ArrayKind::ScalarFnValidity(_) => Ok(Validity::NonNullable),
         ArrayKind::ScalarFn(_, _) => test_lazily(alloc, array),
+        ArrayKind::Dict(_, _) => test_lazily(alloc, array),
+        ArrayKind::Chunked(_) => test_lazily(alloc, array),
+        ArrayKind::Interleave(_) => test_lazily(alloc, array),
         ArrayKind::Null => Ok(Validity::AllInvalid),
         ArrayKind::Bool(_, own)
         | ArrayKind::Primitive(_, own)

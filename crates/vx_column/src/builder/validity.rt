@@ -1,7 +1,8 @@
 //! Which rows of a growing column aren't null.
 
 ghost use Rattle.std.specs.Prelude.{◌≡◌, ◌+◌, ◌≤◌, ◌<◌, ◌^◌, ◌++◌, [], false, IfOk, OnOk, OnErr, length, replicate, take};
-ghost use Rattle.vx_column.specs.Growing.{padded, told_rows};
+ghost use Rattle.vx_column.specs.ValidRows.{HasValidity};
+ghost use Rattle.vx_column.specs.Growing.{padded, told_more, told_rows};
 
 use crate::rows::ValidRows;
 use std::alloc::{AllocError, Global};
@@ -54,6 +55,32 @@ impl ValidityBuilder {
     {
         self.bits.push_copies(true, rows - self.len)?;
         if let Err(e) = self.bits.push_copies(false, count) {
+            self.bits.truncate(self.len);
+            return Err(e);
+        }
+        self.len = rows + count;
+        Ok(())
+    }
+
+    /// Appends `count` rows, null if they aren't `valid`, to `rows` rows. Takes no memory if all are valid. Fails only if there is
+    /// no memory for their bits; these are then unchanged.
+    pub(super) fn push_valid(
+        &mut self,
+        rows: usize,
+        valid: &ValidRows,
+        count: usize,
+    ) -> Result<(), AllocError>
+        requires within { length self.old ≤ rows }
+        requires fits { rows + count < 2 ^ 64 }
+        requires sized { HasValidity valid.now count }
+        ensures ok { OnOk result (self.new ≡ told_more rows self.old valid.now) }
+        ensures err { OnErr result (self.new ≡ self.old) }
+    {
+        let ValidRows::Bits(bits) = valid else {
+            return Ok(());
+        };
+        self.bits.push_copies(true, rows - self.len)?;
+        if let Err(e) = self.bits.append(bits) {
             self.bits.truncate(self.len);
             return Err(e);
         }

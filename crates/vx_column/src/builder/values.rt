@@ -9,9 +9,13 @@ ghost use Rattle.vx_tree.specs.Validities.{HasRows};
 ghost use Rattle.vx_value.specs.View.{type_of, value_of};
 ghost use Rattle.vx_value.specs.Storage.{storage_of};
 ghost use Rattle.vx_value.specs.declared.dtype.Storage.{Storage as StorageOf};
-ghost use Rattle.vx_column.specs.Growing.{stored_values, zero_in, HaveStorage, Accepts, IsColumnOf};
+ghost use Rattle.vx_column.specs.Growing.{stored_values, zero_in, HaveStorage, Accepts, AcceptRows, values_or, IsColumnOf};
+ghost use Rattle.vx_column.specs.ValidRows.{HasValidity};
 
-use crate::rows::{bool_column, decimal_column, primitive_column, varbinview_column};
+use crate::builder::rows::{push_bits, push_bytes, push_decimals, push_integers};
+use crate::rows::{
+    ArgumentRows, ValidRows, bool_column, decimal_column, primitive_column, varbinview_column,
+};
 use std::alloc::Global;
 use vx_mask::BitBuilder;
 use vx_tree::{BinaryBuilder, Canonical, NativeVec, NullArray, Validity};
@@ -100,6 +104,46 @@ impl Values {
             Values::Bytes(rows) => rows.push_empty(count),
         }
     }
+
+    /// Appends `len` rows, which must be of the kind of the others, with the value under a null in place of each that isn't `valid`.
+    /// Fails only with `OutOfMemory`; the values are then unchanged.
+    pub(super) fn push_rows(
+        &mut self,
+        alloc: Global,
+        rows: ArgumentRows<'_>,
+        valid: &ValidRows,
+        len: usize,
+    ) -> VortexResult<()>
+        requires rows { AcceptRows self.old rows len }
+        requires valid { HasValidity valid.now len }
+        requires fits { length (stored_values self.old) + len < 2 ^ 64 }
+        ensures ok { OnOk result (stored_values self.new ≡ stored_values self.old ++ values_or (zero_in self.old) rows.entry valid.now len) }
+        ensures err { OnErr result (stored_values self.new ≡ stored_values self.old) }
+        ensures memory { OnlyOutOfMemory result }
+        ensures zero { zero_in self.new ≡ zero_in self.old }
+        ensures stored { (st : StorageOf) → HaveStorage st self.old → HaveStorage st self.new }
+    {
+        match (self, rows) {
+            (Values::Nulls(count), ArgumentRows::Nulls) => {
+                *count += len;
+                Ok(())
+            }
+            (Values::Bits(kept), ArgumentRows::Bits(bits)) => {
+                push_bits(kept, alloc, bits, valid, len)
+            }
+            (Values::Integers(kept), ArgumentRows::Integers(integers)) => {
+                push_integers(kept, alloc, integers, valid, len)
+            }
+            (Values::Decimals(kept, _), ArgumentRows::Decimals(decimals)) => {
+                push_decimals(kept, alloc, decimals, valid, len)
+            }
+            (Values::Bytes(kept), ArgumentRows::Bytes(bytes)) => {
+                push_bytes(kept, bytes, valid, len)
+            }
+            _ => unreachable!(),
+        }
+    }
+
     /// Returns the column of the values, which are of type `dtype`, without copying them; `validity` says which rows are null.
     /// Fails only with `OutOfMemory`.
     pub(super) fn finish(

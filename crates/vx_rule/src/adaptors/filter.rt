@@ -1,4 +1,4 @@
-//! Filters of a child: the rows F5 to F8.
+//! Filters of a child: the rows F5 to F9.
 
 ghost use Rattle.std.specs.Prelude.{◌≡◌, Some, length};
 ghost use Rattle.vx_mask.specs.Masks.{bits_in};

@@ -3,6 +3,7 @@
 mod call;
 mod filter;
 mod slice;
+mod take;
 
 pub use call::{
     BetweenReduce, BetweenReduceAdaptor, CastReduce, CastReduceAdaptor, FillNullReduce,
@@ -10,3 +11,4 @@ pub use call::{
 };
 pub use filter::{FilterReduce, FilterReduceAdaptor};
 pub use slice::{SliceReduce, SliceReduceAdaptor};
+pub use take::{TakeReduce, TakeReduceAdaptor};

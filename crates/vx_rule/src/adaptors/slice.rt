@@ -1,4 +1,4 @@
-//! Slices of a child: the rows S1 to S5.
+//! Slices of a child: the rows S1 to S6.
 
 ghost use Rattle.std.specs.Prelude.{◌≡◌, ◌≤◌, ◌<◌, Some, true};
 ghost use Rattle.vx_tree.specs.Tree.{Data, len, datum, slice_of};
@@ -70,7 +70,7 @@ fn slice_of_child<V: SliceReduce>(
     V::slice(alloc, child, range)
 }
 
-/// The start of rows S1 to S5: a slice of all rows is the child.
+/// The start of rows S1 to S6: a slice of all rows is the child.
 #[tactic(auto, using(crate::proofs::FitsLemmas::fit_S_whole))]
 fn whole(alloc: Global, child: &ArrayRef, range: Range<usize>) -> VortexResult<Option<RawNode>>
     requires lets { lets_slice (datum child.now) ≡ true }
@@ -80,7 +80,7 @@ fn whole(alloc: Global, child: &ArrayRef, range: Range<usize>) -> VortexResult<O
     Ok(Some(RawNode::done(alloc, child.clone()?)))
 }
 
-/// The start of rows S1 to S5: a slice of no rows is the empty column.
+/// The start of rows S1 to S6: a slice of no rows is the empty column.
 #[tactic(auto, using(crate::proofs::FitsLemmas::fit_S_empty))]
 fn empty(alloc: Global, child: &ArrayRef, range: Range<usize>) -> VortexResult<Option<RawNode>>
     requires lets { lets_slice (datum child.now) ≡ true }

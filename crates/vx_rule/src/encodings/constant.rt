@@ -3,8 +3,12 @@
 ghost use Rattle.std.specs.Prelude.{◌≡◌, Some, None, IfOk, IfSome, IfNone, true};
 ghost use Rattle.vx_value.specs.Errors.{OnlyOutOfMemory};
 ghost use Rattle.vx_mask.specs.Masks.{bits_in};
-ghost use Rattle.vx_tree.specs.Tree.{datum, slots_of, slice_of, filter_of, is_constant};
-ghost use Rattle.vx_rule.specs.Rules.{IsPartOf};
+ghost use Rattle.vx_value.specs.Types.{nullability_of};
+ghost use Rattle.vx_value.specs.IsOf.{is_of};
+ghost use Rattle.vx_tree.specs.Tree.{dtype, len, datum, slots_of, slice_of, filter_of, dict_of, is_constant};
+ghost use Rattle.vx_tree.specs.Validities.{nullability_by, HasRows};
+ghost use Rattle.vx_tree.specs.declared.validity.Validity.TheVariants.{Array as ValidityArray};
+ghost use Rattle.vx_rule.specs.Rules.{IsPartOf, constants, masked_by, named_by};
 ghost use Rattle.vx_rule.specs.Tags.{applies};
 ghost use Rattle.vx_rule.specs.Constants.{folds, slot_value, constant_values};
 ghost use Rattle.vx_rule.specs.Answers.{Answers};
@@ -13,10 +17,10 @@ ghost use Rattle.vx_rule.specs.SliceLaws.{constant_lets};
 use crate::adaptors::{
     BetweenReduce, BetweenReduceAdaptor, CastReduce, CastReduceAdaptor, FillNullReduce,
     FillNullReduceAdaptor, FilterReduce, FilterReduceAdaptor, NotReduce, NotReduceAdaptor,
-    SliceReduce, SliceReduceAdaptor,
+    SliceReduce, SliceReduceAdaptor, TakeReduce, TakeReduceAdaptor,
 };
 use crate::encodings::parent_rules;
-use crate::nodes::{constant_like, function_parts};
+use crate::nodes::{constant_like, function_parts, masked_node, repeated};
 use crate::raw_node::RawNode;
 use crate::rule::DynArrayParentReduceRule;
 use crate::rule_set::ReduceVTable;
@@ -24,8 +28,10 @@ use std::alloc::Global;
 use std::ops::Range;
 use vx_fn::{BetweenOptions, apply_row};
 use vx_mask::Mask;
-use vx_tree::{ArrayKind, ArrayRef, ArrayView, Constant, ConstantArray, IntoArray, VTable};
-use vx_value::{DType, Scalar, VortexError, VortexResult};
+use vx_tree::{
+    ArrayKind, ArrayRef, ArrayView, Constant, ConstantArray, IntoArray, VTable, Validity,
+};
+use vx_value::{DType, Nullability, Scalar, VortexError, VortexResult};
 
 impl ReduceVTable for Constant {
     #[tactic(auto, using(crate::proofs::QuietLemmas::own_quiet))]
@@ -41,7 +47,7 @@ impl ReduceVTable for Constant {
         slot: usize,
     ) -> VortexResult<Option<RawNode>> {
         parent_rules!(Constant, alloc, child, parent, slot; BetweenReduceAdaptor, CastReduceAdaptor, FillNullReduceAdaptor,
-            FilterReduceAdaptor, NotReduceAdaptor, SliceReduceAdaptor)
+            FilterReduceAdaptor, NotReduceAdaptor, SliceReduceAdaptor, TakeReduceAdaptor)
     }
 }
 
@@ -116,6 +122,17 @@ impl FillNullReduce for Constant {
     }
 }
 
+impl TakeReduce for Constant {
+    fn take(
+        alloc: Global,
+        array: &ArrayView<'_, Constant>,
+        parent: &ArrayRef,
+        codes: &ArrayRef,
+    ) -> VortexResult<Option<RawNode>> {
+        dict_of_constant(alloc, parent, codes, array.array())
+    }
+}
+
 /// Row S2: a slice of a constant is a shorter constant.
 #[tactic(auto, using(crate::proofs::FitsLemmas::fit_S2))]
 fn slice_of_constant(
@@ -139,6 +156,80 @@ fn filter_of_constant(alloc: Global, child: &ArrayRef, mask: &Mask) -> VortexRes
 {
     let constant = constant_like(alloc, child, mask.true_count())?;
     Ok(Some(RawNode::done(alloc, constant)))
+}
+
+/// Row D1: a dictionary of one value is a constant, null where `codes` is.
+fn dict_of_constant(
+    alloc: Global,
+    parent: &ArrayRef,
+    codes: &ArrayRef,
+    values: &ArrayRef,
+) -> VortexResult<Option<RawNode>>
+    requires constant { is_constant (datum values.now) ≡ true }
+    requires dict { parent.now ≡ dict_of codes.now values.now }
+    ensures { Answers (Some 1) parent.now result }
+{
+    parent.well_formed_tree();
+    let ArrayKind::Constant(scalar) = values.kind() else {
+        unreachable!()
+    };
+    let validity = codes.validity(alloc)?;
+    let named = named_by(alloc, parent, scalar, validity)?;
+    Ok(Some(RawNode::done(alloc, named)))
+}
+
+/// Returns the rows of `array`, a dictionary whose values are all `scalar`, by the validity of its codes. Fails only with
+/// `OutOfMemory`.
+fn named_by(
+    alloc: Global,
+    array: &ArrayRef,
+    scalar: &Scalar,
+    validity: Validity,
+) -> VortexResult<ArrayRef>
+    requires value { is_of (dtype array.now) scalar.now.value ≡ true }
+    requires nullable { nullability_by validity ≡ Nullability.Nullable → nullability_of (dtype array.now) ≡ Nullability.Nullable }
+    requires rows { HasRows validity (len array.now) }
+    ensures ok { IfOk result (λ t. t ≡ named_by (dtype array.now) (len array.now) scalar.now.value validity) }
+    ensures err { OnlyOutOfMemory result }
+{
+    match validity {
+        Validity::AllInvalid => repeated(alloc, array, None),
+        Validity::Array(rows) => masked_by(alloc, array, scalar, rows),
+        _ => copies(alloc, array, scalar),
+    }
+}
+
+/// Returns rows of `array`'s type and length, each `scalar`, null where `rows` is false. Fails only with `OutOfMemory`.
+fn masked_by(
+    alloc: Global,
+    array: &ArrayRef,
+    scalar: &Scalar,
+    rows: ArrayRef,
+) -> VortexResult<ArrayRef>
+    requires value { is_of (dtype array.now) scalar.now.value ≡ true }
+    requires nullable { nullability_of (dtype array.now) ≡ Nullability.Nullable }
+    requires rows { HasRows (ValidityArray rows) (len array.now) }
+    ensures ok { IfOk result (λ t. t ≡ masked_by (dtype array.now) (len array.now) scalar.now.value rows) }
+    ensures err { OnlyOutOfMemory result }
+{
+    if scalar.is_null() {
+        return repeated(alloc, array, None);
+    }
+    let constant = copies(alloc, array, scalar)?;
+    masked_node(alloc, array, constant, Some(rows))
+}
+
+/// Returns the constant of `array`'s type and length with the value of `scalar`, which must be of that type. Fails only with
+/// `OutOfMemory`.
+fn copies(alloc: Global, array: &ArrayRef, scalar: &Scalar) -> VortexResult<ArrayRef>
+    requires { is_of (dtype array.now) scalar.now.value ≡ true }
+    ensures ok { IfOk result (λ t. t ≡ constants (dtype array.now) scalar.now.value (len array.now)) }
+    ensures err { OnlyOutOfMemory result }
+{
+    match scalar.value() {
+        Some(value) => repeated(alloc, array, Some(value.clone()?)),
+        None => repeated(alloc, array, None),
+    }
 }
 
 /// Rows K1 to K4: a function of constants is a constant, if it has a value. `parent` must apply one of the functions that are

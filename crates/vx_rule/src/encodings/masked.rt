@@ -1,21 +1,23 @@
 //! The rules of masked arrays.
 
-ghost use Rattle.std.specs.Prelude.{◌≡◌, Some, None, IfOk, ◌∷◌, [], length, true};
+ghost use Rattle.std.specs.Prelude.{◌≡◌, Some, None, IfOk, ◌∷◌, [], length, option_map, true, false};
 ghost use Rattle.vx_value.specs.Errors.{OnlyOutOfMemory};
 ghost use Rattle.vx_mask.specs.Masks.{bits_in};
 ghost use Rattle.vx_fn.specs.declared.function.ScalarFnRef.TheVariants as fn_of;
-ghost use Rattle.vx_tree.specs.Tree.{len, datum, slots_of, slice_of, filter_of, is_masked};
-ghost use Rattle.vx_rule.specs.Rules.{IsPartOf, validity_column};
+ghost use Rattle.vx_tree.specs.Tree.{dtype, len, datum, slots_of, slice_of, filter_of, dict_of, is_masked, is_columnar};
+ghost use Rattle.vx_value.specs.Types.{nullability_of};
+ghost use Rattle.vx_tree.specs.SlotTypes.{is_integer};
+ghost use Rattle.vx_rule.specs.Rules.{IsPartOf, taken_of, validity_column};
 ghost use Rattle.vx_rule.specs.Calls.{IsCallOf};
 ghost use Rattle.vx_rule.specs.Answers.{Answers};
 ghost use Rattle.vx_rule.specs.SliceLaws.{masked_lets};
 
 use crate::adaptors::{
     FilterReduce, FilterReduceAdaptor, MaskReduce, MaskReduceAdaptor, SliceReduce,
-    SliceReduceAdaptor,
+    SliceReduceAdaptor, TakeReduce, TakeReduceAdaptor,
 };
 use crate::encodings::parent_rules;
-use crate::nodes::{function_node, masked_node, masked_parts};
+use crate::nodes::{dict_node, function_node, masked_node, masked_parts};
 use crate::raw_node::RawNode;
 use crate::rule::DynArrayParentReduceRule;
 use crate::rule_set::ReduceVTable;
@@ -25,10 +27,10 @@ use std::ops::Range;
 use vx_fn::ScalarFnRef;
 use vx_mask::Mask;
 use vx_tree::{
-    ArrayRef, ArrayView, FilterArray, IntoArray, Masked, SliceArray, VTable, and_lazily,
-    choose_validity, slice_validity,
+    AnyColumnar, ArrayKind, ArrayRef, ArrayView, ConstantArray, FilterArray, IntoArray, Masked,
+    SliceArray, VTable, and_lazily, choose_validity, slice_validity,
 };
-use vx_value::VortexResult;
+use vx_value::{Nullability, VortexResult};
 
 impl ReduceVTable for Masked {
     #[tactic(auto, using(crate::proofs::QuietLemmas::own_quiet))]
@@ -43,7 +45,8 @@ impl ReduceVTable for Masked {
         parent: &ArrayRef,
         slot: usize,
     ) -> VortexResult<Option<RawNode>> {
-        parent_rules!(Masked, alloc, child, parent, slot; FilterReduceAdaptor, MaskReduceAdaptor, SliceReduceAdaptor)
+        parent_rules!(Masked, alloc, child, parent, slot; FilterReduceAdaptor, MaskReduceAdaptor, SliceReduceAdaptor,
+            TakeReduceAdaptor)
     }
 }
 
@@ -77,6 +80,17 @@ impl MaskReduce for Masked {
         mask: &ArrayRef,
     ) -> VortexResult<Option<RawNode>> {
         mask_of_masked(alloc, parent, array.array(), mask)
+    }
+}
+
+impl TakeReduce for Masked {
+    fn take(
+        alloc: Global,
+        array: &ArrayView<'_, Masked>,
+        parent: &ArrayRef,
+        codes: &ArrayRef,
+    ) -> VortexResult<Option<RawNode>> {
+        dict_of_masked(alloc, parent, codes, array.array())
     }
 }
 
@@ -130,6 +144,60 @@ fn mask_of_masked(
     let slots = vec![in alloc; Some(child.clone()?), Some(both)]?;
     let call = function_node(alloc, parent, &ScalarFnRef::Mask, len, slots)?;
     Ok(Some(RawNode::done(alloc, call)))
+}
+
+/// Row D2: a dictionary of a masked array is the masked dictionary, if `codes` is a column or a constant of a non-nullable type.
+fn dict_of_masked(
+    alloc: Global,
+    parent: &ArrayRef,
+    codes: &ArrayRef,
+    values: &ArrayRef,
+) -> VortexResult<Option<RawNode>>
+    requires masked { is_masked (datum values.now) ≡ true }
+    requires dict { parent.now ≡ dict_of codes.now values.now }
+    ensures { Answers (Some 1) parent.now result }
+{
+    parent.well_formed_tree();
+    let (child, validity) = masked_parts(values);
+    if !is_plain_column(codes) {
+        return Ok(None);
+    }
+    let dict = dict_node(alloc, codes.clone()?, child.clone()?)?;
+    let validity = take_validity(alloc, codes, validity)?;
+    let masked = masked_node(alloc, parent, dict, validity)?;
+    RawNode::raw(alloc, masked)
+}
+
+/// Returns whether `array` is a column or a constant of a non-nullable type.
+fn is_plain_column(array: &ArrayRef) -> bool
+    ensures yes { result ≡ true → (nullability_of (dtype array.now) ≡ Nullability.NonNullable) × (is_columnar (datum array.now) ≡ true) }
+    ensures no { result ≡ false → nullability_of (dtype array.now) ≡ Nullability.NonNullable → is_columnar (datum array.now) ≡ false }
+{
+    match array.dtype().nullability() {
+        Nullability::NonNullable => array.is::<AnyColumnar>(),
+        Nullability::Nullable => false,
+    }
+}
+
+/// Returns the validity of the rows that `codes`, which must be integers, names, given the slot of the values'. A constant stays
+/// one. Fails only with `OutOfMemory`.
+fn take_validity(
+    alloc: Global,
+    codes: &ArrayRef,
+    validity: &Option<ArrayRef>,
+) -> VortexResult<Option<ArrayRef>>
+    requires { is_integer (dtype codes.now) ≡ true }
+    ensures ok { IfOk result (λ w. w ≡ option_map (taken_of codes.now) validity.now) }
+    ensures err { OnlyOutOfMemory result }
+{
+    let Some(child) = validity else {
+        return Ok(None);
+    };
+    if let ArrayKind::Constant(scalar) = child.kind() {
+        let rows = ConstantArray::new(alloc, scalar.clone()?, codes.len())?;
+        return Ok(Some(rows.into_array()));
+    }
+    Ok(Some(dict_node(alloc, codes.clone()?, child.clone()?)?))
 }
 
 /// Returns the validity in a masked array's slot as an array of `len` booleans. Fails only with `OutOfMemory`.

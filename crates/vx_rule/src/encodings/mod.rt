@@ -1,8 +1,11 @@
 //! The rules of each encoding, one module each.
 
+mod chunked;
 mod column;
 mod constant;
+mod dict;
 mod filter;
+mod interleave;
 mod masked;
 mod scalar_fn;
 mod scalar_fn_validity;

@@ -1,5 +1,5 @@
 -- Constants: rows of one value.
-use Rattle.std.specs.Prelude.{◌≡◌, ℕ, List, [], replicate, Bool, true, false, Option}
+use Rattle.std.specs.Prelude.{◌≡◌, ℕ, List, [], replicate, Bool, true, false, Option, None}
 use Rattle.vx_value.specs.Types.{DataType, same_type}
 use Rattle.vx_value.specs.Values.{Value, null}
 use Rattle.vx_value.specs.Cell.{value}
@@ -14,7 +14,7 @@ pub use Rattle.vx_tree.specs.Tree.Nodes.{constant}
 use Rattle.vx_tree.specs.Conditions.{first_of_both, unless}
 use Rattle.vx_tree.specs.Shapes.{Shape}
 use Rattle.vx_tree.specs.SlotRefusals.{without_slots}
-use Rattle.vx_tree.specs.Charges.{none, flat, added}
+use Rattle.vx_tree.specs.Charges.{none, put_back, none_reached, added}
 use Rattle.vx_tree.specs.Meanings.{Meaning}
 use Rattle.vx_tree.specs.declared.validity.Validity.{Validity}
 use Rattle.vx_tree.specs.declared.validity.Validity.TheVariants as validity
@@ -39,10 +39,10 @@ constant_validity v = validity.AllValid
 abbrev pub constant_meaning : Typed → Meaning
 constant_meaning v = record {
   id = id.Constant;
-  names = [];
+  name = λ i. None;
   IsNode = λ ty n ss. (ty ≡ v.of_type) × (is_of ty v.value ≡ true) × (ss ≡ []);
   refusal = λ i ty n ss. constant_refusal ty v ss;
   cells = λ ty n css. replicate n (value v.value);
   validity = λ ty n ss child. constant_validity v.value;
-  charge = record { own = 2; by_reach = 0; executed = none; extent = flat; weighing = added 3 };
+  charge = record { own = 2; for_slot = put_back; left = 0; executed = none; extra = none_reached; weight = added 3 };
 }

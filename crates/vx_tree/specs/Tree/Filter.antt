@@ -1,5 +1,5 @@
 -- Filters: the rows of a child that a mask chooses.
-use Rattle.std.specs.Prelude.{◌≡◌, ℕ, List, [], ◌∷◌, length, Bool, true, false, ◌==◌, Option, Some, codes}
+use Rattle.std.specs.Prelude.{slice_get, ◌≡◌, ℕ, List, [], ◌∷◌, length, Bool, true, false, ◌==◌, Option, Some, codes}
 use Rattle.vx_value.specs.Types.{DataType, same_type}
 use Rattle.vx_value.specs.declared.error.VortexError.{VortexError}
 use Rattle.vx_value.specs.declared.error.VortexError.TheVariants.{InvalidArgument}
@@ -13,7 +13,7 @@ use Rattle.vx_tree.specs.Shapes.{shape}
 use Rattle.vx_tree.specs.SlotCells.{cells_at}
 use Rattle.vx_tree.specs.SlotRefusals.{of_child}
 use Rattle.vx_tree.specs.SlotValidities.{on_array}
-use Rattle.vx_tree.specs.Charges.{all, flat, scaled}
+use Rattle.vx_tree.specs.Charges.{all, pushed_below, none_reached, scaled}
 use Rattle.vx_tree.specs.Meanings.{Meaning}
 
 -- the rows of t at the true bits
@@ -32,10 +32,10 @@ filter_refusal ty n bits s m =
 abbrev pub filter_meaning : List Bool → Meaning
 filter_meaning bits = record {
   id = id.Filter;
-  names = codes "child" ∷ [];
+  name = slice_get (codes "child" ∷ []);
   IsNode = λ ty n ss. (ss ≡ Some (shape ty (length bits)) ∷ []) × (n ≡ true_count bits);
   refusal = λ i ty n ss. of_child (filter_refusal ty n bits) ss;
   cells = λ ty n css. chosen bits (cells_at css 0);
   validity = λ ty n ss child. on_array (filter_of bits) child;
-  charge = record { own = 3; by_reach = 3; executed = all; extent = flat; weighing = scaled 3 };
+  charge = record { own = 3; for_slot = pushed_below; left = 0; executed = all; extra = none_reached; weight = scaled 3 };
 }

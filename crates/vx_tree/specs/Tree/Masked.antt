@@ -1,5 +1,5 @@
 -- Masked arrays: the rows of a child, null where a validity says so.
-use Rattle.std.specs.Prelude.{◌≡◌, ℕ, List, [], ◌∷◌, Bool, true, false, ◌==◌, Option, Some, None, codes}
+use Rattle.std.specs.Prelude.{slice_get, ◌≡◌, ℕ, List, [], ◌∷◌, Bool, true, false, ◌==◌, Option, Some, None, codes}
 use Rattle.vx_value.specs.Types.{DataType, bool, same_type}
 use Rattle.vx_value.specs.Nullabilities.{with_nullability}
 use Rattle.vx_value.specs.declared.dtype.Nullability.TheVariants.{NonNullable, Nullable}
@@ -17,7 +17,7 @@ use Rattle.vx_tree.specs.Shapes.{Shape, shape, IsValidity}
 use Rattle.vx_tree.specs.SlotCells.{cells_at, valid_cells}
 use Rattle.vx_tree.specs.SlotRefusals.{validity_type_refusal, validity_len_refusal}
 use Rattle.vx_tree.specs.SlotValidities.{slot_tree, validity_of}
-use Rattle.vx_tree.specs.Charges.{first, deeper, added}
+use Rattle.vx_tree.specs.Charges.{first, put_back, all_reached, added}
 use Rattle.vx_tree.specs.Meanings.{Meaning}
 use Rattle.vx_tree.specs.declared.validity.Validity.{Validity}
 use Rattle.vx_tree.specs.declared.validity.Validity.TheVariants as validity
@@ -62,10 +62,10 @@ joined n v w = validity.AllValid
 abbrev pub masked_meaning : Meaning
 masked_meaning = record {
   id = id.Masked;
-  names = codes "child" ∷ codes "validity" ∷ [];
+  name = slice_get (codes "child" ∷ codes "validity" ∷ []);
   IsNode = IsMasked;
   refusal = λ i ty n ss. masked_refusal ty n ss;
   cells = λ ty n css. valid_cells (cells_at css 1) (cells_at css 0);
   validity = λ ty n ss child. joined n (validity_of Nullable (slot_tree 1 ss)) child;
-  charge = record { own = 3; by_reach = 0; executed = first; extent = deeper; weighing = added 8 };
+  charge = record { own = 3; for_slot = put_back; left = 0; executed = first; extra = all_reached; weight = added 8 };
 }

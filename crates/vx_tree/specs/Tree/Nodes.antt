@@ -21,6 +21,9 @@ pub data Data : Type 0 where
   masked : Data
   is_valid : Data
   function : ScalarFnRef → Data
+  dict : Data
+  chunked : Data
+  interleave : Data
   nulls : Data
   bool : List Bool → Data
   primitive : PType → List ℤ → Data
@@ -90,6 +93,9 @@ data_parts =
     or part coded_viewed views
     or part (coded× coded_width (coded_list coded_ℤ)) (λ p. decimals p.0 p.1)
     or part coded_unit (λ u. nulls)
+    or part coded_unit (λ u. dict)
+    or part coded_unit (λ u. chunked)
+    or part coded_unit (λ u. interleave)
     or no_part
 
 abbrev pub data_split : Data → data_parts.holds
@@ -104,6 +110,9 @@ data_split is_valid = inr (inr (inr (inr (inr (inr (inr (inl tt)))))))
 data_split (views rs) = inr (inr (inr (inr (inr (inr (inr (inr (inl rs))))))))
 data_split (decimals w zs) = inr (inr (inr (inr (inr (inr (inr (inr (inr (inl (w, zs))))))))))
 data_split nulls = inr (inr (inr (inr (inr (inr (inr (inr (inr (inr (inl tt))))))))))
+data_split dict = inr (inr (inr (inr (inr (inr (inr (inr (inr (inr (inr (inl tt)))))))))))
+data_split chunked = inr (inr (inr (inr (inr (inr (inr (inr (inr (inr (inr (inr (inl tt))))))))))))
+data_split interleave = inr (inr (inr (inr (inr (inr (inr (inr (inr (inr (inr (inr (inr (inl tt)))))))))))))
 
 pub data_back : (d : Data) → data_parts.make (data_split d) ≡ d
 data_back (constant v) = refl

@@ -1,5 +1,5 @@
 -- Columns of nulls.
-use Rattle.std.specs.Prelude.{◌≡◌, ℕ, List, [], replicate, Bool, true, false, Option}
+use Rattle.std.specs.Prelude.{◌≡◌, ℕ, List, [], replicate, Bool, true, false, Option, None}
 use Rattle.vx_value.specs.Types as type
 use Rattle.vx_value.specs.Types.{DataType, same_type}
 use Rattle.vx_value.specs.Values.{null}
@@ -31,7 +31,7 @@ nulls_refusal ty ss = without_slots (unless (same_type ty type.null) (InvalidArg
 abbrev pub nulls_meaning : Meaning
 nulls_meaning = record {
   id = id.Null;
-  names = [];
+  name = λ i. None;
   IsNode = λ ty n ss. (ty ≡ type.null) × (ss ≡ []);
   refusal = λ i ty n ss. nulls_refusal ty ss;
   cells = λ ty n css. replicate n (value null);

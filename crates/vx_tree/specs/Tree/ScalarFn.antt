@@ -1,5 +1,5 @@
 -- Functions, applied to the rows of their children.
-use Rattle.std.specs.Prelude.{◌≡◌, ℕ, List, [], ◌∷◌, length, map, Bool, true, false, ◌==◌, ◌&&◌, Option, Some, None}
+use Rattle.std.specs.Prelude.{slice_get, ◌≡◌, ℕ, List, [], ◌∷◌, length, map, Bool, true, false, ◌==◌, ◌&&◌, Option, Some, None}
 use Rattle.std.specs.List.{range_with_len}
 use Rattle.vx_value.specs.Types.{DataType, same_type}
 use Rattle.vx_value.specs.Ids.{same_id}
@@ -17,7 +17,7 @@ use Rattle.vx_tree.specs.Tree.ScalarFnValidity.{validity_in}
 use Rattle.vx_tree.specs.Conditions.{first_of_both, unless}
 use Rattle.vx_tree.specs.Shapes.{Shape, shape}
 use Rattle.vx_tree.specs.SlotCells.{row_at}
-use Rattle.vx_tree.specs.Charges.{all, deeper, added}
+use Rattle.vx_tree.specs.Charges.{all, put_back, all_reached, added}
 use Rattle.vx_tree.specs.Meanings.{Meaning}
 use Rattle.vx_tree.specs.declared.validity.Validity.TheVariants as validity
 
@@ -73,10 +73,10 @@ function_refusal i ty n f ss =
 abbrev pub function_meaning : ScalarFnRef → Meaning
 function_meaning f = record {
   id = function_id f;
-  names = argument_names f;
+  name = slice_get (argument_names f);
   IsNode = λ ty n ss. (tys : List DataType) × (ss ≡ map (λ s. Some (shape s n)) tys) × (return_type f tys ≡ Some ty);
   refusal = λ i ty n ss. function_refusal i ty n f ss;
   cells = λ ty n css. map (λ i. apply f ty (row_at css i)) (range_with_len 0 n);
   validity = λ ty n ss child. validity.Array (validity_in (node ty n (function f) ss));
-  charge = record { own = 3; by_reach = 0; executed = all; extent = deeper; weighing = added 4 };
+  charge = record { own = 3; for_slot = put_back; left = 0; executed = all; extra = all_reached; weight = added 4 };
 }

@@ -1,5 +1,5 @@
 -- Tests for null: whether each row of a child isn't null.
-use Rattle.std.specs.Prelude.{◌≡◌, ℕ, [], ◌∷◌, map, Bool, true, false, ◌==◌, Option, Some, codes}
+use Rattle.std.specs.Prelude.{slice_get, ◌≡◌, ℕ, [], ◌∷◌, map, Bool, true, false, ◌==◌, Option, Some, codes}
 use Rattle.vx_value.specs.Types as type
 use Rattle.vx_value.specs.Types.{DataType, same_type}
 use Rattle.vx_value.specs.declared.dtype.Nullability.TheVariants.{NonNullable}
@@ -13,7 +13,7 @@ use Rattle.vx_tree.specs.Conditions.{first_of_both, unless}
 use Rattle.vx_tree.specs.Shapes.{shape}
 use Rattle.vx_tree.specs.SlotCells.{cells_at, shown_cell}
 use Rattle.vx_tree.specs.SlotRefusals.{of_child}
-use Rattle.vx_tree.specs.Charges.{all, flat, added}
+use Rattle.vx_tree.specs.Charges.{all, put_back, none_reached, added}
 use Rattle.vx_tree.specs.Meanings.{Meaning}
 use Rattle.vx_tree.specs.declared.validity.Validity.TheVariants as validity
 
@@ -32,10 +32,10 @@ validity_refusal ty n s m =
 abbrev pub validity_meaning : Meaning
 validity_meaning = record {
   id = id.ScalarFnValidity;
-  names = codes "child" ∷ [];
+  name = slice_get (codes "child" ∷ []);
   IsNode = λ ty n ss. (s : DataType) × (ss ≡ Some (shape s n) ∷ []) × (ty ≡ type.bool NonNullable);
   refusal = λ i ty n ss. of_child (validity_refusal ty n) ss;
   cells = λ ty n css. map shown_cell (cells_at css 0);
   validity = λ ty n ss child. validity.NonNullable;
-  charge = record { own = 2; by_reach = 0; executed = all; extent = flat; weighing = added 4 };
+  charge = record { own = 2; for_slot = put_back; left = 0; executed = all; extra = none_reached; weight = added 4 };
 }

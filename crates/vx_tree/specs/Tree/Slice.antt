@@ -1,5 +1,5 @@
 -- Slices: consecutive rows of a child.
-use Rattle.std.specs.Prelude.{◌≡◌, ◌≤◌, ℕ, ◌-◌, [], ◌∷◌, take, drop, Bool, true, false, ◌==◌, ◌&&◌, nat_le, Option, Some, codes}
+use Rattle.std.specs.Prelude.{slice_get, ◌≡◌, ◌≤◌, ℕ, ◌-◌, [], ◌∷◌, sum, take, drop, Bool, true, false, ◌==◌, ◌&&◌, nat_le, Option, Some, codes}
 use Rattle.vx_value.specs.Types.{DataType, same_type}
 use Rattle.vx_value.specs.declared.error.VortexError.{VortexError}
 use Rattle.vx_value.specs.declared.error.VortexError.TheVariants.{InvalidArgument, OutOfBounds}
@@ -12,7 +12,7 @@ use Rattle.vx_tree.specs.Shapes.{shape}
 use Rattle.vx_tree.specs.SlotCells.{cells_at}
 use Rattle.vx_tree.specs.SlotRefusals.{of_child}
 use Rattle.vx_tree.specs.SlotValidities.{on_array}
-use Rattle.vx_tree.specs.Charges.{all, level, scaled}
+use Rattle.vx_tree.specs.Charges.{all, pushed_below, scaled}
 use Rattle.vx_tree.specs.Meanings.{Meaning}
 
 -- the rows of t from a, inclusive, to b, exclusive
@@ -31,10 +31,10 @@ slice_refusal ty n a b s m =
 abbrev pub slice_meaning : ℕ → ℕ → Meaning
 slice_meaning a b = record {
   id = id.Slice;
-  names = codes "child" ∷ [];
+  name = slice_get (codes "child" ∷ []);
   IsNode = λ ty n ss. (m : ℕ) × (ss ≡ Some (shape ty m) ∷ []) × (a ≤ b) × (b ≤ m) × (n ≡ b - a);
   refusal = λ i ty n ss. of_child (slice_refusal ty n a b) ss;
   cells = λ ty n css. take (b - a) (drop a (cells_at css 0));
   validity = λ ty n ss child. on_array (slice_of a b) child;
-  charge = record { own = 2; by_reach = 3; executed = all; extent = level; weighing = scaled 2 };
+  charge = record { own = 2; for_slot = pushed_below; left = 0; executed = all; extra = sum; weight = scaled 2 };
 }

@@ -64,6 +64,9 @@ macro_rules! by_encoding {
                 $function::<$crate::ScalarFnValidity>($($argument,)* data)
             }
             $crate::Encoding::ScalarFn(data) => $function::<$crate::ScalarFn>($($argument,)* data),
+            $crate::Encoding::Dict(data) => $function::<$crate::Dict>($($argument,)* data),
+            $crate::Encoding::Chunked(data) => $function::<$crate::Chunked>($($argument,)* data),
+            $crate::Encoding::Interleave(data) => $function::<$crate::Interleave>($($argument,)* data),
             $crate::Encoding::Null(data) => $function::<$crate::Null>($($argument,)* data),
             $crate::Encoding::Bool(data) => $function::<$crate::Bool>($($argument,)* data),
             $crate::Encoding::Primitive(data) => $function::<$crate::Primitive>($($argument,)* data),

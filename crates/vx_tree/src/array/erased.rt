@@ -1,21 +1,66 @@
 //! The readers of an untyped reference.
 
-ghost use Rattle.std.specs.Prelude.{◌≡◌, ◌==◌, is_some, IfSome, length, map, option_map, slice_get};
+ghost use Rattle.std.specs.Prelude.{◌≡◌, ◌==◌, is_some, IfSome, length, map, option_map, slice_get, Some};
 ghost use Rattle.vx_value.specs.View.{type_of};
-ghost use Rattle.vx_tree.specs.Tree.{dtype, len, datum, slots, slots_of, id_of, slot_names};
+ghost use Rattle.vx_tree.specs.Tree.{dtype, len, datum, slots, slots_of, id_of, meaning, interleave_name};
+ghost use Rattle.vx_tree.specs.Slots.{name_at};
+ghost use Rattle.vx_tree.specs.Names.{name_text};
 ghost use Rattle.vx_tree.specs.TreeView.{data_of};
 ghost use Rattle.vx_tree.specs.Cells.{rows};
 ghost use Rattle.vx_tree.specs.Well.{IsWell};
 
-use crate::array::{ArrayRef, ArrayView, Encoding, EncodingVariant};
+use crate::array::{ArrayRef, ArrayView, Encoding, EncodingVariant, SlotName};
 use crate::matcher::Matcher;
 use vx_value::{DType, Id};
 
 /// Returns name `index` of `names`.
-fn named(names: &[&'static str], index: usize) -> Option<&'static str>
-    ensures { option_map (λ s. s.now) result ≡ slice_get (map (λ s. s.now) names.now) index }
+fn named(names: &[&'static str], index: usize) -> Option<SlotName>
+    ensures { option_map name_text result ≡ slice_get (map (λ s. s.now) names.now) index }
 {
-    names.get(index).copied()
+    whole(names.get(index).copied())
+}
+
+/// Returns `name` as the name of a slot.
+fn whole(name: Option<&'static str>) -> Option<SlotName>
+    ensures { option_map name_text result ≡ option_map (λ s. s.now) name.entry }
+{
+    match name {
+        Some(name) => Some(SlotName::Named(name)),
+        None => None,
+    }
+}
+
+/// Returns the name of slot `index` of an interleaved array.
+fn interleaved(index: usize) -> SlotName
+    ensures { Some (name_text result) ≡ interleave_name index }
+{
+    match index {
+        0 => SlotName::Named("array_indices"),
+        1 => SlotName::Named("row_indices"),
+        _ => SlotName::Numbered("value", index - 2),
+    }
+}
+
+/// Returns the name of slot `index` of a node of this encoding: a line for each encoding.
+fn name_of(encoding: &Encoding, index: usize) -> Option<SlotName>
+    ensures { option_map name_text result ≡ (meaning (data_of encoding.now)).name index }
+{
+    match encoding {
+        Encoding::Constant(_) => None,
+        Encoding::Slice(_) => named(&["child"], index),
+        Encoding::Filter(_) => named(&["child"], index),
+        Encoding::Masked(_) => named(&["child", "validity"], index),
+        Encoding::ScalarFnValidity(_) => named(&["child"], index),
+        Encoding::ScalarFn(data) => whole(data.scalar_fn.child_name(index)),
+        Encoding::Dict(_) => named(&["codes", "values"], index),
+        Encoding::Chunked(_) => Some(SlotName::Numbered("chunk", index)),
+        Encoding::Interleave(_) => Some(interleaved(index)),
+        Encoding::Null(_) => None,
+        Encoding::Bool(_) => named(&["validity"], index),
+        Encoding::Primitive(_) => named(&["validity"], index),
+        Encoding::Decimal(_) => named(&["validity"], index),
+        Encoding::VarBinView(_) => named(&["validity"], index),
+    }
 }
 
 impl ArrayRef {
@@ -58,6 +103,9 @@ impl ArrayRef {
             Encoding::Masked(_) => Id::Masked,
             Encoding::ScalarFnValidity(_) => Id::ScalarFnValidity,
             Encoding::ScalarFn(data) => data.scalar_fn.id(),
+            Encoding::Dict(_) => Id::Dict,
+            Encoding::Chunked(_) => Id::Chunked,
+            Encoding::Interleave(_) => Id::Interleave,
             Encoding::Null(_) => Id::Null,
             Encoding::Bool(_) => Id::Bool,
             Encoding::Primitive(_) => Id::Primitive,
@@ -74,23 +122,17 @@ impl ArrayRef {
     }
 
     /// Returns the name of the root's slot `index`, counted from 0. A node with one child has `child`, a masked array has
-    /// `child` and `validity`, a column has `validity`, and a function node has the names of its arguments. `None` if there is
-    /// no such slot.
-    pub fn slot_name(&self, index: usize) -> Option<&'static str>
-        ensures { option_map (λ s. s.now) result ≡ slice_get (slot_names (datum self.now)) index }
+    /// `child` and `validity`, a column has `validity`, a dictionary has `codes` and `values`, and a function node has the
+    /// names of its arguments. Chunks are numbered from `chunk0` on; an interleaved array has `array_indices`, `row_indices`
+    /// and then its values from `value0` on. `None` if there is no such slot.
+    #[tactic(auto, using(crate::proofs::SlotsLemmas::names))]
+    pub fn slot_name(&self, index: usize) -> Option<SlotName>
+        ensures { option_map name_text result ≡ name_at index self.now }
     {
-        match &self.node.encoding {
-            Encoding::Constant(_) => None,
-            Encoding::Slice(_) => named(&["child"], index),
-            Encoding::Filter(_) => named(&["child"], index),
-            Encoding::Masked(_) => named(&["child", "validity"], index),
-            Encoding::ScalarFnValidity(_) => named(&["child"], index),
-            Encoding::ScalarFn(data) => data.scalar_fn.child_name(index),
-            Encoding::Null(_) => None,
-            Encoding::Bool(_) => named(&["validity"], index),
-            Encoding::Primitive(_) => named(&["validity"], index),
-            Encoding::Decimal(_) => named(&["validity"], index),
-            Encoding::VarBinView(_) => named(&["validity"], index),
+        if index < self.slots().len() {
+            name_of(self.encoding(), index)
+        } else {
+            None
         }
     }
 

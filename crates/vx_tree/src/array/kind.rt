@@ -29,6 +29,12 @@ pub enum ArrayKind<'a> {
     ScalarFnValidity(&'a ArrayRef),
     /// The function, and the slots of its arguments. Each slot has a tree.
     ScalarFn(&'a ScalarFnRef, &'a [Option<ArrayRef>]),
+    /// The codes, and the values that they name.
+    Dict(&'a ArrayRef, &'a ArrayRef),
+    /// The slots of the chunks, whose rows follow one another. Each slot has a tree.
+    Chunked(&'a [Option<ArrayRef>]),
+    /// The slots of the array indices, of the row indices, and of the arrays that they name. Each slot has a tree.
+    Interleave(&'a [Option<ArrayRef>]),
     /// Nothing: each row is null.
     Null,
     /// The rows of a column of booleans, and the slot of its validity.

@@ -2,16 +2,20 @@
 
 pub mod boolean;
 mod child;
+pub mod chunked;
 pub(crate) mod column;
 pub mod constant;
 pub mod decimal;
+pub mod dict;
 pub mod filter;
+pub mod interleave;
 pub mod masked;
 pub mod null;
 pub mod primitive;
 pub mod scalar_fn;
 pub mod scalar_fn_validity;
 pub mod slice;
+mod slots;
 pub mod varbinview;
 
 /// Evaluates to `Some(data)`, the data of a borrowed `Encoding` of this variant, or to `None` if it is another variant.

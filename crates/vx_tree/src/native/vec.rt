@@ -1,9 +1,9 @@
 //! Vectors of any of the nine types.
 
-ghost use Rattle.std.specs.Prelude.{◌≡◌, ◌∷◌, [], ◌++◌, pos, map, replicate, true, IfOk, OnOk, OnErr};
+ghost use Rattle.std.specs.Prelude.{◌≡◌, ◌<◌, ◌∷◌, [], ◌++◌, pos, map, length, replicate, true, IfOk, OnOk, OnErr};
 ghost use Rattle.vx_value.specs.Errors.{OnlyOutOfMemory};
 ghost use Rattle.vx_tree.specs.Ranges.{in_native};
-ghost use Rattle.vx_tree.specs.Vecs.{native_of_vec, numbers_of_vec};
+ghost use Rattle.vx_tree.specs.Vecs.{native_of_vec, numbers_of_vec, valid_number, valid_numbers};
 
 use crate::native::buffers::shared_of;
 use crate::native::macros::{for_natives, made, over};
@@ -11,6 +11,7 @@ use crate::native::number::fitted;
 use crate::native::{NativeKind, NativeNumber, NativeType, NativeValues};
 use std::alloc::{AllocError, Global};
 use std::marker::Model;
+use vx_mask::{BitBuffer, Buffer};
 use vx_value::VortexResult;
 
 /// A vector of numbers of one of the nine native types.
@@ -72,6 +73,65 @@ fn push_zeros<T: NativeNumber>(values: &mut Vec<T>, count: usize) -> Result<(), 
     Ok(())
 }
 
+fn push_copies<T: NativeNumber>(
+    values: &mut Vec<T>,
+    wide: i128,
+    count: usize,
+) -> Result<(), AllocError>
+    requires { in_native T.native wide ≡ true }
+    ensures ok { OnOk result (map T.value values.new.items ≡ map T.value values.old.items ++ replicate count wide) }
+    ensures err { OnErr result (values.new.items ≡ values.old.items) }
+{
+    values.reserve(count)?;
+    values.resize(values.len() + count, fitted(wide))?;
+    Ok(())
+}
+
+fn append<K: NativeKind, T: NativeNumber>(
+    values: &mut Vec<T>,
+    numbers: &NativeValues<K>,
+) -> Result<(), AllocError>
+    requires { T.native ≡ K.native numbers.now.kind }
+    ensures ok { OnOk result (map T.value values.new.items ≡ map T.value values.old.items ++ numbers.now.numbers) }
+    ensures err { OnErr result (values.new.items ≡ values.old.items) }
+{
+    let buffer: &Buffer<T> = numbers.numbers();
+    values.extend_from_slice(buffer.as_slice())
+}
+
+fn append_valid<K: NativeKind, T: NativeNumber>(
+    values: &mut Vec<T>,
+    numbers: &NativeValues<K>,
+    valid: &BitBuffer,
+) -> Result<(), AllocError>
+    requires named { T.native ≡ K.native numbers.now.kind }
+    requires sized { length valid.now ≡ length numbers.now.numbers }
+    ensures ok { OnOk result (map T.value values.new.items ≡ map T.value values.old.items ++ valid_numbers valid.now numbers.now.numbers) }
+    ensures err { OnErr result (values.new.items ≡ values.old.items) }
+{
+    let buffer: &Buffer<T> = numbers.numbers();
+    let items = buffer.as_slice();
+    values.reserve(items.len())?;
+    for index in 0..items.len() {
+        values.push_reserved(valid_or_zero(items, valid, index));
+    }
+    Ok(())
+}
+
+/// Returns the number at `index` if its bit in `valid` is true, else 0.
+#[inline]
+fn valid_or_zero<T: NativeNumber>(numbers: &[T], valid: &BitBuffer, index: usize) -> T
+    requires bounds { index < length numbers.now }
+    requires sized { length valid.now ≡ length numbers.now }
+    ensures { T.value result ≡ valid_number valid.now (map T.value numbers.now) index }
+{
+    if valid.value(index) {
+        numbers[index]
+    } else {
+        T::zero()
+    }
+}
+
 fn any_with_capacity(
     alloc: Global,
     native: NativeType,
@@ -112,6 +172,45 @@ impl<K: NativeKind> NativeVec<K> {
         ensures memory { OnlyOutOfMemory result }
     {
         for_natives!(over!(&mut self.values, AnyVec(values) => push_zeros(values, count)))?;
+        Ok(())
+    }
+
+    /// Appends `wide`, which must fit the type, `count` times, in one allocation. Fails only with `OutOfMemory`; the numbers are
+    /// then unchanged.
+    pub fn push_copies(&mut self, wide: i128, count: usize) -> VortexResult<()>
+        requires { K.has self.old.kind wide ≡ true }
+        ensures ok { OnOk result (self.new ≡ record { kind = self.old.kind; numbers = self.old.numbers ++ replicate count wide }) }
+        ensures err { OnErr result (self.new ≡ self.old) }
+        ensures memory { OnlyOutOfMemory result }
+    {
+        for_natives!(over!(&mut self.values, AnyVec(values) => push_copies(values, wide, count)))?;
+        Ok(())
+    }
+
+    /// Appends `numbers`, which must be of the same type, in one copy. Fails only with `OutOfMemory`; the numbers are then
+    /// unchanged.
+    pub fn append(&mut self, numbers: &NativeValues<K>) -> VortexResult<()>
+        requires { numbers.now.kind ≡ self.old.kind }
+        ensures ok { OnOk result (self.new ≡ record { kind = self.old.kind; numbers = self.old.numbers ++ numbers.now.numbers }) }
+        ensures err { OnErr result (self.new ≡ self.old) }
+        ensures memory { OnlyOutOfMemory result }
+    {
+        for_natives!(over!(&mut self.values, AnyVec(values) => append(values, numbers)))?;
+        Ok(())
+    }
+
+    /// Appends `numbers`, which must be of the same type, with 0 in place of each whose bit in `valid` is false, in one allocation.
+    /// Fails only with `OutOfMemory`; the numbers are then unchanged.
+    pub fn append_valid(&mut self, numbers: &NativeValues<K>, valid: &BitBuffer) -> VortexResult<()>
+        requires kind { numbers.now.kind ≡ self.old.kind }
+        requires sized { length valid.now ≡ length numbers.now.numbers }
+        ensures ok { OnOk result (self.new ≡ record { kind = self.old.kind; numbers = self.old.numbers ++ valid_numbers valid.now numbers.now.numbers }) }
+        ensures err { OnErr result (self.new ≡ self.old) }
+        ensures memory { OnlyOutOfMemory result }
+    {
+        for_natives!(
+            over!(&mut self.values, AnyVec(values) => append_valid(values, numbers, valid))
+        )?;
         Ok(())
     }
 

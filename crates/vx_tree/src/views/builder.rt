@@ -1,6 +1,6 @@
 //! Building columns of bytes row by row.
 
-ghost use Rattle.std.specs.Prelude.{◌≡◌, ◌∷◌, [], ◌++◌, IfOk, OnOk, OnErr, replicate};
+ghost use Rattle.std.specs.Prelude.{◌≡◌, ◌≤◌, ◌∷◌, [], ◌++◌, IfOk, OnOk, OnErr, length, take, replicate};
 ghost use Rattle.vx_value.specs.Errors.{OnlyOutOfMemory};
 ghost use Rattle.vx_tree.specs.Views.{packed};
 
@@ -40,6 +40,23 @@ impl BinaryBuilder {
         })
     }
 
+    /// Returns the number of rows.
+    pub fn len(&self) -> usize
+        ensures { result ≡ length self.now }
+    {
+        self.views.len()
+    }
+
+    /// Makes room for `rows` more rows of `bytes` bytes together. Fails only with `OutOfMemory`.
+    pub fn reserve(&mut self, rows: usize, bytes: usize) -> VortexResult<()>
+        ensures same { self.new ≡ self.old }
+        ensures err { OnlyOutOfMemory result }
+    {
+        self.views.reserve(rows)?;
+        self.bytes.reserve(bytes)?;
+        Ok(())
+    }
+
     /// Appends a row, copying its bytes. Fails only with `OutOfMemory`; the rows are then unchanged.
     pub fn push(&mut self, bytes: &[u8]) -> VortexResult<()>
         ensures ok { OnOk result (self.new ≡ self.old ++ bytes.now ∷ []) }
@@ -71,6 +88,18 @@ impl BinaryBuilder {
         self.views.reserve(count)?;
         self.views.resize(self.views.len() + count, view)?;
         Ok(())
+    }
+
+    /// Keeps only the first `len` rows, which must exist.
+    pub fn truncate(&mut self, len: usize)
+        requires { len ≤ length self.old }
+        ensures { self.new ≡ take len self.old }
+    {
+        if len < self.views.len() {
+            let start = self.views[len].start;
+            self.views.truncate(len);
+            self.bytes.truncate(start);
+        }
     }
 
     /// Returns the rows as a column with one data buffer, in which they follow one another, without copying them. Fails only with

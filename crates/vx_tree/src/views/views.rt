@@ -149,6 +149,17 @@ impl BinaryViews {
         true
     }
 
+    /// Makes a column of `views` into the data buffers of these rows, which it shares. Fails only with `OutOfMemory`. (own)
+    pub fn with_views(&self, alloc: Global, views: Vec<View>) -> VortexResult<BinaryViews>
+        requires { AllLieIn self.now.buffers views.items }
+        ensures ok { IfOk result (λ column. column ≡ viewed views.items self.now.buffers) }
+        ensures err { OnlyOutOfMemory result }
+    {
+        let buffers = self.buffers.clone()?;
+        let views = Buffer::from_vec(alloc, views)?;
+        Ok(BinaryViews { views, buffers })
+    }
+
     /// Returns the rows in `range`, which share the views and the data. Fails only with `OutOfMemory`.
     #[tactic(auto, using(crate::proofs::ViewsLemmas::lie_in_part))]
     pub fn slice(&self, range: Range<usize>) -> VortexResult<BinaryViews>

@@ -29,3 +29,14 @@ returns-in_default c =
     let is : v ≡ validity_of m w = search rules in
     let read = same_choice (bits_in c.args.mask.now) m w v c.requires.tells c.requires.well is c.in_default.not-Array in
     record { nullability = read.0; sized = read.1; chosen = read.2; err = tt }
+
+pub returns-in_ok-kept-in-Array-clause-sized : goal.returns-in_ok-kept-in-Array-clause-sized
+returns-in_ok-kept-in-Array-clause-sized c =
+    let m = c.args.nullability in
+    let w = c.args.validity.now in
+    let t = c.in-Array.child in
+    let is : c.in_ok-same.same ≡ validity_of m w = search rules in
+    let there : w ≡ Some t = array_read m w t (sym is ∙ c.in-Array.is) in
+    let tells = subst (TellsRows m (length (bits_in c.args.mask.now))) there c.requires.tells in
+    let keeps = c.in_ok-kept-in-Array.ensures.ok.keeps in
+    (c.well_formed_tree.ensures.formed, sym keeps.same_type ∙ tells.1, sym keeps.same_len)

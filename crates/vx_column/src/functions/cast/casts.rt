@@ -182,7 +182,7 @@ fn keep_integers(
 }
 
 /// States that `integers`, `len` rows, are in the range of their type.
-fn know_integers(integers: IntegerOperand<'_>, len: usize)
+pub(crate) fn know_integers(integers: IntegerOperand<'_>, len: usize)
     requires { AreIntegers (ptype_in integers) integers len }
     ensures { (i : ℕ) → i < len → in_range (ptype_in integers.entry) (integer_in integers.entry i) ≡ true }
 {

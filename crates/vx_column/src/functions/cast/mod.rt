@@ -4,4 +4,4 @@ mod casts;
 mod rescale;
 mod text;
 
-pub(crate) use casts::cast;
+pub(crate) use casts::{cast, know_integers};

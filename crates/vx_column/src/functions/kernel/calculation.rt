@@ -93,8 +93,8 @@ pub(crate) fn calculated_decimals<U: NativeDecimalType, C: DecimalCalculation<U>
     valid_decimals(alloc, decimal, values, valid, len)
 }
 
-/// Calculates the `valid` rows of `calculation`, `len` rows; the others are 0. `Fault` if a valid row has no value.
-fn calculate_rows<U: NativeNumber, C: Calculation<U>>(
+/// Calculates the `valid` rows of `calculation`, `len` rows; the others are 0. `Fault` if a valid row has no value. (own)
+pub(crate) fn calculate_rows<U: NativeNumber, C: Calculation<U>>(
     alloc: Global,
     calculation: &C,
     valid: &ValidRows,

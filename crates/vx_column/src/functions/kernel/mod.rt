@@ -7,7 +7,8 @@ mod stored;
 mod valid;
 
 pub(crate) use calculation::{
-    Calculation, DecimalCalculation, IntegerCalculation, calculated_column, calculated_decimals,
+    Calculation, DecimalCalculation, IntegerCalculation, calculate_rows, calculated_column,
+    calculated_decimals,
 };
 pub(crate) use operand::{Operand, decimal_operand_of, operand_of};
 pub(crate) use stored::{bit_rows, byte_rows, decimal_rows, integer_rows, stored_column};

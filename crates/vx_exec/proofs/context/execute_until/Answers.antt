@@ -2,12 +2,12 @@ use Rattle.std.proofs.Common.{◌≡◌, refl, sym, ◌∙◌, ap, subst, arith}
 use Rattle.vx_exec.specs.Budgets.{Budget}
 use Rattle.vx_exec.specs.Moves.{GoesOn}
 use Rattle.vx_value.specs.declared.error.VortexError.TheVariants.{Fault}
-use Rattle.vx_exec.proofs.MovesLemmas.{loop_begins, loop_short, goes_on, faults_in, never_moves, reached_at_once}
+use Rattle.vx_exec.proofs.MovesLemmas.{loop_begins, loop_short, goes_on, faults_in, never_moves, reached_at_once, well_node}
 use Rattle.vx_exec.proofs.context.execute_until.Goals as goal
 
 pub loop-ctx-init : goal.loop-ctx-init
 loop-ctx-init g c = record {
-  reached = loop_begins g.M.Matcher.fits c.args.array c.new-frames.result.items c.new-frames.ensures.items;
+  reached = loop_begins g.M.Matcher.fits c.args.array c.new-frames.result.items (well_node c.args.array c.well_formed_tree.ensures.formed) c.new-frames.ensures.items;
   within = omega arith;
   kept = refl;
 }

@@ -1,4 +1,5 @@
-use Rattle.vx_tree.proofs.CostLemmas.{cost_positive, function_cost, function_reach, column_cost, column_reach, masked_cost, masked_reach}
+use Rattle.vx_tree.proofs.WeightLemmas.{cost_positive}
+use Rattle.vx_tree.proofs.CostLemmas.{function_cost, function_reach, column_cost, column_reach, masked_cost, masked_reach, chunked_cost, interleave_cost}
 use Rattle.vx_tree.proofs.laws.execution_bounds.Goals as goal
 
 pub returns-clause-positive : goal.returns-clause-positive
@@ -21,3 +22,9 @@ returns-clause-masks c = masked_cost
 
 pub returns-clause-mask_reach : goal.returns-clause-mask_reach
 returns-clause-mask_reach c = masked_reach
+
+pub returns-clause-chunks : goal.returns-clause-chunks
+returns-clause-chunks c = chunked_cost
+
+pub returns-clause-interleaves : goal.returns-clause-interleaves
+returns-clause-interleaves c = interleave_cost

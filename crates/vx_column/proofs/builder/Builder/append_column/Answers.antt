@@ -1,0 +1,57 @@
+use Rattle.std.proofs.Common.{◌≡◌, OnOk, replicate, length, ap, sym, subst, ◌∙◌}
+use Rattle.std.proofs.lemmas.Result.{on_ok_weaker}
+use Rattle.vx_value.specs.Values.{null}
+use Rattle.vx_tree.specs.Tree.{len}
+use Rattle.vx_tree.specs.Cells.{rows}
+use Rattle.vx_tree.specs.Canonicals.{columnar_tree}
+use Rattle.vx_tree.proofs.ConditionsLemmas.{none_refused}
+use Rattle.vx_column.specs.Built.{appended, type_refusal, length_refusal}
+use Rattle.vx_column.specs.Growing.{values_or}
+use Rattle.vx_column.proofs.GrowingLemmas.{same_as}
+use Rattle.vx_column.proofs.BuiltLemmas.{values_null, clean_null, values_shown, clean_shown, unread_unappended}
+use Rattle.vx_column.proofs.builder.Builder.append_column.Goals as goal
+
+pub returns-then-is_null_constant-clause-ok : goal.returns-then-is_null_constant-clause-ok
+returns-then-is_null_constant-clause-ok c =
+    let t = columnar_tree c.args.column.now in
+    let is = c.is_null_constant.ensures c.if-is_null_constant.true in
+    subst (λ vs. OnOk c.push_nulls.result (c.push_nulls.new.self ≡ appended c.args.self.now vs))
+    (ap (λ n. replicate n null) c.len-then-is_null_constant.ensures ∙ values_null t is) c.push_nulls.ensures.ok
+
+pub returns-then-is_null_constant-clause-valid : goal.returns-then-is_null_constant-clause-valid
+returns-then-is_null_constant-clause-valid c =
+    let r = c.args.self.now in
+    let t = columnar_tree c.args.column.now in
+    let is = c.is_null_constant.ensures c.if-is_null_constant.true in
+    let none = none_refused _ _ (ap (type_refusal r) (sym c.dtype.ensures) ∙ c.in_ok-check_type.ensures)
+    (ap (length_refusal (length r.values)) (sym c.len.ensures) ∙ c.in_ok-check_len.ensures) in
+    on_ok_weaker c.push_nulls.result (λ _. (none, clean_null t is)) c.push_nulls.ensures.ok
+
+pub push_argument-requires-clause-typed : goal.push_argument-requires-clause-typed
+push_argument-requires-clause-typed c =
+    let r = c.args.self.now in
+    sym (same_as r _ (ap (type_refusal r) (sym c.dtype.ensures) ∙ c.in_ok-check_type.ensures)) ∙ c.in-Ok.ensures.ok.typed
+
+pub returns-in-Ok-clause-ok : goal.returns-in-Ok-clause-ok
+returns-in-Ok-clause-ok c =
+    let t = columnar_tree c.args.column.now in
+    let a = c.in-Ok.argument in
+    let counted = subst (λ u. length (rows u) ≡ len u) c.as_array.ensures.of c.well_formed_tree.ensures.counted in
+    subst (λ vs. OnOk c.push_argument.result (c.push_argument.new.self ≡ appended c.args.self.now vs))
+    (ap (values_or null a.rows a.valid) c.len-in-Ok.ensures ∙ values_shown t a counted c.in-Ok.ensures.ok.shown) c.push_argument.ensures.ok
+
+pub returns-in-Ok-clause-valid : goal.returns-in-Ok-clause-valid
+returns-in-Ok-clause-valid c =
+    let r = c.args.self.now in
+    let t = columnar_tree c.args.column.now in
+    let counted = subst (λ u. length (rows u) ≡ len u) c.as_array.ensures.of c.well_formed_tree.ensures.counted in
+    let none = none_refused _ _ (ap (type_refusal r) (sym c.dtype.ensures) ∙ c.in_ok-check_type.ensures)
+    (ap (length_refusal (length r.values)) (sym c.len.ensures) ∙ c.in_ok-check_len.ensures) in
+    on_ok_weaker c.push_argument.result (λ _. (none, clean_shown t c.in-Ok.argument counted c.in-Ok.ensures.ok.shown)) c.push_argument.ensures.ok
+
+pub returns-in-Err-clause-refused : goal.returns-in-Err-clause-refused
+returns-in-Err-clause-refused c =
+    let r = c.args.self.now in
+    let none = none_refused _ _ (ap (type_refusal r) (sym c.dtype.ensures) ∙ c.in_ok-check_type.ensures)
+    (ap (length_refusal (length r.values)) (sym c.len.ensures) ∙ c.in_ok-check_len.ensures) in
+    unread_unappended r (columnar_tree c.args.column.now) c.in-Err.e none c.in-Err.ensures.err
