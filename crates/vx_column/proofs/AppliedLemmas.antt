@@ -18,7 +18,9 @@ use Rattle.vx_value.specs.declared.error.VortexError.{VortexError}
 use Rattle.vx_fn.specs.Apply.{apply, value_of}
 use Rattle.vx_fn.specs.ReturnTypes.{return_type}
 use Rattle.vx_fn.specs.declared.function.ScalarFnRef.{ScalarFnRef}
-use Rattle.vx_tree.specs.Tree.{Tree, filled_slots, dtype, datum, is_constant, constant_of, call_of}
+use Rattle.vx_tree.specs.Tree.{Tree, filled_slots, dtype, datum, is_constant, constant_of, call_of, types_in}
+use Rattle.vx_tree.specs.Well.{shapes}
+use Rattle.vx_tree.proofs.CallsLemmas.{filled_types}
 use Rattle.vx_tree.specs.Cells.{rows, row_at, slots_rows, HasNoFault}
 use Rattle.vx_tree.specs.Canonicals.{columnar_tree}
 use Rattle.vx_tree.specs.declared.canonical.columnar.Columnar.{Columnar}
@@ -39,8 +41,8 @@ pub call_taken : (f : ScalarFnRef) {ts : List Tree} {n : ℕ} {tys : List DataTy
 call_taken f {ts = ts} {n = n} same call = (call.0, ap (return_type f) (sym same.types) ∙ call_typed f ts n call)
 
 rows_are : (f : ScalarFnRef) (ts : List Tree) (n : ℕ) (tys : List DataType) (row : ℕ → List Cell) → AreRows ts n tys row → (ty : DataType)
-    → rows (call_of f ty n ts) ≡ cells_of f ty row n
-rows_are f ts n tys row same ty = same_below n _ _ (λ i h. ap (apply f ty) (same.cells i h))
+    → rows (call_of f ty n ts) ≡ cells_of f tys ty row n
+rows_are f ts n tys row same ty = same_below n _ _ (λ i h j. apply f ((filled_types ts ∙ same.types) j) ty (same.cells i h j))
 
 pub applied : {f : ScalarFnRef} {ts : List Tree} {n : ℕ} {tys : List DataType} {row : ℕ → List Cell} {u : Tree} →
     AreRows ts n tys row → IsResult f tys row n u → HasNoFault (rows u) → is_constant (datum u) ≡ gives_constant ts n → IsFormed u
@@ -66,18 +68,20 @@ unread f xs n e call h =
     elim (unread_row n xs e (call_lengths f (map columnar_tree xs) n call) h) [
       | inl m ↦ inl m
       | inr k ↦
-          inr (k.0, λ ty typed. fault_among (λ i. apply f ty (row_at (slots_rows (filled_slots (map columnar_tree xs))) i)) n k.1 k.2 (k.3 (value_of f ty)))
+          let ss = filled_slots (map columnar_tree xs) in
+          let tys = types_in (shapes ss) in
+          inr (k.0, λ ty typed. fault_among (λ i. apply f tys ty (row_at (slots_rows ss) i)) n k.1 k.2 (k.3 (value_of f tys ty)))
     ]
 
 -- a fault in row i
 pub fault_at_row : (f : ScalarFnRef) (tys : List DataType) (row : ℕ → List Cell) (n i : ℕ) → i < n →
-    ((ty : DataType) → return_type f tys ≡ Some ty → apply f ty (row i) ≡ fault) → (ty : DataType) → return_type f tys ≡ Some ty
-    → ¬ (HasNoFault (cells_of f ty row n))
-fault_at_row f tys row n i lt h ty typed = fault_among (λ j. apply f ty (row j)) n i lt (h ty typed)
+    ((ty : DataType) → return_type f tys ≡ Some ty → apply f tys ty (row i) ≡ fault) → (ty : DataType) → return_type f tys ≡ Some ty
+    → ¬ (HasNoFault (cells_of f tys ty row n))
+fault_at_row f tys row n i lt h ty typed = fault_among (λ j. apply f tys ty (row j)) n i lt (h ty typed)
 
 -- a constant has the cells of f on the values
 pub constant_result : (f : ScalarFnRef) (tys : List DataType) (cells : List Cell) (n : ℕ) (s : Typed) (u : Tree) →
-    return_type f tys ≡ Some s.of_type → apply f s.of_type cells ≡ value s.value → u ≡ constant_of s n → IsResult f tys (λ _. cells) n u
+    return_type f tys ≡ Some s.of_type → apply f tys s.of_type cells ≡ value s.value → u ≡ constant_of s n → IsResult f tys (λ _. cells) n u
 constant_result f tys cells n s u typed given new =
     subst (λ x. IsResult f tys (λ _. cells) n x) (sym new) (record {
       typed = typed;

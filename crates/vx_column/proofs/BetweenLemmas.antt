@@ -83,10 +83,10 @@ through false r i c h = refl
 
 lies_cell : (options : BetweenOptions) (ty : DataType) (v w k : Bool) (x l u : ArgumentRows) (i : ℕ)
     → is_ordered (plain_type x) ≡ true → is_ordered (plain_type l) ≡ true → is_ordered (plain_type u) ≡ true
-    → apply (Between options) ty (null_unless v (value (value_at x i)) ∷ null_unless w (value (value_at l i)) ∷ null_unless k (value (value_at u i)) ∷ [])
+    → apply (Between options) (plain_type x ∷ plain_type l ∷ plain_type u ∷ []) ty (null_unless v (value (value_at x i)) ∷ null_unless w (value (value_at l i)) ∷ null_unless k (value (value_at u i)) ∷ [])
     ≡ null_unless (v && (w && k)) (value (boolean (is_between options (value_at x) (value_at l) (value_at u) i)))
 lies_cell options ty v w k x l u i first second third =
-    (λ j. apply (Between options) ty (stored_cell v (value_at x i) j ∷ stored_cell w (value_at l i) j ∷ stored_cell k (value_at u i) j ∷ []))
+    (λ j. apply (Between options) (plain_type x ∷ plain_type l ∷ plain_type u ∷ []) ty (stored_cell v (value_at x i) j ∷ stored_cell w (value_at l i) j ∷ stored_cell k (value_at u i) j ∷ []))
     ∙ through v x i _ first
     ∙ ap (null_unless v) (through w l i _ second)
     ∙ ap (λ c. null_unless v (null_unless w c)) (through k u i _ third)

@@ -280,10 +280,10 @@ null_nullable : (valid : ValidRows) (i : ℕ) → is_valid valid i ≡ false →
 null_nullable (rows_valid.All m) i h = absurd (cc)
 null_nullable (rows_valid.Bits bits) i h = refl
 
-cast_cell : (target : DType) (t : DataType) (v : Bool) (x : Value) → (v ≡ false → nullability_of t ≡ Nullable)
-    → null_unless v (cast_to t x) ≡ apply (Cast target) t (null_unless v (value x) ∷ [])
-cast_cell target t true x h = refl
-cast_cell target t false x h = sym (ap (λ m. if is_nullable m then value null else fault) (h refl))
+cast_cell : (target : DType) (tys : List DataType) (t : DataType) (v : Bool) (x : Value) → (v ≡ false → nullability_of t ≡ Nullable)
+    → null_unless v (cast_to t x) ≡ apply (Cast target) tys t (null_unless v (value x) ∷ [])
+cast_cell target tys t true x h = refl
+cast_cell target tys t false x h = sym (ap (λ m. if is_nullable m then value null else fault) (h refl))
 
 -- ---- the column of a cast
 
@@ -299,10 +299,10 @@ module _ (n : ℕ) (a : Argument) (target : DType) (takes : Takes (Cast target) 
       cast_target a.rows (nullability_in a.valid) (type_of target) (ap (λ s. has_cast s (type_of target)) (sym (argument_type n a takes.sized.0)) ∙ found.0)
 
   pub null_not_computed : (i : ℕ) → i < n → is_valid a.valid i ≡ false → nullability_of (type_of target) ≡ NonNullable → (t : DataType)
-      → return_type (Cast target) (types_of (a ∷ [])) ≡ Some t → ¬ (HasNoFault (cells_of (Cast target) t (row_of (a ∷ [])) n))
+      → return_type (Cast target) (types_of (a ∷ [])) ≡ Some t → ¬ (HasNoFault (cells_of (Cast target) (types_of (a ∷ [])) t (row_of (a ∷ [])) n))
   null_not_computed i lt here plain t typed =
-      fault_among (λ j. apply (Cast target) t (row_of (a ∷ []) j)) n i lt
-      (ap (λ b. apply (Cast target) t (null_unless b (value (value_at a.rows i)) ∷ [])) here
+      fault_among (λ j. apply (Cast target) (types_of (a ∷ [])) t (row_of (a ∷ []) j)) n i lt
+      (ap (λ b. apply (Cast target) (types_of (a ∷ [])) t (null_unless b (value (value_at a.rows i)) ∷ [])) here
       ∙ ap (λ m. if is_nullable m then value null else fault) (ap nullability_of (same_type t typed) ∙ plain))
 
   module _ (valid : ValidRows) (rows : (i : ℕ) → i < n → is_valid valid i ≡ is_valid a.valid i) where
@@ -310,8 +310,8 @@ module _ (n : ℕ) (a : Argument) (target : DType) (takes : Takes (Cast target) 
         → (dtype u ≡ type_of target) × IsColumnOfCells valid (λ i. cast_to (type_of target) (value_at a.rows i)) n u → IsCanonicalResult (Cast target) (a ∷ []) n u
     cast_computed u nullability h =
         computed_by (Cast target) (a ∷ []) valid _ n u (found.1 ∙ ap Some (sym h.0)) h.1
-        (λ i lt. cast_cell target (type_of target) (is_valid valid i) (value_at a.rows i) (λ e. sym nullability ∙ null_nullable valid i e)
-        ∙ (λ j. apply (Cast target) (sym h.0 j) (null_unless (rows i lt j) (value (value_at a.rows i)) ∷ [])))
+        (λ i lt. cast_cell target (types_of (a ∷ [])) (type_of target) (is_valid valid i) (value_at a.rows i) (λ e. sym nullability ∙ null_nullable valid i e)
+        ∙ (λ j. apply (Cast target) (types_of (a ∷ [])) (sym h.0 j) (null_unless (rows i lt j) (value (value_at a.rows i)) ∷ [])))
 
     pub cast_not_computed : (e : VortexError) → IsFaultyRow (is_valid valid) (λ i. cast_to (type_of target) (value_at a.rows i)) n e
         → HasNoCanonicalResult (Cast target) (a ∷ []) n e
@@ -320,8 +320,8 @@ module _ (n : ℕ) (a : Argument) (target : DType) (takes : Takes (Cast target) 
         let i = h.1 in
         inr (
           h.0,
-          λ t typed. fault_among (λ j. apply (Cast target) t (row_of (a ∷ []) j)) n i h.2
-              (ap (λ b. apply (Cast target) t (null_unless b (value (value_at a.rows i)) ∷ [])) (sym (rows i h.2) ∙ h.3)
+          λ t typed. fault_among (λ j. apply (Cast target) (types_of (a ∷ [])) t (row_of (a ∷ []) j)) n i h.2
+              (ap (λ b. apply (Cast target) (types_of (a ∷ [])) t (null_unless b (value (value_at a.rows i)) ∷ [])) (sym (rows i h.2) ∙ h.3)
               ∙ ap (λ s. cast_to s (value_at a.rows i)) (same_type t typed)
               ∙ h.4),
         )

@@ -93,7 +93,7 @@ null_typed ty = record { of_type = ty; value = null }
 
 -- a row that is null, of a column of any values
 pub null_row : {X : Type 0} (read : X → Value) (of_items : List X → Data) (d : X) (t : Tree)
-    → ((n : ℕ) (xs : List X) (css : List (List Cell)) → node_cells (dtype t) n (of_items xs) css ≡ valid_cells (cells_at css 0) (map (λ x. value (read x)) xs))
+    → ((n : ℕ) (xs : List X) (tys : List DataType) (css : List (List Cell)) → node_cells (dtype t) n (of_items xs) tys css ≡ valid_cells (cells_at css 0) (map (λ x. value (read x)) xs))
     → (v : Option Tree) (xs : List X) (i : ℕ) (b : Bool) (s : Typed) → t ≡ column (dtype t) (len t) (of_items xs) v → length xs ≡ len t → i < len t
     → ((w : Value) → IsRowBy v i (value w) (null_unless b (value w))) → b ≡ false → s ≡ null_typed (dtype t)
     → IsRow t i s
@@ -103,7 +103,7 @@ null_row read of_items d t cells v xs i b s is long lt told none made =
     let there : slice_get stored i ≡ Some (value w) =
     slice_get-map (λ x. value (read x)) xs i ∙ ap (option_map (λ x. value (read x))) (slice_get-get_or xs i d (omega (arith, long))) in
     let shown : rows t ≡ valid_cells (validity_cells v) stored =
-    ap rows is ∙ cells (len t) xs (slots_rows (slots_of (v ∷ []))) ∙ ap (λ css. valid_cells (cells_at css 0) stored) (one_slot v) in (
+    ap rows is ∙ cells (len t) xs _ (slots_rows (slots_of (v ∷ []))) ∙ ap (λ css. valid_cells (cells_at css 0) stored) (one_slot v) in (
       ap (λ cs. slice_get cs i) shown ∙ told w stored there ∙ ap (λ x. Some (null_unless x (value w))) none ∙ ap (λ x. Some (value x.value)) (sym made),
       ap (λ x. x.of_type) made,
     )
@@ -194,9 +194,9 @@ module _ (t : Tree) (f : ScalarFnRef) (xs : List (Option Tree)) (i : ℕ)
   typed : return_type f (types_in (shapes (slots_of xs))) ≡ Some (dtype t)
   typed = ap (return_type f) (ap types_in well.1 ∙ types_back (len t) well.0) ∙ well.2
 
-  row_is : i < len t → slice_get (rows t) i ≡ Some (apply f (dtype t) (row_at (slots_rows (slots_of xs)) i))
+  row_is : i < len t → slice_get (rows t) i ≡ Some (apply f (types_in (shapes (slots_of xs))) (dtype t) (row_at (slots_rows (slots_of xs)) i))
   row_is lt =
-      let cell = λ (j : ℕ). apply f (dtype t) (row_at (slots_rows (slots_of xs)) j) in
+      let cell = λ (j : ℕ). apply f (types_in (shapes (slots_of xs))) (dtype t) (row_at (slots_rows (slots_of xs)) j) in
       let l = length-map-range_with_len cell 0 (len t) in
       ap (λ u. slice_get (rows u) i) shown ∙ slice_get-get_or (map cell (range_with_len 0 (len t))) i fault (omega (arith, l))
       ∙ ap Some (get_or-map-range_with_len cell 0 (len t) i i fault lt (omega arith))
@@ -206,7 +206,7 @@ module _ (t : Tree) (f : ScalarFnRef) (xs : List (Option Tree)) (i : ℕ)
 
   pub child_faulted : (k : ℕ) (c : Tree) → i < len t → k < length xs → Some c ≡ get_or xs k (Some c) → slice_get (rows c) i ≡ Some fault
       → slice_get (rows t) i ≡ Some fault
-  child_faulted k c lt there e h = row_is lt ∙ ap Some (argument_fault i xs k c (value_of f (dtype t)) there e h)
+  child_faulted k c lt there e h = row_is lt ∙ ap Some (argument_fault i xs k c (value_of f (types_in (shapes (slots_of xs))) (dtype t)) there e h)
 
   -- once all slots are read
   module _ (k : ℕ) (scalars ss : List Typed) (all : length xs ≤ k) (same : ss ≡ scalars) (first : AllZip (IsRead i) (take k xs) scalars) where
@@ -219,16 +219,16 @@ module _ (t : Tree) (f : ScalarFnRef) (xs : List (Option Tree)) (i : ℕ)
     pub function_taken : IsSome (return_type f (types_of_scalars ss))
     function_taken = ap is_some types_are
 
-    cells_are : i < len t → slice_get (rows t) i ≡ Some (apply f (dtype t) (cells_of_scalars ss))
-    cells_are lt = row_is lt ∙ ap (λ cs. Some (apply f (dtype t) cs)) (read_cells i xs ss read)
+    cells_are : i < len t → slice_get (rows t) i ≡ Some (apply f (types_of_scalars ss) (dtype t) (cells_of_scalars ss))
+    cells_are lt = row_is lt ∙ (λ j. Some (apply f (read_types i xs ss read j) (dtype t) (read_cells i xs ss read j)))
 
     pub function_row : (s : Typed) → i < len t → return_type f (types_of_scalars ss) ≡ Some s.of_type
-        → apply f s.of_type (cells_of_scalars ss) ≡ value s.value → IsRow t i s
+        → apply f (types_of_scalars ss) s.of_type (cells_of_scalars ss) ≡ value s.value → IsRow t i s
     function_row s lt r given =
         let known = types_are in
         let typed : s.of_type ≡ dtype t = cc in
-        (cells_are lt ∙ ap (λ ty. Some (apply f ty (cells_of_scalars ss))) (sym typed) ∙ ap Some given, typed)
+        (cells_are lt ∙ ap (λ ty. Some (apply f (types_of_scalars ss) ty (cells_of_scalars ss))) (sym typed) ∙ ap Some given, typed)
 
-    pub function_faulted : i < len t → ((ty : DataType) → return_type f (types_of_scalars ss) ≡ Some ty → apply f ty (cells_of_scalars ss) ≡ fault) →
+    pub function_faulted : i < len t → ((ty : DataType) → return_type f (types_of_scalars ss) ≡ Some ty → apply f (types_of_scalars ss) ty (cells_of_scalars ss) ≡ fault) →
         slice_get (rows t) i ≡ Some fault
     function_faulted lt h = cells_are lt ∙ ap Some (h (dtype t) types_are)

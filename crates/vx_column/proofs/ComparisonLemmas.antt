@@ -27,7 +27,7 @@ use Rattle.vx_fn.specs.declared.function.Operator.TheVariants as operator
 use Rattle.vx_fn.specs.declared.function.ScalarFnRef.TheVariants.{Binary}
 use Rattle.vx_tree.specs.ColumnTypes.{bytes_type, scale_of}
 use Rattle.vx_tree.specs.Tree.{Tree, dtype}
-use Rattle.vx_column.specs.Arguments.{plain_type, pair_at, value_at, unscaled_in}
+use Rattle.vx_column.specs.Arguments.{plain_type, pair_types, pair_at, value_at, unscaled_in}
 use Rattle.vx_column.specs.ValidRows.{nullability_in, is_valid}
 use Rattle.vx_column.specs.declared.rows.argument.ArgumentRows.{ArgumentRows}
 use Rattle.vx_column.specs.declared.rows.argument.ArgumentRows.TheVariants as stored
@@ -111,14 +111,14 @@ comparison_type op t c h = by_operator op c
     by_operator _ c = absurd (cc)
 
 compared_cell : (op : Operator) (m : Nullability) (l r : ArgumentRows) (i : ℕ) → is_ordered (plain_type l) ≡ true → is_ordered (plain_type r) ≡ true
-    → is_comparison op ≡ true → apply (Binary op) (bool m) (pair_at l r i) ≡ value (boolean (holds op (value_cmp (value_at l i) (value_at r i))))
+    → is_comparison op ≡ true → apply (Binary op) (pair_types l r) (bool m) (pair_at l r i) ≡ value (boolean (holds op (value_cmp (value_at l i) (value_at r i))))
 compared_cell op m l r i first second c = by_operator op c
   where
     through_both : (c : Cell) → null_through (value_at l i) (null_through (value_at r i) c) ≡ c
     through_both c = stored_through l i (null_through (value_at r i) c) first ∙ stored_through r i c second
 
     by_operator : (op : Operator) → is_comparison op ≡ true
-        → apply (Binary op) (bool m) (pair_at l r i) ≡ value (boolean (holds op (value_cmp (value_at l i) (value_at r i))))
+        → apply (Binary op) (pair_types l r) (bool m) (pair_at l r i) ≡ value (boolean (holds op (value_cmp (value_at l i) (value_at r i))))
     by_operator operator.Eq c = through_both _
     by_operator operator.NotEq c = through_both _
     by_operator operator.Gt c = through_both _
@@ -163,9 +163,9 @@ pub ordered_filled : (op : Operator) (l r : ArgumentRows) (order : ℕ → Order
     → is_ordered (plain_type l) ≡ true → is_ordered (plain_type r) ≡ true → is_comparison op ≡ true
     → ((i : ℕ) → order i ≡ value_cmp (value_at l i) (value_at r i))
     → (dtype t ≡ bool (nullability_in valid)) × IsColumnOfCells valid (λ i. value (boolean (holds op (order i)))) n t
-    → IsRowwiseResult (Binary op) (operator_type op (plain_type l)) (pair_at l r) valid n t
+    → IsRowwiseResult (Binary op) (pair_types l r) (operator_type op (plain_type l)) (pair_at l r) valid n t
 ordered_filled op l r order valid n t first second c same made =
-    filled (Binary op) (operator_type op (plain_type l)) (pair_at l r) valid n (bool (nullability_in valid)) (λ i. value (boolean (holds op (order i)))) t
+    filled (Binary op) (pair_types l r) (operator_type op (plain_type l)) (pair_at l r) valid n (bool (nullability_in valid)) (λ i. value (boolean (holds op (order i)))) t
     (ap (option_map (with_nullability (nullability_in valid))) (comparison_type op (plain_type l) c first)) made
     (λ i lt here. ap (λ o. value (boolean (holds op o))) (same i) ∙ sym (compared_cell op (nullability_in valid) l r i first second c))
 
@@ -173,7 +173,7 @@ ordered_filled op l r order valid n t first second c same made =
 pub compared_filled : (op : Operator) (l r : ArgumentRows) (p q : ℕ → Value) (valid : ValidRows) (n : ℕ) (t : Tree)
     → is_ordered (plain_type l) ≡ true → is_ordered (plain_type r) ≡ true → is_comparison op ≡ true → p ≡ value_at l → q ≡ value_at r
     → (dtype t ≡ bool (nullability_in valid)) × IsColumnOfCells valid (λ i. value (boolean (holds op (value_cmp (p i) (q i))))) n t
-    → IsRowwiseResult (Binary op) (operator_type op (plain_type l)) (pair_at l r) valid n t
+    → IsRowwiseResult (Binary op) (pair_types l r) (operator_type op (plain_type l)) (pair_at l r) valid n t
 compared_filled op l r p q valid n t first second c left right =
     ordered_filled op l r (λ i. value_cmp (p i) (q i)) valid n t first second c (λ i j. value_cmp (left j i) (right j i))
 

@@ -24,28 +24,28 @@ use Rattle.vx_column.specs.declared.rows.argument.ArgumentRows.TheVariants.{Null
 use Rattle.vx_column.specs.declared.rows.valid.ValidRows.{ValidRows}
 
 -- a column whose valid rows are f on `row`
-module _ (f : ScalarFnRef) (of_type : Option DataType) (row : ℕ → List Cell) (valid : ValidRows) (n : ℕ) where
+module _ (f : ScalarFnRef) (tys : List DataType) (of_type : Option DataType) (row : ℕ → List Cell) (valid : ValidRows) (n : ℕ) where
   -- a fault in one of them
-  pub filled_fault : (ty : DataType) (i : ℕ) → filled_type valid of_type ≡ Some ty → i < n → is_valid valid i ≡ true → apply f ty (row i) ≡ fault →
-      (s : DataType) → filled_type valid of_type ≡ Some s → ¬ (HasNoFault (filled_cells f s row valid n))
+  pub filled_fault : (ty : DataType) (i : ℕ) → filled_type valid of_type ≡ Some ty → i < n → is_valid valid i ≡ true → apply f tys ty (row i) ≡ fault →
+      (s : DataType) → filled_type valid of_type ≡ Some s → ¬ (HasNoFault (filled_cells f tys s row valid n))
   filled_fault ty i known lt here none s typed =
       let same : s ≡ ty = cc (typed, known) in
-      fault_among (λ j. null_unless (is_valid valid j) (apply f s (row j))) n i lt
-      (ap (λ b. null_unless b (apply f s (row i))) here ∙ ap (λ t. apply f t (row i)) same ∙ none)
+      fault_among (λ j. null_unless (is_valid valid j) (apply f tys s (row j))) n i lt
+      (ap (λ b. null_unless b (apply f tys s (row i))) here ∙ ap (λ t. apply f tys t (row i)) same ∙ none)
 
   -- a column that stores them in the valid rows
   pub filled : (ty : DataType) (stored : ℕ → Cell) (u : Tree) → filled_type valid of_type ≡ Some ty → (dtype u ≡ ty) × IsColumnOfCells valid stored n u
-      → ((i : ℕ) → i < n → is_valid valid i ≡ true → stored i ≡ apply f ty (row i)) → IsRowwiseResult f of_type row valid n u
+      → ((i : ℕ) → i < n → is_valid valid i ≡ true → stored i ≡ apply f tys ty (row i)) → IsRowwiseResult f tys of_type row valid n u
   filled ty stored u typed made same = record {
     typed = typed ∙ ap Some (sym made.0);
-    made = made_by valid stored _ n u (λ i lt here. same i lt here ∙ ap (λ t. apply f t (row i)) (sym made.0)) made.1;
+    made = made_by valid stored _ n u (λ i lt here. same i lt here ∙ ap (λ t. apply f tys t (row i)) (sym made.0)) made.1;
   }
 
   pub bools_filled : (r : Result Canonical VortexError) (test : ℕ → Bool) (bits : List Bool) → filled_type valid of_type ≡ Some (bool (nullability_in valid)) →
-      ((i : ℕ) → i < n → is_valid valid i ≡ true → value (boolean (test i)) ≡ apply f (bool (nullability_in valid)) (row i)) →
+      ((i : ℕ) → i < n → is_valid valid i ≡ true → value (boolean (test i)) ≡ apply f tys (bool (nullability_in valid)) (row i)) →
       bits ≡ map test (range_with_len 0 n) →
       IfOk r (λ c. (dtype (canonical_tree c) ≡ bool (nullability_in valid)) × IsColumnOfCells valid (λ i. value (boolean (bit_row bits i))) n (canonical_tree c)) →
-      IfOk r (λ c. IsRowwiseResult f of_type row valid n (canonical_tree c))
+      IfOk r (λ c. IsRowwiseResult f tys of_type row valid n (canonical_tree c))
   bools_filled r test bits typed same are =
       IfOk-weaker r _ _
       (λ c made. filled (bool (nullability_in valid)) (λ i. value (boolean (bit_row bits i))) (canonical_tree c) typed made
@@ -55,7 +55,7 @@ module _ (f : ScalarFnRef) (of_type : Option DataType) (row : ℕ → List Cell)
   pub nulls_filled : (r : Result Canonical VortexError) (bits : List Bool) → filled_type valid of_type ≡ Some (bool (nullability_in valid)) →
       AreShown Nulls valid n →
       IfOk r (λ c. (dtype (canonical_tree c) ≡ bool (nullability_in valid)) × IsColumnOfCells valid (λ i. value (boolean (bit_row bits i))) n (canonical_tree c)) →
-      IfOk r (λ c. IsRowwiseResult f of_type row valid n (canonical_tree c))
+      IfOk r (λ c. IsRowwiseResult f tys of_type row valid n (canonical_tree c))
   nulls_filled r bits typed none =
       IfOk-weaker r _ _
       (λ c made. filled (bool (nullability_in valid)) (λ i. value (boolean (bit_row bits i))) (canonical_tree c) typed made

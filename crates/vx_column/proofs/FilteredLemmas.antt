@@ -21,7 +21,7 @@ use Rattle.vx_mask.specs.Places.{true_count, chosen}
 use Rattle.vx_mask.proofs.ChosenLemmas.{chosen_map, chosen-replicate}
 use Rattle.vx_mask.proofs.PlacesLemmas.{length-chosen}
 use Rattle.vx_tree.specs.Tree as enc
-use Rattle.vx_tree.specs.Tree.{Tree, Data, slots_of, dtype, len, datum, column, booleans, filter_of}
+use Rattle.vx_tree.specs.Tree.{Tree, Data, slots_of, dtype, len, datum, column, booleans, filter_of, types_in}
 use Rattle.vx_tree.specs.Well.{shapes, IsWell, AreWell, IsFlat, IsNodeOf}
 use Rattle.vx_tree.specs.Cells.{rows, node_cells, cells_at, valid_cell, valid_cells, HasNoFault, IsClean}
 use Rattle.vx_tree.specs.Keeps.{KeepsExactly}
@@ -151,11 +151,12 @@ rows_chosen bits xs ys t u v long masked same kept h =
     subst (HasRows v) (chosen_count bits xs ys (len t) long (masked ∙ ap len (sym same)) kept) h
 
 module _ {X : Type 0} (read : X → Value) (of_items : List X → Data) (of_type : DataType)
-    (cells : (m : Nullability) (n : ℕ) (xs : List X) (css : List (List Cell))
-    → node_cells (with_nullability m of_type) n (of_items xs) css ≡ valid_cells (cells_at css 0) (map (λ x. value (read x)) xs)) where
+    (cells : (m : Nullability) (n : ℕ) (xs : List X) (tys : List DataType) (css : List (List Cell))
+    → node_cells (with_nullability m of_type) n (of_items xs) tys css ≡ valid_cells (cells_at css 0) (map (λ x. value (read x)) xs)) where
   pub column_cells : (m : Nullability) (n : ℕ) (xs : List X) (v : Option Tree)
       → rows (column (with_nullability m of_type) n (of_items xs) v) ≡ valid_cells (validity_cells v) (map (λ x. value (read x)) xs)
-  column_cells m n xs v = ap (node_cells (with_nullability m of_type) n (of_items xs)) (one_slot v) ∙ cells m n xs (validity_cells v ∷ [])
+  column_cells m n xs v =
+      ap (node_cells (with_nullability m of_type) n (of_items xs) (types_in (shapes (slots_of (v ∷ []))))) (one_slot v) ∙ cells m n xs _ (validity_cells v ∷ [])
 
   pub filtered_exactly : (bits : List Bool) (xs ys : List X) (v w : Option Tree) (m : Nullability) (n : ℕ) → length xs ≡ n → length bits ≡ n
       → ys ≡ chosen bits xs
@@ -202,7 +203,7 @@ booleans_filtered bits bs kept t is typed well long e =
     let whole_is : t ≡ column (bool NonNullable) (len t) (enc.bool bs) None = is ∙ ap (λ ty. column ty (len t) (enc.bool bs) None) typed in
     let flat : IsFlat (bool NonNullable) (length bs) (dtype t) (len t) (shapes (slots_of (None ∷ []))) = subst IsNodeOf is well in
     subst (λ x. KeepsExactly (filter_of bits x) (booleans kept)) (sym whole_is)
-    (filtered_exactly boolean enc.bool (bool NonNullable) (λ m n xs css. refl) bits bs kept None None NonNullable (len t) (sym flat.2) long e
+    (filtered_exactly boolean enc.bool (bool NonNullable) (λ m n xs tys css. refl) bits bs kept None None NonNullable (len t) (sym flat.2) long e
     (choice_none bits))
 
 -- ---- values that pass a test

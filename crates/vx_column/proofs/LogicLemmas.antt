@@ -25,7 +25,7 @@ use Rattle.vx_fn.specs.declared.function.ScalarFnRef.TheVariants.{Binary}
 use Rattle.vx_fn.proofs.BinaryLemmas.{result_type, and_is, or_is}
 use Rattle.vx_tree.specs.ColumnTypes.{bytes_type}
 use Rattle.vx_tree.specs.Tree.{Tree, dtype}
-use Rattle.vx_column.specs.Arguments.{plain_type, row_of, IsSized}
+use Rattle.vx_column.specs.Arguments.{types_of, plain_type, row_of, IsSized}
 use Rattle.vx_column.specs.Bits.{bit_by}
 use Rattle.vx_column.specs.Computed.{IsColumnOfCells, IsCanonicalResult}
 use Rattle.vx_column.specs.Truths.{argument_in, row_over, HasTruths}
@@ -125,18 +125,18 @@ sure_or None (Some true) = refl
 sure_or None (Some false) = refl
 
 joined : (op : Operator) (m : Nullability) (p q : Option Bool) → is_logical op ≡ true →
-    joined_cell (bit_by op (sure p) (sure q)) (bit_by op (possible p) (possible q)) ≡ apply (Binary op) (bool m) (value (truth p) ∷ value (truth q) ∷ [])
-joined operator.And m p q h = sure_and p q ∙ sym (and_is m p q)
-joined operator.Or m p q h = sure_or p q ∙ sym (or_is m p q)
+    joined_cell (bit_by op (sure p) (sure q)) (bit_by op (possible p) (possible q)) ≡ apply (Binary op) (bool m ∷ bool m ∷ []) (bool m) (value (truth p) ∷ value (truth q) ∷ [])
+joined operator.And m p q h = sure_and p q ∙ sym (and_is (bool m ∷ bool m ∷ []) m p q)
+joined operator.Or m p q h = sure_or p q ∙ sym (or_is (bool m ∷ bool m ∷ []) m p q)
 joined _ m p q h = absurd (cc)
 
 joined_bits : (op : Operator) (m : Nullability) (v a w b : Bool) → is_logical op ≡ true →
     joined_cell (bit_by op (v && a) (w && b)) (bit_by op (is_le (bool_cmp v a)) (is_le (bool_cmp w b)))
-    ≡ apply (Binary op) (bool m) (null_unless v (value (boolean a)) ∷ null_unless w (value (boolean b)) ∷ [])
+    ≡ apply (Binary op) (bool m ∷ bool m ∷ []) (bool m) (null_unless v (value (boolean a)) ∷ null_unless w (value (boolean b)) ∷ [])
 joined_bits op m v a w b h =
     (λ j. joined_cell (bit_by op (sym (sure_bit v a) j) (sym (sure_bit w b) j)) (bit_by op (sym (possible_bit v a) j) (sym (possible_bit w b) j)))
     ∙ joined op m (truth_if v a) (truth_if w b) h
-    ∙ (λ j. apply (Binary op) (bool m) (cell_is v a j ∷ cell_is w b j ∷ []))
+    ∙ (λ j. apply (Binary op) (bool m ∷ bool m ∷ []) (bool m) (cell_is v a j ∷ cell_is w b j ∷ []))
 
 -- ---- columns of them
 
@@ -164,7 +164,7 @@ module _ (op : Operator) (logical : is_logical op ≡ true) (l r : Truths) (n : 
       (λ i lt. (λ j. null_unless (bit_made _ known n i knowns lt j) (value (boolean (bit_row low i))))
       ∙ (λ j. joined_cell (bit_made _ low n i lows lt j) (bit_made _ high n i highs lt j))
       ∙ joined_bits op Nullable (is_valid l.valid.now i) (bit_in l.bits i) (is_valid r.valid.now i) (bit_in r.bits i) logical
-      ∙ ap (λ ty. apply (Binary op) ty (row_of (argument_in l ∷ argument_in r ∷ []) i)) (sym typed))
+      ∙ ap (λ ty. apply (Binary op) (types_of (argument_in l ∷ argument_in r ∷ [])) ty (row_of (argument_in l ∷ argument_in r ∷ []) i)) (sym typed))
 
   -- if no row of either is null
   pub plain_joined : (m k w : Nullability) (bits : List Bool) (u : Tree) → l.valid.now ≡ rows_valid.All m → r.valid.now ≡ rows_valid.All k →
@@ -179,7 +179,7 @@ module _ (op : Operator) (logical : is_logical op ≡ true) (l r : Truths) (n : 
       (rows_valid.All w) (λ i. value (boolean (bit_row bits i))) n u (logic_typed op m k logical ∙ ap (λ j. Some (bool j)) (sym both) ∙ ap Some (sym h.0)) h.1
       (λ i lt. ap (λ b. value (boolean b)) (bit_made _ bits n i made lt)
       ∙ sym (bools_valued op w (bit_in l.bits i) (bit_in r.bits i))
-      ∙ ap (λ ty. apply (Binary op) ty (value (boolean (bit_in l.bits i)) ∷ value (boolean (bit_in r.bits i)) ∷ [])) (sym h.0))))
+      ∙ ap (λ ty. apply (Binary op) (bool m ∷ bool k ∷ []) ty (value (boolean (bit_in l.bits i)) ∷ value (boolean (bit_in r.bits i)) ∷ [])) (sym h.0))))
 
 -- ---- an argument of booleans
 

@@ -105,7 +105,7 @@ nulls_made f valid n none = record {
 -- the column of a function, by what it stores
 pub computed_by : (f : ScalarFnRef) (args : List Argument) (valid : ValidRows) (stored : ℕ → Cell) (n : ℕ) (u : Tree)
     → return_type f (types_of args) ≡ Some (dtype u) → IsColumnOfCells valid stored n u
-    → ((i : ℕ) → i < n → null_unless (is_valid valid i) (stored i) ≡ apply f (dtype u) (row_of args i)) → IsCanonicalResult f args n u
+    → ((i : ℕ) → i < n → null_unless (is_valid valid i) (stored i) ≡ apply f (types_of args) (dtype u) (row_of args i)) → IsCanonicalResult f args n u
 computed_by f args valid stored n u typed h same = record {
   result = record { typed = typed; counted = h.counted; shown = h.shown ∙ same_below n _ _ same; clean = h.clean };
   canonical = h.canonical;
@@ -119,14 +119,14 @@ module _ (valid : ValidRows) (n : ℕ) (sized : HasValidity valid n) (v : Validi
 
   -- a column that stores the values of `f`
   made_of : (d : Data) (k : ℕ) (f : ℕ → Value) (ty : Nullability → DataType) → k ≡ n
-      → ((m : Nullability) (css : List (List Cell)) → node_cells (ty m) k d css ≡ valid_cells (cells_at css 0) (map (λ i. value (f i)) (range_with_len 0 n)))
+      → ((m : Nullability) (tys : List DataType) (css : List (List Cell)) → node_cells (ty m) k d tys css ≡ valid_cells (cells_at css 0) (map (λ i. value (f i)) (range_with_len 0 n)))
       → is_canonical d ≡ true → ((i : ℕ) → is_null (f i) ≡ false) → (is_bool d ≡ true → d ≡ enc.bool (map is_true (cells_made f))) → (u : Tree)
       → u ≡ column (ty (nullability_by v)) k d (child_of v k)
       → (dtype u ≡ ty (nullability_in valid)) × IsColumnOfCells valid (λ i. value (f i)) n u
   made_of d k f ty long cells canonical held cleared u new =
       let child : child_of v k ≡ child_in valid = ap (child_of v) long ∙ told.1 in
       let shown : rows (column (ty (nullability_by v)) k d (child_in valid)) ≡ cells_made f =
-      cells (nullability_by v) (slots_rows (slots_of (child_in valid ∷ [])))
+      cells (nullability_by v) _ (slots_rows (slots_of (child_in valid ∷ [])))
       ∙ ap (λ css. valid_cells (cells_at css 0) (map (λ i. value (f i)) (range_with_len 0 n))) (one_slot (child_in valid))
       ∙ filled_rows valid n f sized in
       let whole : IsColumnOfCells valid (λ i. value (f i)) n (column (ty (nullability_by v)) k d (child_in valid)) =
@@ -147,8 +147,8 @@ module _ (valid : ValidRows) (n : ℕ) (sized : HasValidity valid n) (v : Validi
   -- items that are stored in a column
   made : {X : Type 0} (read : X → Value) (of_items : List X → Data)
       (ty : Nullability → DataType)
-      → ((m : Nullability) (k : ℕ) (xs : List X) (css : List (List Cell))
-      → node_cells (ty m) k (of_items xs) css ≡ valid_cells (cells_at css 0) (map (λ x. value (read x)) xs))
+      → ((m : Nullability) (k : ℕ) (xs : List X) (tys : List DataType) (css : List (List Cell))
+      → node_cells (ty m) k (of_items xs) tys css ≡ valid_cells (cells_at css 0) (map (λ x. value (read x)) xs))
       → ((xs : List X) → is_canonical (of_items xs) ≡ true) → ((x : X) → is_null (read x) ≡ false) → (xs : List X) (g : ℕ → X)
       → (is_bool (of_items xs) ≡ true → of_items xs ≡ enc.bool (map is_true (cells_made (λ i. read (g i)))))
       → (u : Tree) → xs ≡ map g (range_with_len 0 n)
@@ -158,7 +158,7 @@ module _ (valid : ValidRows) (n : ℕ) (sized : HasValidity valid n) (v : Validi
       let stored : map (λ x. value (read x)) xs ≡ map (λ i. value (read (g i))) (range_with_len 0 n) =
       ap (map (λ x. value (read x))) are ∙ map-map (λ x. value (read x)) g (range_with_len 0 n) in
       made_of (of_items xs) (length xs) (λ i. read (g i)) ty (ap length are ∙ length-map-range_with_len g 0 n)
-      (λ m css. cells m (length xs) xs css ∙ ap (valid_cells (cells_at css 0)) stored) (canonical xs) (λ i. held (g i)) cleared u new
+      (λ m tys css. cells m (length xs) xs tys css ∙ ap (valid_cells (cells_at css 0)) stored) (canonical xs) (λ i. held (g i)) cleared u new
 
   -- bits that are false in the rows that aren't valid
   pub bools_made : (bits : List Bool) (test : ℕ → Bool) (u : Tree) → bits ≡ map (λ i. is_valid valid i && test i) (range_with_len 0 n)
@@ -166,7 +166,7 @@ module _ (valid : ValidRows) (n : ℕ) (sized : HasValidity valid n) (v : Validi
   bools_made bits test u are new =
       let kept : ℕ → Bool = λ i. is_valid valid i && test i in
       let both : (dtype u ≡ bool (nullability_in valid)) × IsColumnOfCells valid (λ i. value (boolean (kept i))) n u =
-      made boolean enc.bool bool (λ m k xs css. refl) (λ xs. refl) (λ b. refl) bits kept
+      made boolean enc.bool bool (λ m k xs tys css. refl) (λ xs. refl) (λ b. refl) bits kept
       (λ k. ap enc.bool (are ∙ same_below n _ _ (λ i lt. sym (kept_again (is_valid valid i) (test i))) ∙ bits_true valid n kept)) u are new in (
         both.0,
         made_by valid _ _ n u (λ i lt here. ap (λ b. value (boolean (b && test i))) here) both.1,
@@ -175,12 +175,12 @@ module _ (valid : ValidRows) (n : ℕ) (sized : HasValidity valid n) (v : Validi
   pub integers_made : (p : PType) (zs : List ℤ) (g : ℕ → ℤ) (u : Tree) → zs ≡ map g (range_with_len 0 n) → u ≡ integer_column p zs v
       → (dtype u ≡ primitive p (nullability_in valid)) × IsColumnOfCells valid (λ i. value (integer (g i))) n u
   integers_made p zs g =
-      made integer (enc.primitive p) (primitive p) (λ m k xs css. refl) (λ xs. refl) (λ z. refl) zs g (λ k. absurd (false≢true k))
+      made integer (enc.primitive p) (primitive p) (λ m k xs tys css. refl) (λ xs. refl) (λ z. refl) zs g (λ k. absurd (false≢true k))
 
   pub decimals_made : (d : DecimalDType) (w : DecimalType) (zs : List ℤ) (g : ℕ → ℤ) (u : Tree) → zs ≡ map g (range_with_len 0 n) → u ≡ decimal_column d w zs v
       → (dtype u ≡ decimal d.precision d.scale (nullability_in valid)) × IsColumnOfCells valid (λ i. value (of.decimal (g i) d.scale)) n u
   decimals_made d w zs g =
-      made (λ z. of.decimal z d.scale) (enc.decimals w) (decimal d.precision d.scale) (λ m k xs css. refl) (λ xs. refl) (λ z. refl) zs g
+      made (λ z. of.decimal z d.scale) (enc.decimals w) (decimal d.precision d.scale) (λ m k xs tys css. refl) (λ xs. refl) (λ z. refl) zs g
       (λ k. absurd (false≢true k))
 
   pub bytes_made : (st : Storage) (rs : ViewedRows) (g : ℕ → List ℕ) (u : Tree) → rows_of rs ≡ map g (range_with_len 0 n) → u ≡ bytes_column st rs v
@@ -191,4 +191,4 @@ module _ (valid : ValidRows) (n : ℕ) (sized : HasValidity valid n) (v : Validi
       sym (map-map read (bytes_at rs.buffers) rs.views) ∙ ap (map read) are ∙ map-map read g (range_with_len 0 n) in
       let long = sym (length-map rs.views (bytes_at rs.buffers)) ∙ ap length are ∙ length-map-range_with_len g 0 n in
       made_of (enc.views rs) (length rs.views) (λ i. bytes (g i)) (λ m. with_nullability m (bytes_type st)) long
-      (λ m css. ap (valid_cells (cells_at css 0)) stored) refl (λ i. refl) (λ k. absurd (false≢true k)) u
+      (λ m tys css. ap (valid_cells (cells_at css 0)) stored) refl (λ i. refl) (λ k. absurd (false≢true k)) u

@@ -143,8 +143,8 @@ both_bits n t u xs ys bits v first second left right made told =
 -- ---- a column of values of one type, each read from an item
 
 module _ {X : Type 0} (read : X → Value) (of_items : List X → Data) (of_type : DataType)
-    (cells : (m : Nullability) (n : ℕ) (xs : List X) (css : List (List Cell))
-    → node_cells (with_nullability m of_type) n (of_items xs) css ≡ valid_cells (cells_at css 0) (map (λ x. value (read x)) xs))
+    (cells : (m : Nullability) (n : ℕ) (xs : List X) (tys : List DataType) (css : List (List Cell))
+    → node_cells (with_nullability m of_type) n (of_items xs) tys css ≡ valid_cells (cells_at css 0) (map (λ x. value (read x)) xs))
     (set : (m : Nullability) → with_nullability Nullable (with_nullability m of_type) ≡ with_nullability Nullable of_type) where
   masked_exactly : (xs : List X) (v c w : Option Tree) (m : Nullability) → IsBoth (length xs) v c w
       → KeepsExactly (masked_of (column (with_nullability m of_type) (length xs) (of_items xs) v) c)

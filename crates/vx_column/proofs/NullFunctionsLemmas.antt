@@ -40,22 +40,23 @@ valid_value (stored.Decimals ds) valid n i shown lt here = refl
 valid_value (stored.Bytes bs) valid n i shown lt here = refl
 
 module _ (f : ScalarFnRef) (g : Bool → Bool) (typed : (s : DataType) → return_type f (s ∷ []) ≡ Some (bool NonNullable))
-    (of_null : (ty : DataType) → apply f ty (value null ∷ []) ≡ value (boolean (g false)))
-    (of_value : (ty : DataType) (x : Value) → is_null x ≡ false → apply f ty (value x ∷ []) ≡ value (boolean (g true))) where
-  test_cell : (ty : DataType) (x : Value) (v : Bool) → (v ≡ true → is_null x ≡ false) → value (boolean (g v)) ≡ apply f ty (null_unless v (value x) ∷ [])
-  test_cell ty x true h = sym (of_value ty x (h refl))
-  test_cell ty x false h = sym (of_null ty)
+    (of_null : (s ty : DataType) → apply f (s ∷ []) ty (value null ∷ []) ≡ value (boolean (g false)))
+    (of_value : (s ty : DataType) (x : Value) → is_null x ≡ false → apply f (s ∷ []) ty (value x ∷ []) ≡ value (boolean (g true))) where
+  test_cell : (s ty : DataType) (x : Value) (v : Bool) → (v ≡ true → is_null x ≡ false)
+      → value (boolean (g v)) ≡ apply f (s ∷ []) ty (null_unless v (value x) ∷ [])
+  test_cell s ty x true h = sym (of_value s ty x (h refl))
+  test_cell s ty x false h = sym (of_null s ty)
 
   pub tested : (a : Argument) (n : ℕ) (bits : List Bool) (u : Tree) → IsSized n a → bits ≡ map (λ i. g (is_valid a.valid i)) (range_with_len 0 n)
       → (dtype u ≡ bool NonNullable) × IsColumnOfCells (rows_valid.All NonNullable) (λ i. value (boolean (bit_row bits i))) n u → IsCanonicalResult f (a ∷ []) n u
   tested a n bits u sized made h =
       computed_by f (a ∷ []) (rows_valid.All NonNullable) (λ i. value (boolean (bit_row bits i))) n u (typed (type_of_argument a) ∙ ap Some (sym h.0)) h.1
       (λ i lt. ap (λ b. value (boolean b)) (bit_made (λ j. g (is_valid a.valid j)) bits n i made lt)
-      ∙ test_cell (dtype u) (value_at a.rows i) (is_valid a.valid i) (valid_value a.rows a.valid n i sized.2 lt))
+      ∙ test_cell (type_of_argument a) (dtype u) (value_at a.rows i) (is_valid a.valid i) (valid_value a.rows a.valid n i sized.2 lt))
 
 -- ---- a mask
 
-mask_cell : (ty : DataType) (v b : Bool) (x : Value) → null_unless (v && b) (value x) ≡ apply Mask ty (null_unless v (value x) ∷ value (boolean b) ∷ [])
+mask_cell : (ty : DataType) (v b : Bool) (x : Value) → null_unless (v && b) (value x) ≡ apply Mask (ty ∷ bool NonNullable ∷ []) ty (null_unless v (value x) ∷ value (boolean b) ∷ [])
 mask_cell ty true true x = refl
 mask_cell ty true false x = refl
 mask_cell ty false true x = refl
@@ -87,4 +88,4 @@ module _ (n : ℕ) (a k : Argument) (takes : Takes Mask (a ∷ k ∷ []) n) wher
       computed_by Mask (a ∷ k ∷ []) (rows_valid.Bits bits) (λ i. value (value_at a.rows i)) n u (typed ∙ ap Some (sym h.0)) h.1
       (λ i lt. ap (λ b. null_unless b (value (value_at a.rows i))) (bit_made (λ j. is_valid a.valid j && bit_in keep j) bits n i made lt)
       ∙ mask_cell (dtype u) (is_valid a.valid i) (bit_in keep i) (value_at a.rows i)
-      ∙ (λ j. apply Mask (dtype u) (cell_at a i ∷ null_unless (sym (all_valid k.valid i plain) j) (value (value_at (sym is j) i)) ∷ [])))
+      ∙ (λ j. apply Mask (types_of (a ∷ k ∷ [])) (dtype u) (cell_at a i ∷ null_unless (sym (all_valid k.valid i plain) j) (value (value_at (sym is j) i)) ∷ [])))

@@ -104,7 +104,7 @@ column_row read d (Some t) valid n xs i told long lt =
 -- what the cells of a column of values are, each read from an item
 abbrev pub AreCells : {X : Type 0} → DataType → (X → Value) → (List X → Data) → Type 0
 AreCells {X = X} ty read of_items =
-    (n : ℕ) (xs : List X) (css : List (List Cell)) → node_cells ty n (of_items xs) css ≡ valid_cells (cells_at css 0) (map (λ x. value (read x)) xs)
+    (n : ℕ) (xs : List X) (tys : List DataType) (css : List (List Cell)) → node_cells ty n (of_items xs) tys css ≡ valid_cells (cells_at css 0) (map (λ x. value (read x)) xs)
 
 module _ (c : Columnar) (v : Option Tree) (valid : ValidRows) (told : AreTold (len (columnar_tree c)) v valid)
     (same : nullability_in valid ≡ nullability_of (dtype (columnar_tree c)))
@@ -124,7 +124,7 @@ module _ (c : Columnar) (v : Option Tree) (valid : ValidRows) (told : AreTold (l
   rows_by read d of_items cells xs long is_column i lt =
       let t = columnar_tree c in
       ap (λ u. get_or (rows u) i fault) (shown_by (of_items xs) is_column)
-      ∙ ap (λ cs. get_or cs i fault) (cells (len t) xs (slots_rows (slots_of (v ∷ []))))
+      ∙ ap (λ cs. get_or cs i fault) (cells (len t) xs _ (slots_rows (slots_of (v ∷ []))))
       ∙ ap (λ css. get_or (valid_cells (cells_at css 0) (map (λ x. value (read x)) xs)) i fault) (one_slot v)
       ∙ column_row read d v valid (len t) xs i told long lt
 
@@ -134,7 +134,7 @@ module _ (c : Columnar) (v : Option Tree) (valid : ValidRows) (told : AreTold (l
       let flat = flat_by (enc.bool bits) is_column in
       record {
         typed = flat.1 ∙ ap bool (sym same);
-        shown = λ i lt. rows_by boolean false enc.bool (λ n xs css. refl) bits (sym flat.2) is_column i lt
+        shown = λ i lt. rows_by boolean false enc.bool (λ n xs tys css. refl) bits (sym flat.2) is_column i lt
             ∙ ap (λ b. null_unless (is_valid valid i) (value (boolean b))) (sym (read i));
         sized = (rows_of (len (columnar_tree c)) (sym flat.2), sized, tt);
       }
@@ -147,7 +147,7 @@ module _ (c : Columnar) (v : Option Tree) (valid : ValidRows) (told : AreTold (l
       let there = rows_of (len (columnar_tree c)) (sym flat.2) in
       record {
         typed = sym typed;
-        shown = λ i lt. rows_by integer (pos 0) (enc.primitive p) (λ n xs css. refl) ws (sym flat.2) is_column i lt
+        shown = λ i lt. rows_by integer (pos 0) (enc.primitive p) (λ n xs tys css. refl) ws (sym flat.2) is_column i lt
             ∙ ap (λ z. null_unless (is_valid valid i) (value (integer z))) (sym (read i));
         sized = (((refl, there.0, there.1, ap storage_of (typed ∙ flat.1) ∙ ap storage.Integers (sym kind)), ap nullability_of typed ∙ sym same), sized, tt);
       }
@@ -164,7 +164,7 @@ module _ (c : Columnar) (v : Option Tree) (valid : ValidRows) (told : AreTold (l
       let kind : storage_of (dtype t) ≡ stored_decimals d = ap storage_of typed in
       record {
         typed = typed ∙ ap (decimal d.precision d.scale) (ap nullability_of (sym typed) ∙ sym same);
-        shown = λ i lt. rows_by (λ z. of.decimal z (scale_of (storage_of (dtype t)))) (pos 0) (enc.decimals w) (λ n xs css. refl) zs
+        shown = λ i lt. rows_by (λ z. of.decimal z (scale_of (storage_of (dtype t)))) (pos 0) (enc.decimals w) (λ n xs tys css. refl) zs
             (sym flat.0.2) is_column i lt
             ∙ ap (λ z. null_unless (is_valid valid i) (value (of.decimal z (scale_of (storage_of (dtype t)))))) (sym (read i))
             ∙ ap (λ st. null_unless (is_valid valid i) (value (of.decimal (unscaled_at ds i) (scale_of st)))) kind;
@@ -183,7 +183,7 @@ module _ (c : Columnar) (v : Option Tree) (valid : ValidRows) (told : AreTold (l
       let typed : are_bytes_of st (rows_of rs) ≡ true = second_so (all_lie_in rs) (are_bytes_of st (rows_of rs)) flat.1 in
       record {
         typed = flat.0.1 ∙ (λ i. with_nullability (sym same i) (bytes_type (sym kind i)));
-        shown = λ i lt. rows_by (λ x. bytes (bytes_at rs.buffers x)) (view_at 0 0) (λ vs. enc.views (viewed vs rs.buffers)) (λ n xs css. refl) rs.views
+        shown = λ i lt. rows_by (λ x. bytes (bytes_at rs.buffers x)) (view_at 0 0) (λ vs. enc.views (viewed vs rs.buffers)) (λ n xs tys css. refl) rs.views
             (sym flat.0.2) is_column i lt
             ∙ ap (λ r. null_unless (is_valid valid i) (value (bytes r)))
             (sym (read i ∙ get_or-map (bytes_at rs.buffers) rs.views i (view_at 0 0) [] (subst (λ n. i < n) flat.0.2 lt)));
@@ -216,7 +216,7 @@ module _ (c : Columnar) (v : Option Tree) (e : VortexError) (array : Tree) (is :
   column_unread read of_items cells xs long is_column =
       let t = columnar_tree c in
       let shown : t ≡ column (dtype t) (len t) (of_items xs) v = subst (λ x. x ≡ column (dtype x) (len x) (of_items xs) v) is is_column in
-      let told = ap rows shown ∙ cells (len t) xs (slots_rows (slots_of (v ∷ [])))
+      let told = ap rows shown ∙ cells (len t) xs _ (slots_rows (slots_of (v ∷ [])))
       ∙ ap (λ css. valid_cells (cells_at css 0) (map (λ x. value (read x)) xs)) (one_slot v) in
       elim (flat_unread read v xs (len t) e (long ∙ ap len is) unread) [
         | inl m ↦ inl m

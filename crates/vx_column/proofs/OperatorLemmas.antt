@@ -46,7 +46,7 @@ pub bools_typed : (op : Operator) (m : Nullability) → IsSome (operator_type op
 bools_typed op m h = ap (option_map (with_nullability m)) (bool_result op h)
 
 pub bools_valued : (op : Operator) (m : Nullability) (a b : Bool)
-    → apply (Binary op) (bool m) (value (boolean a) ∷ value (boolean b) ∷ []) ≡ value (boolean (bit_by op a b))
+    → apply (Binary op) (bool NonNullable ∷ bool NonNullable ∷ []) (bool m) (value (boolean a) ∷ value (boolean b) ∷ []) ≡ value (boolean (bit_by op a b))
 bools_valued operator.And m true b = refl
 bools_valued operator.And m false b = refl
 bools_valued operator.Or m true b = refl
@@ -87,7 +87,7 @@ integers_compared operator.Or p h add sub mul div = absurd (cc)
 integers_compared _ p h add sub mul div = refl
 
 pub calculated_value : (op : Operator) (p : PType) (m : Nullability) (x y : ℤ) → is_logical op ≡ false
-    → apply (Binary op) (primitive p m) (value (integer x) ∷ value (integer y) ∷ []) ≡ calculated op p x y
+    → apply (Binary op) (primitive p NonNullable ∷ primitive p NonNullable ∷ []) (primitive p m) (value (integer x) ∷ value (integer y) ∷ []) ≡ calculated op p x y
 calculated_value op p m x y l = ap (λ b. null_rule b (integer x) (null_rule b (integer y) (operated op (primitive p m) (integer x) (integer y)))) l
 
 -- ---- nulls
@@ -133,7 +133,7 @@ decimals_compared operator.Or p s h add sub = absurd (cc)
 decimals_compared _ p s h add sub = refl
 
 pub decimal_value : (op : Operator) (p s : ℕ) (m : Nullability) (x y : ℤ) (q r : ℕ) → IsSome (operator_type op (decimal p s NonNullable))
-    → apply (Binary op) (decimal p s m) (value (values.decimal x q) ∷ value (values.decimal y r) ∷ []) ≡ calculated_by op (sized p s) x y
+    → apply (Binary op) (decimal p s NonNullable ∷ decimal p s NonNullable ∷ []) (decimal p s m) (value (values.decimal x q) ∷ value (values.decimal y r) ∷ []) ≡ calculated_by op (sized p s) x y
 decimal_value op p s m x y q r h =
     ap (λ b. null_rule b (values.decimal x q) (null_rule b (values.decimal y r) (operated op (decimal p s m) (values.decimal x q) (values.decimal y r))))
     (decimals_plain op p s h)

@@ -18,7 +18,7 @@ use Rattle.vx_fn.specs.declared.function.ScalarFnRef.TheVariants.{Binary, Not}
 use Rattle.vx_fn.proofs.MeaningsLemmas.{union_with_plain}
 use Rattle.vx_tree.specs.Cells.{HasNoFault}
 use Rattle.vx_tree.specs.Tree.{Tree, dtype}
-use Rattle.vx_column.specs.Arguments.{AreShown, types_of, plain_type, pair_at, row_of, value_at}
+use Rattle.vx_column.specs.Arguments.{AreShown, types_of, plain_type, pair_types, pair_at, row_of, value_at}
 use Rattle.vx_column.specs.Computed.{Takes, IsCanonicalResult, HasNoCanonicalResult}
 use Rattle.vx_column.specs.Filled.{IsRowwiseResult, HasNoRowwiseResult}
 use Rattle.vx_column.specs.ValidRows.{is_valid, nullability_in, null_unless}
@@ -35,22 +35,23 @@ through : (x : Value) → null_through x (value null) ≡ value null
 through null = refl
 through _ = refl
 
-null_pair : (op : Operator) (ty : DataType) (v w : Bool) (x y : Value) → is_logical op ≡ false
-    → apply (Binary op) ty (null_unless v (value x) ∷ null_unless w (value y) ∷ []) ≡ null_unless (v && w) (apply (Binary op) ty (value x ∷ value y ∷ []))
-null_pair op ty true true x y h = refl
-null_pair op ty true false x y h = ap (λ b. null_rule b x (null_rule b null (operated op ty x null))) h ∙ through x
-null_pair op ty false true x y h = ap (λ b. null_rule b null (null_rule b y (operated op ty null y))) h
-null_pair op ty false false x y h = ap (λ b. null_rule b null (null_rule b null (operated op ty null null))) h
+null_pair : (op : Operator) (tys : List DataType) (ty : DataType) (v w : Bool) (x y : Value) → is_logical op ≡ false
+    → apply (Binary op) tys ty (null_unless v (value x) ∷ null_unless w (value y) ∷ []) ≡ null_unless (v && w) (apply (Binary op) tys ty (value x ∷ value y ∷ []))
+null_pair op tys ty true true x y h = refl
+null_pair op tys ty true false x y h = ap (λ b. null_rule b x (null_rule b null (operated op ty x null))) h ∙ through x
+null_pair op tys ty false true x y h = ap (λ b. null_rule b null (null_rule b y (operated op ty null y))) h
+null_pair op tys ty false false x y h = ap (λ b. null_rule b null (null_rule b null (operated op ty null null))) h
 
 -- an operator that a null passes through
 module _ (op : Operator) (n : ℕ) (a b : Argument) (takes : Takes (Binary op) (a ∷ b ∷ []) n)
     (plain : is_logical op ≡ false) (valid : ValidRows) (rows : (i : ℕ) → i < n → is_valid valid i ≡ is_valid a.valid i && is_valid b.valid i)
     (nullability : nullability_in valid ≡ union (nullability_in a.valid) (nullability_in b.valid)) where
   same_cell : (ty : DataType) (i : ℕ) → i < n
-      → null_unless (is_valid valid i) (apply (Binary op) ty (pair_at a.rows b.rows i)) ≡ apply (Binary op) ty (row_of (a ∷ b ∷ []) i)
+      → null_unless (is_valid valid i) (apply (Binary op) (pair_types a.rows b.rows) ty (pair_at a.rows b.rows i))
+      ≡ apply (Binary op) (types_of (a ∷ b ∷ [])) ty (row_of (a ∷ b ∷ []) i)
   same_cell ty i lt =
-      ap (λ v. null_unless v (apply (Binary op) ty (pair_at a.rows b.rows i))) (rows i lt)
-      ∙ sym (null_pair op ty (is_valid a.valid i) (is_valid b.valid i) (value_at a.rows i) (value_at b.rows i) plain)
+      ap (λ v. null_unless v (apply (Binary op) (pair_types a.rows b.rows) ty (pair_at a.rows b.rows i))) (rows i lt)
+      ∙ sym (null_pair op (pair_types a.rows b.rows) ty (is_valid a.valid i) (is_valid b.valid i) (value_at a.rows i) (value_at b.rows i) plain)
 
   pub operands_shown : AreShown a.rows valid n
   operands_shown = by_rows a.rows takes.sized.0.2
@@ -67,11 +68,11 @@ module _ (op : Operator) (n : ℕ) (a b : Argument) (takes : Takes (Binary op) (
       operands_typed op n a b takes
       ∙ ap (λ m. option_map (with_nullability m) (operator_type op (plain_type a.rows))) (sym nullability)
 
-  pub operands_computed : (u : Tree) → IsRowwiseResult (Binary op) (operator_type op (plain_type a.rows)) (pair_at a.rows b.rows) valid n u
+  pub operands_computed : (u : Tree) → IsRowwiseResult (Binary op) (pair_types a.rows b.rows) (operator_type op (plain_type a.rows)) (pair_at a.rows b.rows) valid n u
       → IsCanonicalResult (Binary op) (a ∷ b ∷ []) n u
   operands_computed u h = computed_by (Binary op) (a ∷ b ∷ []) valid _ n u (same_type ∙ h.typed) h.made (same_cell (dtype u))
 
-  pub operands_not_computed : (e : VortexError) → HasNoRowwiseResult (Binary op) (operator_type op (plain_type a.rows)) (pair_at a.rows b.rows) valid n e
+  pub operands_not_computed : (e : VortexError) → HasNoRowwiseResult (Binary op) (pair_types a.rows b.rows) (operator_type op (plain_type a.rows)) (pair_at a.rows b.rows) valid n e
       → HasNoCanonicalResult (Binary op) (a ∷ b ∷ []) n e
   operands_not_computed e (inl m) = inl m
   operands_not_computed e (inr h) =
@@ -80,12 +81,12 @@ module _ (op : Operator) (n : ℕ) (a b : Argument) (takes : Takes (Binary op) (
 -- ---- a negation
 
 null_negated : (ty : DataType) (v : Bool) (x : Value)
-    → null_unless v (apply Not ty (value x ∷ [])) ≡ apply Not ty (null_unless v (value x) ∷ [])
+    → null_unless v (apply Not (bool NonNullable ∷ []) ty (value x ∷ [])) ≡ apply Not (bool NonNullable ∷ []) ty (null_unless v (value x) ∷ [])
 null_negated ty true x = refl
 null_negated ty false x = refl
 
 pub negation_computed : (bs : BitOperand) (valid : ValidRows) (n : ℕ) (u : Tree)
-    → IsRowwiseResult Not (Some (bool NonNullable)) (λ i. value (value_at (Bits bs) i) ∷ []) valid n u
+    → IsRowwiseResult Not (bool NonNullable ∷ []) (Some (bool NonNullable)) (λ i. value (value_at (Bits bs) i) ∷ []) valid n u
     → IsCanonicalResult Not (record { rows = Bits bs; valid = valid } ∷ []) n u
 negation_computed bs valid n u h =
     computed_by Not (record { rows = Bits bs; valid = valid } ∷ []) valid _ n u

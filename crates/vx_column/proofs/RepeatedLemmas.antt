@@ -86,14 +86,14 @@ validity_cells read x ty v n h =
     ∙ ap (λ u. replicate n (value u)) (h refl)
 
 repeated_exactly : {X : Type 0} (read : X → Value) (of_items : List X → Data) (s : Typed) →
-    ((n : ℕ) (xs : List X) (css : List (List Cell)) → node_cells s.of_type n (of_items xs) css ≡ valid_cells (cells_at css 0) (map (λ x. value (read x)) xs)) →
+    ((n : ℕ) (xs : List X) (tys : List DataType) (css : List (List Cell)) → node_cells s.of_type n (of_items xs) tys css ≡ valid_cells (cells_at css 0) (map (λ x. value (read x)) xs)) →
     (x : X) (n : ℕ) (u : Tree) → (is_null s.value ≡ false → read x ≡ s.value) →
     u ≡ column s.of_type n (of_items (replicate n x)) (child_of (repeated_validity s) n) → KeepsExactly (constant_of s n) u
 repeated_exactly read of_items s cells x n u valued made =
     let whole = column s.of_type n (of_items (replicate n x)) (child_of (repeated_validity s) n) in
     let css = slots_rows (slots_of (child_of (repeated_validity s) n ∷ [])) in
     let shown : rows (constant_of s n) ≡ rows whole =
-    sym (cells n (replicate n x) css ∙ validity_cells read x s.of_type s.value n valued) in
+    sym (cells n (replicate n x) _ css ∙ validity_cells read x s.of_type s.value n valued) in
     subst (KeepsExactly (constant_of s n)) (sym made) (same_exactly (constant_of s n) whole refl refl shown (validity_clean s.of_type s.value n))
 
 module _ (s : Typed) (n : ℕ) (typed : is_of s.of_type s.value ≡ true) (v : Validity) (told : v ≡ repeated_validity s) (r : Result Canonical VortexError) where
@@ -108,7 +108,7 @@ module _ (s : Typed) (n : ℕ) (typed : is_of s.of_type s.value ≡ true) (v : V
       let is : boolean_column bits v ≡ column s.of_type n (bool (replicate n bit)) (child_of (repeated_validity s) n) =
       λ i. column (of_type i) (long i) (bool (made i)) (child_of (told i) (long i)) in
       IfOk-weaker r _ _
-      (λ c new. repeated_exactly boolean bool s (λ n xs css. refl) bit n (canonical_tree c)
+      (λ c new. repeated_exactly boolean bool s (λ n xs tys css. refl) bit n (canonical_tree c)
       (λ k. ap boolean valued ∙ stored_boolean (nullability_of s.of_type) (storage_of s.of_type) s.value stored typed k) (new ∙ is)) column_made
 
   pub integers_repeated : (p q : PType) (z : ℤ) (zs : List ℤ) → storage_of s.of_type ≡ Integers p → z ≡ unwrap_or (integer_in s.value) (pos 0) → q ≡ p
@@ -121,7 +121,7 @@ module _ (s : Typed) (n : ℕ) (typed : is_of s.of_type s.value ≡ true) (v : V
       let is : integer_column q zs v ≡ column s.of_type n (primitive p (replicate n z)) (child_of (repeated_validity s) n) =
       λ i. column (of_type i) (long i) (primitive (same i) (made i)) (child_of (told i) (long i)) in
       IfOk-weaker r _ _
-      (λ c new. repeated_exactly integer (primitive p) s (λ n xs css. refl) z n (canonical_tree c)
+      (λ c new. repeated_exactly integer (primitive p) s (λ n xs tys css. refl) z n (canonical_tree c)
       (λ k. ap integer valued ∙ stored_number p (nullability_of s.of_type) (storage_of s.of_type) s.value stored typed k) (new ∙ is)) column_made
 
   pub bytes_repeated : (st : Storage) (x : List ℕ) (rs : ViewedRows) → storage_of s.of_type ≡ st → (st ≡ Text) ⊎ (st ≡ Bytes)
@@ -137,7 +137,7 @@ module _ (s : Typed) (n : ℕ) (typed : is_of s.of_type s.value ≡ true) (v : V
       let is : bytes_column st rs v ≡ column s.of_type n (views (repeated n x)) (child_of (repeated_validity s) n) =
       λ i. column (of_type i) (long i) (views (made i)) (child_of (told i) (long i)) in
       IfOk-weaker r _ _
-      (λ c new. repeated_exactly (λ y. of.bytes (bytes_at (x ∷ []) y)) (λ vs. views (viewed vs (x ∷ []))) s (λ n xs css. refl) all n (canonical_tree c)
+      (λ c new. repeated_exactly (λ y. of.bytes (bytes_at (x ∷ []) y)) (λ vs. views (viewed vs (x ∷ []))) s (λ n xs tys css. refl) all n (canonical_tree c)
       (λ k. ap of.bytes (whole ∙ valued) ∙ stored_as_bytes (nullability_of s.of_type) (storage_of s.of_type) s.value there typed k) (new ∙ is)) column_made
 
   pub decimals_repeated : (d : DecimalDType) (m : Nullability) (w : DecimalType) (z : ℤ) (zs : List ℤ) → s.of_type ≡ type.decimal d.precision d.scale m
@@ -152,7 +152,7 @@ module _ (s : Typed) (n : ℕ) (typed : is_of s.of_type s.value ≡ true) (v : V
       let there : is_stored (nullability_of s.of_type) (stored_decimals d) s.value ≡ true =
       ap (λ ty. is_stored (nullability_of s.of_type) (storage_of ty) s.value) (sym stored) ∙ typed in
       IfOk-weaker r _ _
-      (λ c new. repeated_exactly (λ x. of.decimal x d.scale) (decimals w) s (λ n xs css. ap (λ ty. node_cells ty n (decimals w xs) css) stored) z n
+      (λ c new. repeated_exactly (λ x. of.decimal x d.scale) (decimals w) s (λ n xs tys css. ap (λ ty. node_cells ty n (decimals w xs) tys css) stored) z n
       (canonical_tree c)
       (λ k. ap (λ x. of.decimal x d.scale) valued ∙ stored_decimal d.precision d.scale (nullability_of s.of_type) s.value there k) (new ∙ is)) column_made
 

@@ -4,12 +4,12 @@ use Rattle.std.proofs.lemmas.Result.{IfOk-weaker}
 use Rattle.std.specs.Prelude.{◌&&◌, ◌||◌, is_some}
 use Rattle.std.specs.Ordering.{bool_cmp, is_lt}
 use Rattle.std.specs.List.{range_with_len}
-use Rattle.vx_value.specs.Types.{DataType}
+use Rattle.vx_value.specs.Types.{DataType, bool}
 use Rattle.vx_value.specs.Nullabilities.{with_nullability, union, same_but_nullability}
 use Rattle.vx_value.specs.Values.{Value, null, boolean}
 use Rattle.vx_value.specs.Cell.{value}
 use Rattle.vx_value.specs.IsOf.{is_null}
-use Rattle.vx_value.specs.declared.dtype.Nullability.TheVariants.{NonNullable}
+use Rattle.vx_value.specs.declared.dtype.Nullability.TheVariants.{NonNullable, Nullable}
 use Rattle.vx_mask.specs.Logic.{bit_row}
 use Rattle.vx_mask.specs.Operands.{bit_in}
 use Rattle.vx_mask.specs.declared.operand.BitOperand.{BitOperand}
@@ -123,7 +123,7 @@ is_selected choice k x y t valid n found is plain rows nullability =
 
 computed_selected : (f : ScalarFnRef) (args : List Argument) (choice : BitOperand) (x y : Argument) (n : ℕ) (u : Tree)
     → return_type f (types_of args) ≡ Some (with_nullability (union (nullability_in x.valid) (nullability_in y.valid)) (plain_type x.rows))
-    → ((i : ℕ) → i < n → selected choice (cell_at x) (cell_at y) i ≡ apply f (dtype u) (row_of args i)) → IsSelected choice x y n u → IsCanonicalResult f args n u
+    → ((i : ℕ) → i < n → selected choice (cell_at x) (cell_at y) i ≡ apply f (types_of args) (dtype u) (row_of args i)) → IsSelected choice x y n u → IsCanonicalResult f args n u
 computed_selected f args choice x y n u typed cells h = record {
   result = record { typed = typed ∙ ap Some (sym h.typed); counted = h.counted; shown = h.shown ∙ same_below n _ _ cells; clean = h.clean };
   canonical = h.canonical;
@@ -135,13 +135,13 @@ computed_selected f args choice x y n u typed cells h = record {
 -- a mask that is null counts as false
 zipped_cell : (ty : DataType) (v w : Bool) (x y : Value) (k b : Bool)
     → (if k && b then null_unless v (value x) else null_unless w (value y))
-    ≡ apply Zip ty (null_unless v (value x) ∷ null_unless w (value y) ∷ null_unless k (value (boolean b)) ∷ [])
+    ≡ apply Zip (ty ∷ ty ∷ bool Nullable ∷ []) ty (null_unless v (value x) ∷ null_unless w (value y) ∷ null_unless k (value (boolean b)) ∷ [])
 zipped_cell ty v w x y k b =
     (λ j. if k && b then stored_cell v x j else stored_cell w y j)
     ∙ by_mask (if v then x else null) (if w then y else null) k b
-    ∙ (λ j. apply Zip ty (sym (stored_cell v x) j ∷ sym (stored_cell w y) j ∷ sym (stored_cell k (boolean b)) j ∷ []))
+    ∙ (λ j. apply Zip (ty ∷ ty ∷ bool Nullable ∷ []) ty (sym (stored_cell v x) j ∷ sym (stored_cell w y) j ∷ sym (stored_cell k (boolean b)) j ∷ []))
   where
-    by_mask : (p q : Value) (k b : Bool) → (if k && b then value p else value q) ≡ apply Zip ty (value p ∷ value q ∷ value (if k then boolean b else null) ∷ [])
+    by_mask : (p q : Value) (k b : Bool) → (if k && b then value p else value q) ≡ apply Zip (ty ∷ ty ∷ bool Nullable ∷ []) ty (value p ∷ value q ∷ value (if k then boolean b else null) ∷ [])
     by_mask p q true true = refl
     by_mask p q true false = refl
     by_mask p q false b = refl
@@ -168,19 +168,19 @@ module _ (n : ℕ) (a b m : Argument) (takes : Takes Zip (a ∷ b ∷ m ∷ []) 
       computed_selected Zip (a ∷ b ∷ m ∷ []) choice a b n u zip_typed
       (λ i lt. ap (λ k. if k then cell_at a i else cell_at b i) (chosen i lt)
       ∙ zipped_cell (dtype u) (is_valid a.valid i) (is_valid b.valid i) (value_at a.rows i) (value_at b.rows i) (is_valid m.valid i) (bit_in bits i)
-      ∙ ap (λ r. apply Zip (dtype u) (cell_at a i ∷ cell_at b i ∷ null_unless (is_valid m.valid i) (value (value_at r i)) ∷ [])) (sym is))
+      ∙ ap (λ r. apply Zip (types_of (a ∷ b ∷ m ∷ [])) (dtype u) (cell_at a i ∷ cell_at b i ∷ null_unless (is_valid m.valid i) (value (value_at r i)) ∷ [])) (sym is))
       h
 
 -- a valid row isn't null
 filled_cell : (ty : DataType) (k w : Bool) (x y : Value) → (k ≡ true → is_null x ≡ false)
-    → (if k then value x else null_unless w (value y)) ≡ apply FillNull ty (null_unless k (value x) ∷ null_unless w (value y) ∷ [])
+    → (if k then value x else null_unless w (value y)) ≡ apply FillNull (ty ∷ ty ∷ []) ty (null_unless k (value x) ∷ null_unless w (value y) ∷ [])
 filled_cell ty k w x y h =
     (λ j. if k then value x else stored_cell w y j)
     ∙ by_value k x (if w then y else null) h
-    ∙ (λ j. apply FillNull ty (null_unless k (value x) ∷ sym (stored_cell w y) j ∷ []))
+    ∙ (λ j. apply FillNull (ty ∷ ty ∷ []) ty (null_unless k (value x) ∷ sym (stored_cell w y) j ∷ []))
   where
     by_value : (k : Bool) (x q : Value) → (k ≡ true → is_null x ≡ false)
-        → (if k then value x else value q) ≡ apply FillNull ty (null_unless k (value x) ∷ value q ∷ [])
+        → (if k then value x else value q) ≡ apply FillNull (ty ∷ ty ∷ []) ty (null_unless k (value x) ∷ value q ∷ [])
     by_value true null q h = let none = h refl in absurd (cc)
     by_value true _ q h = refl
     by_value false x q h = refl

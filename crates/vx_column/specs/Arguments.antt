@@ -209,6 +209,10 @@ types_of args = map type_of_argument args
 abbrev pub row_of : List Argument → ℕ → List Cell
 row_of args i = map (λ a. cell_at a i) args
 
+-- the types of what two arguments store
+abbrev pub pair_types : (lhs rhs : ArgumentRows) → List DataType
+pair_types l r = plain_type l ∷ plain_type r ∷ []
+
 -- the values that two arguments store in row i
 abbrev pub pair_at : ArgumentRows → ArgumentRows → ℕ → List Cell
 pair_at l r i = value (value_at l i) ∷ value (value_at r i) ∷ []

@@ -16,21 +16,21 @@ use Rattle.vx_column.specs.ValidRows.{is_valid, null_unless}
 use Rattle.vx_column.specs.declared.rows.argument.Argument.{Argument}
 use Rattle.vx_column.specs.declared.rows.valid.ValidRows.{ValidRows}
 
--- f applied to n rows, of which row i is `row i`, with a result of type ty
-abbrev pub cells_of : ScalarFnRef → DataType → (ℕ → List Cell) → ℕ → List Cell
-cells_of f ty row n = map (λ i. apply f ty (row i)) (range_with_len 0 n)
+-- f applied to n rows of the types tys, of which row i is `row i`, with a result of type ty
+abbrev pub cells_of : ScalarFnRef → List DataType → DataType → (ℕ → List Cell) → ℕ → List Cell
+cells_of f tys ty row n = map (λ i. apply f tys ty (row i)) (range_with_len 0 n)
 
 -- u has the cells of f applied to n rows of the types tys
 pub record IsResult (f : ScalarFnRef) (tys : List DataType) (row : ℕ → List Cell) (n : ℕ) (u : Tree) : Type 0 where
   pub typed : return_type f tys ≡ Some (dtype u)
   pub counted : len u ≡ n
-  pub shown : rows u ≡ cells_of f (dtype u) row n
+  pub shown : rows u ≡ cells_of f tys (dtype u) row n
   pub clean : AreClean (slots u)
 
 -- why there is no such tree: out of memory, or one of the cells is a fault
 abbrev pub IsNoResult : ScalarFnRef → List DataType → (ℕ → List Cell) → ℕ → VortexError → Type 0
 IsNoResult f tys row n e =
-    (e ≡ OutOfMemory) ⊎ ((e ≡ Fault) × ((ty : DataType) → return_type f tys ≡ Some ty → ¬ (HasNoFault (cells_of f ty row n))))
+    (e ≡ OutOfMemory) ⊎ ((e ≡ Fault) × ((ty : DataType) → return_type f tys ≡ Some ty → ¬ (HasNoFault (cells_of f tys ty row n))))
 
 -- u is the canonical column of n rows: row i is `stored i`, null unless it is valid
 pub record IsColumnOfCells (valid : ValidRows) (stored : ℕ → Cell) (n : ℕ) (u : Tree) : Type 0 where

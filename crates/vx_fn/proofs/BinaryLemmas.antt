@@ -2,7 +2,7 @@
 use Rattle.std.proofs.Common.{◌≡◌, Bool, true, false, if◌then◌else◌, refl, ap, sym, ◌∙◌}
 use Rattle.std.proofs.lemmas.Bool.{false≢true}
 use Rattle.std.proofs.lemmas.Option.{none-some, same_Some}
-use Rattle.std.specs.Prelude.{[], ◌∷◌, ℤ, Option, Some, None, option_map, IfSome}
+use Rattle.std.specs.Prelude.{List, [], ◌∷◌, ℤ, Option, Some, None, option_map, IfSome}
 use Rattle.vx_value.specs.Types as type
 use Rattle.vx_value.specs.Types.{DataType, nullability_of, is_nullable}
 use Rattle.vx_value.specs.Nullabilities.{with_nullability, union, same_but_nullability}
@@ -93,9 +93,9 @@ null_second op s t ty h e = by_type (widened t (binary_type op s t)) refl e
     by_type (Some r) same e = nullable_before s r ty (nullable_by_argument t (binary_type op s t) r h same) e
 
 -- where no argument is null, the result is the operator's
-pub of_values : (op : Operator) (ty : DataType) (x y : ScalarValue) → is_logical op ≡ false
-    → (binary op).value ty (value_of x ∷ value_of y ∷ []) ≡ operated op ty (value_of x) (value_of y)
-of_values op ty x y l =
+pub of_values : (op : Operator) (tys : List DataType) (ty : DataType) (x y : ScalarValue) → is_logical op ≡ false
+    → (binary op).value tys ty (value_of x ∷ value_of y ∷ []) ≡ operated op ty (value_of x) (value_of y)
+of_values op tys ty x y l =
     let o = operated op ty (value_of x) (value_of y) in
     ap (λ b. null_rule b (value_of x) (null_rule b (value_of y) o)) l ∙ past_value x (null_through (value_of y) o) ∙ past_value y o
 
@@ -136,7 +136,7 @@ pub logical_result : (op : Operator) (s t ty : DataType) (v w : Value) (o : Opti
     → (op ≡ operator.And → o ≡ kleene_and (boolean_in v) (boolean_in w))
     → (op ≡ operator.Or → o ≡ kleene_or (boolean_in v) (boolean_in w))
     → (binary op).types (s ∷ t ∷ []) ≡ Some ty
-    → (is_of ty (truth o) ≡ true) × ((binary op).value ty (v ∷ w ∷ []) ≡ cell.value (truth o))
+    → (is_of ty (truth o) ≡ true) × ((binary op).value (s ∷ t ∷ []) ty (v ∷ w ∷ []) ≡ cell.value (truth o))
 logical_result operator.And s t ty v w o l h k and or e =
     let found = truths operator.And s t ty refl e in (
       ap (λ a. is_of ty (truth a)) (and refl) ∙ typed_join kleene_and and_knows s t ty v w h k found,
@@ -174,24 +174,26 @@ operated_commutes op (type.decimal p s n) _ (value.decimal y r) l = refl
 operated_commutes op (type.decimal p s n) _ _ l = refl
 operated_commutes op _ v w l = refl
 
-pub and_applied : (ty : DataType) (c d : Cell) → apply (function.Binary operator.And) ty (c ∷ d ∷ []) ≡ apply (function.Binary operator.And) ty (d ∷ c ∷ [])
-and_applied ty (cell.value v) (cell.value w) = operated_commutes operator.And ty v w refl
-and_applied ty (cell.value v) cell.fault = refl
-and_applied ty cell.fault (cell.value w) = refl
-and_applied ty cell.fault cell.fault = refl
+pub and_applied : (tys : List DataType) (ty : DataType) (c d : Cell)
+    → apply (function.Binary operator.And) tys ty (c ∷ d ∷ []) ≡ apply (function.Binary operator.And) tys ty (d ∷ c ∷ [])
+and_applied tys ty (cell.value v) (cell.value w) = operated_commutes operator.And ty v w refl
+and_applied tys ty (cell.value v) cell.fault = refl
+and_applied tys ty cell.fault (cell.value w) = refl
+and_applied tys ty cell.fault cell.fault = refl
 
-pub or_applied : (ty : DataType) (c d : Cell) → apply (function.Binary operator.Or) ty (c ∷ d ∷ []) ≡ apply (function.Binary operator.Or) ty (d ∷ c ∷ [])
-or_applied ty (cell.value v) (cell.value w) = operated_commutes operator.Or ty v w refl
-or_applied ty (cell.value v) cell.fault = refl
-or_applied ty cell.fault (cell.value w) = refl
-or_applied ty cell.fault cell.fault = refl
+pub or_applied : (tys : List DataType) (ty : DataType) (c d : Cell)
+    → apply (function.Binary operator.Or) tys ty (c ∷ d ∷ []) ≡ apply (function.Binary operator.Or) tys ty (d ∷ c ∷ [])
+or_applied tys ty (cell.value v) (cell.value w) = operated_commutes operator.Or ty v w refl
+or_applied tys ty (cell.value v) cell.fault = refl
+or_applied tys ty cell.fault (cell.value w) = refl
+or_applied tys ty cell.fault cell.fault = refl
 
 -- and join truth values
 
-pub and_is : (n : Nullability) (p q : Option Bool)
-    → apply (function.Binary operator.And) (type.bool n) (cell.value (truth p) ∷ cell.value (truth q) ∷ []) ≡ cell.value (truth (kleene_and p q))
-and_is n p q i = cell.value (truth (kleene_and (truth_back p i) (truth_back q i)))
+pub and_is : (tys : List DataType) (n : Nullability) (p q : Option Bool)
+    → apply (function.Binary operator.And) tys (type.bool n) (cell.value (truth p) ∷ cell.value (truth q) ∷ []) ≡ cell.value (truth (kleene_and p q))
+and_is tys n p q i = cell.value (truth (kleene_and (truth_back p i) (truth_back q i)))
 
-pub or_is : (n : Nullability) (p q : Option Bool)
-    → apply (function.Binary operator.Or) (type.bool n) (cell.value (truth p) ∷ cell.value (truth q) ∷ []) ≡ cell.value (truth (kleene_or p q))
-or_is n p q i = cell.value (truth (kleene_or (truth_back p i) (truth_back q i)))
+pub or_is : (tys : List DataType) (n : Nullability) (p q : Option Bool)
+    → apply (function.Binary operator.Or) tys (type.bool n) (cell.value (truth p) ∷ cell.value (truth q) ∷ []) ≡ cell.value (truth (kleene_or p q))
+or_is tys n p q i = cell.value (truth (kleene_or (truth_back p i) (truth_back q i)))

@@ -1,6 +1,6 @@
 -- Truth values: of which type they are, and the laws of logic.
 use Rattle.std.proofs.Common.{◌≡◌, Bool, true, false, refl, ap, sym, ◌∙◌}
-use Rattle.std.specs.Prelude.{[], ◌∷◌, Option, Some, None}
+use Rattle.std.specs.Prelude.{List, [], ◌∷◌, Option, Some, None}
 use Rattle.vx_value.specs.Types.{DataType, bool}
 use Rattle.vx_value.specs.Nullabilities.{union}
 use Rattle.vx_value.specs.Values.{Value, boolean}
@@ -77,6 +77,6 @@ pub truth_back : (p : Option Bool) → boolean_in (truth p) ≡ p
 truth_back None = refl
 truth_back (Some b) = refl
 
-pub negation_is : (ty : DataType) (p : Option Bool) → apply Not ty (value (truth p) ∷ []) ≡ value (truth (not_truth p))
-negation_is ty None = refl
-negation_is ty (Some b) = refl
+pub negation_is : (tys : List DataType) (ty : DataType) (p : Option Bool) → apply Not tys ty (value (truth p) ∷ []) ≡ value (truth (not_truth p))
+negation_is tys ty None = refl
+negation_is tys ty (Some b) = refl

@@ -6,8 +6,8 @@ use Rattle.vx_value.specs.Cell.{Cell, value, fault}
 use Rattle.vx_fn.specs.Functions.{meaning}
 use Rattle.vx_fn.specs.declared.function.ScalarFnRef.{ScalarFnRef}
 
--- the function of values, with a result of type ty
-abbrev pub value_of : ScalarFnRef → DataType → List Value → Cell
+-- the function of values of the types tys, with a result of type ty
+abbrev pub value_of : ScalarFnRef → List DataType → DataType → List Value → Cell
 value_of f = (meaning f).value
 
 -- a fault in any argument is a fault
@@ -16,6 +16,6 @@ on_values f [] = f []
 on_values f (value v ∷ cs) = on_values (λ vs. f (v ∷ vs)) cs
 on_values f (fault ∷ cs) = fault
 
--- the cell of a function's row, from the cells of its arguments, with a result of type ty
-abbrev pub apply : ScalarFnRef → DataType → List Cell → Cell
-apply f ty cs = on_values (value_of f ty) cs
+-- the cell of a function's row, from the cells of its arguments, which have the types tys, with a result of type ty
+abbrev pub apply : ScalarFnRef → List DataType → DataType → List Cell → Cell
+apply f tys ty cs = on_values (value_of f tys ty) cs

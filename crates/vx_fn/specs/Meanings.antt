@@ -10,13 +10,14 @@ use Rattle.vx_value.specs.declared.id.Id.TheVariants as id
 use Rattle.vx_fn.specs.Arity.{of_one, of_two, of_three}
 use Rattle.vx_fn.specs.ArityLaws.{on_one, on_two, on_three}
 
--- what a function is: its id, the names of its arguments, its result's type from the arguments' types, and its value from the arguments' values and that type;
+-- what a function is: its id, the names of its arguments, its result's type from the arguments' types, and its value from the arguments' types, that type, and the
+-- arguments' values;
 -- it accepts as many arguments as have names
 pub record Meaning : Type 0 where
   pub id : Id
   pub names : List (List ℕ)
   pub types : List DataType → Option DataType
-  pub value : DataType → List Value → Cell
+  pub value : List DataType → DataType → List Value → Cell
   pub taken : (tys : List DataType) (ty : DataType) → types tys ≡ Some ty → length tys ≡ length names
 
 -- whether the result, or its type, is a clone of an argument's or of the function's own; no other function takes memory
@@ -53,7 +54,7 @@ taking_one typed valued i x type value = record {
   id = i;
   names = x ∷ [];
   types = of_one typed None type;
-  value = λ ty. of_one valued fault (value ty);
+  value = λ tys ty. of_one valued fault (value ty);
   taken = on_one typed type;
 }
 
@@ -63,7 +64,7 @@ taking_two typed valued i x y type value = record {
   id = i;
   names = x ∷ y ∷ [];
   types = of_two typed None type;
-  value = λ ty. of_two valued fault (value ty);
+  value = λ tys ty. of_two valued fault (value ty);
   taken = on_two typed type;
 }
 
@@ -73,6 +74,6 @@ taking_three typed valued i x y z type value = record {
   id = i;
   names = x ∷ y ∷ z ∷ [];
   types = of_three typed None type;
-  value = λ ty. of_three valued fault (value ty);
+  value = λ tys ty. of_three valued fault (value ty);
   taken = on_three typed type;
 }

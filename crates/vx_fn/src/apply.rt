@@ -20,10 +20,10 @@ use vx_value::{Scalar, VortexError, VortexResult};
 pub fn apply_row(function: &ScalarFnRef, arguments: &[Scalar]) -> VortexResult<Scalar>
     requires { IsSome (return_type function.now (map (λ s. s.of_type) arguments.now)) }
     ensures typed { IfOk result (λ s. return_type function.now (map (λ s. s.of_type) arguments.now) ≡ Some s.of_type) }
-    ensures ok { IfOk result (λ s. apply function.now s.of_type (map (λ a. value a.value) arguments.now) ≡ value s.value) }
+    ensures ok { IfOk result (λ s. apply function.now (map (λ s. s.of_type) arguments.now) s.of_type (map (λ a. value a.value) arguments.now) ≡ value s.value) }
     ensures fault { IfErr result (λ e. (e ≡ VortexError.OutOfMemory) ⊎ ((e ≡ VortexError.Fault) × ((t : DataType)
         → return_type function.now (map (λ s. s.of_type) arguments.now) ≡ Some t
-        → apply function.now t (map (λ a. value a.value) arguments.now) ≡ fault))) }
+        → apply function.now (map (λ s. s.of_type) arguments.now) t (map (λ a. value a.value) arguments.now) ≡ fault))) }
     ensures memory { IfErr result (λ e. e ≡ VortexError.OutOfMemory → clones (function_id function.now) ≡ true) }
 {
     by_function!(function, function => function.apply(arguments))

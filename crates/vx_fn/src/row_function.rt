@@ -33,10 +33,10 @@ pub(crate) trait RowFunction {
     fn apply(&self, arguments: &[Scalar]) -> VortexResult<Scalar>
         requires { IsSome ((meaning self.now).types (map (λ s. s.of_type) arguments.now)) }
         ensures typed { IfOk result (λ s. (meaning self.now).types (map (λ s. s.of_type) arguments.now) ≡ Some s.of_type) }
-        ensures ok { IfOk result (λ s. on_values ((meaning self.now).value s.of_type) (map (λ a. value a.value) arguments.now)
+        ensures ok { IfOk result (λ s. on_values ((meaning self.now).value (map (λ s. s.of_type) arguments.now) s.of_type) (map (λ a. value a.value) arguments.now)
             ≡ value s.value) }
         ensures fault { IfErr result (λ e. (e ≡ VortexError.OutOfMemory) ⊎ ((e ≡ VortexError.Fault) × ((t : DataType)
             → (meaning self.now).types (map (λ s. s.of_type) arguments.now) ≡ Some t
-            → on_values ((meaning self.now).value t) (map (λ a. value a.value) arguments.now) ≡ fault))) }
+            → on_values ((meaning self.now).value (map (λ s. s.of_type) arguments.now) t) (map (λ a. value a.value) arguments.now) ≡ fault))) }
         ensures memory { IfErr result (λ e. e ≡ VortexError.OutOfMemory → clones (meaning self.now).id ≡ true) };
 }

@@ -85,7 +85,7 @@ C1_keeps ty n target c w e =
     let same : ty ≡ dtype c = sym typed ∙ sym e in
     let long : length (rows c) ≡ n = (slots_long n w.0.0 (slot c no_slots) w.0.1 w.1).0 in
     let at = λ (i : ℕ). get_or (rows c) i fault in
-    let call = λ (x : Cell). apply (fn_of.Cast target) ty (x ∷ []) in
+    let call = λ (x : Cell). apply (fn_of.Cast target) (dtype c ∷ []) ty (x ∷ []) in
     let fit : AllFit ty (rows c) = subst (λ s. AllFit s (rows c)) (sym same) (rows_fit c w.1.0) in
     let kept = cells_kept call ty (cell_kept ty) 0 (rows c) at fit (λ i. ap at (omega arith)) in
     record {
@@ -95,6 +95,6 @@ C1_keeps ty n target c w e =
       still_clean = λ d. d.1.0;
     }
   where
-    cell_kept : (ty : DataType) (x : Cell) → CellFits ty x → CellKeeps (apply (fn_of.Cast target) ty (x ∷ [])) x
+    cell_kept : (ty : DataType) (x : Cell) → CellFits ty x → CellKeeps (apply (fn_of.Cast target) (dtype c ∷ []) ty (x ∷ [])) x
     cell_kept ty (value v) h = value_kept ty v h
     cell_kept ty fault h = tt

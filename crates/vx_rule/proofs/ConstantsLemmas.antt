@@ -125,16 +125,16 @@ module _ (ty : DataType) (n : ℕ) (f : ScalarFnRef) (ss : Slots) (t : Tree) (vs
       ap (return_type f) (types_are n ss ok.0 vs w.1 ok.1 e) ∙ ok.2
 
   pub folded_value : (x : Typed) (u : Tree) → return_type f (map (λ v. v.of_type) vs) ≡ Some x.of_type
-      → apply f x.of_type (map (λ v. value v.value) vs) ≡ value x.value → u ≡ constant_of x n → IsFolded f ty n ss (Some u)
+      → apply f (map (λ v. v.of_type) vs) x.of_type (map (λ v. value v.value) vs) ≡ value x.value → u ≡ constant_of x n → IsFolded f ty n ss (Some u)
   folded_value x u typed h made =
       let same : x.of_type ≡ ty = cc (typed, folded_type) in
-      (vs, x.value, e, subst (λ s. apply f s (map (λ v. value v.value) vs) ≡ value x.value) same h, made ∙ ap (λ s. constants s x.value n) same)
+      (vs, x.value, e, subst (λ s. apply f (map (λ v. v.of_type) vs) s (map (λ v. value v.value) vs) ≡ value x.value) same h, made ∙ ap (λ s. constants s x.value n) same)
 
-  pub folded_none : ((s : DataType) → return_type f (map (λ v. v.of_type) vs) ≡ Some s → apply f s (map (λ v. value v.value) vs) ≡ fault)
+  pub folded_none : ((s : DataType) → return_type f (map (λ v. v.of_type) vs) ≡ Some s → apply f (map (λ v. v.of_type) vs) s (map (λ v. value v.value) vs) ≡ fault)
       → IsFolded f ty n ss None
   folded_none all ws h =
       let same : vs ≡ ws = cc (e, h) in
-      subst (λ us. apply f ty (map (λ v. value v.value) us) ≡ fault) same (all ty folded_type)
+      subst (λ us. apply f (map (λ v. v.of_type) us) ty (map (λ v. value v.value) us) ≡ fault) same (all ty folded_type)
 
 -- ---- the rows
 
@@ -158,20 +158,20 @@ fit_constants ty n (fn_of.Cast target) ss u x os w c h g e none =
     let r = one_constant ss g.0 w c g.2 in
     let f = fn_of.Cast target in
     row_at ty n f ss (one r.0 r.1 r.2 no_slots) (constants ty g.1 n) u os
-    (K1 ty r.0 n r.1 target r.2 g.1 (sym (ap (λ vs. apply f ty (map (λ v. value v.value) vs)) r.4) ∙ g.3)) r.3 (e ∙ g.4) none
+    (K1 ty r.0 n r.1 target r.2 g.1 (sym (ap (λ vs. apply f (map (λ v. v.of_type) vs) ty (map (λ v. value v.value) vs)) r.4) ∙ g.3)) r.3 (e ∙ g.4) none
 fit_constants ty n fn_of.Not ss u x os w c h g e none =
     let r = one_constant ss g.0 w c g.2 in
     row_at ty n fn_of.Not ss (one r.0 r.1 r.2 no_slots) (constants ty g.1 n) u os
-    (K2 ty r.0 n r.1 r.2 g.1 (sym (ap (λ vs. apply fn_of.Not ty (map (λ v. value v.value) vs)) r.4) ∙ g.3)) r.3 (e ∙ g.4) none
+    (K2 ty r.0 n r.1 r.2 g.1 (sym (ap (λ vs. apply fn_of.Not (map (λ v. v.of_type) vs) ty (map (λ v. value v.value) vs)) r.4) ∙ g.3)) r.3 (e ∙ g.4) none
 fit_constants ty n (fn_of.Between options) ss u x os w c h g e none =
     let r = three_constants ss g.0 w c g.2 in
     let f = fn_of.Between options in
     row_at ty n f ss (one r.0 r.1 r.2 (one r.3 r.4 r.5 (one r.6 r.7 r.8 no_slots))) (constants ty g.1 n) u os
-    (K3 ty r.0 r.3 r.6 n r.1 r.4 r.7 options r.2 r.5 r.8 g.1 (sym (ap (λ vs. apply f ty (map (λ v. value v.value) vs)) r.10) ∙ g.3)) r.9 (e ∙ g.4) none
+    (K3 ty r.0 r.3 r.6 n r.1 r.4 r.7 options r.2 r.5 r.8 g.1 (sym (ap (λ vs. apply f (map (λ v. v.of_type) vs) ty (map (λ v. value v.value) vs)) r.10) ∙ g.3)) r.9 (e ∙ g.4) none
 fit_constants ty n fn_of.FillNull ss u x os w c h g e none =
     let r = two_constants ss g.0 w c g.2 in
     row_at ty n fn_of.FillNull ss (one r.0 r.1 r.2 (one r.3 r.4 r.5 no_slots)) (constants ty g.1 n) u os
-    (K4 ty r.0 r.3 n r.1 r.4 r.2 r.5 g.1 (sym (ap (λ vs. apply fn_of.FillNull ty (map (λ v. value v.value) vs)) r.7) ∙ g.3)) r.6 (e ∙ g.4) none
+    (K4 ty r.0 r.3 n r.1 r.4 r.2 r.5 g.1 (sym (ap (λ vs. apply fn_of.FillNull (map (λ v. v.of_type) vs) ty (map (λ v. value v.value) vs)) r.7) ∙ g.3)) r.6 (e ∙ g.4) none
 fit_constants ty n _ ss u x os w c h g e none = absurd (cc (h))
 
 pub fit_folded : (ty : DataType) (n : ℕ) (f : ScalarFnRef) (ss : Slots) (t u x : Tree) (os : List ℕ) → IsWell t → t ≡ node ty n (enc.function f) ss

@@ -141,6 +141,7 @@ F7_keeps ty fty n k bits f ss w =
     of_filter ty n bits child u w (λ long.
     let shown : rows (filter_of bits child) ≡ rows u =
     function_picked (chosen bits) (chosen bits) (choice_natural bits) k (true_count bits) (choice_count bits k long) (choice_of bits)
+    (λ t well counted. sym (choice_kept bits t well (long ∙ sym counted)).keeps.same_type)
     (λ t well counted. sym (choice_kept bits t well (long ∙ sym counted)).equal) f fty ss w.1.0 in
     exactly_by (filter_of bits child) u refl refl shown (λ d. (subst HasNoFault shown d.0, map_clean (choice_of bits) ss (choice_of_clean bits) d.1.0.1)))
 
@@ -154,6 +155,7 @@ F8_keeps ty mty n k bits c vs w =
     of_filter ty n bits child u w (λ long.
     let shown : rows (filter_of bits child) ≡ rows u =
     masked_picked (chosen bits) (chosen bits) (choice_natural bits) k (true_count bits) (choice_count bits k long) (choice_of bits)
+    (λ t well counted. sym (choice_kept bits t well (long ∙ sym counted)).keeps.same_type)
     (λ t well counted. sym (choice_kept bits t well (long ∙ sym counted)).equal) mty c (filter_of bits c) vs w.1.0 refl in
     exactly_by (filter_of bits child) u refl refl shown
     (λ d. (subst HasNoFault shown d.0, (filter_clean bits c d.1.0.1.0, map_clean (choice_of bits) vs (choice_of_clean bits) d.1.0.1.1))))

@@ -11,11 +11,11 @@ use Rattle.vx_value.specs.declared.dtype.Nullability.TheVariants.{NonNullable}
 use Rattle.vx_fn.specs.Apply.{apply}
 use Rattle.vx_fn.specs.declared.function.ScalarFnRef.TheVariants as fn_of
 use Rattle.vx_tree.specs.Tree as enc
-use Rattle.vx_tree.specs.Tree.{Tree, Slots, node, no_slots, absent, slot, dtype, len}
+use Rattle.vx_tree.specs.Tree.{Tree, Slots, node, no_slots, absent, slot, dtype, len, types_in}
 use Rattle.vx_tree.specs.Cells.{rows, slots_rows, row_at, cells_at, valid_cell, valid_cells, HasNoFault, IsClean, AreClean}
 use Rattle.vx_tree.specs.Keeps.{KeepsExactly}
 use Rattle.vx_tree.specs.NodeValidities.{both_of}
-use Rattle.vx_tree.specs.Well.{IsWell, AreWell}
+use Rattle.vx_tree.specs.Well.{IsWell, AreWell, shapes}
 use Rattle.vx_tree.proofs.CellsLemmas.{rows_counted}
 use Rattle.vx_tree.proofs.KeepsLemmas.{exactly_of_rows}
 use Rattle.vx_tree.proofs.KindsLemmas.{type_in, len_in}
@@ -29,23 +29,23 @@ use Rattle.vx_rule.proofs.RangesLemmas.{copies_clean}
 -- ---- one row
 
 -- a value by a truth value and then by a mask is the value by both
-mask_cell : (ty : DataType) (v c m : Cell) → CellFits (type.bool NonNullable) v
-    → apply fn_of.Mask ty (valid_cell v c ∷ m ∷ []) ≡ apply fn_of.Mask ty (c ∷ and_cell m v ∷ [])
-mask_cell ty (value (boolean true)) fault m h = refl
-mask_cell ty (value (boolean true)) (value x) fault h = refl
-mask_cell ty (value (boolean true)) (value x) (value (boolean true)) h = refl
-mask_cell ty (value (boolean true)) (value x) (value (boolean false)) h = refl
-mask_cell ty (value (boolean true)) (value x) (value _) h = refl
-mask_cell ty (value (boolean false)) fault m h = refl
-mask_cell ty (value (boolean false)) (value x) fault h = refl
-mask_cell ty (value (boolean false)) (value x) (value (boolean true)) h = refl
-mask_cell ty (value (boolean false)) (value x) (value (boolean false)) h = refl
-mask_cell ty (value (boolean false)) (value x) (value _) h = refl
-mask_cell ty (value null) c m h = absurd (cc (h))
-mask_cell ty (value _) c m h = absurd (cc (h))
-mask_cell ty fault fault m h = refl
-mask_cell ty fault (value x) fault h = refl
-mask_cell ty fault (value x) (value y) h = refl
+mask_cell : (tys : List DataType) (ty : DataType) (v c m : Cell) → CellFits (type.bool NonNullable) v
+    → apply fn_of.Mask tys ty (valid_cell v c ∷ m ∷ []) ≡ apply fn_of.Mask tys ty (c ∷ and_cell m v ∷ [])
+mask_cell tys ty (value (boolean true)) fault m h = refl
+mask_cell tys ty (value (boolean true)) (value x) fault h = refl
+mask_cell tys ty (value (boolean true)) (value x) (value (boolean true)) h = refl
+mask_cell tys ty (value (boolean true)) (value x) (value (boolean false)) h = refl
+mask_cell tys ty (value (boolean true)) (value x) (value _) h = refl
+mask_cell tys ty (value (boolean false)) fault m h = refl
+mask_cell tys ty (value (boolean false)) (value x) fault h = refl
+mask_cell tys ty (value (boolean false)) (value x) (value (boolean true)) h = refl
+mask_cell tys ty (value (boolean false)) (value x) (value (boolean false)) h = refl
+mask_cell tys ty (value (boolean false)) (value x) (value _) h = refl
+mask_cell tys ty (value null) c m h = absurd (cc (h))
+mask_cell tys ty (value _) c m h = absurd (cc (h))
+mask_cell tys ty fault fault m h = refl
+mask_cell tys ty fault (value x) fault h = refl
+mask_cell tys ty fault (value x) (value y) h = refl
 
 valid_at : (vs cs : List Cell) (i : ℕ) → length vs ≡ length cs → get_or (valid_cells vs cs) i fault ≡ valid_cell (get_or vs i fault) (get_or cs i fault)
 valid_at [] [] i e = refl
@@ -89,6 +89,7 @@ M1_keeps ty mty n k c m vs w =
     let both = both_of n m truth in
     let before = slot child (slot m no_slots) in
     let after = slot c (slot both no_slots) in
+    let tys = types_in (shapes before) in
     let long = slots_long n w.0.0 before w.0.1 w.1 in
     let same : k ≡ n = sym (rows_counted child w.1.0) ∙ long.0 in
     let parts = masked_slots mty k c vs w.1.0.0 in
@@ -96,14 +97,14 @@ M1_keeps ty mty n k c m vs w =
     let rows_long : length (rows c) ≡ n = rows_counted c w.1.0.1.0 ∙ parts.0 ∙ same in
     let wells : AreWell vs = w.1.0.1.1 in
     let truth_long : length (rows truth) ≡ n = told_long n vs wells second in
-    let given = λ (i : ℕ). apply fn_of.Mask ty (row_at (slots_rows after) i) in
+    let given = λ (i : ℕ). apply fn_of.Mask tys ty (row_at (slots_rows after) i) in
     let at = λ (i : ℕ) (lt : i < n).
-    ap (λ x. apply fn_of.Mask ty (x ∷ get_or (rows m) i fault ∷ [])) (told_at n vs (rows c) i wells second rows_long lt)
-    ∙ mask_cell ty (get_or (rows truth) i fault) (get_or (rows c) i fault) (get_or (rows m) i fault) (told_fits n vs i wells second lt)
-    ∙ ap (λ x. apply fn_of.Mask ty (get_or (rows c) i fault ∷ x ∷ []))
+    ap (λ x. apply fn_of.Mask tys ty (x ∷ get_or (rows m) i fault ∷ [])) (told_at n vs (rows c) i wells second rows_long lt)
+    ∙ mask_cell tys ty (get_or (rows truth) i fault) (get_or (rows c) i fault) (get_or (rows m) i fault) (told_fits n vs i wells second lt)
+    ∙ ap (λ x. apply fn_of.Mask tys ty (get_or (rows c) i fault ∷ x ∷ []))
     (sym (get_or-map-range_with_len (λ j. and_cell (get_or (rows m) j fault) (get_or (rows truth) j fault)) 0 n i i fault lt (omega arith))) in
     let shown : rows (node ty n (enc.function fn_of.Mask) before) ≡ rows (node ty n (enc.function fn_of.Mask) after) =
-    rows_are (λ i. apply fn_of.Mask ty (row_at (slots_rows before) i)) n (map given (range_with_len 0 n)) (length-map-range_with_len given 0 n)
+    rows_are (λ i. apply fn_of.Mask tys ty (row_at (slots_rows before) i)) n (map given (range_with_len 0 n)) (length-map-range_with_len given 0 n)
     (λ i lt. at i lt ∙ sym (get_or-map-range_with_len given 0 n i i fault lt (omega arith))) in
     exactly_of_rows ty n (enc.function fn_of.Mask) (enc.function fn_of.Mask) before after shown
     (λ d.

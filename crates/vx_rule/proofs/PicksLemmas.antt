@@ -10,9 +10,9 @@ use Rattle.vx_value.specs.declared.dtype.Nullability.TheVariants.{NonNullable, N
 use Rattle.vx_fn.specs.Apply.{apply}
 use Rattle.vx_fn.specs.declared.function.ScalarFnRef.{ScalarFnRef}
 use Rattle.vx_tree.specs.Tree as enc
-use Rattle.vx_tree.specs.Tree.{Tree, Slots, node, no_slots, absent, slot, slots_of, dtype, len}
+use Rattle.vx_tree.specs.Tree.{Tree, Slots, node, no_slots, absent, slot, slots_of, dtype, len, types_in}
 use Rattle.vx_tree.specs.Slots.{map_slots, count_slots}
-use Rattle.vx_tree.specs.Cells.{rows, slots_rows, row_at, valid_cell, valid_cells, IsClean, AreClean}
+use Rattle.vx_tree.specs.Cells.{rows, slots_rows, row_at, valid_cell, valid_cells, IsClean, AreClean, node_cells}
 use Rattle.vx_tree.specs.Keeps.{KeepsExactly}
 use Rattle.vx_tree.specs.Well.{Shape, shape, shape_of, shapes, IsValidity, IsNode, IsWell, AreWell}
 use Rattle.vx_tree.proofs.CellsLemmas.{rows_counted}
@@ -128,14 +128,14 @@ module _ (places : List ℕ → List ℕ) (pick : List Cell → List Cell) (natu
       λ j. first j ∷ row_picked css i long.1 lt j
 
   -- what a function gives
-  calls_picked : (f : ScalarFnRef) (ty : DataType) (css : List (List Cell)) → AllLong k css
-      → pick (map (λ i. apply f ty (row_at css i)) (range_with_len 0 k)) ≡ map (λ i. apply f ty (row_at (map pick css) i)) (range_with_len 0 n)
-  calls_picked f ty css long =
-      let call = λ (i : ℕ). apply f ty (row_at css i) in
+  calls_picked : (f : ScalarFnRef) (tys : List DataType) (ty : DataType) (css : List (List Cell)) → AllLong k css
+      → pick (map (λ i. apply f tys ty (row_at css i)) (range_with_len 0 k)) ≡ map (λ i. apply f tys ty (row_at (map pick css) i)) (range_with_len 0 n)
+  calls_picked f tys ty css long =
+      let call = λ (i : ℕ). apply f tys ty (row_at css i) in
       let picked = map call (places (range_with_len 0 k)) in
       natural call (range_with_len 0 k)
-      ∙ sym (rows_are (λ i. apply f ty (row_at (map pick css) i)) n picked (length-map (places (range_with_len 0 k)) call ∙ count)
-      (λ i lt. ap (apply f ty) (row_picked css i long lt) ∙ sym (at_place call i lt)))
+      ∙ sym (rows_are (λ i. apply f tys ty (row_at (map pick css) i)) n picked (length-map (places (range_with_len 0 k)) call ∙ count)
+      (λ i lt. ap (apply f tys ty) (row_picked css i long lt) ∙ sym (at_place call i lt)))
 
   -- rows by a validity that is as long
   valid_picked : (vs cs : List Cell) → length vs ≡ k → length cs ≡ k → pick (valid_cells vs cs) ≡ valid_cells (pick vs) (pick cs)
@@ -149,7 +149,8 @@ module _ (places : List ℕ → List ℕ) (pick : List Cell → List Cell) (natu
       ∙ sym (λ j. valid_cells (by_place vs long j) (by_place cs longs j))
 
   -- trees in slots, each replaced by one of the picked rows
-  module _ (part : Tree → Tree) (shown : (t : Tree) → IsWell t → len t ≡ k → rows (part t) ≡ pick (rows t)) where
+  module _ (part : Tree → Tree) (typed : (t : Tree) → IsWell t → len t ≡ k → dtype (part t) ≡ dtype t)
+      (shown : (t : Tree) → IsWell t → len t ≡ k → rows (part t) ≡ pick (rows t)) where
     slots_picked : (tys : List DataType) (ss : Slots) → shapes ss ≡ map (λ s. Some (shape s k)) tys → AreWell ss
         → slots_rows (map_slots part ss) ≡ map pick (slots_rows ss)
     slots_picked tys no_slots e w = refl
@@ -161,12 +162,23 @@ module _ (places : List ℕ → List ℕ) (pick : List Cell → List Cell) (natu
         let others : shapes ss ≡ map (λ s. Some (shape s k)) tys = cc in
         λ j. shown t w.0 (ap len_in first) j ∷ slots_picked tys ss others w.1 j
 
+    types_picked : (tys : List DataType) (ss : Slots) → shapes ss ≡ map (λ s. Some (shape s k)) tys → AreWell ss
+        → types_in (shapes (map_slots part ss)) ≡ types_in (shapes ss)
+    types_picked tys no_slots e w = refl
+    types_picked [] (absent ss) e w = absurd (cc)
+    types_picked (s ∷ tys) (absent ss) e w = absurd (cc)
+    types_picked [] (slot t ss) e w = absurd (cc)
+    types_picked (s ∷ tys) (slot t ss) e w =
+        let first : shape_of t ≡ shape s k = cc in
+        let others : shapes ss ≡ map (λ s. Some (shape s k)) tys = cc in
+        λ j. typed t w.0 (ap len_in first) j ∷ types_picked tys ss others w.1 j
+
     -- a function of them gives the picked rows
     pub function_picked : (f : ScalarFnRef) (ty : DataType) (ss : Slots) → IsWell (node ty k (enc.function f) ss)
         → pick (rows (node ty k (enc.function f) ss)) ≡ rows (node ty n (enc.function f) (map_slots part ss))
     function_picked f ty ss w =
-        calls_picked f ty (slots_rows ss) (slots_long k w.0.0 ss w.0.1 w.1)
-        ∙ sym (ap (λ css. map (λ i. apply f ty (row_at css i)) (range_with_len 0 n)) (slots_picked w.0.0 ss w.0.1 w.1))
+        calls_picked f (types_in (shapes ss)) ty (slots_rows ss) (slots_long k w.0.0 ss w.0.1 w.1)
+        ∙ sym (λ j. node_cells ty n (enc.function f) (types_picked w.0.0 ss w.0.1 w.1 j) (slots_picked w.0.0 ss w.0.1 w.1 j))
 
     -- and so does a masked node of the picked rows of its child
     pub masked_picked : (ty : DataType) (c u : Tree) (vs : Slots) → IsWell (node ty k enc.masked (slot c vs)) → rows u ≡ pick (rows c)

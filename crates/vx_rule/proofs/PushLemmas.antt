@@ -10,7 +10,7 @@ use Rattle.vx_value.specs.declared.dtype.Nullability.TheVariants.{NonNullable, N
 use Rattle.vx_fn.specs.Meanings.{widen}
 use Rattle.vx_fn.specs.declared.function.ScalarFnRef.{ScalarFnRef}
 use Rattle.vx_tree.specs.Tree as enc
-use Rattle.vx_tree.specs.Tree.{Tree, Slots, node, no_slots, absent, slot, slots_of, height, slots_height, dtype, len, datum, constant_of, slice_of, masked_of, dict_of, is_canonical}
+use Rattle.vx_tree.specs.Tree.{Tree, Slots, node, no_slots, absent, slot, slots_of, height, slots_height, dtype, len, datum, constant_of, slice_of, masked_of, dict_of, is_canonical, types_in}
 use Rattle.vx_tree.specs.Slots.{map_slots}
 use Rattle.vx_tree.specs.Parts.{part_of}
 use Rattle.vx_tree.specs.Cells.{node_cells, slots_rows, AreClean}
@@ -120,6 +120,15 @@ IsSlotPushed a b (Some t) (Some u) = IsPushed a b t u
 IsSlotPushed a b _ _ = ⊥
 
 module _ (a b : ℕ) where
+  slots_typed : (xs ys : List (Option Tree)) → AllZip (IsSlotPushed a b) xs ys
+      → types_in (shapes (map_slots (slice_of a b) (slots_of xs))) ≡ types_in (shapes (slots_of ys))
+  slots_typed [] [] h = refl
+  slots_typed [] (y ∷ ys) h = absurd h
+  slots_typed (x ∷ xs) [] h = absurd h
+  slots_typed (None ∷ xs) (y ∷ ys) h = absurd h.0
+  slots_typed (Some t ∷ xs) (None ∷ ys) h = absurd h.0
+  slots_typed (Some t ∷ xs) (Some u ∷ ys) h = λ i. h.0.exactly.keeps.same_type i ∷ slots_typed xs ys h.1 i
+
   slots_shown : (xs ys : List (Option Tree)) → AllZip (IsSlotPushed a b) xs ys → slots_rows (map_slots (slice_of a b) (slots_of xs)) ≡ slots_rows (slots_of ys)
   slots_shown [] [] h = refl
   slots_shown [] (y ∷ ys) h = absurd h
@@ -197,7 +206,7 @@ module _ (x : Tree) (f : ScalarFnRef) (xs : List (Option Tree)) (shown : x ≡ n
         S4_keeps ty ty (b - a) a b n f ss (subst (λ y. IsWell (slice_of a b y)) shown (sliced a b x well (order a b x well part) part.1)) in
         let swapped : KeepsExactly lazily made =
         exactly_of_rows ty (b - a) (enc.function f) (enc.function f) (map_slots (slice_of a b) ss) (slots_of ys)
-        (ap (node_cells ty (b - a) (enc.function f)) (slots_shown a b xs ys slots_pushed)) (slots_clean a b xs ys slots_pushed) in
+        (λ j. node_cells ty (b - a) (enc.function f) (slots_typed a b xs ys slots_pushed j) (slots_shown a b xs ys slots_pushed j)) (slots_clean a b xs ys slots_pushed) in
         subst (λ y. IsPushed a b y u) (sym shown) (subst (IsPushed a b child) (sym e) (record {
           pushed_down =
               ap (node ty (b - a) (enc.function f)) (slots_down a b xs ys slots_pushed)

@@ -151,7 +151,7 @@ S4_keeps ty fty n a b k f ss w =
     of_slice ty n a b child u w (λ h l.
     let shown : rows (slice_of a b child) ≡ rows u =
     function_picked (λ is. take (b - a) (drop a is)) (λ cs. take (b - a) (drop a cs)) (part_natural a b) k (b - a) (part_count a b k h l) (slice_of a b)
-    (λ t well long. refl) f fty ss w.1.0 in
+    (λ t well long. refl) (λ t well long. refl) f fty ss w.1.0 in
     exactly_by (slice_of a b child) u refl refl shown (λ d. (subst HasNoFault shown d.0, map_clean (slice_of a b) ss (part_clean a b) d.1.0.1)))
 
 -- a clean tree's rows are clean, put off or not
@@ -174,6 +174,7 @@ S5_keeps ty mty n a b k c vs w =
     of_slice ty n a b child u w (λ h l.
     let shown : rows (slice_of a b child) ≡ rows u =
     masked_picked (λ is. take (b - a) (drop a is)) (λ cs. take (b - a) (drop a cs)) (part_natural a b) k (b - a) (part_count a b k h l) (part_of a b)
+    (λ t well long. sym (part_exact a b t well h (subst (λ m. b ≤ m) (sym long) l)).keeps.same_type)
     (λ t well long. sym (part_exact a b t well h (subst (λ m. b ≤ m) (sym long) l)).equal) mty c (slice_of a b c) vs w.1.0 refl in
     exactly_by (slice_of a b child) u refl refl shown
     (λ d. (subst HasNoFault shown d.0, (part_clean a b c d.1.0.1.0, map_clean (part_of a b) vs (part_of_clean a b) d.1.0.1.1))))

@@ -41,6 +41,8 @@ constant_values (slot t ss) = with_value (data_value (datum t)) (constant_values
 
 -- the constant of the function's value on these slots, None if a slot holds no constant or the function has no value
 abbrev pub IsFolded : ScalarFnRef → DataType → ℕ → Slots → Option Tree → Type 0
-IsFolded f ty n ss None = (vs : List Typed) → constant_values ss ≡ Some vs → apply f ty (map (λ v. value v.value) vs) ≡ fault
+IsFolded f ty n ss None =
+    (vs : List Typed) → constant_values ss ≡ Some vs → apply f (map (λ v. v.of_type) vs) ty (map (λ v. value v.value) vs) ≡ fault
 IsFolded f ty n ss (Some u) =
-    (vs : List Typed) × (w : Value) × (constant_values ss ≡ Some vs) × (apply f ty (map (λ v. value v.value) vs) ≡ value w) × (u ≡ constants ty w n)
+    (vs : List Typed) × (w : Value) × (constant_values ss ≡ Some vs) × (apply f (map (λ v. v.of_type) vs) ty (map (λ v. value v.value) vs) ≡ value w)
+    × (u ≡ constants ty w n)

@@ -138,16 +138,17 @@ pub data Row : Option ℕ → Tree → Tree → List ℕ → Type 0 where
       → Row (Some 1) (node ty n enc.dict (slot codes (slot (node mty k enc.masked (slot c vs)) no_slots)))
       (node ty n enc.masked (slot (dict_of codes c) (map_slots (taken_of codes) vs))) (0 ∷ present_from 1 (map_slots (taken_of codes) vs))
   -- a cast, negation, `between` or `fill_null` of constants is a constant, if it has a value
-  K1 : (ty s : DataType) (n k : ℕ) (target : DType) (v : Typed) (w : Value) → apply (fn_of.Cast target) ty (value v.value ∷ []) ≡ value w
+  K1 : (ty s : DataType) (n k : ℕ) (target : DType) (v : Typed) (w : Value) → apply (fn_of.Cast target) (v.of_type ∷ []) ty (value v.value ∷ []) ≡ value w
       → Row (Some 0) (node ty n (enc.function (fn_of.Cast target)) (slot (node s k (enc.constant v) no_slots) no_slots)) (constants ty w n) []
-  K2 : (ty s : DataType) (n k : ℕ) (v : Typed) (w : Value) → apply fn_of.Not ty (value v.value ∷ []) ≡ value w
+  K2 : (ty s : DataType) (n k : ℕ) (v : Typed) (w : Value) → apply fn_of.Not (v.of_type ∷ []) ty (value v.value ∷ []) ≡ value w
       → Row (Some 0) (node ty n (enc.function fn_of.Not) (slot (node s k (enc.constant v) no_slots) no_slots)) (constants ty w n) []
   K3 : (ty s t u : DataType) (n i j k : ℕ) (options : BetweenOptions) (x y z : Typed) (w : Value)
-      → apply (fn_of.Between options) ty (value x.value ∷ value y.value ∷ value z.value ∷ []) ≡ value w
+      → apply (fn_of.Between options) (x.of_type ∷ y.of_type ∷ z.of_type ∷ []) ty (value x.value ∷ value y.value ∷ value z.value ∷ []) ≡ value w
       → Row (Some 0) (node ty n (enc.function (fn_of.Between options))
       (slot (node s i (enc.constant x) no_slots) (slot (node t j (enc.constant y) no_slots) (slot (node u k (enc.constant z) no_slots) no_slots))))
       (constants ty w n) []
-  K4 : (ty s t : DataType) (n j k : ℕ) (x y : Typed) (w : Value) → apply fn_of.FillNull ty (value x.value ∷ value y.value ∷ []) ≡ value w
+  K4 : (ty s t : DataType) (n j k : ℕ) (x y : Typed) (w : Value)
+      → apply fn_of.FillNull (x.of_type ∷ y.of_type ∷ []) ty (value x.value ∷ value y.value ∷ []) ≡ value w
       → Row (Some 0) (node ty n (enc.function fn_of.FillNull) (slot (node s j (enc.constant x) no_slots) (slot (node t k (enc.constant y) no_slots) no_slots)))
       (constants ty w n) []
 

@@ -12,7 +12,7 @@ use Rattle.vx_value.specs.Values.{null, boolean, integer, bytes, decimal}
 use Rattle.vx_value.specs.Storage.{storage_of}
 use Rattle.vx_tree.specs.ColumnTypes.{bytes_type, scale_of, decimal_type}
 use Rattle.vx_tree.specs.Tree as enc
-use Rattle.vx_tree.specs.Tree.{Tree, Data, Slots, node, no_slots, absent, slot, len}
+use Rattle.vx_tree.specs.Tree.{Tree, Data, Slots, node, no_slots, absent, slot, len, types_in}
 use Rattle.vx_value.specs.Cell.{Cell, value, fault}
 use Rattle.vx_mask.specs.Places.{true_count, chosen}
 use Rattle.vx_mask.proofs.PlacesLemmas.{length-chosen}
@@ -108,13 +108,13 @@ pairs_counted css (i ∷ is) (j ∷ ks) (suc n) h k = ap suc (pairs_counted css 
 
 -- a line for each encoding
 node_counted : (ty : DataType) (n : ℕ) (d : Data) (css : List (List Cell)) (ss : List (Option Shape)) →
-    IsNode ty n d ss → AreCounted css ss → length (node_cells ty n d css) ≡ n
+    IsNode ty n d ss → AreCounted css ss → length (node_cells ty n d (types_in ss) css) ≡ n
 node_counted ty n (enc.constant v) css ss h k = length-replicate n (value v.value)
 node_counted ty n (enc.slice a b) css ss h k = part_counted ty n a b css ss h k
 node_counted ty n (enc.filter bits) css ss h k = choice_counted ty n bits css ss h k
 node_counted ty n enc.masked css ss h k = mask_counted h.0 n h.1 css h.4 (subst (AreCounted css) h.2 k)
 node_counted ty n enc.is_valid css ss h k = length-map (cells_at css 0) shown_cell ∙ one_counted css h.0 n (subst (AreCounted css) h.1 k)
-node_counted ty n (enc.function f) css ss h k = length-map-range_with_len (λ i. apply f ty (row_at css i)) 0 n
+node_counted ty n (enc.function f) css ss h k = length-map-range_with_len (λ i. apply f (types_in ss) ty (row_at css i)) 0 n
 node_counted ty n enc.dict css ss h k =
     length-map (cells_at css 0) (taken (cells_at css 1)) ∙ head_counted css h.0 n (Some (shape h.1 h.2) ∷ []) (subst (AreCounted css) h.3 k)
 node_counted ty n enc.chunked css ss h k = chunks_counted css ty h.0 (subst (AreCounted css) h.1 k) ∙ sym h.2

@@ -28,22 +28,22 @@ pub flat_range_kept : (t : Tree) (v w : Option Tree) (a b : ℕ) → IsWell t �
     → IsNode (dtype t) (b - a) (data_range a b (datum t)) (shapes (slots_of (w ∷ [])))
     × KeepsExactly (slice_of a b t) (column (dtype t) (b - a) (data_range a b (datum t)) w)
 flat_range_kept (node ty n (enc.bool bs) ss) v w a b well h s within part =
-    flat_part (type.bool NonNullable) boolean enc.bool a b bs (slice_range bs a b) v (node ty n (enc.bool bs) ss) (λ n xs css. refl)
+    flat_part (type.bool NonNullable) boolean enc.bool a b bs (slice_range bs a b) v (node ty n (enc.bool bs) ss) (λ n xs tys css. refl)
     (ap (node ty n (enc.bool bs)) s) well within
     refl (λ ss h. h) (λ ty n ss h. h) w part
 flat_range_kept (node ty n (enc.primitive p zs) ss) v w a b well h s within part =
-    flat_part (type.primitive p NonNullable) integer (enc.primitive p) a b zs (slice_range zs a b) v (node ty n (enc.primitive p zs) ss) (λ n xs css. refl)
+    flat_part (type.primitive p NonNullable) integer (enc.primitive p) a b zs (slice_range zs a b) v (node ty n (enc.primitive p zs) ss) (λ n xs tys css. refl)
     (ap (node ty n (enc.primitive p zs)) s) well within refl (λ ss h. h) (λ ty n ss h. h) w part
 flat_range_kept (node ty n (enc.decimals d zs) ss) v w a b well h s within part =
     let stored = storage_of ty in
     flat_part (decimal_type stored) (λ z. decimal z (scale_of stored)) (enc.decimals d) a b zs (slice_range zs a b) v (node ty n (enc.decimals d zs) ss)
-    (λ n xs css. refl)
+    (λ n xs tys css. refl)
     (ap (node ty n (enc.decimals d zs)) s) well within refl (λ ss h. h.0)
     (decimals_node stored d (slice_range zs a b) (decimals_part stored d zs (slice_range zs a b) a b well.0.1 refl)) w part
 flat_range_kept (node ty n (enc.views rs) ss) v w a b well h s within part =
     let stored = storage_of ty in
     flat_part (bytes_type stored) (λ v. bytes (bytes_at rs.buffers v)) (λ vs. enc.views (viewed vs rs.buffers)) a b rs.views (slice_range rs.views a b) v
-    (node ty n (enc.views rs) ss) (λ n xs css. refl)
+    (node ty n (enc.views rs) ss) (λ n xs tys css. refl)
     (ap (node ty n (enc.views rs)) s) well within
     refl (λ ss h. h.0) (bytes_node stored (viewed_range a b rs) (views_part stored rs a b well.0.1)) w part
 flat_range_kept _ v w a b well h s within part = absurd (cc)

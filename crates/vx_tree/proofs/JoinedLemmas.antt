@@ -48,7 +48,7 @@ module _ (t u : Tree) (n : ℕ) (first : HasRows (validity.Array t) n) (second :
   )
 
 abbrev pub and_cell : Cell → Cell → Cell
-and_cell c d = apply (Binary And) (type.bool NonNullable) (c ∷ d ∷ [])
+and_cell c d = apply (Binary And) (type.bool NonNullable ∷ type.bool NonNullable ∷ []) (type.bool NonNullable) (c ∷ d ∷ [])
 
 abbrev pub and_cells : List Cell → List Cell → List Cell
 and_cells [] ds = []

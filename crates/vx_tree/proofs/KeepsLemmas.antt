@@ -4,11 +4,12 @@ use Rattle.std.specs.List.{range_with_len}
 use Rattle.vx_value.specs.Types.{DataType}
 use Rattle.vx_value.specs.Values.{Value, null, boolean, integer}
 use Rattle.vx_tree.specs.Tree as enc
-use Rattle.vx_tree.specs.Tree.{Tree, Data, Slots, node, no_slots, absent, slot, dtype, len}
+use Rattle.vx_tree.specs.Tree.{Tree, Data, Slots, node, no_slots, absent, slot, dtype, len, types_in}
 use Rattle.vx_value.specs.Cell.{Cell, value, fault}
 use Rattle.vx_mask.specs.Places.{chosen}
 use Rattle.vx_fn.specs.Apply.{on_values, value_of}
 use Rattle.vx_tree.specs.Lookups.{taken, taken_cells, paired, paired_cells}
+use Rattle.vx_tree.specs.Well.{shapes}
 use Rattle.vx_tree.specs.Cells.{chained, row_at, rows, slots_rows, node_cells, cells_at, valid_cell, valid_cells, shown_cell, IsClean, AreClean, HasNoFault}
 use Rattle.vx_tree.specs.Slots.{set_slot, put}
 use Rattle.vx_tree.specs.Keeps.{CellKeeps, RowsKeep, Keeps, KeepsExactly}
@@ -190,20 +191,21 @@ drop_all_keep (suc k) (c ∷ cs) [] h = absurd h
 drop_all_keep (suc k) (c ∷ cs) (d ∷ ds) h = drop_all_keep k cs ds h.1
 
 -- a node keeps what its slots keep: a line for each encoding, and one for those that hold their rows themselves
-pub node_mono : (ty : DataType) (n : ℕ) (d : Data) (css dss : List (List Cell)) → AllKeep css dss → RowsKeep (node_cells ty n d css) (node_cells ty n d dss)
-node_mono ty n (enc.constant v) css dss h = rows_refl (replicate n (value v.value))
-node_mono ty n (enc.slice a b) css dss h = take_keep (b - a) _ _ (drop_keep a _ _ (at_keep css dss 0 h))
-node_mono ty n (enc.filter bits) css dss h = chosen_keep bits _ _ (at_keep css dss 0 h)
-node_mono ty n enc.masked css dss h = valid_keep _ _ _ _ (at_keep css dss 1 h) (at_keep css dss 0 h)
-node_mono ty n enc.is_valid css dss h = shown_keep _ _ (at_keep css dss 0 h)
-node_mono ty n (enc.function f) css dss h =
-    map_keep _ _ (range_with_len 0 n) (λ i. values_keep (value_of f ty) _ _ (row_keep i css dss h))
-node_mono ty n enc.dict css dss h = taken_keep _ _ _ _ (at_keep css dss 0 h) (at_keep css dss 1 h)
-node_mono ty n enc.chunked css dss h = chained_keep css dss h
-node_mono ty n enc.interleave css dss h =
+pub node_mono : (ty : DataType) (n : ℕ) (d : Data) (tys : List DataType) (css dss : List (List Cell)) → AllKeep css dss
+    → RowsKeep (node_cells ty n d tys css) (node_cells ty n d tys dss)
+node_mono ty n (enc.constant v) tys css dss h = rows_refl (replicate n (value v.value))
+node_mono ty n (enc.slice a b) tys css dss h = take_keep (b - a) _ _ (drop_keep a _ _ (at_keep css dss 0 h))
+node_mono ty n (enc.filter bits) tys css dss h = chosen_keep bits _ _ (at_keep css dss 0 h)
+node_mono ty n enc.masked tys css dss h = valid_keep _ _ _ _ (at_keep css dss 1 h) (at_keep css dss 0 h)
+node_mono ty n enc.is_valid tys css dss h = shown_keep _ _ (at_keep css dss 0 h)
+node_mono ty n (enc.function f) tys css dss h =
+    map_keep _ _ (range_with_len 0 n) (λ i. values_keep (value_of f tys ty) _ _ (row_keep i css dss h))
+node_mono ty n enc.dict tys css dss h = taken_keep _ _ _ _ (at_keep css dss 0 h) (at_keep css dss 1 h)
+node_mono ty n enc.chunked tys css dss h = chained_keep css dss h
+node_mono ty n enc.interleave tys css dss h =
     paired_keep _ _ _ _ _ _ (drop_all_keep 2 css dss h) (at_keep css dss 0 h) (at_keep css dss 1 h)
-node_mono ty n enc.nulls css dss h = rows_refl (replicate n (value null))
-node_mono ty n _ css dss h = column_keep css dss _ h
+node_mono ty n enc.nulls tys css dss h = rows_refl (replicate n (value null))
+node_mono ty n _ tys css dss h = column_keep css dss _ h
 
 -- the laws, whatever the encodings
 
@@ -237,10 +239,19 @@ put_clean zero t u (slot s ss) h c = (h.still_clean c.0, c.1)
 put_clean (suc i) t u (absent ss) h c = put_clean i t u ss h c
 put_clean (suc i) t u (slot s ss) h c = (c.0, put_clean i t u ss h c.1)
 
+-- trees of one type leave the types of the slots as they are
+put_types : (i : ℕ) (t u : Tree) (ss : Slots) → dtype t ≡ dtype u → types_in (shapes (set_slot i t ss)) ≡ types_in (shapes (set_slot i u ss))
+put_types i t u no_slots e = refl
+put_types zero t u (absent ss) e = ap (λ ty. ty ∷ types_in (shapes ss)) e
+put_types zero t u (slot s ss) e = ap (λ ty. ty ∷ types_in (shapes ss)) e
+put_types (suc i) t u (absent ss) e = put_types i t u ss e
+put_types (suc i) t u (slot s ss) e = ap (λ tys. dtype s ∷ tys) (put_types i t u ss e)
+
 pub put_keeps : (i : ℕ) (t u p : Tree) → Keeps t u → Keeps (put i t p) (put i u p)
 put_keeps i t u (node ty n d ss) h =
-    let r : RowsKeep (node_cells ty n d (slots_rows (set_slot i t ss))) (node_cells ty n d (slots_rows (set_slot i u ss))) =
-    node_mono ty n d _ _ (put_rows i t u ss h) in
+    let r : RowsKeep (rows (put i t (node ty n d ss))) (rows (put i u (node ty n d ss))) =
+    subst (λ tys. RowsKeep (rows (put i t (node ty n d ss))) (node_cells ty n d tys (slots_rows (set_slot i u ss)))) (put_types i t u ss h.same_type)
+    (node_mono ty n d _ _ _ (put_rows i t u ss h)) in
     record { same_type = refl; same_len = refl; same_rows = r; still_clean = λ c. (no_fault_kept _ _ r c.0, put_clean i t u ss h c.1) }
 
 equal_in_slots : (i : ℕ) (t u : Tree) (ss : Slots) → rows t ≡ rows u → slots_rows (set_slot i t ss) ≡ slots_rows (set_slot i u ss)
@@ -250,8 +261,8 @@ equal_in_slots zero t u (slot s ss) h = ap (λ c. c ∷ slots_rows ss) h
 equal_in_slots (suc i) t u (absent ss) h = ap (λ css. [] ∷ css) (equal_in_slots i t u ss h)
 equal_in_slots (suc i) t u (slot s ss) h = ap (λ css. rows s ∷ css) (equal_in_slots i t u ss h)
 
-put_equal : (i : ℕ) (t u p : Tree) → rows t ≡ rows u → rows (put i t p) ≡ rows (put i u p)
-put_equal i t u (node ty n d ss) h = ap (node_cells ty n d) (equal_in_slots i t u ss h)
+put_equal : (i : ℕ) (t u p : Tree) → dtype t ≡ dtype u → rows t ≡ rows u → rows (put i t p) ≡ rows (put i u p)
+put_equal i t u (node ty n d ss) e h = λ j. node_cells ty n d (put_types i t u ss e j) (equal_in_slots i t u ss h j)
 
 pub exactly_refl : (t : Tree) → KeepsExactly t t
 exactly_refl t = record { keeps = keeps_refl t; equal = refl }
@@ -260,11 +271,11 @@ pub exactly_trans : (t u v : Tree) → KeepsExactly t u → KeepsExactly u v →
 exactly_trans t u v p q = record { keeps = keeps_trans t u v p.keeps q.keeps; equal = p.equal ∙ q.equal }
 
 pub put_exactly : (i : ℕ) (t u p : Tree) → KeepsExactly t u → KeepsExactly (put i t p) (put i u p)
-put_exactly i t u p h = record { keeps = put_keeps i t u p h.keeps; equal = put_equal i t u p h.equal }
+put_exactly i t u p h = record { keeps = put_keeps i t u p h.keeps; equal = put_equal i t u p h.keeps.same_type h.equal }
 
 -- columns of the same type, length and rows keep each other exactly
 pub exactly_of_rows : (ty : DataType) (n : ℕ) (d e : Data) (ss ts : Slots) →
-    node_cells ty n d (slots_rows ss) ≡ node_cells ty n e (slots_rows ts) → (AreClean ss → AreClean ts) → KeepsExactly (node ty n d ss) (node ty n e ts)
+    node_cells ty n d (types_in (shapes ss)) (slots_rows ss) ≡ node_cells ty n e (types_in (shapes ts)) (slots_rows ts) → (AreClean ss → AreClean ts) → KeepsExactly (node ty n d ss) (node ty n e ts)
 exactly_of_rows ty n d e ss ts r c = record {
   keeps = record { same_type = refl; same_len = refl; same_rows = rows_equal _ _ r; still_clean = λ h. (subst HasNoFault r h.0, c h.1) };
   equal = r;

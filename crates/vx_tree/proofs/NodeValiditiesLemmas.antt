@@ -14,7 +14,7 @@ use Rattle.vx_value.specs.declared.dtype.Nullability.TheVariants.{NonNullable, N
 use Rattle.vx_value.specs.Storage.{storage_of}
 use Rattle.vx_tree.specs.ColumnTypes.{bytes_type, scale_of, decimal_type}
 use Rattle.vx_tree.specs.Tree as enc
-use Rattle.vx_tree.specs.Tree.{Tree, Data, Slots, node, no_slots, absent, slot, slots_of, len, column, constant_of}
+use Rattle.vx_tree.specs.Tree.{Tree, Data, Slots, node, no_slots, absent, slot, slots_of, len, column, constant_of, types_in}
 use Rattle.vx_tree.specs.Well.{shape_of, shapes, IsValidity, IsFlat, IsNode, IsWell, AreWell}
 use Rattle.vx_tree.specs.Cells.{rows, node_cells, cells_at, valid_cells, shown_cell}
 use Rattle.vx_tree.specs.Keeps.{RowsKeep}
@@ -44,7 +44,7 @@ constant_node ty n v xs h e =
 
 -- a column of values of one type
 column_node : (of_type ty : DataType) (k n : ℕ) (d : Data) (stored : List Cell) (xs : List (Option Tree))
-    → ((css : List (List Cell)) → node_cells ty n d css ≡ valid_cells (cells_at css 0) stored) → length stored ≡ k
+    → ((tys : List DataType) (css : List (List Cell)) → node_cells ty n d tys css ≡ valid_cells (cells_at css 0) stored) → length stored ≡ k
     → RowsKeep (map shown_cell stored) (replicate (length stored) (value (boolean true))) → IsFlat of_type k ty n (shapes (slots_of xs)) → AreWell (slots_of xs)
     → nullability_of ty ≡ Nullable → Tells (node ty n d (slots_of xs)) (validity_of Nullable (slot_tree 0 (slots_of xs)))
 column_node of_type ty k n d stored xs cells long valid h wells e =
@@ -53,7 +53,7 @@ column_node of_type ty k n d stored xs cells long valid h wells e =
     let lists : h.0 ∷ [] ≡ option_map shape_of w ∷ [] = sym h.3 ∙ ap (λ ys. shapes (slots_of ys)) o.1 ∙ one_shape w in
     let same : h.0 ≡ option_map shape_of w = cc in
     let slot : IsValidity Nullable n (option_map shape_of w) = subst (IsValidity Nullable n) same (subst (λ m. IsValidity m n h.0) e h.4) in
-    let shown : rows (column ty n d w) ≡ valid_cells (slot_cells w) stored = ap (node_cells ty n d) (told_rows w) ∙ cells (slot_cells w ∷ []) in
+    let shown : rows (column ty n d w) ≡ valid_cells (slot_cells w) stored = ap (node_cells ty n d (types_in (shapes (slots_of (w ∷ []))))) (told_rows w) ∙ cells _ (slot_cells w ∷ []) in
     let told = column_tells ty n d w stored shown (long ∙ sym h.2) valid e slot (subst (λ ys. AreWell (slots_of ys)) o.1 wells) in
     subst (λ ys. Tells (node ty n d (slots_of ys)) (validity_of Nullable (slot_tree 0 (slots_of ys)))) (sym o.1)
     (subst (λ x. Tells (column ty n d w) (validity_of Nullable x)) (sym (first_tree w)) told)
@@ -67,27 +67,27 @@ module _ (ty : DataType) (n : ℕ) (xs : List (Option Tree)) where
   bool_node : (bs : List Bool) → IsNode ty n (enc.bool bs) (shapes (slots_of xs)) → AreWell (slots_of xs) → nullability_of ty ≡ Nullable
       → Tells (node ty n (enc.bool bs) (slots_of xs)) (validity_of Nullable (slot_tree 0 (slots_of xs)))
   bool_node bs =
-      column_node (type.bool NonNullable) ty (length bs) n (enc.bool bs) (map (λ b. value (boolean b)) bs) xs (λ css. refl)
+      column_node (type.bool NonNullable) ty (length bs) n (enc.bool bs) (map (λ b. value (boolean b)) bs) xs (λ tys css. refl)
       (length-map bs (λ b. value (boolean b))) (stored_valid boolean (λ b. refl) bs)
 
   primitive_node : (p : PType) (zs : List ℤ) → IsNode ty n (enc.primitive p zs) (shapes (slots_of xs)) → AreWell (slots_of xs) → nullability_of ty ≡ Nullable
       → Tells (node ty n (enc.primitive p zs) (slots_of xs)) (validity_of Nullable (slot_tree 0 (slots_of xs)))
   primitive_node p zs =
-      column_node (type.primitive p NonNullable) ty (length zs) n (enc.primitive p zs) (map (λ z. value (integer z)) zs) xs (λ css. refl)
+      column_node (type.primitive p NonNullable) ty (length zs) n (enc.primitive p zs) (map (λ z. value (integer z)) zs) xs (λ tys css. refl)
       (length-map zs (λ z. value (integer z))) (stored_valid integer (λ z. refl) zs)
 
   decimals_node : (w : DecimalType) (zs : List ℤ) → IsNode ty n (enc.decimals w zs) (shapes (slots_of xs)) → AreWell (slots_of xs)
       → nullability_of ty ≡ Nullable → Tells (node ty n (enc.decimals w zs) (slots_of xs)) (validity_of Nullable (slot_tree 0 (slots_of xs)))
   decimals_node w zs h =
       let read : ℤ → Value = λ z. decimal z (scale_of (storage_of ty)) in
-      column_node (decimal_type (storage_of ty)) ty (length zs) n (enc.decimals w zs) (map (λ z. value (read z)) zs) xs (λ css. refl)
+      column_node (decimal_type (storage_of ty)) ty (length zs) n (enc.decimals w zs) (map (λ z. value (read z)) zs) xs (λ tys css. refl)
       (length-map zs (λ z. value (read z))) (stored_valid read (λ z. refl) zs) h.0
 
   views_node : (rs : ViewedRows) → IsNode ty n (enc.views rs) (shapes (slots_of xs)) → AreWell (slots_of xs) → nullability_of ty ≡ Nullable
       → Tells (node ty n (enc.views rs) (slots_of xs)) (validity_of Nullable (slot_tree 0 (slots_of xs)))
   views_node rs h =
       let read : View → Value = λ v. bytes (bytes_at rs.buffers v) in
-      column_node (bytes_type (storage_of ty)) ty (length rs.views) n (enc.views rs) (map (λ v. value (read v)) rs.views) xs (λ css. refl)
+      column_node (bytes_type (storage_of ty)) ty (length rs.views) n (enc.views rs) (map (λ v. value (read v)) rs.views) xs (λ tys css. refl)
       (length-map rs.views (λ v. value (read v))) (stored_valid read (λ v. refl) rs.views) h.0
 
 -- of a nullable node: a line for each encoding

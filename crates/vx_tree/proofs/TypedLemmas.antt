@@ -52,12 +52,13 @@ use Rattle.vx_fn.proofs.LogicLemmas.{Knows, and_knows, or_knows}
 use Rattle.vx_fn.proofs.MeaningsLemmas.{nullable_by_argument}
 use Rattle.vx_tree.specs.ColumnTypes.{decimal_type, scale_of, bytes_type}
 use Rattle.vx_tree.specs.Tree as enc
-use Rattle.vx_tree.specs.Tree.{Tree, Data, Slots, node, no_slots, absent, slot, dtype, IsMasked, IsDict}
+use Rattle.vx_tree.specs.Tree.{Tree, Data, Slots, node, no_slots, absent, slot, dtype, IsMasked, IsDict, types_in}
 use Rattle.vx_tree.specs.Lookups.{taken, taken_cells, paired, paired_cells}
 use Rattle.vx_tree.specs.SlotTypes.{of_lengths}
 use Rattle.vx_tree.specs.Cells.{rows, slots_rows, node_cells, cells_at, chained, row_at, valid_cell, valid_cells, shown_cell}
 use Rattle.vx_tree.specs.Views.{bytes_at}
 use Rattle.vx_tree.specs.Well.{Shape, shape, shapes, IsValidity, IsFlat, IsNode, IsWell, AreWell}
+use Rattle.vx_tree.proofs.RefusalsLemmas.{types_back}
 
 -- of the kind that is stored, however large: a line for each storage
 abbrev is_kind : Value → Storage → Bool
@@ -191,7 +192,7 @@ joined_fits join knows s t m (boolean p) w h k e = let no = ap (is_kind w) (sym 
 joined_fits join knows s t m v w h k e = let no = ap (is_kind v) (sym (logical_bits s t (type.bool m) e).0) ∙ h in absurd (false≢true no)
 
 binary_fits : (op : Operator) (s t ty : DataType) (v w : Value) → fits v s ≡ true → fits w t ≡ true → (binary op).types (s ∷ t ∷ []) ≡ Some ty
-    → CellFits ty ((binary op).value ty (v ∷ w ∷ []))
+    → CellFits ty ((binary op).value (s ∷ t ∷ []) ty (v ∷ w ∷ []))
 binary_fits operator.And s t ty v w h k e = operated_fits operator.And ty v w (λ m is. joined_fits kleene_and and_knows s t m v w h k (e ∙ ap Some is))
 binary_fits operator.Or s t ty v w h k e = operated_fits operator.Or ty v w (λ m is. joined_fits kleene_or or_knows s t m v w h k (e ∙ ap Some is))
 binary_fits op s t ty v w h k e =
@@ -211,7 +212,7 @@ order_fits s t u r e =
 
 between_fits : (options : BetweenOptions) (s t u ty : DataType) (v w x : Value) → fits v s ≡ true → fits w t ≡ true → fits x u ≡ true
     → (between options).types (s ∷ t ∷ u ∷ []) ≡ Some ty
-    → CellFits ty ((between options).value ty (v ∷ w ∷ x ∷ []))
+    → CellFits ty ((between options).value (s ∷ t ∷ u ∷ []) ty (v ∷ w ∷ x ∷ []))
 between_fits options s t u ty v w x h k l e =
     through_fits s (widened t (widened u (between_type s t u))) ty v _ h e
     (λ q first. through_fits t (widened u (between_type s t u)) q w _ k first
@@ -271,15 +272,15 @@ cast_fits ty _ = by_cell _ _ refl
 -- ---- functions of lists of values
 
 -- of values that fit the types a function gives one that fits its own
-abbrev IsTyped : (List DataType → Option DataType) → (DataType → List Value → Cell) → Type 0
+abbrev IsTyped : (List DataType → Option DataType) → (List DataType → DataType → List Value → Cell) → Type 0
 IsTyped types f =
-    (tys : List DataType) (ty : DataType) (vs : List Value) → types tys ≡ Some ty → AllZip (λ s v. fits v s ≡ true) tys vs → CellFits ty (f ty vs)
+    (tys : List DataType) (ty : DataType) (vs : List Value) → types tys ≡ Some ty → AllZip (λ s v. fits v s ≡ true) tys vs → CellFits ty (f tys ty vs)
 
 -- of one, two and three arguments
 module _ (typed : DataType → Option DataType → Option DataType) (valued : Value → Cell → Cell) where
   one_fits : (type : DataType → Option DataType) (f : DataType → Value → Cell)
       → ((s ty : DataType) (v : Value) → fits v s ≡ true → typed s (type s) ≡ Some ty → CellFits ty (valued v (f ty v)))
-      → IsTyped (of_one typed None type) (λ ty. of_one valued fault (f ty))
+      → IsTyped (of_one typed None type) (λ tys ty. of_one valued fault (f ty))
   one_fits type f k (s ∷ []) ty (v ∷ []) e h = k s ty v h.0 e
   one_fits type f k (s ∷ []) ty _ e h = tt
   one_fits type f k _ ty vs e h = absurd (none-some ty e)
@@ -287,7 +288,7 @@ module _ (typed : DataType → Option DataType → Option DataType) (valued : Va
   two_fit : (type : DataType → DataType → Option DataType) (f : DataType → Value → Value → Cell)
       → ((s t ty : DataType) (v w : Value) → fits v s ≡ true → fits w t ≡ true → typed s (typed t (type s t)) ≡ Some ty
       → CellFits ty (valued v (valued w (f ty v w))))
-      → IsTyped (of_two typed None type) (λ ty. of_two valued fault (f ty))
+      → IsTyped (of_two typed None type) (λ tys ty. of_two valued fault (f ty))
   two_fit type f k (s ∷ t ∷ []) ty (v ∷ w ∷ []) e h = k s t ty v w h.0 h.1.0 e
   two_fit type f k (s ∷ t ∷ []) ty _ e h = tt
   two_fit type f k _ ty vs e h = absurd (none-some ty e)
@@ -295,7 +296,7 @@ module _ (typed : DataType → Option DataType → Option DataType) (valued : Va
   three_fit : (type : DataType → DataType → DataType → Option DataType) (f : DataType → Value → Value → Value → Cell)
       → ((s t u ty : DataType) (v w x : Value) → fits v s ≡ true → fits w t ≡ true → fits x u ≡ true → typed s (typed t (typed u (type s t u))) ≡ Some ty
       → CellFits ty (valued v (valued w (valued x (f ty v w x)))))
-      → IsTyped (of_three typed None type) (λ ty. of_three valued fault (f ty))
+      → IsTyped (of_three typed None type) (λ tys ty. of_three valued fault (f ty))
   three_fit type f k (s ∷ t ∷ u ∷ []) ty (v ∷ w ∷ x ∷ []) e h = k s t u ty v w x h.0 h.1.0 h.1.1.0 e
   three_fit type f k (s ∷ t ∷ u ∷ []) ty _ e h = tt
   three_fit type f k _ ty vs e h = absurd (none-some ty e)
@@ -378,9 +379,11 @@ row_fits (cs ∷ css) (s ∷ tys) n i h = (fit_at s cs i (recursion_from_All (Ce
 
 function_fits : (f : ScalarFnRef) (ty : DataType) (n : ℕ) (css : List (List Cell)) (ss : List (Option Shape)) (i : ℕ) → IsNode ty n (enc.function f) ss
     → AllZip SlotFits css ss
-    → CellFits ty (apply f ty (row_at css i))
+    → CellFits ty (apply f (types_in ss) ty (row_at css i))
 function_fits f ty n css ss i h k =
-    cells_fit ty (value_of f ty) h.0 (row_at css i) (row_fits css h.0 n i (subst (AllZip SlotFits css) h.1 k)) (λ vs fit. values_fit f h.0 ty vs h.2 fit)
+    let types : h.0 ≡ types_in ss = sym (ap types_in h.1 ∙ types_back n h.0) in
+    subst (λ tys. CellFits ty (apply f tys ty (row_at css i))) types
+    (cells_fit ty (value_of f h.0 ty) h.0 (row_at css i) (row_fits css h.0 n i (subst (AllZip SlotFits css) h.1 k)) (λ vs fit. values_fit f h.0 ty vs h.2 fit))
 
 -- the values of a column, by its validity
 column_fits : {X : Type 0} (f : X → Cell) (xs : List X) (of_type : DataType) (k : ℕ) (ty : DataType) (n : ℕ) (css : List (List Cell)) (ss : List (Option Shape))
@@ -471,13 +474,13 @@ third_fits (cs ∷ ds ∷ css) s r more h = h.1.1
 
 -- a line for each encoding
 node_fits : (ty : DataType) (n : ℕ) (d : Data) (css : List (List Cell)) (ss : List (Option Shape)) → IsNode ty n d ss → AllZip SlotFits css ss
-    → All (CellFits ty) (node_cells ty n d css)
+    → All (CellFits ty) (node_cells ty n d (types_in ss) css)
 node_fits ty n (enc.constant v) css ss h k = All-replicate (CellFits ty) n (value v.value) (typed_fits v.value ty h.1)
 node_fits ty n (enc.slice a b) css ss h k = All-take (CellFits ty) _ _ (All-drop (CellFits ty) a _ (first_fits css ty h.0 ss [] h.1 k))
 node_fits ty n (enc.filter bits) css ss h k = chosen_fit ty bits (cells_at css 0) (first_fits css ty (length bits) ss [] h.0 k)
 node_fits ty n enc.masked css ss h k = masked_fits ty n css ss h k
 node_fits ty n enc.is_valid css ss h k = map_fits ty shown_cell (cells_at css 0) (λ c. shown_fits ty c h.2)
-node_fits ty n (enc.function f) css ss h k = map_fits ty (λ i. apply f ty (row_at css i)) (range_with_len 0 n) (λ i. function_fits f ty n css ss i h k)
+node_fits ty n (enc.function f) css ss h k = map_fits ty (λ i. apply f (types_in ss) ty (row_at css i)) (range_with_len 0 n) (λ i. function_fits f ty n css ss i h k)
 node_fits ty n enc.dict css ss h k = dict_fits ty n css ss h k
 node_fits ty n enc.chunked css ss h k = chained_fit ty css h.0 (subst (AllZip SlotFits css) h.1 k)
 node_fits ty n enc.interleave css ss h k =

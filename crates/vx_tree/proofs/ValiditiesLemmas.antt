@@ -22,7 +22,7 @@ use Rattle.vx_value.specs.Cell.{Cell, value, fault}
 use Rattle.vx_value.specs.declared.dtype.Nullability.{Nullability}
 use Rattle.vx_value.specs.declared.dtype.Nullability.TheVariants.{NonNullable, Nullable}
 use Rattle.vx_tree.specs.Tree as enc
-use Rattle.vx_tree.specs.Tree.{Tree, Data, node, slots_of, dtype, len, datum, column, constant_of, slice_of}
+use Rattle.vx_tree.specs.Tree.{Tree, Data, node, slots_of, dtype, len, datum, column, constant_of, slice_of, types_in}
 use Rattle.vx_tree.specs.Well.{Shape, shape, shape_of, shapes, IsWell, AreWell, IsValidity, IsFlat, IsNode}
 use Rattle.vx_tree.specs.Cells.{rows, slots_rows, node_cells, cells_at, valid_cell, valid_cells, HasNoFault, IsClean, AreClean}
 use Rattle.vx_tree.specs.Keeps.{KeepsExactly}
@@ -198,17 +198,17 @@ module _ (a b : ℕ) where
 
   -- the rows of a column, whose values are those that items are read as, in the range
   pub part_exactly : {X : Type 0} (ty : DataType) (read : X → Value) (of_items : List X → Data) →
-      ((n : ℕ) (xs : List X) (css : List (List Cell)) → node_cells ty n (of_items xs) css ≡ valid_cells (cells_at css 0) (map (λ x. value (read x)) xs)) →
+      ((n : ℕ) (xs : List X) (tys : List DataType) (css : List (List Cell)) → node_cells ty n (of_items xs) tys css ≡ valid_cells (cells_at css 0) (map (λ x. value (read x)) xs)) →
       (xs ys : List X) (v w : Option Tree) (t : Tree) → t ≡ column ty (length xs) (of_items xs) v → IsTold (length xs) v → b ≤ length xs →
       ys ≡ slice_range xs a b → IsValidityPart a b v w → KeepsExactly (slice_of a b t) (column ty (length ys) (of_items ys) w)
   part_exactly ty read of_items cells xs ys v w t is counted within range part =
       let of = λ (zs : List _) (u : Option Tree). column ty (length zs) (of_items zs) u in
       let shown : rows (slice_of a b (of xs v)) ≡ rows (of ys w) =
-      ap (λ cs. slice_range (node_cells ty (length xs) (of_items xs) cs) a b) (told_rows v)
-      ∙ ap (λ cs. slice_range cs a b) (cells (length xs) xs (told v ∷ []))
+      ap (λ cs. slice_range (node_cells ty (length xs) (of_items xs) (types_in (shapes (slots_of (v ∷ [])))) cs) a b) (told_rows v)
+      ∙ ap (λ cs. slice_range cs a b) (cells (length xs) xs _ (told v ∷ []))
       ∙ part_told (length xs) v w (map (λ x. value (read x)) xs) part (length-map-read xs) counted
       ∙ ap (valid_cells (told w)) (map_part (λ x. value (read x)) xs a b ∙ ap (map (λ x. value (read x))) (sym range))
-      ∙ sym (cells (length ys) ys (told w ∷ [])) ∙ sym (ap (node_cells ty (length ys) (of_items ys)) (told_rows w)) in
+      ∙ sym (cells (length ys) ys _ (told w ∷ [])) ∙ sym (ap (node_cells ty (length ys) (of_items ys) (types_in (shapes (slots_of (w ∷ []))))) (told_rows w)) in
       let counted_part : b - a ≡ length ys = sym (ap length range ∙ length-take-le (b - a) (drop a xs) (omega (arith, length-drop a xs))) in
       subst (λ x. KeepsExactly (slice_of a b x) (of ys w)) (sym is)
       (record {
@@ -238,8 +238,8 @@ told_counted of_type ty k n (Some t) h w = rows_counted t w.0 ∙ flat_long of_t
 -- a column of values of one type, each read from an item, and a range of it
 module _ {X : Type 0} (of_type : DataType) (read : X → Value) (of_items : List X → Data)
     (a b : ℕ) (xs ys : List X) (v : Option Tree) (t : Tree)
-    (cells : (n : ℕ) (xs : List X) (css : List (List Cell))
-    → node_cells (dtype t) n (of_items xs) css ≡ valid_cells (cells_at css 0) (map (λ x. value (read x)) xs))
+    (cells : (n : ℕ) (xs : List X) (tys : List DataType) (css : List (List Cell))
+    → node_cells (dtype t) n (of_items xs) tys css ≡ valid_cells (cells_at css 0) (map (λ x. value (read x)) xs))
     (shown : t ≡ column (dtype t) (len t) (of_items xs) v) (well : IsWell t)
     (within : b ≤ len t) (range : ys ≡ slice_range xs a b)
     (flat : (ss : List (Option Shape)) → IsNode (dtype t) (len t) (of_items xs) ss → IsFlat of_type (length xs) (dtype t) (len t) ss)
@@ -270,7 +270,7 @@ module _ {X : Type 0} (of_type : DataType) (read : X → Value) (of_items : List
 -- ---- what a validity says is read back from its child
 
 constant_rows : (v : Typed) (t : Tree) → IsWell t → datum t ≡ enc.constant v → rows t ≡ replicate (len t) (value v.value)
-constant_rows v (node ty n d ss) w e = ap (λ x. node_cells ty n x (slots_rows ss)) e
+constant_rows v (node ty n d ss) w e = ap (λ x. node_cells ty n x (types_in (shapes ss)) (slots_rows ss)) e
 
 pub told_back : (v : Validity) (n : ℕ) → HasRows v n → valid_rows (validity_of (nullability_by v) (child_of v n)) n ≡ valid_rows v n
 told_back validity.NonNullable n h = refl

@@ -21,8 +21,8 @@ pub record Meaning : Type 1 where
   pub IsNode : DataType → ℕ → List (Option Shape) → Type 0
   -- why no node is made under an id, None if one is
   pub refusal : Id → DataType → ℕ → List (Option Shape) → Option VortexError
-  -- the cells, from those of the slots
-  pub cells : DataType → ℕ → List (List Cell) → List Cell
+  -- the cells, from the types and the cells of the slots
+  pub cells : DataType → ℕ → List DataType → List (List Cell) → List Cell
   -- the validity, if the type is nullable, from that of the first slot's tree
   pub validity : DataType → ℕ → Slots → Validity → Validity
   pub charge : Charge
@@ -35,7 +35,7 @@ column_meaning i condition refused stored = record {
   name = slice_get (codes "validity" ∷ []);
   IsNode = condition;
   refusal = λ i. refused;
-  cells = λ ty n css. valid_cells (cells_at css 0) (stored ty);
+  cells = λ ty n tys css. valid_cells (cells_at css 0) (stored ty);
   validity = λ ty n ss child. validity_of Nullable (slot_tree 0 ss);
   charge = column_charge;
 }

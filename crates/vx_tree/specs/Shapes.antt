@@ -19,6 +19,12 @@ shapes no_slots = []
 shapes (absent ss) = None ∷ shapes ss
 shapes (slot t ss) = Some (shape_of t) ∷ shapes ss
 
+-- the types of the slots that hold trees
+abbrev pub types_in : List (Option Shape) → List DataType
+types_in [] = []
+types_in (None ∷ ss) = types_in ss
+types_in (Some (shape s m) ∷ ss) = s ∷ types_in ss
+
 -- the slot of a column's validity: absent if no row is null, or in a nullable column a tree of as many booleans as it has rows
 abbrev pub IsValidity : Nullability → ℕ → Option Shape → Type 0
 IsValidity m n None = Unit {0}

@@ -75,7 +75,7 @@ fn nullability_between(array: &DType, lower: &DType, upper: &DType) -> Option<Nu
 fn lies_between(options: BetweenOptions, array: &Scalar, lower: &Scalar, upper: &Scalar) -> Scalar
     requires { IsSome ((between options).types (array.now.of_type ∷ lower.now.of_type ∷ upper.now.of_type ∷ [])) }
     ensures typed { (between options).types (array.now.of_type ∷ lower.now.of_type ∷ upper.now.of_type ∷ []) ≡ Some result.of_type }
-    ensures value { (between options).value result.of_type (array.now.value ∷ lower.now.value ∷ upper.now.value ∷ []) ≡ value result.value }
+    ensures value { (between options).value (array.now.of_type ∷ lower.now.of_type ∷ upper.now.of_type ∷ []) result.of_type (array.now.value ∷ lower.now.value ∷ upper.now.value ∷ []) ≡ value result.value }
 {
     let Some(nullability) = nullability_between(array.dtype(), lower.dtype(), upper.dtype()) else {
         unreachable!();

@@ -78,10 +78,10 @@ fn operator_type(operator: Operator, dtype: &DType, nullability: Nullability) ->
 fn operate(operator: Operator, lhs: &Scalar, rhs: &Scalar) -> VortexResult<Scalar>
     requires { IsSome ((binary operator).types (lhs.now.of_type ∷ rhs.now.of_type ∷ [])) }
     ensures typed { IfOk result (λ s. (binary operator).types (lhs.now.of_type ∷ rhs.now.of_type ∷ []) ≡ Some s.of_type) }
-    ensures ok { IfOk result (λ s. (binary operator).value s.of_type (lhs.now.value ∷ rhs.now.value ∷ []) ≡ value s.value) }
+    ensures ok { IfOk result (λ s. (binary operator).value (lhs.now.of_type ∷ rhs.now.of_type ∷ []) s.of_type (lhs.now.value ∷ rhs.now.value ∷ []) ≡ value s.value) }
     ensures fault { IfErr result (λ e. (e ≡ VortexError.Fault) × ((t : DataType)
         → (binary operator).types (lhs.now.of_type ∷ rhs.now.of_type ∷ []) ≡ Some t
-        → (binary operator).value t (lhs.now.value ∷ rhs.now.value ∷ []) ≡ fault)) }
+        → (binary operator).value (lhs.now.of_type ∷ rhs.now.of_type ∷ []) t (lhs.now.value ∷ rhs.now.value ∷ []) ≡ fault)) }
 {
     let Some(dtype) = binary_type(operator, lhs.dtype(), rhs.dtype()) else {
         unreachable!();

@@ -41,7 +41,7 @@ impl RowFunction for FillNull {
 fn filled(input: &Scalar, fill_value: &Scalar) -> VortexResult<Scalar>
     requires { IsSome (fill_null.types (input.now.of_type ∷ fill_value.now.of_type ∷ [])) }
     ensures typed { IfOk result (λ s. fill_null.types (input.now.of_type ∷ fill_value.now.of_type ∷ []) ≡ Some s.of_type) }
-    ensures value { IfOk result (λ s. fill_null.value s.of_type (input.now.value ∷ fill_value.now.value ∷ []) ≡ value s.value) }
+    ensures value { IfOk result (λ s. fill_null.value (input.now.of_type ∷ fill_value.now.of_type ∷ []) s.of_type (input.now.value ∷ fill_value.now.value ∷ []) ≡ value s.value) }
     ensures err { OnlyOutOfMemory result }
 {
     match input.value() {

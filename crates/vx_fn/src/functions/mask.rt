@@ -38,7 +38,7 @@ impl RowFunction for Mask {
 fn masked(input: &Scalar, choice: &Scalar) -> VortexResult<Scalar>
     requires { IsSome (mask.types (input.now.of_type ∷ choice.now.of_type ∷ [])) }
     ensures typed { IfOk result (λ s. mask.types (input.now.of_type ∷ choice.now.of_type ∷ []) ≡ Some s.of_type) }
-    ensures value { IfOk result (λ s. mask.value s.of_type (input.now.value ∷ choice.now.value ∷ []) ≡ value s.value) }
+    ensures value { IfOk result (λ s. mask.value (input.now.of_type ∷ choice.now.of_type ∷ []) s.of_type (input.now.value ∷ choice.now.value ∷ []) ≡ value s.value) }
     ensures err { OnlyOutOfMemory result }
 {
     match choice.as_bool() {

@@ -47,7 +47,7 @@ fn not_type(input: &DType) -> Option<DType>
 fn negate(input: &Scalar) -> Scalar
     requires { IsSome (negation.types (input.now.of_type ∷ [])) }
     ensures typed { negation.types (input.now.of_type ∷ []) ≡ Some result.of_type }
-    ensures value { negation.value result.of_type (input.now.value ∷ []) ≡ value result.value }
+    ensures value { negation.value (input.now.of_type ∷ []) result.of_type (input.now.value ∷ []) ≡ value result.value }
 {
     match (input.dtype(), input.as_bool()) {
         (DType::Bool(nullability), Some(value)) => Scalar::bool(!value, *nullability),

@@ -41,7 +41,7 @@ impl RowFunction for Zip {
 fn zipped(if_true: &Scalar, if_false: &Scalar, choice: &Scalar) -> VortexResult<Scalar>
     requires { IsSome (zip.types (if_true.now.of_type ∷ if_false.now.of_type ∷ choice.now.of_type ∷ [])) }
     ensures typed { IfOk result (λ s. zip.types (if_true.now.of_type ∷ if_false.now.of_type ∷ choice.now.of_type ∷ []) ≡ Some s.of_type) }
-    ensures value { IfOk result (λ s. zip.value s.of_type (if_true.now.value ∷ if_false.now.value ∷ choice.now.value ∷ []) ≡ value s.value) }
+    ensures value { IfOk result (λ s. zip.value (if_true.now.of_type ∷ if_false.now.of_type ∷ choice.now.of_type ∷ []) s.of_type (if_true.now.value ∷ if_false.now.value ∷ choice.now.value ∷ []) ≡ value s.value) }
     ensures err { OnlyOutOfMemory result }
 {
     let dtype = if_true

@@ -48,7 +48,7 @@ chunked_meaning = record {
   name = λ i. Some (codes "chunk" ++ decimal i);
   IsNode = IsChunked;
   refusal = λ i ty n ss. chunked_refusal ty n ss;
-  cells = λ ty n css. chained css;
+  cells = λ ty n tys css. chained css;
   validity = λ ty n ss child. validity.Array (validity_in (node ty n chunked ss));
   charge = chunk_charge;
 }

@@ -42,7 +42,7 @@ constant_meaning v = record {
   name = λ i. None;
   IsNode = λ ty n ss. (ty ≡ v.of_type) × (is_of ty v.value ≡ true) × (ss ≡ []);
   refusal = λ i ty n ss. constant_refusal ty v ss;
-  cells = λ ty n css. replicate n (value v.value);
+  cells = λ ty n tys css. replicate n (value v.value);
   validity = λ ty n ss child. constant_validity v.value;
   charge = record { own = 2; for_slot = put_back; left = 0; executed = none; extra = none_reached; weight = added 3 };
 }

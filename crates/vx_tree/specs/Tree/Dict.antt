@@ -55,7 +55,7 @@ dict_meaning = record {
   name = slice_get (codes "codes" ∷ codes "values" ∷ []);
   IsNode = IsDict;
   refusal = λ i ty n ss. dict_refusal ty n ss;
-  cells = λ ty n css. taken_cells (cells_at css 0) (cells_at css 1);
+  cells = λ ty n tys css. taken_cells (cells_at css 0) (cells_at css 1);
   validity = λ ty n ss child. validity.Array (validity_in (node ty n dict ss));
   charge = product_charge;
 }

@@ -35,7 +35,7 @@ filter_meaning bits = record {
   name = slice_get (codes "child" ∷ []);
   IsNode = λ ty n ss. (ss ≡ Some (shape ty (length bits)) ∷ []) × (n ≡ true_count bits);
   refusal = λ i ty n ss. of_child (filter_refusal ty n bits) ss;
-  cells = λ ty n css. chosen bits (cells_at css 0);
+  cells = λ ty n tys css. chosen bits (cells_at css 0);
   validity = λ ty n ss child. on_array (filter_of bits) child;
   charge = record { own = 3; for_slot = pushed_below; left = 0; executed = all; extra = none_reached; weight = scaled 3 };
 }

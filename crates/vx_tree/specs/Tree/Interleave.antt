@@ -74,7 +74,7 @@ interleave_meaning = record {
   name = interleave_name;
   IsNode = IsInterleave;
   refusal = λ i ty n ss. interleave_refusal ty n ss;
-  cells = λ ty n css. paired_cells (drop 2 css) (cells_at css 0) (cells_at css 1);
+  cells = λ ty n tys css. paired_cells (drop 2 css) (cells_at css 0) (cells_at css 1);
   validity = λ ty n ss child. validity.Array (validity_in (node ty n interleave ss));
   charge = interleaved_charge;
 }

@@ -65,7 +65,7 @@ masked_meaning = record {
   name = slice_get (codes "child" ∷ codes "validity" ∷ []);
   IsNode = IsMasked;
   refusal = λ i ty n ss. masked_refusal ty n ss;
-  cells = λ ty n css. valid_cells (cells_at css 1) (cells_at css 0);
+  cells = λ ty n tys css. valid_cells (cells_at css 1) (cells_at css 0);
   validity = λ ty n ss child. joined n (validity_of Nullable (slot_tree 1 ss)) child;
   charge = record { own = 3; for_slot = put_back; left = 0; executed = first; extra = all_reached; weight = added 8 };
 }

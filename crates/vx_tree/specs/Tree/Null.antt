@@ -34,7 +34,7 @@ nulls_meaning = record {
   name = λ i. None;
   IsNode = λ ty n ss. (ty ≡ type.null) × (ss ≡ []);
   refusal = λ i ty n ss. nulls_refusal ty ss;
-  cells = λ ty n css. replicate n (value null);
+  cells = λ ty n tys css. replicate n (value null);
   validity = λ ty n ss child. validity.AllInvalid;
   charge = column_charge;
 }

@@ -15,7 +15,7 @@ use Rattle.vx_tree.specs.Tree.Nodes.{Tree, Data, node, filled_slots}
 pub use Rattle.vx_tree.specs.Tree.Nodes.{function}
 use Rattle.vx_tree.specs.Tree.ScalarFnValidity.{validity_in}
 use Rattle.vx_tree.specs.Conditions.{first_of_both, unless}
-use Rattle.vx_tree.specs.Shapes.{Shape, shape}
+use Rattle.vx_tree.specs.Shapes.{Shape, shape, types_in}
 use Rattle.vx_tree.specs.SlotCells.{row_at}
 use Rattle.vx_tree.specs.Charges.{all, put_back, all_reached, added}
 use Rattle.vx_tree.specs.Meanings.{Meaning}
@@ -29,16 +29,11 @@ abbrev pub is_function : Data → Bool
 is_function (function f) = true
 is_function _ = false
 
--- each slot holds a tree; the types of those that do; whether each has n rows
+-- each slot holds a tree; whether each that does has n rows
 abbrev pub all_present : List (Option Shape) → Bool
 all_present [] = true
 all_present (None ∷ ss) = false
 all_present (Some s ∷ ss) = all_present ss
-
-abbrev pub types_in : List (Option Shape) → List DataType
-types_in [] = []
-types_in (None ∷ ss) = types_in ss
-types_in (Some (shape s m) ∷ ss) = s ∷ types_in ss
 
 abbrev pub all_long : ℕ → List (Option Shape) → Bool
 all_long n [] = true
@@ -76,7 +71,7 @@ function_meaning f = record {
   name = slice_get (argument_names f);
   IsNode = λ ty n ss. (tys : List DataType) × (ss ≡ map (λ s. Some (shape s n)) tys) × (return_type f tys ≡ Some ty);
   refusal = λ i ty n ss. function_refusal i ty n f ss;
-  cells = λ ty n css. map (λ i. apply f ty (row_at css i)) (range_with_len 0 n);
+  cells = λ ty n tys css. map (λ i. apply f tys ty (row_at css i)) (range_with_len 0 n);
   validity = λ ty n ss child. validity.Array (validity_in (node ty n (function f) ss));
   charge = record { own = 3; for_slot = put_back; left = 0; executed = all; extra = all_reached; weight = added 4 };
 }

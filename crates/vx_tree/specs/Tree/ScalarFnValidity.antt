@@ -35,7 +35,7 @@ validity_meaning = record {
   name = slice_get (codes "child" ∷ []);
   IsNode = λ ty n ss. (s : DataType) × (ss ≡ Some (shape s n) ∷ []) × (ty ≡ type.bool NonNullable);
   refusal = λ i ty n ss. of_child (validity_refusal ty n) ss;
-  cells = λ ty n css. map shown_cell (cells_at css 0);
+  cells = λ ty n tys css. map shown_cell (cells_at css 0);
   validity = λ ty n ss child. validity.NonNullable;
   charge = record { own = 2; for_slot = put_back; left = 0; executed = all; extra = none_reached; weight = added 4 };
 }

@@ -34,7 +34,7 @@ slice_meaning a b = record {
   name = slice_get (codes "child" ∷ []);
   IsNode = λ ty n ss. (m : ℕ) × (ss ≡ Some (shape ty m) ∷ []) × (a ≤ b) × (b ≤ m) × (n ≡ b - a);
   refusal = λ i ty n ss. of_child (slice_refusal ty n a b) ss;
-  cells = λ ty n css. take (b - a) (drop a (cells_at css 0));
+  cells = λ ty n tys css. take (b - a) (drop a (cells_at css 0));
   validity = λ ty n ss child. on_array (slice_of a b) child;
   charge = record { own = 2; for_slot = pushed_below; left = 0; executed = all; extra = sum; weight = scaled 2 };
 }

@@ -49,7 +49,7 @@ returns-in_ok-filter-in-Bool-clause-ok c =
     let same = validity.ensures.nullability ∙ c.nullability-nullability.ensures ∙ ap nullability_of c.dtype.ensures in
     IfOk-weaker c.bool_column.result _ _
     (λ u made. subst (λ x. KeepsExactly (filter_of bits x) (canonical_tree u)) c.as_array-array.ensures.of
-    (column_filtered boolean enc.bool (bool NonNullable) (λ m n xs css. refl) bits c.in-Bool.bits.now c.in_ok-filter-in-Bool.field-0 c.in-Bool.validity.now
+    (column_filtered boolean enc.bool (bool NonNullable) (λ m n xs tys css. refl) bits c.in-Bool.bits.now c.in_ok-filter-in-Bool.field-0 c.in-Bool.validity.now
     validity.validity t (canonical_tree u) c.in-Bool.ensures.0 flat long c.in_ok-filter-in-Bool.ensures same validity.ensures.chosen made))
     c.bool_column.ensures.ok
 
@@ -66,7 +66,7 @@ returns-in_ok-filter-in-Primitive-clause-ok c =
     let column_made = rw (ap (λ v. v.kind) kept.ensures.ok) at c.primitive_column.ensures.ok in
     IfOk-weaker c.primitive_column.result _ _
     (λ u made. subst (λ x. KeepsExactly (filter_of bits x) (canonical_tree u)) c.as_array-array.ensures.of
-    (column_filtered integer (enc.primitive p) (primitive p NonNullable) (λ m n xs css. refl) bits (values_of c.in-Primitive.values.now)
+    (column_filtered integer (enc.primitive p) (primitive p NonNullable) (λ m n xs tys css. refl) bits (values_of c.in-Primitive.values.now)
     (values_of kept.field-0)
     c.in-Primitive.validity.now validity.validity t (canonical_tree u) c.in-Primitive.ensures.0 flat long
     (ap (λ v. v.numbers) kept.ensures.ok) same validity.ensures.chosen made))
@@ -114,7 +114,7 @@ returns-in_ok-filter-in-Decimal-clause-ok c =
     let column_made = rw (ap (λ v. v.kind) kept.ensures.ok) at c.decimal_column.ensures.ok in
     IfOk-weaker c.decimal_column.result _ _
     (λ u made. subst (λ x. KeepsExactly (filter_of bits x) (canonical_tree u)) c.as_array-array.ensures.of
-    (column_filtered (λ z. decimal z d.scale) (enc.decimals w) (type.decimal d.precision d.scale NonNullable) (λ m n xs css. refl) bits (numbers_of values)
+    (column_filtered (λ z. decimal z d.scale) (enc.decimals w) (type.decimal d.precision d.scale NonNullable) (λ m n xs tys css. refl) bits (numbers_of values)
     (numbers_of kept.field-0) c.in-Decimal.validity.now validity.validity t (canonical_tree u) c.in-Decimal.ensures.0
     (subst (λ st. IsFlat (decimal_type st) (length (numbers_of values)) (dtype t) (len t) (shapes (slots_of (c.in-Decimal.validity.now ∷ [])))) stored flat.0)
     long (ap (λ v. v.numbers) kept.ensures.ok) same validity.ensures.chosen made))
@@ -152,7 +152,7 @@ returns-in_ok-filter-in-VarBinView-clause-ok c =
     let same = validity.ensures.nullability ∙ c.nullability-nullability.ensures ∙ ap nullability_of c.dtype.ensures in
     IfOk-weaker c.varbinview_column.result _ _
     (λ u made. subst (λ x. KeepsExactly (filter_of bits x) (canonical_tree u)) c.as_array-array.ensures.of
-    (column_filtered (λ x. bytes (bytes_at rs.buffers x)) (λ vs. enc.views (viewed vs rs.buffers)) (bytes_type st) (λ m n xs css. refl) bits rs.views
+    (column_filtered (λ x. bytes (bytes_at rs.buffers x)) (λ vs. enc.views (viewed vs rs.buffers)) (bytes_type st) (λ m n xs tys css. refl) bits rs.views
     (chosen bits rs.views) c.in-VarBinView.validity.now validity.validity t (canonical_tree u) c.in-VarBinView.ensures.0 flat.0 long refl same
     validity.ensures.chosen (made ∙ (λ i. bytes_column (kind i) (c.in_ok-filter-in-VarBinView.ensures.ok i) validity.validity))))
     c.varbinview_column.ensures.ok

@@ -34,7 +34,7 @@ returns-in_ok-clone-in-Bool-clause-ok c =
     let both = c.in_ok-both-in-Bool in
     let flat = subst IsNodeOf c.in-Bool.ensures.0 c.in-Bool.ensures.1 in
     let shared : c.in_ok-clone-in-Bool.field-0 ≡ bits = search rules in
-    canonical_masked boolean enc.bool (bool NonNullable) (λ m n xs css. refl) (λ m. refl) c.bool_column.result bits c.in-Bool.own.now c.args.child both.both
+    canonical_masked boolean enc.bool (bool NonNullable) (λ m n xs tys css. refl) (λ m. refl) c.bool_column.result bits c.in-Bool.own.now c.args.child both.both
     c.len-len.result c.args.array.now _ c.len-len.ensures c.in-Bool.ensures.0 flat
     both.ensures.nullable both.ensures.both (ap (λ bs. boolean_column bs both.both) shared)
     c.bool_column.ensures.ok
@@ -46,7 +46,7 @@ returns-in_ok-clone-in-Primitive-clause-ok c =
     let both = c.in_ok-both-in-Primitive in
     let flat = subst IsNodeOf c.in-Primitive.ensures.0 c.in-Primitive.ensures.1 in
     let shared = c.in_ok-clone-in-Primitive.ensures.cases in
-    canonical_masked integer (enc.primitive p) (primitive p NonNullable) (λ m n xs css. refl) (λ m. refl) c.primitive_column.result (values_of values)
+    canonical_masked integer (enc.primitive p) (primitive p NonNullable) (λ m n xs tys css. refl) (λ m. refl) c.primitive_column.result (values_of values)
     c.in-Primitive.own.now c.args.child both.both c.len-len.result c.args.array.now _ c.len-len.ensures c.in-Primitive.ensures.0 flat
     both.ensures.nullable both.ensures.both (λ i. integer_column (shared i).kind (shared i).numbers both.both) c.primitive_column.ensures.ok
 
@@ -77,7 +77,7 @@ returns-in_ok-clone-in-Decimal-clause-ok c =
     let stored = ap storage_of (sym c.dtype.ensures ∙ ap type_of c.in-Decimal-dtype.is) in
     let shared = c.in_ok-clone-in-Decimal.ensures.cases in
     canonical_masked (λ z. decimal z d.scale) (enc.decimals (decimal_type_of values)) (type.decimal d.precision d.scale NonNullable)
-    (λ m n xs css. refl) (λ m. refl) c.decimal_column.result (numbers_of values) own c.args.child both.both c.len-len.result t _ c.len-len.ensures
+    (λ m n xs tys css. refl) (λ m. refl) c.decimal_column.result (numbers_of values) own c.args.child both.both c.len-len.result t _ c.len-len.ensures
     c.in-Decimal.ensures.0
     (subst (λ st. IsFlat (decimal_type st) (length (numbers_of values)) (dtype t) (len t) (shapes (slots_of (own ∷ [])))) stored flat.0)
     both.ensures.nullable both.ensures.both (λ i. decimal_column d (shared i).kind (shared i).numbers both.both) c.decimal_column.ensures.ok
@@ -100,7 +100,7 @@ returns-in_ok-clone-in-VarBinView-clause-ok c =
     let flat = subst IsNodeOf c.in-VarBinView.ensures.0 c.in-VarBinView.ensures.1 in
     let kind = c.storage.ensures ∙ ap storage_of c.dtype-in-VarBinView.ensures in
     let shared : c.in_ok-clone-in-VarBinView.field-0 ≡ rows = search rules in
-    canonical_masked (λ x. bytes (bytes_at rows.buffers x)) (λ vs. enc.views (viewed vs rows.buffers)) (bytes_type st) (λ m n xs css. refl) (bytes_set st)
+    canonical_masked (λ x. bytes (bytes_at rows.buffers x)) (λ vs. enc.views (viewed vs rows.buffers)) (bytes_type st) (λ m n xs tys css. refl) (bytes_set st)
     c.varbinview_column.result rows.views c.in-VarBinView.own.now
     c.args.child both.both c.len-len.result t _ c.len-len.ensures c.in-VarBinView.ensures.0 flat.0 both.ensures.nullable both.ensures.both
     (λ i. bytes_column (kind i) (shared i) both.both)

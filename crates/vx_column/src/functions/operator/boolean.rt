@@ -92,7 +92,7 @@ fn negate_bits(
 ) -> VortexResult<Canonical>
     requires input { HasBits input len }
     requires valid { HasValidity valid.now len }
-    ensures ok { IfOk result (λ c. IsRowwiseResult Not (Some (bool Nullability.NonNullable))
+    ensures ok { IfOk result (λ c. IsRowwiseResult Not (bool Nullability.NonNullable ∷ []) (Some (bool Nullability.NonNullable))
         (λ i. value (value_at (Bits input.entry) i) ∷ []) valid.now len (canonical_tree c)) }
     ensures err { OnlyOutOfMemory result }
 {

@@ -51,7 +51,7 @@ pub returns-in-Bool-clause-err : goal.returns-in-Bool-clause-err
 returns-in-Bool-clause-err c =
     let k = c.in-Bool in
     IfErr-weaker c.column_argument.result _ _
-    (λ e h. column_unread c.args.column.now k.validity.now e c.as_array.result.now c.as_array.ensures.of h boolean enc.bool (λ n xs css. refl) k.bits.now
+    (λ e h. column_unread c.args.column.now k.validity.now e c.as_array.result.now c.as_array.ensures.of h boolean enc.bool (λ n xs tys css. refl) k.bits.now
     (sym (subst IsNodeOf k.ensures.0 k.ensures.1).2)
     k.ensures.0) c.column_argument.ensures.err
 
@@ -70,7 +70,7 @@ returns-in-Primitive-clause-err c =
     let k = c.in-Primitive in
     IfErr-weaker c.column_argument-in-Primitive.result _ _
     (λ e h. column_unread c.args.column.now k.validity.now e c.as_array.result.now c.as_array.ensures.of h integer (enc.primitive (ptype_of k.values.now))
-    (λ n xs css. refl) (values_of k.values.now) (sym (subst IsNodeOf k.ensures.0 k.ensures.1).2) k.ensures.0) c.column_argument-in-Primitive.ensures.err
+    (λ n xs tys css. refl) (values_of k.values.now) (sym (subst IsNodeOf k.ensures.0 k.ensures.1).2) k.ensures.0) c.column_argument-in-Primitive.ensures.err
 
 pub unreachable-requires : goal.unreachable-requires
 unreachable-requires c =
@@ -94,7 +94,7 @@ returns-in-Decimal-dtype-clause-err c =
     let k = c.in-Decimal in
     IfErr-weaker c.column_argument-in-Decimal.result _ _
     (λ e h. column_unread c.args.column.now k.validity.now e c.as_array.result.now c.as_array.ensures.of h
-    (λ z. decimal z (scale_of (storage_of (dtype (columnar_tree c.args.column.now))))) (enc.decimals (decimal_type_of k.values.now)) (λ n xs css. refl)
+    (λ z. decimal z (scale_of (storage_of (dtype (columnar_tree c.args.column.now))))) (enc.decimals (decimal_type_of k.values.now)) (λ n xs tys css. refl)
     (numbers_of k.values.now) (sym (subst IsNodeOf k.ensures.0 k.ensures.1).0.2) k.ensures.0) c.column_argument-in-Decimal.ensures.err
 
 pub returns-in-VarBinView-clause-ok : goal.returns-in-VarBinView-clause-ok
@@ -111,5 +111,5 @@ returns-in-VarBinView-clause-err c =
     let k = c.in-VarBinView in
     IfErr-weaker c.column_argument-in-VarBinView.result _ _
     (λ e h. column_unread c.args.column.now k.validity.now e c.as_array.result.now c.as_array.ensures.of h (λ x. bytes (bytes_at k.rows.now.buffers x))
-    (λ vs. enc.views (viewed vs k.rows.now.buffers)) (λ n xs css. refl) k.rows.now.views
+    (λ vs. enc.views (viewed vs k.rows.now.buffers)) (λ n xs tys css. refl) k.rows.now.views
     (sym (subst IsNodeOf k.ensures.0 k.ensures.1).0.2) k.ensures.0) c.column_argument-in-VarBinView.ensures.err

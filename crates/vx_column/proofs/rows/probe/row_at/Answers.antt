@@ -16,7 +16,7 @@ returns-in-Some-false-clause-ok c =
     let t = c.args.array.now in
     let flat = subst IsNodeOf c.in-Bool.ensures.0 c.in-Bool.ensures.1 in
     IfOk-weaker c.null_of.result _ _
-    (λ s made. null_row boolean enc.bool false t (λ n xs css. refl) c.in-Bool.validity.now c.in-Bool.bits.now c.args.index c.in-Some-false.field-0 s
+    (λ s made. null_row boolean enc.bool false t (λ n xs tys css. refl) c.in-Bool.validity.now c.in-Bool.bits.now c.args.index c.in-Some-false.field-0 s
     c.in-Bool.ensures.0 (sym flat.2) c.requires c.in-Some-false.ensures.row c.in-Some-false.field-0-test (made ∙ ap null_typed c.dtype-dtype.ensures))
     c.null_of.ensures.ok
 
@@ -28,7 +28,7 @@ returns-in-Some-false-stored_validity-clause-ok c =
     let null_here = c.in-Some-false-stored_validity in
     let call = c.null_of-in-Some-false-stored_validity in
     IfOk-weaker call.result _ _
-    (λ s made. null_row integer (enc.primitive (ptype_of values)) (pos 0) t (λ n xs css. refl) c.in-Primitive.validity.now (values_of values) c.args.index
+    (λ s made. null_row integer (enc.primitive (ptype_of values)) (pos 0) t (λ n xs tys css. refl) c.in-Primitive.validity.now (values_of values) c.args.index
     null_here.field-0 s c.in-Primitive.ensures.0 (sym flat.2) c.requires null_here.ensures.row null_here.field-0-test
     (made ∙ ap null_typed c.dtype-dtype.ensures))
     call.ensures.ok
@@ -41,6 +41,6 @@ returns-in-Some-false-stored_validity-2-clause-ok c =
     let null_here = c.in-Some-false-stored_validity-2 in
     let call = c.null_of-in-Some-false-stored_validity-2 in
     IfOk-weaker call.result _ _
-    (λ s made. null_row (λ z. decimal z (scale_of (storage_of (dtype t)))) (enc.decimals (decimal_type_of values)) (pos 0) t (λ n xs css. refl)
+    (λ s made. null_row (λ z. decimal z (scale_of (storage_of (dtype t)))) (enc.decimals (decimal_type_of values)) (pos 0) t (λ n xs tys css. refl)
     c.in-Decimal.validity.now (numbers_of values) c.args.index null_here.field-0 s c.in-Decimal.ensures.0 (sym flat.0.2) c.requires null_here.ensures.row
     null_here.field-0-test (made ∙ ap null_typed c.dtype-dtype.ensures)) call.ensures.ok

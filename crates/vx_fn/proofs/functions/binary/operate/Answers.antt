@@ -24,7 +24,7 @@ typed op e e' found = (λ i. (binary op).types (sym e i ∷ sym e' i ∷ [])) �
 -- ---- logic
 
 joined : (c : After-fitted) → (is_of (type_of c.in-Some.dtype) (cell_of c.map.result) ≡ true)
-    × ((binary c.args.operator).value (type_of c.in-Some.dtype) (c.args.lhs.now.value ∷ c.args.rhs.now.value ∷ []) ≡ value (cell_of c.map.result))
+    × ((binary c.args.operator).value (c.args.lhs.now.of_type ∷ c.args.rhs.now.of_type ∷ []) (type_of c.in-Some.dtype) (c.args.lhs.now.value ∷ c.args.rhs.now.value ∷ []) ≡ value (cell_of c.map.result))
 joined c =
     let op = c.args.operator in
     let l = c.args.lhs.now in
@@ -46,7 +46,7 @@ returns-then-is_logical-clause-typed c =
 pub returns-then-is_logical-clause-ok : goal.returns-then-is_logical-clause-ok
 returns-then-is_logical-clause-ok c =
     IfOk-weaker c.fitted.result _ _ (λ s f.
-    ap (λ u. (binary c.args.operator).value u (c.args.lhs.now.value ∷ c.args.rhs.now.value ∷ [])) f.0
+    ap (λ u. (binary c.args.operator).value (c.args.lhs.now.of_type ∷ c.args.rhs.now.of_type ∷ []) u (c.args.lhs.now.value ∷ c.args.rhs.now.value ∷ [])) f.0
     ∙ (joined c).1 ∙ ap value (sym f.1)) c.fitted.ensures.ok
 
 pub returns-then-is_logical-clause-fault : goal.returns-then-is_logical-clause-fault
@@ -58,13 +58,13 @@ returns-then-is_logical-clause-fault c =
 -- the result's value is the operator's
 valued : (c : After-operate_values) → let ty : DataType = type_of c.in-Some.dtype in
     let there = c.in-Some-Some in
-    (binary c.args.operator).value ty (c.args.lhs.now.value ∷ c.args.rhs.now.value ∷ [])
+    (binary c.args.operator).value (c.args.lhs.now.of_type ∷ c.args.rhs.now.of_type ∷ []) ty (c.args.lhs.now.value ∷ c.args.rhs.now.value ∷ [])
     ≡ operated c.args.operator ty (value_of there.x.now) (value_of there.y.now)
 valued c =
     let there = c.in-Some-Some in
     let ty : DataType = type_of c.in-Some.dtype in
-    (λ i. (binary c.args.operator).value ty (sym there.ensures.value i ∷ sym there.ensures'.value i ∷ []))
-    ∙ of_values c.args.operator ty there.x.now there.y.now (sym c.is_logical.ensures ∙ c.if-is_logical.false)
+    (λ i. (binary c.args.operator).value (c.args.lhs.now.of_type ∷ c.args.rhs.now.of_type ∷ []) ty (sym there.ensures.value i ∷ sym there.ensures'.value i ∷ []))
+    ∙ of_values c.args.operator (c.args.lhs.now.of_type ∷ c.args.rhs.now.of_type ∷ []) ty there.x.now there.y.now (sym c.is_logical.ensures ∙ c.if-is_logical.false)
 
 pub returns-in-Some-Some-clause-typed : goal.returns-in-Some-Some-clause-typed
 returns-in-Some-Some-clause-typed c =
@@ -74,7 +74,7 @@ returns-in-Some-Some-clause-typed c =
 pub returns-in-Some-Some-clause-ok : goal.returns-in-Some-Some-clause-ok
 returns-in-Some-Some-clause-ok c =
     IfOk-weaker c.operate_values.result _ _ (λ s f.
-    ap (λ u. (binary c.args.operator).value u (c.args.lhs.now.value ∷ c.args.rhs.now.value ∷ [])) f.0
+    ap (λ u. (binary c.args.operator).value (c.args.lhs.now.of_type ∷ c.args.rhs.now.of_type ∷ []) u (c.args.lhs.now.value ∷ c.args.rhs.now.value ∷ [])) f.0
     ∙ valued c ∙ f.1) c.operate_values.ensures.ok
 
 pub returns-in-Some-Some-clause-fault : goal.returns-in-Some-Some-clause-fault
@@ -82,7 +82,7 @@ returns-in-Some-Some-clause-fault c =
     IfErr-weaker c.operate_values.result _ _ (λ e f. (
       f.0,
       λ t known.
-          ap (λ u. (binary c.args.operator).value u (c.args.lhs.now.value ∷ c.args.rhs.now.value ∷ []))
+          ap (λ u. (binary c.args.operator).value (c.args.lhs.now.of_type ∷ c.args.rhs.now.of_type ∷ []) u (c.args.lhs.now.value ∷ c.args.rhs.now.value ∷ []))
           (same_Some _ _ (sym known ∙ typed c.args.operator c.dtype.ensures.dtype c.dtype-2.ensures.dtype c.in-Some.ensures))
           ∙ valued c ∙ f.1,
     )) c.operate_values.ensures.fault

@@ -15,6 +15,6 @@ use Rattle.vx_column.proofs.functions.operator.boolean.negate_bits.Goals as goal
 pub returns-clause-ok : goal.returns-clause-ok
 returns-clause-ok c =
     let l = c.args.input in
-    bools_filled Not (Some (bool NonNullable)) (λ i. value (value_at (Bits l) i) ∷ []) c.args.valid.now c.args.len c.valid_bools.result
+    bools_filled Not (bool NonNullable ∷ []) (Some (bool NonNullable)) (λ i. value (value_at (Bits l) i) ∷ []) c.args.valid.now c.args.len c.valid_bools.result
     (λ i. is_ne (bool_cmp (bit_in l i) true)) c.in_ok-bits.bits refl (λ i lt here. ap (λ b. value (boolean b)) (differs_from_true (bit_in l i)))
     c.in_ok-bits.ensures c.valid_bools.ensures.ok

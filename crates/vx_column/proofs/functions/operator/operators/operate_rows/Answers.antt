@@ -4,7 +4,7 @@ use Rattle.std.specs.Prelude.{IsSome}
 use Rattle.vx_fn.specs.Binary.{operator_type}
 use Rattle.vx_fn.specs.declared.function.ScalarFnRef.TheVariants.{Binary}
 use Rattle.vx_tree.specs.Canonicals.{canonical_tree}
-use Rattle.vx_column.specs.Arguments.{plain_type, pair_at, value_at, AreShown}
+use Rattle.vx_column.specs.Arguments.{plain_type, pair_types, pair_at, value_at, AreShown}
 use Rattle.vx_column.specs.ValidRows.{nullability_in}
 use Rattle.vx_column.specs.Filled.{filled_type}
 use Rattle.vx_column.proofs.ComparisonLemmas.{bytes_ordered, bytes_compared, compared_filled}
@@ -17,7 +17,7 @@ returns-in_ok-bits-in-Nulls-Nulls-clause-ok c =
     let op = c.args.operator in
     let valid = c.args.valid.now in
     let is = c.in-Nulls-Nulls.is-0 in
-    nulls_filled (Binary op) (operator_type op (plain_type c.args.lhs)) (pair_at c.args.lhs c.args.rhs) valid c.args.len c.valid_bools.result
+    nulls_filled (Binary op) (pair_types c.args.lhs c.args.rhs) (operator_type op (plain_type c.args.lhs)) (pair_at c.args.lhs c.args.rhs) valid c.args.len c.valid_bools.result
     c.in_ok-bits-in-Nulls-Nulls.bits
     (ap (λ r. filled_type valid (operator_type op (plain_type r))) is
     ∙ nulls_typed op (nullability_in valid) (subst (λ r. IsSome (operator_type op (plain_type r))) is c.requires.operands.taken))

@@ -15,6 +15,6 @@ returns-clause-ok c =
     let a = c.args.input.now in
     let made = c.in_ok-bits.ensures ∙ same_below c.args.len _ (λ i. is_valid a.valid i) (λ i lt. c.as_operand.ensures.bits i) in
     IfOk-weaker c.valid_bools.result _ _
-    (λ u h. tested IsNotNull (λ b. b) (λ s. refl) (λ ty. refl) (λ ty x k. ap (λ b. value (boolean (not b))) k) a c.args.len c.in_ok-bits.bits
+    (λ u h. tested IsNotNull (λ b. b) (λ s. refl) (λ s ty. refl) (λ s ty x k. ap (λ b. value (boolean (not b))) k) a c.args.len c.in_ok-bits.bits
     (canonical_tree u) c.requires made h)
     c.valid_bools.ensures.ok

@@ -18,6 +18,6 @@ returns-clause-ok c =
     let made = c.in_ok-bits.ensures ∙ same_below c.args.len _ (λ i. not (is_valid a.valid i))
     (λ i lt. ap (λ v. is_ne (bool_cmp v true)) (c.as_operand-valid.ensures.bits i) ∙ differs_from_true (is_valid a.valid i)) in
     IfOk-weaker c.valid_bools.result _ _
-    (λ u h. tested IsNull not (λ s. refl) (λ ty. refl) (λ ty x k. ap (λ b. value (boolean b)) k) a c.args.len c.in_ok-bits.bits
+    (λ u h. tested IsNull not (λ s. refl) (λ s ty. refl) (λ s ty x k. ap (λ b. value (boolean b)) k) a c.args.len c.in_ok-bits.bits
     (canonical_tree u) c.requires made h)
     c.valid_bools.ensures.ok

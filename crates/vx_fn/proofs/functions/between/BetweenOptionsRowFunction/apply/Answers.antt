@@ -19,6 +19,6 @@ returns-clause-typed c =
 
 pub returns-clause-ok : goal.returns-clause-ok
 returns-clause-ok c =
-    ap (λ xs. on_values ((between c.args.self.now).value c.lies_between.result.of_type) (map (λ s. value s.value) xs))
+    ap (λ xs. on_values ((between c.args.self.now).value (map (λ a. a.of_type) xs) c.lies_between.result.of_type) (map (λ s. value s.value) xs))
     (three_read _ _ _ _ c.in-len3.len_at_least c.in-len3.len_below c.array-item.is c.lower-item.is c.upper-item.is)
     ∙ c.lies_between.ensures.value

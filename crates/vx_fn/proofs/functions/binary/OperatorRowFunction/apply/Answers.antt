@@ -21,13 +21,13 @@ returns-clause-typed c =
 
 pub returns-clause-ok : goal.returns-clause-ok
 returns-clause-ok c =
-    subst (λ xs. IfOk c.operate.result (λ s. on_values ((binary c.args.self.now).value s.of_type) (map (λ a. value a.value) xs) ≡ value s.value))
+    subst (λ xs. IfOk c.operate.result (λ s. on_values ((binary c.args.self.now).value (map (λ a. a.of_type) xs) s.of_type) (map (λ a. value a.value) xs) ≡ value s.value))
     (sym (two_read _ _ _ c.in-len2.len_at_least c.in-len2.len_below c.lhs-item.is c.rhs-item.is)) c.operate.ensures.ok
 
 pub returns-clause-fault : goal.returns-clause-fault
 returns-clause-fault c =
     subst (λ xs. IfErr c.operate.result (λ e. (e ≡ OutOfMemory) ⊎ ((e ≡ Fault) × ((t : DataType)
     → (binary c.args.self.now).types (map (λ a. a.of_type) xs) ≡ Some t
-    → on_values ((binary c.args.self.now).value t) (map (λ a. value a.value) xs) ≡ fault))))
+    → on_values ((binary c.args.self.now).value (map (λ a. a.of_type) xs) t) (map (λ a. value a.value) xs) ≡ fault))))
     (sym (two_read _ _ _ c.in-len2.len_at_least c.in-len2.len_below c.lhs-item.is c.rhs-item.is))
     (IfErr-weaker c.operate.result _ _ (λ e f. inr f) c.operate.ensures.fault)

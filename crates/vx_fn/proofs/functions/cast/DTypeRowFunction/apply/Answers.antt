@@ -22,12 +22,12 @@ returns-clause-typed c =
 pub returns-clause-ok : goal.returns-clause-ok
 returns-clause-ok c =
     let given = conversion (type_of c.args.self.now) in
-    subst (λ xs. IfOk c.converted.result (λ s. on_values (given.value s.of_type) (map (λ a. value a.value) xs) ≡ value s.value))
+    subst (λ xs. IfOk c.converted.result (λ s. on_values (given.value (map (λ a. a.of_type) xs) s.of_type) (map (λ a. value a.value) xs) ≡ value s.value))
     (sym (one_read _ _ c.in-len1.len_at_least c.in-len1.len_below c.input-item.is)) c.converted.ensures.ok
 
 pub returns-clause-fault : goal.returns-clause-fault
 returns-clause-fault c =
     subst (λ xs. IfErr c.converted.result (λ e. (e ≡ OutOfMemory) ⊎ ((e ≡ Fault) × ((t : DataType)
     → (conversion (type_of c.args.self.now)).types (map (λ a. a.of_type) xs) ≡ Some t
-    → on_values ((conversion (type_of c.args.self.now)).value t) (map (λ a. value a.value) xs) ≡ fault))))
+    → on_values ((conversion (type_of c.args.self.now)).value (map (λ a. a.of_type) xs) t) (map (λ a. value a.value) xs) ≡ fault))))
     (sym (one_read _ _ c.in-len1.len_at_least c.in-len1.len_below c.input-item.is)) c.converted.ensures.fault
