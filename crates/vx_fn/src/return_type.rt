@@ -9,6 +9,7 @@ ghost use Rattle.vx_fn.specs.Meanings.{clones};
 use crate::function::ScalarFnRef;
 use crate::functions::by_function;
 use crate::row_function::RowFunction;
+use std::alloc::Global;
 use vx_value::{ArgKind, DType, VortexError, VortexResult};
 
 impl ScalarFnRef {
@@ -19,14 +20,14 @@ impl ScalarFnRef {
     ///
     /// Returns `InvalidArgument` with `NoRow` exactly if the function doesn't accept these arguments. Returns `OutOfMemory`
     /// only for a function that clones a type: `Mask`, `Zip`, `FillNull` and `Cast`.
-    pub fn return_dtype(&self, arguments: &[DType]) -> VortexResult<DType>
+    pub fn return_dtype(&self, alloc: Global, arguments: &[DType]) -> VortexResult<DType>
         ensures ok { IfOk result (λ t. return_type self.now (map type_of arguments.now) ≡ Some (type_of t)) }
         ensures refused { IfErr result (λ e. (e ≡ VortexError.OutOfMemory)
             ⊎ ((e ≡ VortexError.InvalidArgument ArgKind.NoRow)
             × (return_type self.now (map type_of arguments.now) ≡ None))) }
         ensures memory { IfErr result (λ e. e ≡ VortexError.OutOfMemory → clones (function_id self.now) ≡ true) }
     {
-        let dtype = by_function!(self, function => function.return_dtype(arguments))?;
+        let dtype = by_function!(self, function => function.return_dtype(alloc, arguments))?;
         dtype.ok_or(VortexError::InvalidArgument(ArgKind::NoRow))
     }
 }

@@ -9,6 +9,7 @@ ghost use Rattle.vx_value.specs.Cell.{value, fault};
 ghost use Rattle.vx_fn.specs.Meanings.{Meaning, clones};
 ghost use Rattle.vx_fn.specs.Apply.{on_values};
 
+use std::alloc::Global;
 use vx_value::{DType, Id, Scalar, VortexError, VortexResult};
 
 /// A scalar function. Each has a file in `functions`. (own)
@@ -23,14 +24,14 @@ pub(crate) trait RowFunction {
 
     /// Returns the type of the result, or `None` if the function doesn't accept the arguments. Fails only with
     /// `OutOfMemory`, and only in a function that clones a type.
-    fn return_dtype(&self, arguments: &[DType]) -> VortexResult<Option<DType>>
+    fn return_dtype(&self, alloc: Global, arguments: &[DType]) -> VortexResult<Option<DType>>
         ensures ok { IfOk result (λ t. option_map type_of t ≡ (meaning self.now).types (map type_of arguments.now)) }
         ensures err { OnlyOutOfMemory result }
         ensures memory { IfErr result (λ _. clones (meaning self.now).id ≡ true) };
 
     /// Applies the function to one row of its arguments, whose types it must accept. `Fault` if the row has no value;
     /// `OutOfMemory`.
-    fn apply(&self, arguments: &[Scalar]) -> VortexResult<Scalar>
+    fn apply(&self, alloc: Global, arguments: &[Scalar]) -> VortexResult<Scalar>
         requires { IsSome ((meaning self.now).types (map (λ s. s.of_type) arguments.now)) }
         ensures typed { IfOk result (λ s. (meaning self.now).types (map (λ s. s.of_type) arguments.now) ≡ Some s.of_type) }
         ensures ok { IfOk result (λ s. on_values ((meaning self.now).value (map (λ s. s.of_type) arguments.now) s.of_type) (map (λ a. value a.value) arguments.now)

@@ -12,8 +12,8 @@ const NEVER: Nullability = Nullability::NonNullable;
 const MAYBE: Nullability = Nullability::Nullable;
 
 /// Checks that `scalar` has a cast to `dtype`.
-fn has_cast(scalar: &Scalar, dtype: &DType) -> bool {
-    match scalar.cast(dtype) {
+fn has_cast(alloc: Global, scalar: &Scalar, dtype: &DType) -> bool {
+    match scalar.cast(alloc, dtype) {
         Ok(cast) => cast.dtype() == dtype,
         Err(_) => false,
     }
@@ -26,11 +26,11 @@ fn decimal(precision: u8) -> VortexResult<DType> {
 #[test]
 fn numbers_are_cast(rt: HostRuntime) -> Result<(), Fail> {
     let seven = Scalar::primitive(7, PType::I32, NEVER);
-    assert!(rt; has_cast(&seven, &DType::Primitive(PType::U8, MAYBE)));
-    assert!(rt; has_cast(&seven, &decimal(2)?));
-    assert!(rt; has_cast(&seven.cast(&decimal(2)?)?, &decimal(4)?));
-    assert!(rt; has_cast(&Scalar::bool(true, NEVER), &DType::Bool(MAYBE)));
-    assert!(rt; has_cast(&Scalar::null(DType::Null), &DType::Bool(MAYBE)));
+    assert!(rt; has_cast(rt.alloc(), &seven, &DType::Primitive(PType::U8, MAYBE)));
+    assert!(rt; has_cast(rt.alloc(), &seven, &decimal(2)?));
+    assert!(rt; has_cast(rt.alloc(), &seven.cast(rt.alloc(), &decimal(2)?)?, &decimal(4)?));
+    assert!(rt; has_cast(rt.alloc(), &Scalar::bool(true, NEVER), &DType::Bool(MAYBE)));
+    assert!(rt; has_cast(rt.alloc(), &Scalar::null(DType::Null), &DType::Bool(MAYBE)));
     Ok(())
 }
 
@@ -42,9 +42,9 @@ fn text(alloc: Global) -> VortexResult<Scalar> {
 #[test]
 fn bytes_are_cast(rt: HostRuntime) -> Result<(), Fail> {
     let text = text(rt.alloc())?;
-    assert!(rt; has_cast(&text, &DType::Binary(NEVER)));
-    assert!(rt; has_cast(&text.cast(&DType::Binary(NEVER))?, &DType::Utf8(MAYBE)));
-    assert!(rt; text.dtype().as_nonnullable()? == DType::Utf8(NEVER));
+    assert!(rt; has_cast(rt.alloc(), &text, &DType::Binary(NEVER)));
+    assert!(rt; has_cast(rt.alloc(), &text.cast(rt.alloc(), &DType::Binary(NEVER))?, &DType::Utf8(MAYBE)));
+    assert!(rt; text.dtype().as_nonnullable(rt.alloc())? == DType::Utf8(NEVER));
     Ok(())
 }
 

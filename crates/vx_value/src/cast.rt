@@ -13,6 +13,7 @@ use crate::{
     ArgKind, DType, DecimalDType, DecimalValue, PType, Rescaling, Scalar, ScalarValue, VortexError,
     VortexResult,
 };
+use std::alloc::Global;
 
 impl Scalar {
     /// Returns the value as one of type `dtype`, by the first of these casts that accepts the two types:
@@ -31,7 +32,7 @@ impl Scalar {
     /// value is null and `dtype` isn't nullable, or it isn't null and `dtype` can't hold it: an integer out of its range; a
     /// number with a digit other than 0 past its scale, or, written to its scale, with more digits than its precision; bytes
     /// that aren't UTF-8.
-    pub fn cast(&self, dtype: &DType) -> VortexResult<Scalar>
+    pub fn cast(&self, _alloc: Global, dtype: &DType) -> VortexResult<Scalar>
         ensures ok { IfOk result (λ s. (s.of_type ≡ type_of dtype.now)
             × (cast_value self.now.of_type (type_of dtype.now) self.now.value ≡ cell.value s.value)) }
         ensures no_row { IsErrOf result (VortexError.InvalidArgument ArgKind.NoRow) ↔ (has_cast self.now.of_type (type_of dtype.now) ≡ false) }

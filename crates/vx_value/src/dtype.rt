@@ -8,7 +8,7 @@ ghost use Rattle.vx_value.specs.Types.{nullability_of, is_nullable};
 ghost use Rattle.vx_value.specs.Nullabilities.{with_nullability, union, same_but_nullability};
 
 use crate::{DecimalDType, VortexResult};
-use std::alloc::AllocError;
+use std::alloc::{AllocError, Global};
 
 /// The nullability of a type: whether null is one of its values.
 #[derive(Clone, Copy, Debug, PartialEq, Eq, Hash)]
@@ -136,36 +136,36 @@ impl DType {
     }
 
     /// Returns the nullable type that is otherwise the same. Fails only with `OutOfMemory`.
-    pub fn as_nullable(&self) -> VortexResult<DType>
+    pub fn as_nullable(&self, alloc: Global) -> VortexResult<DType>
         ensures ok { IfOk result (λ t. type_of t ≡ with_nullability Nullability.Nullable (type_of self.now)) }
         ensures err { OnlyOutOfMemory result }
     {
-        self.with_nullability(Nullability::Nullable)
+        self.with_nullability(alloc, Nullability::Nullable)
     }
 
     /// Returns the non-nullable type that is otherwise the same; `Null`, which is always nullable, stays. Fails only
     /// with `OutOfMemory`.
-    pub fn as_nonnullable(&self) -> VortexResult<DType>
+    pub fn as_nonnullable(&self, alloc: Global) -> VortexResult<DType>
         ensures ok { IfOk result (λ t. type_of t ≡ with_nullability Nullability.NonNullable (type_of self.now)) }
         ensures err { OnlyOutOfMemory result }
     {
-        self.with_nullability(Nullability::NonNullable)
+        self.with_nullability(alloc, Nullability::NonNullable)
     }
 
     /// Returns the type with nullability `nullability`; `Null` stays. Fails only with `OutOfMemory`.
-    pub fn with_nullability(&self, nullability: Nullability) -> VortexResult<DType>
+    pub fn with_nullability(&self, alloc: Global, nullability: Nullability) -> VortexResult<DType>
         ensures ok { IfOk result (λ t. type_of t ≡ with_nullability nullability (type_of self.now)) }
         ensures err { OnlyOutOfMemory result }
     {
-        Ok(self.clone()?.into_nullability(nullability))
+        self.clone()?.into_nullability(alloc, nullability)
     }
 
     /// Returns the type, nullable if it is or `other` is. Fails only with `OutOfMemory`.
-    pub fn union_nullability(&self, other: Nullability) -> VortexResult<DType>
+    pub fn union_nullability(&self, alloc: Global, other: Nullability) -> VortexResult<DType>
         ensures ok { IfOk result (λ t. type_of t ≡ with_nullability (union (nullability_of (type_of self.now)) other) (type_of self.now)) }
         ensures err { OnlyOutOfMemory result }
     {
-        self.with_nullability(self.nullability().union(other))
+        self.with_nullability(alloc, self.nullability().union(other))
     }
 
     /// Checks whether two types are the same apart from their own nullability. That of nested types counts.
@@ -186,17 +186,18 @@ impl DType {
         }
     }
 
-    /// Returns the type with nullability `nullability`, without allocating.
-    pub(crate) fn into_nullability(self, nullability: Nullability) -> DType
-        ensures { type_of result ≡ with_nullability nullability (type_of self) }
+    /// Returns the type with nullability `nullability`; `Null` stays. Fails only with `OutOfMemory`. (own)
+    pub fn into_nullability(self, _alloc: Global, nullability: Nullability) -> VortexResult<DType>
+        ensures ok { IfOk result (λ t. type_of t ≡ with_nullability nullability (type_of self)) }
+        ensures err { OnlyOutOfMemory result }
     {
-        match self {
+        Ok(match self {
             DType::Null => DType::Null,
             DType::Bool(_) => DType::Bool(nullability),
             DType::Primitive(ptype, _) => DType::Primitive(ptype, nullability),
             DType::Decimal(decimal, _) => DType::Decimal(decimal, nullability),
             DType::Utf8(_) => DType::Utf8(nullability),
             DType::Binary(_) => DType::Binary(nullability),
-        }
+        })
     }
 }

@@ -1,6 +1,7 @@
 //! Scalars, as in the original's `scalar` module.
 
 ghost use Rattle.std.specs.Prelude.{◌≡◌, ◌↔◌, IfOk, IfErr, IsErrOf, OnOk, true, false, option_copied, option_map};
+ghost use Rattle.vx_value.specs.Errors.{OnlyOutOfMemory};
 ghost use Rattle.vx_value.specs.View.{type_of, value_of, cell_of, cell_seen};
 ghost use Rattle.vx_value.specs.Values.{Value, null, boolean, integer, decimal};
 ghost use Rattle.vx_value.specs.Types.{nullability_of, is_nullable};
@@ -16,7 +17,7 @@ use crate::{
     ArgKind, ByteBuffer, DType, DecimalDType, DecimalValue, Nullability, PType, Storage,
     VortexError, VortexResult,
 };
-use std::alloc::AllocError;
+use std::alloc::{AllocError, Global};
 use std::marker::Model;
 
 /// A value that isn't null. `Scalar` holds its type.
@@ -141,23 +142,26 @@ impl Scalar {
         Scalar { dtype, value: None }
     }
 
-    /// Returns the zero value of type `dtype`: `false`, 0, or no bytes; null if the type is `Null`.
+    /// Returns the zero value of type `dtype`: `false`, 0, or no bytes; null if the type is `Null`. Fails only with `OutOfMemory`.
     #[tactic(auto, using(crate::proofs::DefaultsLemmas::zero_typed))]
-    pub fn zero_value(dtype: DType) -> Scalar
-        ensures { result ≡ record { of_type = type_of dtype; value = zero_of (type_of dtype) } }
+    pub fn zero_value(_alloc: Global, dtype: DType) -> VortexResult<Scalar>
+        ensures ok { IfOk result (λ s. s ≡ record { of_type = type_of dtype; value = zero_of (type_of dtype) }) }
+        ensures err { OnlyOutOfMemory result }
     {
         let value = zero_of(dtype.storage());
-        Scalar { dtype, value }
+        Ok(Scalar { dtype, value })
     }
 
-    /// Returns the default value of type `dtype`: null if the type is nullable, else its zero value.
-    pub fn default_value(dtype: DType) -> Scalar
-        ensures { result ≡ record { of_type = type_of dtype; value = default_of (type_of dtype) } }
+    /// Returns the default value of type `dtype`: null if the type is nullable, else its zero value. Fails only with
+    /// `OutOfMemory`.
+    pub fn default_value(alloc: Global, dtype: DType) -> VortexResult<Scalar>
+        ensures ok { IfOk result (λ s. s ≡ record { of_type = type_of dtype; value = default_of (type_of dtype) }) }
+        ensures err { OnlyOutOfMemory result }
     {
         if dtype.is_nullable() {
-            Scalar::null(dtype)
+            Ok(Scalar::null(dtype))
         } else {
-            Scalar::zero_value(dtype)
+            Scalar::zero_value(alloc, dtype)
         }
     }
 
@@ -246,16 +250,15 @@ impl Scalar {
         self.value.is_none()
     }
 
-    /// Returns the same value of the nullable type, without allocating.
+    /// Returns the same value of the nullable type. Fails only with `OutOfMemory`.
     #[tactic(auto, using(crate::proofs::NullabilitiesLemmas::nullable_typed))]
-    pub fn into_nullable(self) -> Scalar
-        ensures { result ≡ record { of_type = with_nullability Nullability.Nullable self.of_type; value = self.value } }
+    pub fn into_nullable(self, alloc: Global) -> VortexResult<Scalar>
+        ensures ok { IfOk result (λ s. s ≡ record { of_type = with_nullability Nullability.Nullable self.of_type; value = self.value }) }
+        ensures err { OnlyOutOfMemory result }
     {
         let Scalar { dtype, value } = self;
-        Scalar {
-            dtype: dtype.into_nullability(Nullability::Nullable),
-            value,
-        }
+        let dtype = dtype.into_nullability(alloc, Nullability::Nullable)?;
+        Ok(Scalar { dtype, value })
     }
 
     /// Makes a scalar of type `dtype` from `value`, which must be of that type, without checking it. `None` is null. (own)

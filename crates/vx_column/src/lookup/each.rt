@@ -32,7 +32,7 @@ pub(crate) fn take_each(
     let codes = nullability(valid);
     let dtype = values
         .dtype()
-        .with_nullability(codes.union(values.dtype().nullability()))?;
+        .with_nullability(alloc, codes.union(values.dtype().nullability()))?;
     let mut column = Builder::with_capacity(alloc, dtype, len)?;
     for index in 0..len {
         let place = place_if(valid.is_valid(index), places[index]);
@@ -75,11 +75,11 @@ pub(crate) fn row_named(
     ensures err { IfErr result (IsNotNamed values.now place) }
 {
     let Some(place) = place else {
-        return Ok(Scalar::null(values.dtype().as_nullable()?));
+        return Ok(Scalar::null(values.dtype().as_nullable(alloc)?));
     };
     let scalar = execute_scalar(alloc, values, place as usize)?;
     if codes.is_nullable() {
-        Ok(scalar.into_nullable())
+        scalar.into_nullable(alloc)
     } else {
         Ok(scalar)
     }

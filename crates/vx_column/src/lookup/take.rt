@@ -65,7 +65,7 @@ fn take_none(alloc: Global, codes: &Columnar, values: &Columnar) -> VortexResult
     codes.as_array().well_formed_tree();
     let nullability = codes.dtype().nullability();
     let dtype = values.dtype();
-    let dtype = dtype.with_nullability(nullability.union(dtype.nullability()))?;
+    let dtype = dtype.with_nullability(alloc, nullability.union(dtype.nullability()))?;
     let column = Canonical::empty(alloc, &dtype)?;
     Ok(Columnar::Canonical(column))
 }

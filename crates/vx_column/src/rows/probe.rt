@@ -138,7 +138,10 @@ fn scalar_at(alloc: Global, array: &ArrayRef, index: usize) -> VortexResult<Scal
         ArrayKind::Slice(child, start, _) => scalar_at(alloc, child, start + index),
         ArrayKind::Filter(child, mask) => scalar_at(alloc, child, place_in(mask, index)),
         ArrayKind::Masked(child, validity) => match scalar_at(alloc, child, index) {
-            Ok(scalar) => unless_null(alloc, validity, index, scalar.into_nullable()),
+            Ok(scalar) => match scalar.into_nullable(alloc) {
+                Ok(scalar) => unless_null(alloc, validity, index, scalar),
+                Err(e) => Err(e),
+            },
             Err(e) => Err(e),
         },
         ArrayKind::ScalarFnValidity(child) => match scalar_at(alloc, child, index) {
@@ -261,7 +264,7 @@ fn function_at(
             Err(e) => return Err(e),
         }
     }
-    apply_row(scalar_fn, scalars.as_slice())
+    apply_row(alloc, scalar_fn, scalars.as_slice())
 }
 
 /// Returns the value of row `index` of `array`, whose rows are those of `values` that `codes` name.
@@ -291,7 +294,7 @@ fn named_at(
         return Err(VortexError::Fault);
     };
     match scalar_at(alloc, values, place) {
-        Ok(scalar) => Ok(widened(scalar, codes.dtype())),
+        Ok(scalar) => widened(alloc, scalar, codes.dtype()),
         Err(e) => Err(e),
     }
 }
@@ -401,15 +404,16 @@ fn number_below(number: Option<i128>, bound: usize) -> Option<usize>
     }
 }
 
-/// Returns `scalar`, nullable if `dtype` is. Allocates nothing.
+/// Returns `scalar`, nullable if `dtype` is. Fails only with `OutOfMemory`.
 #[inline]
-fn widened(scalar: Scalar, dtype: &DType) -> Scalar
-    ensures value { result.value ≡ scalar.value }
-    ensures typed { result.of_type ≡ widen (type_of dtype.now) scalar.of_type }
+fn widened(alloc: Global, scalar: Scalar, dtype: &DType) -> VortexResult<Scalar>
+    ensures value { IfOk result (λ s. s.value ≡ scalar.value) }
+    ensures typed { IfOk result (λ s. s.of_type ≡ widen (type_of dtype.now) scalar.of_type) }
+    ensures err { OnlyOutOfMemory result }
 {
     match dtype.nullability() {
-        Nullability::Nullable => scalar.into_nullable(),
-        Nullability::NonNullable => scalar,
+        Nullability::Nullable => scalar.into_nullable(alloc),
+        Nullability::NonNullable => Ok(scalar),
     }
 }
 

@@ -12,6 +12,7 @@ ghost use Rattle.vx_fn.specs.Meanings.{widened};
 use crate::order::is_ordered;
 use crate::row_function::RowFunction;
 use std::cmp::Ordering;
+use std::alloc::Global;
 use vx_value::{DType, Id, Nullability, Scalar, VortexResult};
 
 /// Whether a bound must be below the values that it bounds, or may be equal to them.
@@ -39,14 +40,14 @@ impl RowFunction for BetweenOptions {
         (Id::Between, &["array", "lower", "upper"])
     }
 
-    fn return_dtype(&self, arguments: &[DType]) -> VortexResult<Option<DType>> {
+    fn return_dtype(&self, _alloc: Global, arguments: &[DType]) -> VortexResult<Option<DType>> {
         match arguments {
             [array, lower, upper] => Ok(nullability_between(array, lower, upper).map(DType::Bool)),
             _ => Ok(None),
         }
     }
 
-    fn apply(&self, arguments: &[Scalar]) -> VortexResult<Scalar> {
+    fn apply(&self, _alloc: Global, arguments: &[Scalar]) -> VortexResult<Scalar> {
         match arguments {
             [array, lower, upper] => Ok(lies_between(*self, array, lower, upper)),
             _ => unreachable!(),

@@ -15,6 +15,7 @@ use crate::function::Operator;
 use crate::order::is_ordered;
 use crate::row_function::RowFunction;
 use std::cmp::Ordering;
+use std::alloc::Global;
 use vx_value::{
     DType, DecimalValue, Id, Nullability, Scalar, ScalarValue, VortexError, VortexResult,
 };
@@ -26,14 +27,14 @@ impl RowFunction for Operator {
         (Id::Binary, &["lhs", "rhs"])
     }
 
-    fn return_dtype(&self, arguments: &[DType]) -> VortexResult<Option<DType>> {
+    fn return_dtype(&self, _alloc: Global, arguments: &[DType]) -> VortexResult<Option<DType>> {
         match arguments {
             [lhs, rhs] => Ok(binary_type(*self, lhs, rhs)),
             _ => Ok(None),
         }
     }
 
-    fn apply(&self, arguments: &[Scalar]) -> VortexResult<Scalar> {
+    fn apply(&self, _alloc: Global, arguments: &[Scalar]) -> VortexResult<Scalar> {
         match arguments {
             [lhs, rhs] => operate(*self, lhs, rhs),
             _ => unreachable!(),

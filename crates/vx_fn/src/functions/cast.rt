@@ -8,6 +8,7 @@ ghost use Rattle.vx_value.specs.Cell.{value, fault};
 ghost use Rattle.vx_fn.specs.Cast.{conversion, cast_type};
 
 use crate::row_function::RowFunction;
+use std::alloc::Global;
 use vx_value::{DType, Id, Scalar, VortexError, VortexResult, has_cast};
 
 impl RowFunction for DType {
@@ -17,23 +18,23 @@ impl RowFunction for DType {
         (Id::Cast, &["input"])
     }
 
-    fn return_dtype(&self, arguments: &[DType]) -> VortexResult<Option<DType>> {
+    fn return_dtype(&self, _alloc: Global, arguments: &[DType]) -> VortexResult<Option<DType>> {
         match arguments {
             [input] if has_cast(input, self) => Ok(Some(self.clone()?)),
             _ => Ok(None),
         }
     }
 
-    fn apply(&self, arguments: &[Scalar]) -> VortexResult<Scalar> {
+    fn apply(&self, alloc: Global, arguments: &[Scalar]) -> VortexResult<Scalar> {
         match arguments {
-            [input] => converted(input, self),
+            [input] => converted(alloc, input, self),
             _ => unreachable!(),
         }
     }
 }
 
 /// Casts `input` to `target`, to which there must be a cast. `Fault` if `target` can't hold the value; `OutOfMemory`.
-fn converted(input: &Scalar, target: &DType) -> VortexResult<Scalar>
+fn converted(alloc: Global, input: &Scalar, target: &DType) -> VortexResult<Scalar>
     requires { IsSome (cast_type (type_of target.now) input.now.of_type) }
     ensures typed { IfOk result (λ s. cast_type (type_of target.now) input.now.of_type ≡ Some s.of_type) }
     ensures ok { IfOk result (λ s. cast_to s.of_type input.now.value ≡ value s.value) }
@@ -41,5 +42,5 @@ fn converted(input: &Scalar, target: &DType) -> VortexResult<Scalar>
         → cast_type (type_of target.now) input.now.of_type ≡ Some t
         → cast_to t input.now.value ≡ fault))) }
 {
-    input.cast(target)
+    input.cast(alloc, target)
 }

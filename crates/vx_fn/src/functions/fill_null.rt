@@ -8,6 +8,7 @@ ghost use Rattle.vx_fn.specs.FillNull.{fill_null};
 
 use crate::retyped::retyped;
 use crate::row_function::RowFunction;
+use std::alloc::Global;
 use vx_value::{DType, Id, Scalar, VortexResult};
 
 /// `input`, or the argument `fill_value` if it is null. (own)
@@ -20,7 +21,7 @@ impl RowFunction for FillNull {
         (Id::FillNull, &["input", "fill_value"])
     }
 
-    fn return_dtype(&self, arguments: &[DType]) -> VortexResult<Option<DType>> {
+    fn return_dtype(&self, _alloc: Global, arguments: &[DType]) -> VortexResult<Option<DType>> {
         match arguments {
             [input, fill_value] if input.eq_ignore_nullability(fill_value) => {
                 Ok(Some(fill_value.clone()?))
@@ -29,7 +30,7 @@ impl RowFunction for FillNull {
         }
     }
 
-    fn apply(&self, arguments: &[Scalar]) -> VortexResult<Scalar> {
+    fn apply(&self, _alloc: Global, arguments: &[Scalar]) -> VortexResult<Scalar> {
         match arguments {
             [input, fill_value] => filled(input, fill_value),
             _ => unreachable!(),

@@ -3,6 +3,7 @@
 ghost use Rattle.vx_fn.specs.IsNull.{null_meaning};
 
 use crate::row_function::RowFunction;
+use std::alloc::Global;
 use vx_value::{DType, Id, Nullability, Scalar, VortexResult};
 
 /// A test of the argument `input`. (own)
@@ -24,14 +25,14 @@ impl RowFunction for NullTest {
         }
     }
 
-    fn return_dtype(&self, arguments: &[DType]) -> VortexResult<Option<DType>> {
+    fn return_dtype(&self, _alloc: Global, arguments: &[DType]) -> VortexResult<Option<DType>> {
         match arguments {
             [_] => Ok(Some(DType::Bool(Nullability::NonNullable))),
             _ => Ok(None),
         }
     }
 
-    fn apply(&self, arguments: &[Scalar]) -> VortexResult<Scalar> {
+    fn apply(&self, _alloc: Global, arguments: &[Scalar]) -> VortexResult<Scalar> {
         let passed = match (self, arguments) {
             (NullTest::IsNull, [input]) => input.is_null(),
             (NullTest::IsNotNull, [input]) => !input.is_null(),

@@ -7,6 +7,7 @@ ghost use Rattle.vx_value.specs.Cell.{value};
 ghost use Rattle.vx_fn.specs.Mask.{mask};
 
 use crate::row_function::RowFunction;
+use std::alloc::Global;
 use vx_value::{DType, Id, Nullability, Scalar, VortexResult};
 
 /// `input` if the argument `mask` is true, else null. (own)
@@ -19,30 +20,30 @@ impl RowFunction for Mask {
         (Id::Mask, &["input", "mask"])
     }
 
-    fn return_dtype(&self, arguments: &[DType]) -> VortexResult<Option<DType>> {
+    fn return_dtype(&self, alloc: Global, arguments: &[DType]) -> VortexResult<Option<DType>> {
         match arguments {
-            [input, DType::Bool(Nullability::NonNullable)] => Ok(Some(input.as_nullable()?)),
+            [input, DType::Bool(Nullability::NonNullable)] => Ok(Some(input.as_nullable(alloc)?)),
             _ => Ok(None),
         }
     }
 
-    fn apply(&self, arguments: &[Scalar]) -> VortexResult<Scalar> {
+    fn apply(&self, alloc: Global, arguments: &[Scalar]) -> VortexResult<Scalar> {
         match arguments {
-            [input, mask] => masked(input, mask),
+            [input, mask] => masked(alloc, input, mask),
             _ => unreachable!(),
         }
     }
 }
 
 /// Returns `input` if `choice` is true, else null. Fails only with `OutOfMemory`.
-fn masked(input: &Scalar, choice: &Scalar) -> VortexResult<Scalar>
+fn masked(alloc: Global, input: &Scalar, choice: &Scalar) -> VortexResult<Scalar>
     requires { IsSome (mask.types (input.now.of_type ∷ choice.now.of_type ∷ [])) }
     ensures typed { IfOk result (λ s. mask.types (input.now.of_type ∷ choice.now.of_type ∷ []) ≡ Some s.of_type) }
     ensures value { IfOk result (λ s. mask.value (input.now.of_type ∷ choice.now.of_type ∷ []) s.of_type (input.now.value ∷ choice.now.value ∷ []) ≡ value s.value) }
     ensures err { OnlyOutOfMemory result }
 {
     match choice.as_bool() {
-        Some(true) => Ok(input.clone()?.into_nullable()),
-        _ => Ok(Scalar::null(input.dtype().as_nullable()?)),
+        Some(true) => input.clone()?.into_nullable(alloc),
+        _ => Ok(Scalar::null(input.dtype().as_nullable(alloc)?)),
     }
 }

@@ -6,6 +6,7 @@ ghost use Rattle.vx_value.specs.Cell.{value};
 ghost use Rattle.vx_fn.specs.Negation.{negation};
 
 use crate::row_function::RowFunction;
+use std::alloc::Global;
 use vx_value::{DType, Id, Scalar, VortexResult};
 
 /// The negation of a boolean, the argument `input`. (own)
@@ -18,14 +19,14 @@ impl RowFunction for Not {
         (Id::Not, &["input"])
     }
 
-    fn return_dtype(&self, arguments: &[DType]) -> VortexResult<Option<DType>> {
+    fn return_dtype(&self, _alloc: Global, arguments: &[DType]) -> VortexResult<Option<DType>> {
         match arguments {
             [input] => Ok(not_type(input)),
             _ => Ok(None),
         }
     }
 
-    fn apply(&self, arguments: &[Scalar]) -> VortexResult<Scalar> {
+    fn apply(&self, _alloc: Global, arguments: &[Scalar]) -> VortexResult<Scalar> {
         match arguments {
             [input] => Ok(negate(input)),
             _ => unreachable!(),

@@ -243,7 +243,7 @@ fn fold_constants(alloc: Global, parent: &ArrayRef) -> VortexResult<Option<RawNo
     let Some(scalars) = constants(alloc, slots)? else {
         return Ok(None);
     };
-    match apply_row(scalar_fn, scalars.as_slice()) {
+    match apply_row(alloc, scalar_fn, scalars.as_slice()) {
         Ok(scalar) => {
             let constant = ConstantArray::new(alloc, scalar, parent.len())?;
             Ok(Some(RawNode::done(alloc, constant.into_array())))

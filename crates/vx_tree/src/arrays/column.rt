@@ -87,6 +87,7 @@ pub(crate) fn check_validity_len(
 /// one of `len` rows, else `InvalidArgument` with `SlotType` or `SlotLen`.
 #[tactic(auto, using(crate::proofs::ConditionsLemmas::in_turn))]
 pub(crate) fn check_flat_column(
+    alloc: Global,
     dtype: &DType,
     of_type: &DType,
     len: usize,
@@ -96,7 +97,7 @@ pub(crate) fn check_flat_column(
     ensures refused { IfErr result (λ e. (e ≡ VortexError.OutOfMemory)
         ⊎ (flat_refusal (type_of of_type.now) (type_of dtype.now) len validity.now ≡ Some e)) }
 {
-    let want = of_type.with_nullability(validity.nullability())?;
+    let want = of_type.with_nullability(alloc, validity.nullability())?;
     check_that(is_same_type(dtype, &want), ArgKind::BadType)?;
     check_validity(validity, len)
 }
@@ -118,7 +119,7 @@ pub(crate) fn flat_column<V: VTable>(
     ensures refused { IfErr result (λ e. (e ≡ VortexError.OutOfMemory)
         ⊎ (flat_refusal (type_of of_type.now) (type_of dtype) len validity.now ≡ Some e)) }
 {
-    check_flat_column(&dtype, of_type, len, validity)?;
+    check_flat_column(alloc, &dtype, of_type, len, validity)?;
     flat_unchecked(alloc, dtype, len, payload, validity)
 }
 

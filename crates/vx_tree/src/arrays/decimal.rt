@@ -136,7 +136,7 @@ impl DecimalArray {
         ensures refused { IfErr result (λ e. (e ≡ VortexError.OutOfMemory)
             ⊎ (decimal_refusal (type_of dtype) (decimal_type_of values) (numbers_of values) validity.now ≡ Some e)) }
     {
-        check_flat_column(&dtype, &decimal_type(&dtype), values.len(), validity)?;
+        check_flat_column(alloc, &dtype, &decimal_type(&dtype), values.len(), validity)?;
         check_that(are_decimals_of(&dtype, &values), ArgKind::BadValue)?;
         DecimalArray::new_unchecked(alloc, dtype, values, validity)
     }

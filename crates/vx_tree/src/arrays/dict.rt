@@ -70,11 +70,11 @@ impl VTable for Dict {
     }
 
     #[tactic(auto, using(crate::proofs::DictLemmas::dict_by_slots, crate::proofs::ConditionsLemmas::in_turn))]
-    fn validate(_alloc: Global, parts: &ArrayParts<Dict>) -> VortexResult<()> {
+    fn validate(alloc: Global, parts: &ArrayParts<Dict>) -> VortexResult<()> {
         let (codes, values) = codes_and_values(&parts.slots)?;
         check_that(is_integer(codes), ArgKind::SlotType { slot: 0 })?;
         check_that(
-            is_same_type(&parts.dtype, &type_by(codes, values)?),
+            is_same_type(&parts.dtype, &type_by(alloc, codes, values)?),
             ArgKind::NodeType,
         )?;
         check_that(parts.len == codes.len(), ArgKind::NodeLen)
@@ -100,13 +100,13 @@ fn codes_and_values(slots: &[Option<ArrayRef>]) -> VortexResult<(&ArrayRef, &Arr
 }
 
 /// Returns the type of a dictionary: that of its values, nullable if its codes are. Fails only with `OutOfMemory`.
-fn type_by(codes: &ArrayRef, values: &ArrayRef) -> VortexResult<DType>
+fn type_by(alloc: Global, codes: &ArrayRef, values: &ArrayRef) -> VortexResult<DType>
     ensures ok { IfOk result (λ t. type_of t ≡ widen (dtype codes.now) (dtype values.now)) }
     ensures err { OnlyOutOfMemory result }
 {
     values
         .dtype()
-        .union_nullability(codes.dtype().nullability())
+        .union_nullability(alloc, codes.dtype().nullability())
 }
 
 impl DictArray {
@@ -118,7 +118,7 @@ impl DictArray {
         ensures refused { IfErr result (λ e. (e ≡ VortexError.OutOfMemory) ⊎ (codes_refusal (dtype codes) ≡ Some e)) }
     {
         check_that(is_integer(&codes), ArgKind::SlotType { slot: 0 })?;
-        let dtype = type_by(&codes, &values)?;
+        let dtype = type_by(alloc, &codes, &values)?;
         let len = codes.len();
         let slots = vec![in alloc; Some(codes), Some(values)]?;
         Ok(Array::of(alloc, dtype, len, EmptyArrayData, slots)?)

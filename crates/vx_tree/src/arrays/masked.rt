@@ -74,10 +74,10 @@ impl VTable for Masked {
     }
 
     #[tactic(auto, using(crate::proofs::MaskedLemmas::masked_by_slots, crate::proofs::ConditionsLemmas::in_turn))]
-    fn validate(_alloc: Global, parts: &ArrayParts<Masked>) -> VortexResult<()> {
+    fn validate(alloc: Global, parts: &ArrayParts<Masked>) -> VortexResult<()> {
         let (child, validity) = child_and_validity(&parts.slots)?;
         check_that(
-            is_same_type(&parts.dtype, &child.dtype().as_nullable()?),
+            is_same_type(&parts.dtype, &child.dtype().as_nullable(alloc)?),
             ArgKind::NodeType,
         )?;
         check_validity_type(Nullability::Nullable, validity, 1)?;
@@ -116,7 +116,7 @@ impl MaskedArray {
         ensures ok { IfOk result (λ a. a ≡ masked_of child (child_of validity.now (len child))) }
         ensures err { OnlyOutOfMemory result }
     {
-        let dtype = child.dtype().as_nullable()?;
+        let dtype = child.dtype().as_nullable(alloc)?;
         let len = child.len();
         let validity = validity_to_child(alloc, validity, len)?;
         let slots = vec![in alloc; Some(child), validity]?;

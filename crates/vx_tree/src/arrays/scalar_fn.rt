@@ -191,17 +191,22 @@ fn check_types(
 {
     check_that(tag == function.id(), ArgKind::NodeType)?;
     let types = types_of(alloc, slots)?;
-    check_result(function, dtype, types.as_slice())
+    check_result(alloc, function, dtype, types.as_slice())
 }
 
 /// Checks that `function` has the result type `dtype` for arguments of these types.
-fn check_result(function: &ScalarFnRef, dtype: &DType, types: &[DType]) -> VortexResult<()>
+fn check_result(
+    alloc: Global,
+    function: &ScalarFnRef,
+    dtype: &DType,
+    types: &[DType],
+) -> VortexResult<()>
     ensures valid { OnOk result (result_refusal (type_of dtype.now) (return_type function.now (map type_of types.now)) ≡ None) }
     ensures refused { IfErr result (λ e. (e ≡ VortexError.OutOfMemory)
         ⊎ (result_refusal (type_of dtype.now) (return_type function.now (map type_of types.now)) ≡ Some e)) }
 {
     check_that(
-        is_same_type(dtype, &function.return_dtype(types)?),
+        is_same_type(dtype, &function.return_dtype(alloc, types)?),
         ArgKind::NodeType,
     )
 }
@@ -259,7 +264,7 @@ impl ScalarFnArray {
         let slots = fill_slots(alloc, children)?;
         check_that(are_long(len, slots.as_slice()), ArgKind::ChildLen)?;
         let types = types_of(alloc, slots.as_slice())?;
-        let dtype = scalar_fn.return_dtype(types.as_slice())?;
+        let dtype = scalar_fn.return_dtype(alloc, types.as_slice())?;
         Ok(Array::of(alloc, dtype, len, ScalarFnData { scalar_fn }, slots)?)
     }
 }

@@ -136,7 +136,7 @@ impl VarBinViewArray {
         ensures refused { IfErr result (λ e. (e ≡ VortexError.OutOfMemory) ⊎ (bytes_refusal (type_of dtype) rows validity.now ≡ Some e)) }
     {
         let storage = dtype.storage();
-        check_flat_column(&dtype, &plain_type(storage), rows.len(), validity)?;
+        check_flat_column(alloc, &dtype, &plain_type(storage), rows.len(), validity)?;
         check_that(are_bytes_of(storage, &rows), ArgKind::BadValue)?;
         VarBinViewArray::new_unchecked(alloc, dtype, rows, validity)
     }

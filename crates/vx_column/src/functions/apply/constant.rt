@@ -62,6 +62,6 @@ pub(crate) fn apply_constants(
     ensures whole { IfOk result (λ c. HasNoFault (rows (columnar_tree c))) }
     ensures err { IfErr result (IsNoResult function.now (types_of_scalars scalars.now) (λ _. cells_of_scalars scalars.now) len) }
 {
-    let scalar = apply_row(function, scalars)?;
+    let scalar = apply_row(alloc, function, scalars)?;
     Columnar::constant(alloc, scalar, len)
 }
