@@ -6,7 +6,7 @@ use Rattle.vx_value.specs.declared.error.ArgKind.TheVariants.{BadType}
 use Rattle.vx_tree.specs.Conditions.{first_of_both, unless}
 use Rattle.vx_tree.specs.Tree.{Tree, dtype, len, datum, is_columnar}
 use Rattle.vx_tree.specs.Cells.{rows, HasNoFault, IsClean}
-use Rattle.vx_tree.specs.Keeps.{KeepsExactly}
+use Rattle.vx_tree.specs.Firm.{KeepsFirmly}
 use Rattle.vx_tree.specs.Canonicals.{columnar_tree}
 use Rattle.vx_tree.specs.declared.canonical.columnar.Columnar.{Columnar}
 use Rattle.vx_tree.proofs.ConditionsLemmas.{none_refused}
@@ -43,7 +43,7 @@ pub length_refused : (b : TypedRows) (t : Tree) (e : VortexError) → type_refus
 length_refused b t e h k = ap (λ o. first_of_both o (length_refusal (length b.values) (len t))) h ∙ k
 
 -- a column of the tree's type and length is refused if the tree is
-pub column_taken : (b : TypedRows) (t u : Tree) → KeepsExactly t u → column_refusal b t ≡ None → column_refusal b u ≡ None
+pub column_taken : (b : TypedRows) (t u : Tree) → KeepsFirmly t u → column_refusal b t ≡ None → column_refusal b u ≡ None
 column_taken b t u same h =
     subst (λ ty. first_of_both (type_refusal b ty) (length_refusal (length b.values) (len u)) ≡ None) same.keeps.same_type
     (subst (λ n. first_of_both (type_refusal b (dtype t)) (length_refusal (length b.values) n) ≡ None) same.keeps.same_len h)

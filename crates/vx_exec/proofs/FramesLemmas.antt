@@ -6,8 +6,8 @@ use Rattle.vx_tree.specs.Tree.{Tree, Slots, node, no_slots, absent, slot}
 use Rattle.vx_tree.specs.Well.{IsNode, shape_of, shapes}
 use Rattle.vx_tree.specs.Cells.{rows, IsClean, AreClean, HasNoFault}
 use Rattle.vx_tree.specs.Slots.{set_slot, put, IsAbsentAt, IsHole}
-use Rattle.vx_tree.specs.Keeps.{KeepsExactly}
-use Rattle.vx_tree.proofs.KeepsLemmas.{put_exactly}
+use Rattle.vx_tree.specs.Firm.{KeepsFirmly}
+use Rattle.vx_tree.proofs.FirmLemmas.{put_firmly}
 use Rattle.vx_tree.proofs.ValiditiesLemmas.{whole}
 use Rattle.vx_column.specs.Built.{TypedRows, built}
 use Rattle.vx_step.specs.Turns.{parent_potential}
@@ -39,13 +39,13 @@ frames_push (g ∷ fs) f t h k =
     (subst (λ x. IsFrame g x) (sym (filled_append fs f t)) h.0, frames_push fs f t h.1 k)
 
 -- a builder's rows are one more slot in front
-active_exactly : (b : Option TypedRows) (i : ℕ) (t u p : Tree) → KeepsExactly t u → KeepsExactly (active b (put i t p)) (active b (put i u p))
-active_exactly None i t u p h = put_exactly i t u p h
-active_exactly (Some b) i t u (node ty n d ss) h = put_exactly (suc i) t u (node ty n d (slot (built b) ss)) h
+active_firmly : (b : Option TypedRows) (i : ℕ) (t u p : Tree) → KeepsFirmly t u → KeepsFirmly (active b (put i t p)) (active b (put i u p))
+active_firmly None i t u p h = put_firmly i t u p h
+active_firmly (Some b) i t u (node ty n d ss) h = put_firmly (suc i) t u (node ty n d (slot (built b) ss)) h
 
-pub filled_exactly : (fs : List Frame) (t u : Tree) → KeepsExactly t u → KeepsExactly (filled fs t) (filled fs u)
-filled_exactly [] t u h = h
-filled_exactly (f ∷ fs) t u h = active_exactly f.builder f.slot _ _ f.parent (filled_exactly fs t u h)
+pub filled_firmly : (fs : List Frame) (t u : Tree) → KeepsFirmly t u → KeepsFirmly (filled fs t) (filled fs u)
+filled_firmly [] t u h = h
+filled_firmly (f ∷ fs) t u h = active_firmly f.builder f.slot _ _ f.parent (filled_firmly fs t u h)
 
 -- a node of the same type and length may take a node's place
 
@@ -114,7 +114,7 @@ pub failed_fault : (t : Tree) (e : VortexError) → e ≡ Fault → IsFailed t e
 failed_fault t e same (inl m) = absurd (cc (sym m ∙ same))
 failed_fault t e same (inr h) = (h.2, h.1)
 
-pub stopped_before : (t u : Tree) (e : VortexError) → KeepsExactly t u → IsStopped u e → IsStopped t e
+pub stopped_before : (t u : Tree) (e : VortexError) → KeepsFirmly t u → IsStopped u e → IsStopped t e
 stopped_before t u e h (inl m) = inl m
 stopped_before t u e h (inr k) = inr (k.0, λ clean. k.1 (h.keeps.still_clean clean))
 

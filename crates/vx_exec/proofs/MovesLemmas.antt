@@ -13,9 +13,9 @@ use Rattle.vx_tree.specs.Tree.{Tree, Data, Slots, node, no_slots, absent, slot, 
 use Rattle.vx_tree.specs.Cells.{rows, IsClean, HasNoFault}
 use Rattle.vx_tree.specs.Well.{IsNodeOf, IsWell, shape, shape_of}
 use Rattle.vx_tree.specs.Slots.{put, IsPresent, IsPresentAt}
-use Rattle.vx_tree.specs.Keeps.{KeepsExactly}
+use Rattle.vx_tree.specs.Firm.{KeepsFirmly}
 use Rattle.vx_tree.specs.Cost.{cost}
-use Rattle.vx_tree.proofs.KeepsLemmas.{exactly_refl, exactly_trans}
+use Rattle.vx_tree.proofs.FirmLemmas.{firmly_refl, firmly_trans}
 use Rattle.vx_tree.proofs.ColumnsLemmas.{canonical_columnar}
 use Rattle.vx_tree.proofs.ConditionsLemmas.{none_refused, none_unless}
 use Rattle.vx_column.specs.Built.{TypedRows, built, appended, value_in, values_in, column_refusal}
@@ -33,17 +33,17 @@ use Rattle.vx_exec.specs.declared.turn.Turn.{Turn}
 use Rattle.vx_exec.specs.declared.turn.Turn.TheVariants.{Go}
 use Rattle.vx_exec.specs.declared.turn.Focus.{Focus}
 use Rattle.vx_exec.specs.declared.turn.Focus.TheVariants.{Whole, Partial}
-use Rattle.vx_exec.proofs.FramesLemmas.{filled_append, frames_top_append, frames_pop, frames_push, filled_exactly, frames_replace, clean_without, stopped_inside, failed_stopped, failed_fault}
+use Rattle.vx_exec.proofs.FramesLemmas.{filled_append, frames_top_append, frames_pop, frames_push, filled_firmly, frames_replace, clean_without, stopped_inside, failed_stopped, failed_fault}
 use Rattle.vx_exec.proofs.BuildersLemmas.{built_type, built_long, built_rows, built_clean, built_cost, appended_rows}
 
 type_same : (s t : DataType) → s ≡ t → same_type s t ≡ true
 type_same s t e = (same_type_Decides s t).1 e
 
-exactly_equal : (t u : Tree) → t ≡ u → KeepsExactly t u
-exactly_equal t u e = subst (λ x. KeepsExactly t x) e (exactly_refl t)
+firmly_equal : (t u : Tree) → t ≡ u → KeepsFirmly t u
+firmly_equal t u e = subst (λ x. KeepsFirmly t x) e (firmly_refl t)
 
-exactly_shape : (t u : Tree) → KeepsExactly t u → shape_of t ≡ shape_of u
-exactly_shape t u h = λ i. shape (h.keeps.same_type i) (h.keeps.same_len i)
+firmly_shape : (t u : Tree) → KeepsFirmly t u → shape_of t ≡ shape_of u
+firmly_shape t u h = λ i. shape (h.keeps.same_type i) (h.keeps.same_len i)
 
 -- ---- a node that takes a step, with its builder or without
 
@@ -101,8 +101,8 @@ fault_on X (Err x) turn h e f same = let alike : x ≡ Fault = cc (sym f ∙ sam
 move_done : (fits : Tree → Bool) (fs : List Frame) (t u : Tree) → IsGoing fits fs None t → IsNodeOf u → IsDone t u → IsMove fits fs (Whole t) fs (Whole u)
 move_done fits fs t u h formed d = record {
   one = inr (inr (inl (record { going = h.going; same = refl; before = refl; after = refl; done = d })));
-  exactly = filled_exactly fs t u d.exactly;
-  frames = frames_replace fs t u (exactly_shape t u d.exactly) h.frames;
+  kept = filled_firmly fs t u d.kept;
+  frames = frames_replace fs t u (firmly_shape t u d.kept) h.frames;
   focus = formed;
   falls = omega (arith, d.falls);
 }
@@ -121,7 +121,7 @@ enter_by fits fs gs e i p c g going h formed without child direct w aim join =
       one = inr
           (inl
           (record { frame = f; going = going; pushed = refl; taken = same; entered = refl; builder = refl; hole = without.0; direct = direct; awaited = w; target = aim }));
-      exactly = exactly_equal _ _ (ap (λ x. filled fs (active (builder_in e) x)) (sym same) ∙ sym (filled_append fs f c));
+      kept = firmly_equal _ _ (ap (λ x. filled fs (active (builder_in e) x)) (sym same) ∙ sym (filled_append fs f c));
       frames = frames_push fs f c (subst (λ x. AreFrames fs (active (builder_in e) x)) (sym same) h) frame;
       focus = child;
       falls = omega (arith, frames_top_append fs f, falls, ap node_potential same);
@@ -171,9 +171,9 @@ module _ (fits : Tree → Bool) (fs : List Frame) (t : Tree) (i : ℕ) (next : I
   -- a step that leads to the node p with these rows in front
   append_by : (e : Focus) (r : TypedRows) → node_in e ≡ t → begun (builder_in e) t ≡ r → is_over fits fs e ≡ false → AreFrames fs (focus_tree e)
       → list_all (is_of r.of_type) (r.values ++ values_in (rows c)) ≡ true → r.of_type ≡ dtype t
-      → KeepsExactly (focus_tree e) (with_content (built (appended r (values_in (rows c)))) p) → IsPart (built (appended r (values_in (rows c)))) p
+      → KeepsFirmly (focus_tree e) (with_content (built (appended r (values_in (rows c)))) p) → IsPart (built (appended r (values_in (rows c)))) p
       → IsMove fits fs e fs (Partial p (appended r (values_in (rows c))))
-  append_by e r here first going h all typed exactly part =
+  append_by e r here first going h all typed firm part =
       let d : Focus = Partial p (appended r (values_in (rows c))) in
       record {
         one = inr (inr (inr (inl (record {
@@ -185,8 +185,8 @@ module _ (fits : Tree → Bool) (fs : List Frame) (t : Tree) (i : ℕ) (next : I
           taken = subst (IsWithout i c p) (sym here) w;
           grown = ap (λ x. Some (appended x (values_in (rows c)))) (sym first ∙ ap (begun (builder_in e)) (sym here));
         }))));
-        exactly = filled_exactly fs (focus_tree e) (focus_tree d) exactly;
-        frames = frames_replace fs (focus_tree e) (focus_tree d) (exactly_shape _ _ exactly) h;
+        kept = filled_firmly fs (focus_tree e) (focus_tree d) firm;
+        frames = frames_replace fs (focus_tree e) (focus_tree d) (firmly_shape _ _ firm) h;
         focus = (all, typed ∙ sym (put_parts i c p t w.1).0, part);
         falls = omega (arith, next.falls c p w, ap node_potential here);
       }
@@ -217,11 +217,11 @@ move_append fits fs b t i d h next m =
 move_finish : (fits : Tree → Bool) (fs : List Frame) (t : Tree) (r : TypedRows) → IsGoing fits fs (Some r) t → IsUsedUp t → IsNodeOf (built r)
     → IsMove fits fs (Partial t r) fs (Whole (built r))
 move_finish fits fs t r h used formed =
-    let exactly : KeepsExactly (with_content (built r) t) (built r) = used.exactly (built r) h.formed.2 (built_clean r h.formed.0) in
+    let firm : KeepsFirmly (with_content (built r) t) (built r) = used.kept (built r) h.formed.2 (built_clean r h.formed.0) in
     record {
       one = inr (inr (inr (inr (record { content = r; going = h.going; same = refl; builder = refl; used = used; finished = refl }))));
-      exactly = filled_exactly fs _ _ exactly;
-      frames = frames_replace fs _ _ (exactly_shape _ _ exactly) h.frames;
+      kept = filled_firmly fs _ _ firm;
+      frames = frames_replace fs _ _ (firmly_shape _ _ firm) h.frames;
       focus = formed;
       falls = omega (arith, used.falls, top_paid (built r), built_cost r);
     }
@@ -334,7 +334,7 @@ module _ (fits : Tree → Bool) (fs gs : List Frame) (f : Frame) (t : Tree) (rea
       let tree : focus_tree d ≡ wrapped f t = λ j. active (kept j) (same j) in
       record {
         one = inl (record { frame = f; reached = reached; popped = split; resumed = resumed });
-        exactly = exactly_equal _ _ (ap (λ x. filled x t) split ∙ filled_append gs f t ∙ ap (filled gs) (sym tree));
+        kept = firmly_equal _ _ (ap (λ x. filled x t) split ∙ filled_append gs f t ∙ ap (filled gs) (sym tree));
         frames = subst (λ x. AreFrames gs x) (sym tree) h.0;
         focus = subst (λ x. Fits x (node_in d)) (sym kept) (subst (Fits f.builder) (sym same) h.1.fits);
         falls = omega (arith, ap frames_top split, frames_top_append gs f, falls, ap node_potential same);
@@ -432,7 +432,7 @@ takes_a_turn fits t (suc n) u r = omega arith
 -- the loop, after n turns
 pub record IsLoop (fits : Tree → Bool) (root : Tree) (fs : List Frame) (t : Focus) (n : ℕ) : Type 0 where
   pub moved : Reaches fits root n fs t
-  pub exactly : KeepsExactly root (filled fs (focus_tree t))
+  pub kept : KeepsFirmly root (filled fs (focus_tree t))
   pub frames : AreFrames fs (focus_tree t)
   pub focus : IsFocus t
   pub turns : n + (frames_top fs + focus_top t) ≤ cost root
@@ -440,13 +440,13 @@ pub record IsLoop (fits : Tree → Bool) (root : Tree) (fs : List Frame) (t : Fo
 pub loop_begins : (fits : Tree → Bool) (root : Tree) (fs : List Frame) → IsNodeOf root → fs ≡ [] → IsLoop fits root fs (Whole root) 0
 loop_begins fits root fs formed e =
     subst (λ x. IsLoop fits root x (Whole root) 0) (sym e)
-    (record { moved = begins fits root; exactly = exactly_refl root; frames = tt; focus = formed; turns = omega (arith, top_paid root) })
+    (record { moved = begins fits root; kept = firmly_refl root; frames = tt; focus = formed; turns = omega (arith, top_paid root) })
 
 pub loop_moves : (fits : Tree → Bool) (root : Tree) (fs gs : List Frame) (t u : Focus) (n : ℕ) → IsLoop fits root fs t n → IsMove fits fs t gs u
     → IsLoop fits root gs u (n + 1)
 loop_moves fits root fs gs t u n now m = record {
   moved = moves_on fits root n fs gs t u now.moved m.one;
-  exactly = exactly_trans root (filled fs (focus_tree t)) (filled gs (focus_tree u)) now.exactly m.exactly;
+  kept = firmly_trans root (filled fs (focus_tree t)) (filled gs (focus_tree u)) now.kept m.kept;
   frames = m.frames;
   focus = m.focus;
   turns = omega (arith, now.turns, m.falls);

@@ -3,7 +3,7 @@ use Rattle.std.specs.Prelude.{◌≡◌, ◌⊎◌, ◌≤◌, ◌<◌, ℕ, Boo
 use Rattle.vx_value.specs.declared.error.VortexError.{VortexError}
 use Rattle.vx_value.specs.declared.error.VortexError.TheVariants.{IterationLimit, Fault}
 use Rattle.vx_tree.specs.Tree.{Tree}
-use Rattle.vx_tree.specs.Keeps.{KeepsExactly}
+use Rattle.vx_tree.specs.Firm.{KeepsFirmly}
 use Rattle.vx_tree.specs.Cost.{cost}
 use Rattle.vx_step.specs.Steps.{IsStopped}
 use Rattle.vx_exec.specs.Budgets.{Budget}
@@ -15,7 +15,7 @@ use Rattle.vx_column.specs.Built.{TypedRows, appended, values_in, column_refusal
 
 -- t is executed until its root passes `fits` or is canonical; `tree_in` is the tree of a result
 pub record IsExecution {R : Type 0} (fits : Tree → Bool) (tree_in : R → Tree) (t : Tree) (old new : Budget) (result : Result R VortexError) : Type 0 where
-  pub ok : IfOk result (λ r. KeepsExactly t (tree_in r))
+  pub ok : IfOk result (λ r. KeepsFirmly t (tree_in r))
   pub executed : IfOk result (λ r. IsExecuted fits t new.turns (tree_in r))
   -- a tree whose root passes is the result, in one turn
   pub as_it_is : fits t ≡ true → IfOk result (λ r. tree_in r ≡ t)

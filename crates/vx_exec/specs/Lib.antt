@@ -1,6 +1,7 @@
 pub use Rattle.vx_tree.specs.Tree
 pub use Rattle.vx_tree.specs.Cells
 pub use Rattle.vx_tree.specs.Keeps
+pub use Rattle.vx_tree.specs.Firm
 pub use Rattle.vx_tree.specs.Cost
 pub use Rattle.vx_tree.specs.Canonicals
 pub use Rattle.vx_step.specs.Steps

@@ -2,7 +2,7 @@
 use Rattle.std.specs.Prelude.{◌≡◌, ◌⊎◌, ℕ, zero, suc, ◌+◌, ◌<◌, List, [], ◌∷◌, ◌++◌, Bool, true, false, ◌||◌, Option, Some, None, length}
 use Rattle.vx_tree.specs.Tree.{Tree, dtype, len, datum, is_canonical}
 use Rattle.vx_tree.specs.Cells.{rows, IsClean, HasNoFault}
-use Rattle.vx_tree.specs.Keeps.{KeepsExactly}
+use Rattle.vx_tree.specs.Firm.{KeepsFirmly}
 use Rattle.vx_tree.specs.Slots.{put, IsHole}
 use Rattle.vx_column.specs.Built.{TypedRows, built, appended, values_in}
 use Rattle.vx_step.specs.Turns.{meets, target_of}
@@ -127,7 +127,7 @@ IsOneMove fits fs c gs d =
 -- one move, which keeps the rows of the whole tree and leaves fewer turns
 pub record IsMove (fits : Tree → Bool) (fs : List Frame) (c : Focus) (gs : List Frame) (d : Focus) : Type 0 where
   pub one : IsOneMove fits fs c gs d
-  pub exactly : KeepsExactly (filled fs (focus_tree c)) (filled gs (focus_tree d))
+  pub kept : KeepsFirmly (filled fs (focus_tree c)) (filled gs (focus_tree d))
   pub frames : AreFrames gs (focus_tree d)
   pub focus : IsFocus d
   pub falls : frames_top gs + focus_top d < frames_top fs + focus_top c

@@ -2,7 +2,7 @@
 
 ghost use Rattle.std.specs.Prelude.{◌≡◌, ◌⊎◌, ◌≤◌, ◌<◌, ℕ, IsOk, IfOk, IfErr, OnOk, Err, true};
 ghost use Rattle.vx_tree.specs.Tree.{datum, is_canonical};
-ghost use Rattle.vx_tree.specs.Keeps.{KeepsExactly};
+ghost use Rattle.vx_tree.specs.Firm.{KeepsFirmly};
 ghost use Rattle.vx_tree.specs.Cost.{cost};
 ghost use Rattle.vx_step.specs.Steps.{IsStopped};
 ghost use Rattle.vx_exec.specs.Moves.{IsExecuted, GoesOn, FaultsIn};
@@ -123,7 +123,7 @@ impl fmt::Display for ExecutionCtx {
 #[tactic(auto, using(crate::proofs::MovesLemmas::loop_moves, crate::proofs::MovesLemmas::executed, crate::proofs::MovesLemmas::reached_root, crate::proofs::MovesLemmas::takes_a_turn, crate::proofs::MovesLemmas::returned_as_it_is))]
 pub fn execute_until<M: Matcher>(array: ArrayRef, ctx: &mut ExecutionCtx) -> VortexResult<ArrayRef>
     ensures ok { IfOk result
-        (λ u. KeepsExactly array u × ((M.fits u ≡ true) ⊎ (is_canonical (datum u) ≡ true))) }
+        (λ u. KeepsFirmly array u × ((M.fits u ≡ true) ⊎ (is_canonical (datum u) ≡ true))) }
     ensures executed { IfOk result (IsExecuted M.fits array ctx.new.turns) }
     ensures as_it_is { M.fits array ≡ true → IfOk result (λ u. u ≡ array) }
     ensures at_once { M.fits array ≡ true → 1 ≤ ctx.old.limit → IsOk result }

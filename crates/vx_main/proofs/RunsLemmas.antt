@@ -6,7 +6,8 @@ use Rattle.vx_value.specs.declared.error.VortexError.TheVariants as error
 use Rattle.vx_tree.specs.Tree.{Tree, dtype, datum, id_of}
 use Rattle.vx_tree.specs.Cells.{rows, IsClean}
 use Rattle.vx_tree.specs.Cost.{cost}
-use Rattle.vx_tree.specs.Keeps.{Keeps, KeepsExactly}
+use Rattle.vx_tree.specs.Keeps.{Keeps}
+use Rattle.vx_tree.specs.Firm.{KeepsFirmly}
 use Rattle.vx_tree.proofs.KeepsLemmas.{keeps_refl}
 use Rattle.vx_tree.specs.Columns.{IsLawful}
 use Rattle.vx_exec.specs.Steps.{IsStopped}
@@ -28,7 +29,7 @@ source_keeps Help t s e = absurd e
 source_keeps Version t s e = absurd e
 
 -- the column that a command's source is executed to shows the answer for the bytes that spell the tree
-pub answers_of : (c : Command) (bytes text : List ℕ) (turns : ℕ) (t s u : Tree) → Spells bytes t → IsSource c t s → KeepsExactly s u
+pub answers_of : (c : Command) (bytes text : List ℕ) (turns : ℕ) (t s u : Tree) → Spells bytes t → IsSource c t s → KeepsFirmly s u
     → IsExecuted is_column s turns u
     → (1 ≤ turns) × (turns ≤ limit_of c) → (is_column s ≡ true → u ≡ s)
     → Shows (dtype u) (id_of (datum u)) (rows u) text → IsLawful (id_of (datum u)) (dtype u) (rows u) → Answers c bytes text
@@ -46,8 +47,10 @@ answers_of c bytes text turns t s u spelled from k executed within as_it_is show
       executed = executed;
       within = within;
       as_it_is = as_it_is;
-      lawful = subst (λ ty. IsLawful (id_of (datum u)) ty (rows s)) typed (subst (λ cs. IsLawful (id_of (datum u)) (dtype u) cs) (sym k.equal) lawful);
-      shown = subst (λ ty. Shows ty (id_of (datum u)) (rows s) text) typed (subst (λ cs. Shows (dtype u) (id_of (datum u)) cs text) (sym k.equal) shown);
+      column_kept = k.keeps.same_rows;
+      exact = k.equal;
+      lawful = subst (λ ty. IsLawful (id_of (datum u)) ty (rows u)) typed lawful;
+      shown = subst (λ ty. Shows ty (id_of (datum u)) (rows u) text) typed shown;
     }
 
 -- a source that isn't clean comes of a tree that isn't

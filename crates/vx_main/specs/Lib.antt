@@ -2,6 +2,7 @@ pub use Rattle.vx_tree.specs.Tree
 pub use Rattle.vx_value.specs.Cell
 pub use Rattle.vx_tree.specs.Cells
 pub use Rattle.vx_tree.specs.Keeps
+pub use Rattle.vx_tree.specs.Firm
 pub use Rattle.vx_tree.specs.Cost
 pub use Rattle.vx_tree.specs.Columns
 pub use Rattle.vx_json.specs.RowText

@@ -6,6 +6,7 @@ use Rattle.vx_tree.specs.Cells.{rows, IsClean}
 use Rattle.vx_tree.specs.Cost.{cost}
 use Rattle.vx_tree.specs.Weight.{weight}
 use Rattle.vx_tree.specs.Keeps.{RowsKeep}
+use Rattle.vx_tree.specs.Firm.{IsFirm}
 use Rattle.vx_opt.specs.Answers.{IsDescended, MeetsLimitBelow}
 use Rattle.vx_main.specs.Commands.{limit_of}
 use Rattle.vx_value.specs.declared.error.VortexError.{VortexError}
@@ -44,7 +45,7 @@ IsUnprepared c t (error.RewriteLimit at_root total) = IsStuck c t at_root total 
 IsUnprepared c t _ = ⊥
 
 -- the bytes spell a tree; the command's source is executed to a column within its turns; the text has the tree's type, the column's encoding, which is lawful,
--- and the source's rows, which are the tree's wherever the tree has a value
+-- and the column's rows, which are the tree's wherever the tree has a value, and just the source's if that is firm
 pub record Answers (c : Command) (bytes : List ℕ) (text : List ℕ) : Type 0 where
   pub tree : Tree
   pub spelled : Spells bytes tree
@@ -56,8 +57,10 @@ pub record Answers (c : Command) (bytes : List ℕ) (text : List ℕ) : Type 0 w
   pub executed : IsExecuted is_column source turns column
   pub within : (1 ≤ turns) × (turns ≤ limit_of c)
   pub as_it_is : is_column source ≡ true → column ≡ source
-  pub lawful : IsLawful (id_of (datum column)) (dtype tree) (rows source)
-  pub shown : Shows (dtype tree) (id_of (datum column)) (rows source) text
+  pub column_kept : RowsKeep (rows source) (rows column)
+  pub exact : IsFirm source → rows source ≡ rows column
+  pub lawful : IsLawful (id_of (datum column)) (dtype tree) (rows column)
+  pub shown : Shows (dtype tree) (id_of (datum column)) (rows column) text
 
 -- the text that a command must write for the input, if the input is known
 abbrev pub Owes : Command → Option (List ℕ) → List ℕ → Type 0

@@ -11,6 +11,8 @@ use Rattle.vx_tree.specs.Columns.{IsColumn, empty_of}
 use Rattle.vx_tree.specs.Well.{IsNode, IsNodeOf, Shape, shape, shape_of, shapes}
 use Rattle.vx_tree.specs.SlotTypes.{of_lengths}
 use Rattle.vx_tree.specs.Slots.{set_slot, put, IsAbsentAt, IsPresentAt, IsPresent, AllAbsent, IsFirstAt, present_slots}
+use Rattle.vx_tree.specs.Firm.{KeepsFirmly}
+use Rattle.vx_tree.proofs.FirmLemmas.{firmly}
 use Rattle.vx_tree.specs.Keeps.{KeepsExactly}
 use Rattle.vx_tree.proofs.KeepsLemmas.{exactly_of_rows, column_exactly}
 use Rattle.vx_step.specs.Turns.{node_potential}
@@ -203,18 +205,18 @@ part_typed b (node ty n d ss) h =
 -- ---- the step that appends it
 
 module _ (ty : DataType) (n i : ℕ) (c : Tree) (ss : Slots) (hole : IsAbsentAt i ss) (ready : IsReadyAt i (set_slot i c ss)) where
-  begins : (b : Tree) → IsClean b → rows b ≡ rows c → KeepsExactly (node ty n chunked (set_slot i c ss)) (node ty n chunked (slot b ss))
+  begins : (b : Tree) → IsClean b → rows b ≡ rows c → KeepsFirmly (node ty n chunked (set_slot i c ss)) (node ty n chunked (slot b ss))
   begins b clean same =
-      exactly_of_rows ty n chunked chunked (set_slot i c ss) (slot b ss)
-      (ready_rows i c ss hole ready ∙ ap (λ l. l ++ chained (slots_rows ss)) (sym same)) (λ k. (clean, clean_left i c ss hole k))
+      firmly _ _ (exactly_of_rows ty n chunked chunked (set_slot i c ss) (slot b ss)
+      (ready_rows i c ss hole ready ∙ ap (λ l. l ++ chained (slots_rows ss)) (sym same)) (λ k. (clean, clean_left i c ss hole k)))
 
   continues : (a b : Tree) → IsClean b → rows b ≡ rows a ++ rows c
-      → KeepsExactly (node ty n chunked (slot a (set_slot i c ss))) (node ty n chunked (slot b ss))
+      → KeepsFirmly (node ty n chunked (slot a (set_slot i c ss))) (node ty n chunked (slot b ss))
   continues a b clean same =
-      exactly_of_rows ty n chunked chunked (slot a (set_slot i c ss)) (slot b ss)
+      firmly _ _ (exactly_of_rows ty n chunked chunked (slot a (set_slot i c ss)) (slot b ss)
       (ap (λ l. rows a ++ l) (ready_rows i c ss hole ready) ∙ sym (append_assoc (rows a) (rows c) (chained (slots_rows ss)))
       ∙ ap (λ l. l ++ chained (slots_rows ss)) (sym same))
-      (λ k. (clean, clean_left i c ss hole k.1))
+      (λ k. (clean, clean_left i c ss hole k.1)))
 
   open_typed : IsOpen (node ty n chunked (set_slot i c ss)) → dtype c ≡ ty
   open_typed opened =
@@ -265,9 +267,9 @@ module _ (i : ℕ) (t : Tree) (chunks : is_chunked (datum t) ≡ true) (opened :
     present = present_at t ready;
     column = each (λ c p t. is_columnar (datum c) ≡ true) (λ ty n c ss hole r opened. ready_column i c ss hole r);
     typed = each (λ c p t. dtype c ≡ dtype t) (λ ty n c ss hole r opened. open_typed ty n i c ss hole r opened);
-    begins = λ b. each (λ c p t. IsClean b → rows b ≡ rows c → KeepsExactly t (with_content b p)) (λ ty n c ss hole r opened. begins ty n i c ss hole r b);
+    begins = λ b. each (λ c p t. IsClean b → rows b ≡ rows c → KeepsFirmly t (with_content b p)) (λ ty n c ss hole r opened. begins ty n i c ss hole r b);
     begun = λ b. each (λ c p t. IsNodeOf t → shape_of b ≡ shape_of c → IsPart b p) (λ ty n c ss hole r opened. begun ty n i c ss hole r b);
-    continues = λ a b. each (λ c p t. IsClean b → rows b ≡ rows a ++ rows c → KeepsExactly (with_content a t) (with_content b p))
+    continues = λ a b. each (λ c p t. IsClean b → rows b ≡ rows a ++ rows c → KeepsFirmly (with_content a t) (with_content b p))
         (λ ty n c ss hole r opened. continues ty n i c ss hole r a b);
     continued = λ a b. each (λ c p t. IsPart a t → dtype b ≡ dtype t → len b ≡ len a + len c → IsPart b p)
         (λ ty n c ss hole r opened. continued ty n i c ss hole r a b);
@@ -324,7 +326,7 @@ chunks_used (node ty n d ss) k opened none some =
     let e = chunk_data d k in
     let left = left_typed ty n ss (subst (λ x. IsOpen (node ty n x ss)) e opened) in
     subst (λ x. IsStepTo (node ty n x ss) (node ty n x ss) Done) (sym e)
-    (inr (refl, record { used = (refl, some_absent ss none some, left.0, left.1); exactly = used_exactly ty n ss none; falls = omega arith }))
+    (inr (refl, record { used = (refl, some_absent ss none some, left.0, left.1); kept = λ b part clean. firmly _ _ (used_exactly ty n ss none b part clean); falls = omega arith }))
 
 -- ---- no chunks at all
 

@@ -8,6 +8,7 @@ use Rattle.vx_tree.specs.Tree.{Tree, Data, Slots, node, no_slots, absent, slot, 
 use Rattle.vx_tree.specs.Cells.{rows}
 use Rattle.vx_tree.specs.Columns.{IsColumn, empty_of}
 use Rattle.vx_tree.specs.Cost.{cost, extra, reach, slot_cost}
+use Rattle.vx_tree.proofs.FirmLemmas.{firmly}
 use Rattle.vx_tree.specs.Keeps.{KeepsExactly}
 use Rattle.vx_tree.proofs.KeepsLemmas.{exactly_trans}
 use Rattle.vx_rule.proofs.FiltersLemmas.{whole_exactly, nothing_exactly, run_exactly}
@@ -53,14 +54,14 @@ module _ (bits : List Bool) (c : Tree) (counted_bits : length bits ≡ len c) (c
   pub nothing_done : (u : Tree) → true_count bits ≡ 0 → u ≡ empty_of (dtype c) → IsColumn u → is_canonical (datum u) ≡ true → IsDone (filter_of bits c) u
   nothing_done u none e known canonical = record {
     by = inl (bits, c, refl, inl (none, e));
-    exactly = subst (KeepsExactly (filter_of bits c)) (sym e) (nothing_exactly bits c counted_bits counted_rows none);
+    kept = firmly (filter_of bits c) u (subst (KeepsExactly (filter_of bits c)) (sym e) (nothing_exactly bits c counted_bits counted_rows none));
     falls = omega (arith, top_paid u, known.canonical_settled canonical);
   }
 
   pub whole_done : 0 < true_count bits → is_all_true bits ≡ true → IsDone (filter_of bits c) c
   whole_done some all = record {
     by = inl (bits, c, refl, inr (inl (some, all, refl)));
-    exactly = whole_exactly bits c counted_bits counted_rows all;
+    kept = firmly (filter_of bits c) c (whole_exactly bits c counted_bits counted_rows all);
     falls = by_target (cases_Bool (is_canonical (datum c)));
   }
     where
@@ -72,7 +73,9 @@ module _ (bits : List Bool) (c : Tree) (counted_bits : length bits ≡ len c) (c
       → KeepsExactly (slice_of a b c) u → cost u ≤ cost c + 3 * reach c → IsDone (filter_of bits c) u
   run_done a b u not_all unready run same bound = record {
     by = inl (bits, c, refl, inr (inr (not_all, unready, a, b, run, same, bound)));
-    exactly = exactly_trans (filter_of bits c) (slice_of a b c) u (run_exactly bits c counted_bits counted_rows a b run) same;
+    kept =
+        firmly (filter_of bits c) u
+        (exactly_trans (filter_of bits c) (slice_of a b c) u (run_exactly bits c counted_bits counted_rows a b run) same);
     falls = omega (arith, top_paid u, bound, ap (λ x. slot_potential 0 x (slot_cost (enc.filter bits) (cost c) (extra c))) unready);
   }
 

@@ -14,6 +14,7 @@ use Rattle.vx_tree.proofs.ColumnsLemmas.{column_known, canonical_columnar, canon
 use Rattle.vx_step.proofs.TurnsLemmas.{top_paid, top_own}
 use Rattle.vx_tree.specs.Cells.{rows, HasNoFault, IsClean}
 use Rattle.vx_tree.specs.Well.{IsNode, IsWell, shapes}
+use Rattle.vx_tree.proofs.FirmLemmas.{firmly}
 use Rattle.vx_tree.specs.Keeps.{KeepsExactly}
 use Rattle.vx_tree.proofs.CallsLemmas.{filled_types}
 use Rattle.vx_tree.proofs.RefusalsLemmas.{types_back, present_types}
@@ -37,7 +38,7 @@ module _ (t u : Tree) (known : IsColumn u) (direct : HasNoShortcut t) (ready : I
   pub column_done : is_columnar (datum u) ≡ true → is_constant (datum u) ≡ gives_constant t → cost u < base_cost (datum t) → IsDone t u
   column_done column kept less = record {
     by = inr (record { direct = direct; ready = ready; column = column; constant_kept = kept });
-    exactly = same;
+    kept = firmly t u same;
     falls = omega (arith, top_paid u, top_own t, less);
   }
 

@@ -5,7 +5,7 @@ use Rattle.vx_tree.specs.Cells.{rows, IsClean}
 use Rattle.vx_tree.specs.Well.{IsNodeOf, shape_of, shapes}
 use Rattle.vx_tree.specs.SlotTypes.{of_lengths}
 use Rattle.vx_tree.specs.Slots.{put, IsHole, IsPresent, present_slots}
-use Rattle.vx_tree.specs.Keeps.{KeepsExactly}
+use Rattle.vx_tree.specs.Firm.{KeepsFirmly}
 use Rattle.vx_step.specs.Turns.{node_potential}
 
 -- the tree with one more slot in front, which holds the content b
@@ -35,10 +35,10 @@ pub record IsAppend (i : ℕ) (t : Tree) : Type 0 where
   pub column : (c p : Tree) → IsWithout i c p t → is_columnar (datum c) ≡ true
   pub typed : (c p : Tree) → IsWithout i c p t → dtype c ≡ dtype t
   -- the node without the slot, and with its rows as content, stands for t exactly
-  pub begins : (b c p : Tree) → IsWithout i c p t → IsClean b → rows b ≡ rows c → KeepsExactly t (with_content b p)
+  pub begins : (b c p : Tree) → IsWithout i c p t → IsClean b → rows b ≡ rows c → KeepsFirmly t (with_content b p)
   pub begun : (b c p : Tree) → IsWithout i c p t → IsNodeOf t → shape_of b ≡ shape_of c → IsPart b p
   -- so does the node without the slot, and with its rows added to its content, for t with the content
-  pub continues : (a b c p : Tree) → IsWithout i c p t → IsClean b → rows b ≡ rows a ++ rows c → KeepsExactly (with_content a t) (with_content b p)
+  pub continues : (a b c p : Tree) → IsWithout i c p t → IsClean b → rows b ≡ rows a ++ rows c → KeepsFirmly (with_content a t) (with_content b p)
   pub continued : (a b c p : Tree) → IsWithout i c p t → IsPart a t → dtype b ≡ dtype t → len b ≡ len a + len c → IsPart b p
   -- fewer turns are left
   pub falls : (c p : Tree) → IsWithout i c p t → node_potential p < node_potential t
@@ -46,6 +46,6 @@ pub record IsAppend (i : ℕ) (t : Tree) : Type 0 where
 -- t is used up: with content of its type and length, it stands exactly for that
 pub record IsUsedUp (t : Tree) : Type 0 where
   pub used : IsUsed t
-  pub exactly : (b : Tree) → IsPart b t → IsClean b → KeepsExactly (with_content b t) b
+  pub kept : (b : Tree) → IsPart b t → IsClean b → KeepsFirmly (with_content b t) b
   -- more turns than a canonical column has
   pub falls : 1 < node_potential t

@@ -2,6 +2,7 @@ pub use Rattle.vx_value.specs.Errors
 pub use Rattle.vx_tree.specs.Tree
 pub use Rattle.vx_tree.specs.Cells
 pub use Rattle.vx_tree.specs.Keeps
+pub use Rattle.vx_tree.specs.Firm
 pub use Rattle.vx_tree.specs.Slots
 pub use Rattle.vx_tree.specs.Well
 pub use Rattle.vx_tree.specs.Canonicals

@@ -9,6 +9,7 @@ use Rattle.vx_value.specs.declared.error.VortexError.{VortexError}
 use Rattle.vx_value.specs.declared.error.VortexError.TheVariants.{OutOfMemory, Fault}
 use Rattle.vx_tree.specs.Cells.{IsClean}
 use Rattle.vx_tree.specs.Keeps.{KeepsExactly}
+use Rattle.vx_tree.specs.Firm.{KeepsFirmly}
 use Rattle.vx_step.specs.Turns.{meets, slot_target, target_of, node_potential}
 use Rattle.vx_step.specs.declared.steps.SlotTarget.{SlotTarget}
 use Rattle.vx_step.specs.declared.steps.ExecutionStep.TheVariants.{ExecuteSlot, AppendChild, Done as Ended}
@@ -99,10 +100,10 @@ pub record IsColumnOf (t u : Tree) : Type 0 where
   pub column : is_columnar (datum u) ≡ true
   pub constant_kept : is_constant (datum u) ≡ gives_constant t
 
--- u stands for t exactly and has fewer turns left
+-- u stands for t, exactly if t is firm, and has fewer turns left
 pub record IsDone (t u : Tree) : Type 0 where
   pub by : IsShortcut t u ⊎ IsColumnOf t u
-  pub exactly : KeepsExactly t u
+  pub kept : KeepsFirmly t u
   pub falls : node_potential u < node_potential t
 
 -- the step of a node with all of its slots

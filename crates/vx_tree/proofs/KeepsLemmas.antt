@@ -240,7 +240,7 @@ put_clean (suc i) t u (absent ss) h c = put_clean i t u ss h c
 put_clean (suc i) t u (slot s ss) h c = (c.0, put_clean i t u ss h c.1)
 
 -- trees of one type leave the types of the slots as they are
-put_types : (i : ℕ) (t u : Tree) (ss : Slots) → dtype t ≡ dtype u → types_in (shapes (set_slot i t ss)) ≡ types_in (shapes (set_slot i u ss))
+pub put_types : (i : ℕ) (t u : Tree) (ss : Slots) → dtype t ≡ dtype u → types_in (shapes (set_slot i t ss)) ≡ types_in (shapes (set_slot i u ss))
 put_types i t u no_slots e = refl
 put_types zero t u (absent ss) e = ap (λ ty. ty ∷ types_in (shapes ss)) e
 put_types zero t u (slot s ss) e = ap (λ ty. ty ∷ types_in (shapes ss)) e

@@ -5,6 +5,7 @@ pub mod KindsLemmas
 pub mod CellsLemmas
 pub mod ChoicesLemmas
 pub mod KeepsLemmas
+pub mod FirmLemmas
 pub mod ConditionsLemmas
 pub mod CostLemmas
 pub mod WeightLemmas

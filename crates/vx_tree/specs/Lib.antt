@@ -28,6 +28,7 @@ pub mod Calls
 pub mod Slots
 pub mod Replacements
 pub mod Keeps
+pub mod Firm
 pub mod Kinds
 pub mod Cost
 pub mod Columns

@@ -8,6 +8,7 @@ ghost use Rattle.vx_tree.specs.Cells.{rows};
 ghost use Rattle.vx_mask.specs.Places.{combined};
 ghost use Rattle.vx_tree.specs.Slots.{put, HasSlot};
 ghost use Rattle.vx_tree.specs.Keeps.{Keeps, KeepsExactly};
+ghost use Rattle.vx_tree.specs.Firm.{IsFirm, KeepsFirmly};
 ghost use Rattle.vx_tree.specs.Cost.{cost, reach, slots_sum};
 ghost use Rattle.vx_tree.specs.Weight.{weight};
 ghost use Rattle.vx_fn.specs.declared.function.ScalarFnRef.{ScalarFnRef as ScalarFnOf};
@@ -28,6 +29,14 @@ pub fn keeping_laws()
     ensures transitive_exactly { (t u v : Tree) → KeepsExactly t u → KeepsExactly u v → KeepsExactly t v }
     ensures in_slot { (i : ℕ) (t u p : Tree) → Keeps t u → Keeps (put i t p) (put i u p) }
     ensures in_slot_exactly { (i : ℕ) (t u p : Tree) → KeepsExactly t u → KeepsExactly (put i t p) (put i u p) }
+{}
+
+/// States that every tree is firm, and that keeping a tree firmly is a preorder and holds in a slot too. (own)
+pub fn firm_laws()
+    ensures firm { (t : Tree) → IsFirm t }
+    ensures reflexive { (t : Tree) → KeepsFirmly t t }
+    ensures transitive { (t u v : Tree) → KeepsFirmly t u → KeepsFirmly u v → KeepsFirmly t v }
+    ensures in_slot { (i : ℕ) (t u p : Tree) → KeepsFirmly t u → KeepsFirmly (put i t p) (put i u p) }
 {}
 
 /// States the bound on turns, encoding by encoding. (own)

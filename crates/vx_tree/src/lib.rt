@@ -80,6 +80,7 @@ pub use canonical::slice_canonical;
 pub use laws::choice_laws;
 pub use laws::column_laws;
 pub use laws::execution_bounds;
+pub use laws::firm_laws;
 pub use laws::keeping_laws;
 pub use laws::node_validity_laws;
 pub use laws::refused_exactly;
