@@ -407,8 +407,7 @@ fn number_below(number: Option<i128>, bound: usize) -> Option<usize>
 /// Returns `scalar`, nullable if `dtype` is. Fails only with `OutOfMemory`.
 #[inline]
 fn widened(alloc: Global, scalar: Scalar, dtype: &DType) -> VortexResult<Scalar>
-    ensures value { IfOk result (λ s. s.value ≡ scalar.value) }
-    ensures typed { IfOk result (λ s. s.of_type ≡ widen (type_of dtype.now) scalar.of_type) }
+    ensures ok { IfOk result (λ s. (s.value ≡ scalar.value) × (s.of_type ≡ widen (type_of dtype.now) scalar.of_type)) }
     ensures err { OnlyOutOfMemory result }
 {
     match dtype.nullability() {

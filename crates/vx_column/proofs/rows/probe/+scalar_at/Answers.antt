@@ -105,9 +105,11 @@ pub named_at-returns-in-Ok-scalar_at-clause-ok : goal.named_at-returns-in-Ok-sca
 named_at-returns-in-Ok-scalar_at-clause-ok t c =
     let named = sym c.into_integer-code.ensures.value ∙ c.in-Some-number_below.ensures.some.0 in
     let read = c.in-Ok-scalar_at.scalar in
-    let typed = c.widened.ensures.typed ∙ ap (λ ty. widen ty read.of_type) c.dtype-in-Ok-scalar_at.ensures in
+    IfOk-weaker c.widened.result _ _
+    (λ s wide.
     dict_row c.args.array.now c.args.codes.now c.args.values.now c.args.index c.requires.shape c.in-Ok.scalar c.in-Ok.ensures.ok
-    c.in-Some-number_below.place named read c.widened.result c.in-Ok-scalar_at.ensures.ok c.widened.ensures.value typed
+    c.in-Some-number_below.place named read s c.in-Ok-scalar_at.ensures.ok wide.0 (wide.1 ∙ ap (λ ty. widen ty read.of_type) c.dtype-in-Ok-scalar_at.ensures))
+    c.widened.ensures.ok
 
 pub named_at-returns-in-Err-scalar_at-clause-err : goal.named_at-returns-in-Err-scalar_at-clause-err
 named_at-returns-in-Err-scalar_at-clause-err t c =
