@@ -1,4 +1,5 @@
 -- The answer of a run.
+use Rattle.std.specs.Prelude.{IfSome}
 use Rattle.std.proofs.Common.{◌≡◌, ◌⊎◌, inl, inr, ℕ, ◌≤◌, ◌<◌, List, Option, Some, None, true, arith, sym, subst, ◌∙◌}
 use Rattle.std.proofs.lemmas.Option.{same_Some}
 use Rattle.vx_value.specs.declared.error.VortexError.{VortexError}
@@ -12,12 +13,13 @@ use Rattle.vx_tree.proofs.KeepsLemmas.{keeps_refl}
 use Rattle.vx_tree.specs.Columns.{IsLawful}
 use Rattle.vx_exec.specs.Steps.{IsStopped}
 use Rattle.vx_exec.specs.Moves.{IsExecuted, GoesOn}
-use Rattle.vx_json.specs.Spelled.{Spells}
+use Rattle.vx_json.specs.Spelled.{Spells, SpellsNone}
 use Rattle.vx_main.specs.Streams.{TakesAll}
 use Rattle.vx_main.specs.Commands.{limit_of, reads_tree}
 use Rattle.vx_json.specs.Output.{Shows}
 use Rattle.vx_main.specs.Runs.{Answers, IsSource, IsUnprepared, HasNoAnswer, Owes, is_column}
-use Rattle.vx_main.specs.Statuses.{status_of}
+use Rattle.vx_main.specs.Statuses.{status_of, has_no_tree}
+use Rattle.vx_main.specs.declared.top.status.Status.{Status}
 use Rattle.vx_main.specs.declared.top.words.Command.{Command}
 use Rattle.vx_main.specs.declared.top.words.Command.TheVariants.{Run, Optimize, Help, Version}
 
@@ -111,3 +113,11 @@ owed named c d old new bytes read text written is_c is_d reads taken is_read a i
     by (Optimize limit) None new t a r = tt
     by (Optimize limit) (Some xs) None t a r = absurd t
     by (Optimize limit) (Some xs) (Some ys) t a r = subst (λ b. Answers (Optimize limit) b text) (sym t.0) a
+
+-- bytes that were taken of the source and have an answer spell a tree
+pub never_unspelled : (r : Status) (c : Command) (old new : Option (List ℕ)) (bytes read text : List ℕ) → TakesAll old new bytes → read ≡ bytes
+    → Answers c read text → IfSome old (λ bs. SpellsNone bs → has_no_tree r ≡ true)
+never_unspelled r c None new bytes read text taken is_read a = tt
+never_unspelled r c (Some xs) None bytes read text taken is_read a = absurd taken
+never_unspelled r c (Some xs) (Some ys) bytes read text taken is_read a =
+    λ none. absurd (none a.tree (subst (λ bs. Spells bs a.tree) (is_read ∙ sym taken.0) a.spelled))

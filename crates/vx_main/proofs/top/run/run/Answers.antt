@@ -1,7 +1,7 @@
 use Rattle.std.proofs.Common.{rules, ◌≡◌, ◌∙◌, Some, true, sym}
 use Rattle.vx_main.proofs.StreamsLemmas.{taken_to_the_end}
 use Rattle.vx_main.specs.Commands.{reads_tree}
-use Rattle.vx_main.proofs.RunsLemmas.{owed}
+use Rattle.vx_main.proofs.RunsLemmas.{owed, never_unspelled}
 use Rattle.vx_main.proofs.top.run.run.Goals as goal
 
 pub returns-in-Ok-answer-clause-read_whole : goal.returns-in-Ok-answer-clause-read_whole
@@ -27,3 +27,6 @@ returns-in-Ok-answer-clause-headline g c = λ d named done.
     let owes = owed _ _ d _ _ _ _ _ _ (sym c.read_command.ensures ∙ c.in-Some.is) named reads c.in-Ok.ensures.all c.as_slice.ensures.value
     c.in-Ok-answer.ensures.ok c.as_bytes-in-Ok-answer.ensures.value in
     (_, owes, c.finish-in-Ok-answer.ensures.done done)
+
+pub returns-in-Ok-answer-clause-bad_input_comes : goal.returns-in-Ok-answer-clause-bad_input_comes
+returns-in-Ok-answer-clause-bad_input_comes g c = λ reads. never_unspelled _ _ _ _ _ _ _ c.in-Ok.ensures.all c.as_slice.ensures.value c.in-Ok-answer.ensures.ok
