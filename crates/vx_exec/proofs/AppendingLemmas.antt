@@ -54,8 +54,6 @@ module _ (t : Tree) (b : TypedRows) (old new : Budget) where
       let kind = refusal_by _ _ _ _ e h in
       record {
         ok = tt;
-        clean = tt;
-        executed = tt;
         valid = tt;
         refused = λ d k. (ap Err (some_same e d (sym h ∙ k)), ap (λ (x : Budget). x.turns) at);
         bound = tt;
@@ -71,8 +69,6 @@ module _ (t : Tree) (b : TypedRows) (old new : Budget) where
     pub not_executed : (e : VortexError) → IsExecution (λ x. is_columnar (datum x)) columnar_tree t from new (Err e) → IsAppending t b old new (Err e)
     not_executed e h = record {
       ok = tt;
-      clean = tt;
-      executed = tt;
       valid = tt;
       refused = λ d k. absurd (none_some (column_refusal b t) d takes k);
       bound = tt;
@@ -88,8 +84,6 @@ module _ (t : Tree) (b : TypedRows) (old new : Budget) where
         → IsAppending t b old new (Err e)
     not_read c e h bad = record {
       ok = tt;
-      clean = tt;
-      executed = tt;
       valid = tt;
       refused = λ d k. absurd (none_some (column_refusal b t) d takes k);
       bound = tt;
@@ -107,7 +101,7 @@ module _ (t : Tree) (b : TypedRows) (old new : Budget) where
 
         stopped : IsUnread (columnar_tree c) e → (e ≡ OutOfMemory) ⊎ ((e ≡ Fault) × (¬ (IsClean t)))
         stopped (inl m) = inl m
-        stopped (inr m) = inr (m.0, λ clean. m.1 (subst HasNoFault h.ok.equal (whole t clean)))
+        stopped (inr m) = inr (m.0, λ clean. m.1 (whole (columnar_tree c) (h.ok.keeps.still_clean clean)))
 
         faulty : IsUnread (columnar_tree c) e → e ≡ Fault → ¬ (HasNoFault (rows (columnar_tree c)))
         faulty (inl m) k = absurd (cc (sym m ∙ k))
@@ -116,9 +110,7 @@ module _ (t : Tree) (b : TypedRows) (old new : Budget) where
     pub all_appended : (c : Columnar) (d : TypedRows) → IsExecution (λ x. is_columnar (datum x)) columnar_tree t from new (Ok c)
         → d ≡ appended b (values_in (rows (columnar_tree c))) → HasNoFault (rows (columnar_tree c)) → IsAppending t b old new (Ok d)
     all_appended c d h is clean = record {
-      ok = is ∙ ap (λ cs. appended b (values_in cs)) (sym h.ok.equal);
-      clean = subst HasNoFault (sym h.ok.equal) clean;
-      executed = (columnar_tree c, h.executed);
+      ok = (columnar_tree c, h.executed, h.ok, clean, is);
       valid = takes;
       refused = λ e k. absurd (none_some (column_refusal b t) e takes k);
       bound = h.bound;

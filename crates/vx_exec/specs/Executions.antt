@@ -34,9 +34,9 @@ HasFaultIn t n = (u : Tree) × IsExecuted (λ x. is_columnar (datum x)) t n u ×
 
 -- t is executed to a column, whose rows are appended to the builder b
 pub record IsAppending (t : Tree) (b : TypedRows) (old new : Budget) (result : Result TypedRows VortexError) : Type 0 where
-  pub ok : IfOk result (λ c. c ≡ appended b (values_in (rows t)))
-  pub clean : IfOk result (λ c. HasNoFault (rows t))
-  pub executed : IfOk result (λ c. (u : Tree) × IsExecuted (λ x. is_columnar (datum x)) t new.turns u)
+  -- the rows of the column that t is executed to, just t's if it is firm, are all values and stand behind the builder's
+  pub ok : IfOk result (λ c. (u : Tree) × IsExecuted (λ x. is_columnar (datum x)) t new.turns u × KeepsFirmly t u × HasNoFault (rows u)
+      × (c ≡ appended b (values_in (rows u))))
   -- a refusal comes before anything is executed
   pub valid : IfOk result (λ c. column_refusal b t ≡ None)
   pub refused : (e : VortexError) → column_refusal b t ≡ Some e → (result ≡ Err e) × (new.turns ≡ 0)

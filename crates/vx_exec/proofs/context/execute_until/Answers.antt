@@ -1,8 +1,8 @@
 use Rattle.std.proofs.Common.{◌≡◌, refl, sym, ◌∙◌, ap, subst, arith}
 use Rattle.vx_exec.specs.Budgets.{Budget}
-use Rattle.vx_exec.specs.Moves.{GoesOn}
+use Rattle.vx_exec.specs.Moves.{GoesOn, IsTurned}
 use Rattle.vx_value.specs.declared.error.VortexError.TheVariants.{Fault}
-use Rattle.vx_exec.proofs.MovesLemmas.{loop_begins, loop_short, goes_on, faults_in, never_moves, reached_at_once, well_node}
+use Rattle.vx_exec.proofs.MovesLemmas.{loop_begins, loop_moves, loop_short, goes_on, faults_in, never_moves, reached_at_once, well_node}
 use Rattle.vx_exec.proofs.context.execute_until.Goals as goal
 
 pub loop-ctx-init : goal.loop-ctx-init
@@ -43,3 +43,15 @@ returns-in-Err-clause-fault g c = λ e.
     let same : c.in-Err.e ≡ Fault = cc in
     faults_in g.M.Matcher.fits c.args.array c.loop-ctx.frames.items c.loop-ctx.current c.loop-ctx.ctx-inside.turns c.loop-ctx.invariant.reached
     (c.in-Err.ensures.fault (cc))
+
+pub loop-ctx-preserved : goal.loop-ctx-preserved
+loop-ctx-preserved g c =
+    let loop = c.loop-ctx.invariant.reached in
+    let next = c.take_turn.new.frames.items in
+    record {
+      reached =
+          loop_moves g.M.Matcher.fits c.args.array c.loop-ctx.frames.items next c.loop-ctx.current c.in-Ok-Go.next c.loop-ctx.ctx-inside.turns loop
+          (subst (IsTurned g.M.Matcher.fits c.loop-ctx.frames.items c.loop-ctx.current next) c.in-Ok-Go.field-0-is c.in-Ok-Go.ensures.ok);
+      within = omega (arith, c.loop-ctx-test.true);
+      kept = c.loop-ctx.invariant.kept;
+    }
