@@ -28,7 +28,13 @@ fn numbers_are_cast(rt: HostRuntime) -> Result<(), Fail> {
     let seven = Scalar::primitive(7, PType::I32, NEVER);
     assert!(rt; has_cast(rt.alloc(), &seven, &DType::Primitive(PType::U8, MAYBE)));
     assert!(rt; has_cast(rt.alloc(), &seven, &decimal(2)?));
-    assert!(rt; has_cast(rt.alloc(), &seven.cast(rt.alloc(), &decimal(2)?)?, &decimal(4)?));
+    assert!(rt;
+        has_cast(
+            rt.alloc(),
+            &seven.cast(rt.alloc(), &decimal(2)?)?,
+            &decimal(4)?
+        )
+    );
     assert!(rt; has_cast(rt.alloc(), &Scalar::bool(true, NEVER), &DType::Bool(MAYBE)));
     assert!(rt; has_cast(rt.alloc(), &Scalar::null(DType::Null), &DType::Bool(MAYBE)));
     Ok(())
@@ -43,7 +49,13 @@ fn text(alloc: Global) -> VortexResult<Scalar> {
 fn bytes_are_cast(rt: HostRuntime) -> Result<(), Fail> {
     let text = text(rt.alloc())?;
     assert!(rt; has_cast(rt.alloc(), &text, &DType::Binary(NEVER)));
-    assert!(rt; has_cast(rt.alloc(), &text.cast(rt.alloc(), &DType::Binary(NEVER))?, &DType::Utf8(MAYBE)));
+    assert!(rt;
+        has_cast(
+            rt.alloc(),
+            &text.cast(rt.alloc(), &DType::Binary(NEVER))?,
+            &DType::Utf8(MAYBE)
+        )
+    );
     assert!(rt; text.dtype().as_nonnullable(rt.alloc())? == DType::Utf8(NEVER));
     Ok(())
 }

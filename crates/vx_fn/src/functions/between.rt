@@ -11,8 +11,8 @@ ghost use Rattle.vx_fn.specs.Meanings.{widened};
 
 use crate::order::is_ordered;
 use crate::row_function::RowFunction;
-use std::cmp::Ordering;
 use std::alloc::Global;
+use std::cmp::Ordering;
 use vx_value::{DType, Id, Nullability, Scalar, VortexResult};
 
 /// Whether a bound must be below the values that it bounds, or may be equal to them.

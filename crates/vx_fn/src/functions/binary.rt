@@ -14,8 +14,8 @@ ghost use Rattle.vx_fn.specs.Logic.{kleene_and, kleene_or};
 use crate::function::Operator;
 use crate::order::is_ordered;
 use crate::row_function::RowFunction;
-use std::cmp::Ordering;
 use std::alloc::Global;
+use std::cmp::Ordering;
 use vx_value::{
     DType, DecimalValue, Id, Nullability, Scalar, ScalarValue, VortexError, VortexResult,
 };
