@@ -186,8 +186,12 @@ impl DType {
         }
     }
 
-    /// Returns the type with nullability `nullability`; `Null` stays. Fails only with `OutOfMemory`. (own)
-    pub fn into_nullability(self, _alloc: Global, nullability: Nullability) -> VortexResult<DType>
+    /// Returns the type with nullability `nullability`; `Null` stays. Fails only with `OutOfMemory`.
+    pub(crate) fn into_nullability(
+        self,
+        _alloc: Global,
+        nullability: Nullability,
+    ) -> VortexResult<DType>
         ensures ok { IfOk result (λ t. type_of t ≡ with_nullability nullability (type_of self)) }
         ensures err { OnlyOutOfMemory result }
     {
