@@ -28,7 +28,8 @@ use Rattle.vx_value.specs.Cell.{Cell, value}
 use Rattle.vx_value.specs.IsOf.{is_of, is_stored}
 use Rattle.vx_value.specs.Nullabilities.{with_nullability}
 use Rattle.vx_value.specs.Parts.{boolean_in, integer_in, bytes_in}
-use Rattle.vx_value.specs.Storage.{storage_of}
+use Rattle.vx_value.specs.Storage.{storage_of, is_nested}
+use Rattle.vx_column.proofs.StoredLemmas.{parts_in}
 use Rattle.vx_value.specs.declared.dtype.Nullability.{Nullability}
 use Rattle.vx_value.specs.declared.dtype.Nullability.TheVariants.{Nullable}
 use Rattle.vx_value.specs.declared.dtype.PType.{PType}
@@ -200,30 +201,30 @@ abbrev IsNullOr : {A : Type 0} → (A → Value) → Value → Type 0
 IsNullOr {A = A} make v = (v ≡ null) ⊎ ((x : A) × (v ≡ make x))
 
 -- a value of a type is null, or made of an item: a line for each storage
-null_or_boolean : (m : Nullability) (v : Value) → is_stored m storage.Bits v ≡ true → IsNullOr of.boolean v
-null_or_boolean m null h = inl refl
-null_or_boolean m (of.boolean b) h = inr (b, refl)
-null_or_boolean m _ h = absurd (cc)
+null_or_boolean : (m : Nullability) (parts : Bool) (v : Value) → is_stored m storage.Bits parts v ≡ true → IsNullOr of.boolean v
+null_or_boolean m parts null h = inl refl
+null_or_boolean m parts (of.boolean b) h = inr (b, refl)
+null_or_boolean m parts _ h = absurd (cc)
 
-null_or_integer : (m : Nullability) (p : PType) (v : Value) → is_stored m (storage.Integers p) v ≡ true → IsNullOr of.integer v
-null_or_integer m p null h = inl refl
-null_or_integer m p (of.integer z) h = inr (z, refl)
-null_or_integer m p _ h = absurd (cc)
+null_or_integer : (m : Nullability) (parts : Bool) (p : PType) (v : Value) → is_stored m (storage.Integers p) parts v ≡ true → IsNullOr of.integer v
+null_or_integer m parts p null h = inl refl
+null_or_integer m parts p (of.integer z) h = inr (z, refl)
+null_or_integer m parts p _ h = absurd (cc)
 
-null_or_decimal : (m : Nullability) (p s : ℕ) (v : Value) → is_stored m (storage.Decimals p s) v ≡ true → IsNullOr (λ z. of.decimal z s) v
-null_or_decimal m p s null h = inl refl
-null_or_decimal m p s (of.decimal z r) h = inr (z, ap (of.decimal z) ((unsigned_Decides r s).0 (first_so (r == s) _ h)))
-null_or_decimal m p s _ h = absurd (cc)
+null_or_decimal : (m : Nullability) (parts : Bool) (p s : ℕ) (v : Value) → is_stored m (storage.Decimals p s) parts v ≡ true → IsNullOr (λ z. of.decimal z s) v
+null_or_decimal m parts p s null h = inl refl
+null_or_decimal m parts p s (of.decimal z r) h = inr (z, ap (of.decimal z) ((unsigned_Decides r s).0 (first_so (r == s) _ h)))
+null_or_decimal m parts p s _ h = absurd (cc)
 
-null_or_text : (m : Nullability) (v : Value) → is_stored m storage.Text v ≡ true → IsNullOr of.bytes v
-null_or_text m null h = inl refl
-null_or_text m (of.bytes bs) h = inr (bs, refl)
-null_or_text m _ h = absurd (cc)
+null_or_text : (m : Nullability) (parts : Bool) (v : Value) → is_stored m storage.Text parts v ≡ true → IsNullOr of.bytes v
+null_or_text m parts null h = inl refl
+null_or_text m parts (of.bytes bs) h = inr (bs, refl)
+null_or_text m parts _ h = absurd (cc)
 
-null_or_bytes : (m : Nullability) (v : Value) → is_stored m storage.Bytes v ≡ true → IsNullOr of.bytes v
-null_or_bytes m null h = inl refl
-null_or_bytes m (of.bytes bs) h = inr (bs, refl)
-null_or_bytes m _ h = absurd (cc)
+null_or_bytes : (m : Nullability) (parts : Bool) (v : Value) → is_stored m storage.Bytes parts v ≡ true → IsNullOr of.bytes v
+null_or_bytes m parts null h = inl refl
+null_or_bytes m parts (of.bytes bs) h = inr (bs, refl)
+null_or_bytes m parts _ h = absurd (cc)
 
 all_null : (vs : List Value) → list_all (is_of type.null) vs ≡ true → replicate (length vs) (value null) ≡ map (λ v. value v) vs
 all_null [] h = refl
@@ -270,16 +271,21 @@ bytes_read p vs known all ty =
     let css = slots_rows (slots_of (child_by (map is_some (map bytes_in vs)) ∷ [])) in
     ap (valid_cells (cells_at css 0)) (cells_packed rs) ∙ rows_read bytes_in of.bytes [] (λ x. refl) refl p vs known all
 
--- the values: a line for each type
-pub rows_built : (ty : DataType) (vs : List Value) → list_all (is_of ty) vs ≡ true → rows (built (record { of_type = ty; values = vs })) ≡ map (λ v. value v) vs
-rows_built type.null vs all = all_null vs all
-rows_built (type.bool m) vs all = rows_read boolean_in of.boolean false (λ x. refl) refl (is_of (type.bool m)) vs (null_or_boolean m) all
-rows_built (type.primitive p m) vs all =
-    rows_read integer_in of.integer (pos 0) (λ x. refl) refl (is_of (type.primitive p m)) vs (null_or_integer m p) all
-rows_built (type.decimal p s m) vs all =
-    rows_read without_point (λ z. of.decimal z s) (pos 0) (λ x. refl) refl (is_of (type.decimal p s m)) vs (null_or_decimal m p s) all
-rows_built (type.utf8 m) vs all = bytes_read (is_of (type.utf8 m)) vs (null_or_text m) all (type.utf8 m)
-rows_built (type.binary m) vs all = bytes_read (is_of (type.binary m)) vs (null_or_bytes m) all (type.binary m)
+-- the values: a line for each type that isn't nested
+pub rows_built : (ty : DataType) (vs : List Value) → is_nested ty ≡ false → list_all (is_of ty) vs ≡ true
+    → rows (built (record { of_type = ty; values = vs })) ≡ map (λ v. value v) vs
+rows_built type.null vs plain all = all_null vs all
+rows_built (type.bool m) vs plain all =
+    rows_read boolean_in of.boolean false (λ x. refl) refl (is_of (type.bool m)) vs (λ v. null_or_boolean m (parts_in (type.bool m) v) v) all
+rows_built (type.primitive p m) vs plain all =
+    rows_read integer_in of.integer (pos 0) (λ x. refl) refl (is_of (type.primitive p m)) vs (λ v. null_or_integer m (parts_in (type.primitive p m) v) p v) all
+rows_built (type.decimal p s m) vs plain all =
+    rows_read without_point (λ z. of.decimal z s) (pos 0) (λ x. refl) refl (is_of (type.decimal p s m)) vs (λ v. null_or_decimal m (parts_in (type.decimal p s m) v) p s v) all
+rows_built (type.utf8 m) vs plain all =
+    bytes_read (is_of (type.utf8 m)) vs (λ v. null_or_text m (parts_in (type.utf8 m) v) v) all (type.utf8 m)
+rows_built (type.binary m) vs plain all =
+    bytes_read (is_of (type.binary m)) vs (λ v. null_or_bytes m (parts_in (type.binary m) v) v) all (type.binary m)
+rows_built _ vs plain all = absurd (cc)
 
 -- ---- the rows of a column, as values
 

@@ -10,14 +10,15 @@ use Rattle.std.proofs.Common.{◌∙◌}
 use Rattle.std.proofs.Common.{subst}
 use Rattle.std.proofs.Common.{if◌then◌else◌}
 use Rattle.std.proofs.Common.{arith}
-use Rattle.std.specs.Prelude.{is_some, nat_lt, MatchOption, option_map, Result, IfOk, IfErr}
+use Rattle.std.proofs.Math.Bool.{not}
+use Rattle.std.specs.Prelude.{◌&&◌, is_some, nat_lt, MatchOption, option_map, Result, IfOk, IfErr}
 use Rattle.std.proofs.lemmas.Result.{IfOk-weaker, IfErr-weaker}
 use Rattle.std.proofs.lemmas.Bool.Decides.{nat_tests}
 use Rattle.std.proofs.lemmas.Bool.{and_from, false≢true}
 use Rattle.std.specs.Cmp.{unsigned_Decides, second_so}
 use Rattle.vx_value.specs.Types.{DataType, null as null_type, bool, primitive, decimal, utf8, binary, nullability_of, is_nullable}
 use Rattle.vx_value.specs.Nullabilities.{with_nullability}
-use Rattle.vx_value.specs.Storage.{storage_of}
+use Rattle.vx_value.specs.Storage.{storage_of, is_nested}
 use Rattle.vx_value.specs.View.{type_of}
 use Rattle.vx_value.specs.Values.{Value, null, boolean, integer}
 use Rattle.vx_value.specs.Values as of
@@ -76,33 +77,37 @@ use Rattle.std.specs.List.{range_with_len}
 
 -- ---- which casts there are
 
-bytes_target : (m : Nullability) (st : Storage) (t : DataType) → has_cast (with_nullability m (bytes_type st)) t ≡ true
+-- a cast to a type that isn't nested
+plain_row : {a b : Bool} → a ≡ false → b ≡ true → (not a && b) ≡ true
+plain_row e h = λ i. not (e i) && h i
+
+bytes_target : (m : Nullability) (st : Storage) (t : DataType) → is_nested t ≡ false → has_cast (with_nullability m (bytes_type st)) t ≡ true
     → t ≡ with_nullability (nullability_of t) (bytes_type (storage_of t))
-bytes_target m st (utf8 k) h = refl
-bytes_target m st (binary k) h = refl
-bytes_target m Text _ h = absurd (false≢true h)
-bytes_target m _ _ h = absurd (false≢true h)
+bytes_target m st (utf8 k) plain h = refl
+bytes_target m st (binary k) plain h = refl
+bytes_target m Text _ plain h = absurd (false≢true (plain_row plain h))
+bytes_target m _ _ plain h = absurd (false≢true (plain_row plain h))
 
 -- null alone goes into each nullable type
-nulls_target : (t : DataType) → has_cast null_type t ≡ true → nullability_of t ≡ Nullable
-nulls_target null_type h = refl
-nulls_target (bool Nullable) h = refl
-nulls_target (primitive p Nullable) h = refl
-nulls_target (decimal p s Nullable) h = refl
-nulls_target (utf8 Nullable) h = refl
-nulls_target (binary Nullable) h = refl
-nulls_target _ h = absurd (false≢true h)
+nulls_target : (t : DataType) → is_nested t ≡ false → has_cast null_type t ≡ true → nullability_of t ≡ Nullable
+nulls_target null_type plain h = refl
+nulls_target (bool Nullable) plain h = refl
+nulls_target (primitive p Nullable) plain h = refl
+nulls_target (decimal p s Nullable) plain h = refl
+nulls_target (utf8 Nullable) plain h = refl
+nulls_target (binary Nullable) plain h = refl
+nulls_target _ plain h = absurd (false≢true (plain_row plain h))
 
-cast_target : (r : ArgumentRows) (m : Nullability) (t : DataType) → has_cast (with_nullability m (plain_type r)) t ≡ true → IsCastTarget r t
-cast_target stored.Nulls m t h = nulls_target t h
-cast_target (stored.Bits bs) m (bool k) h = refl
-cast_target (stored.Bits bs) m _ h = absurd (false≢true h)
-cast_target (stored.Integers zs) m (primitive p k) h = inl (p, refl)
-cast_target (stored.Integers zs) m (decimal p s k) h = inr (p, s, refl)
-cast_target (stored.Integers zs) m _ h = absurd (false≢true h)
-cast_target (stored.Decimals ds) m (decimal p s k) h = (p, s, refl)
-cast_target (stored.Decimals ds) m _ h = absurd (false≢true h)
-cast_target (stored.Bytes bs) m t h = bytes_target m bs.storage t h
+cast_target : (r : ArgumentRows) (m : Nullability) (t : DataType) → is_nested t ≡ false → has_cast (with_nullability m (plain_type r)) t ≡ true → IsCastTarget r t
+cast_target stored.Nulls m t plain h = nulls_target t plain h
+cast_target (stored.Bits bs) m (bool k) plain h = refl
+cast_target (stored.Bits bs) m _ plain h = absurd (false≢true (plain_row plain h))
+cast_target (stored.Integers zs) m (primitive p k) plain h = inl (p, refl)
+cast_target (stored.Integers zs) m (decimal p s k) plain h = inr (p, s, refl)
+cast_target (stored.Integers zs) m _ plain h = absurd (false≢true (plain_row plain h))
+cast_target (stored.Decimals ds) m (decimal p s k) plain h = (p, s, refl)
+cast_target (stored.Decimals ds) m _ plain h = absurd (false≢true (plain_row plain h))
+cast_target (stored.Bytes bs) m t plain h = bytes_target m bs.storage t plain h
 
 -- ---- rows
 
@@ -243,7 +248,7 @@ own_scale p s z h =
     let t = decimal p s NonNullable in
     let v = of.decimal z s in
     let typed : is_of t v ≡ true = and_from (s == s) (has_digits p z) ((unsigned_Decides s s).1 refl) h in
-    sym (cast_unchanged t v typed) ∙ cast_by_target t t v typed (cast_to_self t)
+    sym (cast_unchanged t v typed) ∙ cast_by_target t t v typed refl (cast_to_self t)
 
 -- the column of decimals in their own type
 pub decimals_kept : (ds : DecimalOperand) (d : DecimalDType) (valid : ValidRows) (n : ℕ) (u : Tree) → AreDecimals ds n → ds.decimal.precision ≡ d.precision
@@ -294,9 +299,13 @@ module _ (n : ℕ) (a : Argument) (target : DType) (takes : Takes (Cast target) 
   same_type : (t : DataType) → return_type (Cast target) (types_of (a ∷ [])) ≡ Some t → t ≡ type_of target
   same_type t h = let typed = found.1 in cc (typed, h)
 
-  pub is_cast_target : IsCastTarget a.rows (type_of target)
-  is_cast_target =
-      cast_target a.rows (nullability_in a.valid) (type_of target) (ap (λ s. has_cast s (type_of target)) (sym (argument_type n a takes.sized.0)) ∙ found.0)
+  pub is_cast_target : is_nested (type_of target) ≡ false → IsCastTarget a.rows (type_of target)
+  is_cast_target plain =
+      cast_target a.rows (nullability_in a.valid) (type_of target) plain (ap (λ s. has_cast s (type_of target)) (sym (argument_type n a takes.sized.0)) ∙ found.0)
+
+  -- its result isn't nested
+  pub target_unnested : ((t : DataType) → return_type (Cast target) (types_of (a ∷ [])) ≡ Some t → is_nested t ≡ false) → is_nested (type_of target) ≡ false
+  target_unnested plain = plain (type_of target) found.1
 
   pub null_not_computed : (i : ℕ) → i < n → is_valid a.valid i ≡ false → nullability_of (type_of target) ≡ NonNullable → (t : DataType)
       → return_type (Cast target) (types_of (a ∷ [])) ≡ Some t → ¬ (HasNoFault (cells_of (Cast target) (types_of (a ∷ [])) t (row_of (a ∷ [])) n))

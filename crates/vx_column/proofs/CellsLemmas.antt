@@ -87,6 +87,18 @@ constant_truths t s b bits is truth made =
     ap rows is ∙ ap (λ v. replicate (len t) (value v)) truth ∙ sym (map_copies (λ x. value (boolean x)) (len t) b)
     ∙ ap (map (λ x. value (boolean x))) (sym made)
 
+-- a row that isn't null, of a column of any values
+pub valid_row : {X : Type 0} (read : X → Value) (of_items : List X → Data) (t : Tree)
+    → ((n : ℕ) (xs : List X) (tys : List DataType) (css : List (List Cell)) → node_cells (dtype t) n (of_items xs) tys css ≡ valid_cells (cells_at css 0) (map (λ x. value (read x)) xs))
+    → (v : Option Tree) (xs : List X) (i : ℕ) (b : Bool) (s : Typed) → t ≡ column (dtype t) (len t) (of_items xs) v
+    → slice_get (map (λ x. value (read x)) xs) i ≡ Some (value s.value) → ((w : Value) → IsRowBy v i (value w) (null_unless b (value w))) → b ≡ true
+    → slice_get (rows t) i ≡ Some (value s.value)
+valid_row read of_items t cells v xs i b s is there told here =
+    let stored = map (λ x. value (read x)) xs in
+    let shown : rows t ≡ valid_cells (validity_cells v) stored =
+    ap rows is ∙ cells (len t) xs _ (slots_rows (slots_of (v ∷ []))) ∙ ap (λ css. valid_cells (cells_at css 0) stored) (one_slot v) in
+    ap (λ cs. slice_get cs i) shown ∙ told s.value stored there ∙ ap (λ x. Some (null_unless x (value s.value))) here
+
 -- null of a type
 abbrev pub null_typed : DataType → Typed
 null_typed ty = record { of_type = ty; value = null }

@@ -12,7 +12,7 @@ use Rattle.vx_value.specs.Types as type
 use Rattle.vx_value.specs.Nullabilities.{with_nullability}
 use Rattle.vx_value.specs.Values.{Value, boolean, integer}
 use Rattle.vx_value.specs.Cell.{Cell, value}
-use Rattle.vx_value.specs.Order.{value_cmp}
+use Rattle.vx_value.specs.Order.{value_cmp, is_unnested}
 use Rattle.vx_value.specs.OrderLaws.{value_cmp_total}
 use Rattle.vx_value.specs.declared.dtype.Nullability.{Nullability}
 use Rattle.vx_value.specs.declared.dtype.Nullability.TheVariants.{NonNullable}
@@ -20,7 +20,7 @@ use Rattle.vx_value.specs.declared.dtype.Storage.{Storage}
 use Rattle.vx_value.specs.declared.dtype.Storage.TheVariants.{Text}
 use Rattle.vx_fn.specs.Apply.{apply}
 use Rattle.vx_fn.specs.Binary.{is_comparison, operator_type}
-use Rattle.vx_fn.specs.Comparisons.{holds, is_ordered, ordered_type}
+use Rattle.vx_fn.specs.Comparisons.{holds, is_ordered, ordered_type, compare, compared, same_cmp}
 use Rattle.vx_fn.specs.Meanings.{null_through}
 use Rattle.vx_fn.specs.declared.function.Operator.{Operator}
 use Rattle.vx_fn.specs.declared.function.Operator.TheVariants as operator
@@ -110,6 +110,18 @@ comparison_type op t c h = by_operator op c
     by_operator operator.Lte c = ordered
     by_operator _ c = absurd (cc)
 
+-- stored values are compared by their order
+value_unnested : (r : ArgumentRows) (i : ℕ) → is_unnested (value_at r i) ≡ true
+value_unnested stored.Nulls i = refl
+value_unnested (stored.Bits bs) i = refl
+value_unnested (stored.Integers zs) i = refl
+value_unnested (stored.Decimals ds) i = refl
+value_unnested (stored.Bytes bs) i = refl
+
+values_compared : (l r : ArgumentRows) (i : ℕ) → compare (value_at l i) (value_at r i) ≡ value_cmp (value_at l i) (value_at r i)
+values_compared l r i =
+    λ j. if value_unnested l i j && value_unnested r i j then value_cmp (value_at l i) (value_at r i) else same_cmp (value_at l i) (value_at r i)
+
 compared_cell : (op : Operator) (m : Nullability) (l r : ArgumentRows) (i : ℕ) → is_ordered (plain_type l) ≡ true → is_ordered (plain_type r) ≡ true
     → is_comparison op ≡ true → apply (Binary op) (pair_types l r) (bool m) (pair_at l r i) ≡ value (boolean (holds op (value_cmp (value_at l i) (value_at r i))))
 compared_cell op m l r i first second c = by_operator op c
@@ -117,14 +129,17 @@ compared_cell op m l r i first second c = by_operator op c
     through_both : (c : Cell) → null_through (value_at l i) (null_through (value_at r i) c) ≡ c
     through_both c = stored_through l i (null_through (value_at r i) c) first ∙ stored_through r i c second
 
+    by_order : (op : Operator) → compared op (value_at l i) (value_at r i) ≡ value (boolean (holds op (value_cmp (value_at l i) (value_at r i))))
+    by_order op = ap (λ o. value (boolean (holds op o))) (values_compared l r i)
+
     by_operator : (op : Operator) → is_comparison op ≡ true
         → apply (Binary op) (pair_types l r) (bool m) (pair_at l r i) ≡ value (boolean (holds op (value_cmp (value_at l i) (value_at r i))))
-    by_operator operator.Eq c = through_both _
-    by_operator operator.NotEq c = through_both _
-    by_operator operator.Gt c = through_both _
-    by_operator operator.Gte c = through_both _
-    by_operator operator.Lt c = through_both _
-    by_operator operator.Lte c = through_both _
+    by_operator operator.Eq c = through_both (compared operator.Eq (value_at l i) (value_at r i)) ∙ by_order operator.Eq
+    by_operator operator.NotEq c = through_both (compared operator.NotEq (value_at l i) (value_at r i)) ∙ by_order operator.NotEq
+    by_operator operator.Gt c = through_both (compared operator.Gt (value_at l i) (value_at r i)) ∙ by_order operator.Gt
+    by_operator operator.Gte c = through_both (compared operator.Gte (value_at l i) (value_at r i)) ∙ by_order operator.Gte
+    by_operator operator.Lt c = through_both (compared operator.Lt (value_at l i) (value_at r i)) ∙ by_order operator.Lt
+    by_operator operator.Lte c = through_both (compared operator.Lte (value_at l i) (value_at r i)) ∙ by_order operator.Lte
     by_operator _ c = absurd (cc)
 
 pub bits_more : (f : ℕ → Bool) (out : List Bool) (i : ℕ) (r : Bool) → out ≡ map f (range_with_len 0 i) → r ≡ f i

@@ -6,15 +6,19 @@ use Rattle.std.specs.List.{list_all}
 use Rattle.std.proofs.lemmas.Bool.{and_parts, false≢true}
 use Rattle.std.proofs.lemmas.List.{length-map}
 use Rattle.vx_value.specs.Types as type
-use Rattle.vx_value.specs.Types.{DataType, primitive, nullability_of}
+use Rattle.vx_value.specs.Types.{DataType, primitive, nullability_of, is_nullable}
+use Rattle.vx_value.specs.Nullabilities.{with_nullability}
+use Rattle.std.proofs.lemmas.Option.{get_or_from_slice_get}
+use Rattle.vx_column.specs.Read.{IsRow}
 use Rattle.vx_value.specs.Typed.{Typed}
 use Rattle.vx_value.specs.Values as of
 use Rattle.vx_value.specs.Values.{Value, null, integer}
 use Rattle.vx_value.specs.Cell.{Cell, value, fault}
 use Rattle.vx_value.specs.IsOf.{is_of}
+use Rattle.vx_value.specs.Storage.{is_nested}
 use Rattle.vx_value.specs.Parts.{boolean_in, integer_in, bytes_in}
 use Rattle.vx_value.specs.declared.dtype.Nullability.{Nullability}
-use Rattle.vx_value.specs.declared.dtype.Nullability.TheVariants.{NonNullable}
+use Rattle.vx_value.specs.declared.dtype.Nullability.TheVariants.{NonNullable, Nullable}
 use Rattle.vx_value.specs.declared.dtype.PType.{PType}
 use Rattle.vx_value.specs.declared.error.VortexError.{VortexError}
 use Rattle.vx_value.specs.declared.error.VortexError.TheVariants.{OutOfMemory, Fault}
@@ -40,7 +44,7 @@ use Rattle.vx_column.proofs.ComputedLemmas.{fault_among}
 use Rattle.vx_column.proofs.ValidRowsLemmas.{filled_clean}
 use Rattle.vx_column.specs.Built.{without_point, built, TypedRows, scalar_refusal}
 use Rattle.vx_column.specs.Formed.{IsFormed, is_shown, is_true}
-use Rattle.vx_column.specs.LookedUp.{IsNotNamed, cell_named, named_type, IsLookedUp, IsNotLookedUp}
+use Rattle.vx_column.specs.LookedUp.{IsNamed, IsNotNamed, cell_named, named_type, IsLookedUp, IsNotLookedUp}
 use Rattle.vx_column.proofs.BuiltLemmas.{rows_built}
 use Rattle.vx_column.proofs.FormedLemmas.{not_flat_formed, constant_formed}
 use Rattle.vx_column.proofs.KeepsLemmas.{copies_clean}
@@ -96,7 +100,7 @@ built_formed type.null vs all = not_flat_formed (nulls_of (length vs)) refl
 built_formed (type.bool m) vs all =
     let ty = type.bool m in
     let u = built (record { of_type = ty; values = vs }) in
-    let shown = rows_built ty vs all in
+    let shown = rows_built ty vs refl all in
     record {
       validity_told = λ k. told ty vs all u shown boolean_in (boolean_shown m);
       bits_cleared = λ k. ap enc.bool (read_each boolean_in (item_or false) is_true (is_of ty) vs (boolean_true m) all ∙ ap (map is_true) (sym shown));
@@ -104,27 +108,28 @@ built_formed (type.bool m) vs all =
 built_formed (type.primitive p m) vs all =
     let ty = type.primitive p m in
     record {
-      validity_told = λ k. told ty vs all (built (record { of_type = ty; values = vs })) (rows_built ty vs all) integer_in (integer_shown p m);
+      validity_told = λ k. told ty vs all (built (record { of_type = ty; values = vs })) (rows_built ty vs refl all) integer_in (integer_shown p m);
       bits_cleared = λ k. absurd (false≢true k);
     }
 built_formed (type.decimal p s m) vs all =
     let ty = type.decimal p s m in
     record {
-      validity_told = λ k. told ty vs all (built (record { of_type = ty; values = vs })) (rows_built ty vs all) without_point (decimal_shown p s m);
+      validity_told = λ k. told ty vs all (built (record { of_type = ty; values = vs })) (rows_built ty vs refl all) without_point (decimal_shown p s m);
       bits_cleared = λ k. absurd (false≢true k);
     }
 built_formed (type.utf8 m) vs all =
     let ty = type.utf8 m in
     record {
-      validity_told = λ k. told ty vs all (built (record { of_type = ty; values = vs })) (rows_built ty vs all) bytes_in (text_shown m);
+      validity_told = λ k. told ty vs all (built (record { of_type = ty; values = vs })) (rows_built ty vs refl all) bytes_in (text_shown m);
       bits_cleared = λ k. absurd (false≢true k);
     }
 built_formed (type.binary m) vs all =
     let ty = type.binary m in
     record {
-      validity_told = λ k. told ty vs all (built (record { of_type = ty; values = vs })) (rows_built ty vs all) bytes_in (bytes_shown m);
+      validity_told = λ k. told ty vs all (built (record { of_type = ty; values = vs })) (rows_built ty vs refl all) bytes_in (bytes_shown m);
       bits_cleared = λ k. absurd (false≢true k);
     }
+built_formed _ vs all = not_flat_formed (nulls_of (length vs)) refl
 
 -- the column that is built: its type, its length, and its layout
 pub record IsBuilt (ty : DataType) (n : ℕ) (u : Tree) : Type 0 where
@@ -142,19 +147,21 @@ is_built read vs ty d h = record {
   clean = filled_clean (rows_valid.Bits (map is_some (map read vs)));
 }
 
-pub built_known : (ty : DataType) (vs : List Value) → IsBuilt ty (length vs) (built (record { of_type = ty; values = vs }))
-built_known type.null vs = record { typed = refl; counted = refl; canonical = refl; clean = tt }
-built_known (type.bool m) vs = is_built boolean_in vs _ _ refl
-built_known (type.primitive p m) vs = is_built integer_in vs _ _ refl
-built_known (type.decimal p s m) vs = is_built without_point vs _ _ refl
-built_known (type.utf8 m) vs = is_built bytes_in vs _ _ refl
-built_known (type.binary m) vs = is_built bytes_in vs _ _ refl
+pub built_known : (ty : DataType) (vs : List Value) → is_nested ty ≡ false → IsBuilt ty (length vs) (built (record { of_type = ty; values = vs }))
+built_known type.null vs plain = record { typed = refl; counted = refl; canonical = refl; clean = tt }
+built_known (type.bool m) vs plain = is_built boolean_in vs _ _ refl
+built_known (type.primitive p m) vs plain = is_built integer_in vs _ _ refl
+built_known (type.decimal p s m) vs plain = is_built without_point vs _ _ refl
+built_known (type.utf8 m) vs plain = is_built bytes_in vs _ _ refl
+built_known (type.binary m) vs plain = is_built bytes_in vs _ _ refl
+built_known _ vs plain = absurd (cc)
 
 -- a builder's column of the cells
 pub built_found : (r : TypedRows) (ty : DataType) (n : ℕ) (cells : List Cell) (u : Tree) → u ≡ built r → rows u ≡ map (λ v. value v) r.values
-    → list_all (is_of r.of_type) r.values ≡ true → r.of_type ≡ ty → map (λ v. value v) r.values ≡ cells → length cells ≡ n → IsCanonicalOf ty n cells u
-built_found r ty n cells u new shown all typed are long =
-    let known = subst (IsBuilt r.of_type (length r.values)) (sym new) (built_known r.of_type r.values) in
+    → is_nested r.of_type ≡ false → list_all (is_of r.of_type) r.values ≡ true → r.of_type ≡ ty → map (λ v. value v) r.values ≡ cells → length cells ≡ n
+    → IsCanonicalOf ty n cells u
+built_found r ty n cells u new shown plain all typed are long =
+    let known = subst (IsBuilt r.of_type (length r.values)) (sym new) (built_known r.of_type r.values plain) in
     record {
       typed = known.typed ∙ typed;
       counted = known.counted ∙ sym (length-map r.values (λ v. value v)) ∙ ap length are ∙ long;
@@ -190,6 +197,36 @@ widened_same (type.primitive p m) = refl
 widened_same (type.decimal p s m) = refl
 widened_same (type.utf8 m) = refl
 widened_same (type.binary m) = refl
+widened_same (type.list t m) = refl
+widened_same (type.fixed_size_list t k m) = refl
+widened_same (type.map k t m) = refl
+widened_same (type.struct fs m) = refl
+widened_same (type.union us m) = refl
+widened_same (type.variant m) = refl
+widened_same (type.extension id t) = ap (type.extension id) (widened_same t)
+
+nullable_codes : (m : Nullability) → is_nullable m ≡ true → m ≡ Nullable
+nullable_codes Nullable h = refl
+nullable_codes NonNullable h = absurd (false≢true h)
+
+plain_codes : (m : Nullability) → is_nullable m ≡ false → m ≡ NonNullable
+plain_codes NonNullable h = refl
+plain_codes Nullable h = absurd (false≢true (sym h))
+
+-- a row that a place names, nullable if the codes are
+module _ (t : Tree) (codes : Nullability) (place : Option ℕ) (k : ℕ) (r : Typed) (there : place ≡ Some k) (row : IsRow t k r) where
+  cell_read : cell_named (rows t) place ≡ value r.value
+  cell_read = ap (cell_named (rows t)) there ∙ get_or_from_slice_get (rows t) k (value r.value) fault row.0
+
+  pub row_nullable : is_nullable codes ≡ true → (s : Typed) → s ≡ record { of_type = with_nullability Nullable r.of_type; value = r.value }
+      → IsNamed codes t place s
+  row_nullable h s e = (
+    cell_read ∙ ap (λ y. value (Typed.value y)) (sym e),
+    ap (λ y. Typed.of_type y) e ∙ ap (with_nullability Nullable) row.1 ∙ ap (λ m. named_type m (dtype t)) (sym (nullable_codes codes h)),
+  )
+
+  pub row_plain : is_nullable codes ≡ false → IsNamed codes t place r
+  row_plain h = (cell_read, row.1 ∙ widened_same (dtype t) ∙ ap (λ m. named_type m (dtype t)) (sym (plain_codes codes h)))
 
 -- ---- a code that is a constant
 

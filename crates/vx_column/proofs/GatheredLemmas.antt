@@ -18,13 +18,12 @@ use Rattle.vx_value.specs.Cell.{Cell, value, fault}
 use Rattle.vx_value.specs.Nullabilities.{with_nullability}
 use Rattle.vx_value.specs.Decimals.{has_digits}
 use Rattle.vx_value.specs.declared.decimal.DecimalDType.{DecimalDType}
-use Rattle.vx_value.specs.declared.dtype.Nullability.TheVariants.{NonNullable}
 use Rattle.vx_value.specs.declared.dtype.PType.{PType}
 use Rattle.vx_value.specs.declared.dtype.Storage.{Storage}
 use Rattle.vx_value.specs.declared.dtype.Storage.TheVariants.{Text}
 use Rattle.vx_value.specs.declared.error.VortexError.{VortexError}
 use Rattle.vx_value.specs.declared.error.VortexError.TheVariants.{OutOfMemory}
-use Rattle.vx_value.proofs.DefaultsLemmas.{zero_typed}
+use Rattle.vx_value.proofs.DefaultsLemmas.{zero_has_digits}
 use Rattle.vx_mask.specs.Logic.{bit_row}
 use Rattle.vx_mask.specs.Operands.{bit_in}
 use Rattle.vx_mask.specs.declared.operand.BitOperand.{BitOperand}
@@ -73,7 +72,7 @@ passed_or test d (x ∷ xs) zero h e = first_so (test x) _ h
 passed_or test d (x ∷ xs) (suc k) h e = passed_or test d xs k (second_so (test x) _ h) e
 
 pub zero_digits : (p : ℕ) → has_digits p (pos 0) ≡ true
-zero_digits p = zero_typed (type.decimal p 0 NonNullable)
+zero_digits p = zero_has_digits p
 
 pub place_digits : (d : DecimalDType) (r : DecimalRows) (n k : ℕ) → HasDecimals d r n → has_digits d.precision (unscaled_at r k) ≡ true
 place_digits d (decimal_rows.Value z) n k h = h

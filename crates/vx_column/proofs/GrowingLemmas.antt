@@ -18,12 +18,13 @@ use Rattle.std.proofs.lemmas.Bool.{and_parts, and_from, le-ltb}
 use Rattle.std.proofs.lemmas.List.{map-append, replicate-append-replicate, append-nil, append_assoc, length-append, length-replicate, take-append-le, take_all}
 use Rattle.std.proofs.lemmas.List.Folds.{list_all-append}
 use Rattle.std.specs.List.{list_all}
-use Rattle.vx_value.specs.Types.{DataType, nullability_of, same_type, same_type_Decides}
+use Rattle.vx_value.specs.Types.{DataType, nullability_of, is_nullable, same_type, same_type_Decides}
 use Rattle.vx_value.specs.Values.{Value, null}
 use Rattle.vx_value.specs.IsOf.{is_of, is_stored, in_range}
 use Rattle.vx_value.specs.Decimals.{smallest_width}
-use Rattle.vx_value.specs.Storage.{storage_of}
-use Rattle.vx_value.specs.Defaults.{zero_stored}
+use Rattle.vx_value.specs.Storage.{storage_of, has_parts, is_nested}
+use Rattle.vx_value.specs.Defaults.{zero_of}
+use Rattle.vx_value.specs.Types as type
 use Rattle.vx_value.specs.View.{type_of, value_of}
 use Rattle.vx_value.specs.declared.scalar.ScalarValue.{ScalarValue}
 use Rattle.vx_value.specs.declared.scalar.ScalarValue.TheVariants as scalar
@@ -39,6 +40,7 @@ use Rattle.std.specs.Cmp.{unsigned_Decides, first_so, second_so}
 use Rattle.vx_tree.specs.Numbers.{Numbers}
 use Rattle.vx_tree.proofs.DecimalNumbersLemmas.{digits_fit}
 use Rattle.vx_column.proofs.RepeatedLemmas.{all_copies}
+use Rattle.vx_column.proofs.StoredLemmas.{parts_in}
 use Rattle.vx_column.specs.declared.builder.values.Values.{Values}
 use Rattle.vx_column.specs.declared.builder.values.Values.TheVariants.{Nulls, Bits, Integers, Decimals, Bytes}
 use Rattle.vx_tree.proofs.NativesLemmas.{map_copies}
@@ -141,48 +143,78 @@ bits_before n k bits =
 -- ---- types
 
 -- the values of a type that can come
-pub stored_as : (ty : DataType) (st : Storage) (v : Value) → storage_of ty ≡ st → is_of ty v ≡ true → is_stored (nullability_of ty) st v ≡ true
-stored_as ty st v e h = ap (λ x. is_stored (nullability_of ty) x v) (sym e) ∙ h
+pub stored_as : (ty : DataType) (st : Storage) (v : Value) → storage_of ty ≡ st → is_of ty v ≡ true → is_stored (nullability_of ty) st (parts_in ty v) v ≡ true
+stored_as ty st v e h = ap (λ x. is_stored (nullability_of ty) x (parts_in ty v) v) (sym e) ∙ h
 
-nulls_accept : (m : Nullability) (n : ℕ) (s : ScalarValue) → is_stored m storage.Nulls (value_of s) ≡ true → Accepts (Nulls n) (value_of s)
-nulls_accept m n (scalar.Bool b) h = absurd (cc)
-nulls_accept m n _ h = absurd (cc)
+nulls_accept : (m : Nullability) (parts : Bool) (n : ℕ) (s : ScalarValue) → is_stored m storage.Nulls parts (value_of s) ≡ true → Accepts (Nulls n) (value_of s)
+nulls_accept m parts n (scalar.Bool b) h = absurd (cc)
+nulls_accept m parts n _ h = absurd (cc)
 
-bits_accept : (m : Nullability) (bits : List Bool) (s : ScalarValue) → is_stored m storage.Bits (value_of s) ≡ true → Accepts (Bits bits) (value_of s)
-bits_accept m bits (scalar.Bool b) h = tt
-bits_accept m bits _ h = absurd (cc)
+bits_accept : (m : Nullability) (parts : Bool) (bits : List Bool) (s : ScalarValue) → is_stored m storage.Bits parts (value_of s) ≡ true → Accepts (Bits bits) (value_of s)
+bits_accept m parts bits (scalar.Bool b) h = tt
+bits_accept m parts bits _ h = absurd (cc)
 
-integers_accept : (m : Nullability) (p : PType) (zs : Numbers PType) (s : ScalarValue) → zs.kind ≡ p → is_stored m (storage.Integers p) (value_of s) ≡ true
+integers_accept : (m : Nullability) (parts : Bool) (p : PType) (zs : Numbers PType) (s : ScalarValue) → zs.kind ≡ p → is_stored m (storage.Integers p) parts (value_of s) ≡ true
     → Accepts (Integers zs) (value_of s)
-integers_accept m p zs (scalar.Integer z) e h = ap (λ o. in_range o z) e ∙ h
-integers_accept m p zs _ e h = absurd (cc)
+integers_accept m parts p zs (scalar.Integer z) e h = ap (λ o. in_range o z) e ∙ h
+integers_accept m parts p zs _ e h = absurd (cc)
 
-decimals_accept : (m : Nullability) (p r : ℕ) (zs : Numbers DecimalType) (s : ScalarValue) → p ≤ 38 → zs.kind ≡ smallest_width p
-    → is_stored m (storage.Decimals p r) (value_of s) ≡ true → Accepts (Decimals zs r) (value_of s)
-decimals_accept m p r zs (scalar.Decimal d) few e h = (
+decimals_accept : (m : Nullability) (parts : Bool) (p r : ℕ) (zs : Numbers DecimalType) (s : ScalarValue) → p ≤ 38 → zs.kind ≡ smallest_width p
+    → is_stored m (storage.Decimals p r) parts (value_of s) ≡ true → Accepts (Decimals zs r) (value_of s)
+decimals_accept m parts p r zs (scalar.Decimal d) few e h = (
   digits_fit zs.kind p d.unscaled e few (second_so (d.scale == r) _ h),
   (unsigned_Decides d.scale r).0 (first_so (d.scale == r) _ h),
 )
-decimals_accept m p r zs _ few e h = absurd (cc)
+decimals_accept m parts p r zs _ few e h = absurd (cc)
 
-text_accepts : (m : Nullability) (rs : List (List ℕ)) (s : ScalarValue) → is_stored m storage.Text (value_of s) ≡ true → Accepts (Bytes rs) (value_of s)
-text_accepts m rs (scalar.Bytes bs) h = tt
-text_accepts m rs _ h = absurd (cc)
+text_accepts : (m : Nullability) (parts : Bool) (rs : List (List ℕ)) (s : ScalarValue) → is_stored m storage.Text parts (value_of s) ≡ true → Accepts (Bytes rs) (value_of s)
+text_accepts m parts rs (scalar.Bytes bs) h = tt
+text_accepts m parts rs _ h = absurd (cc)
 
-bytes_accept : (m : Nullability) (rs : List (List ℕ)) (s : ScalarValue) → is_stored m storage.Bytes (value_of s) ≡ true → Accepts (Bytes rs) (value_of s)
-bytes_accept m rs (scalar.Bytes bs) h = tt
-bytes_accept m rs _ h = absurd (cc)
+bytes_accept : (m : Nullability) (parts : Bool) (rs : List (List ℕ)) (s : ScalarValue) → is_stored m storage.Bytes parts (value_of s) ≡ true → Accepts (Bytes rs) (value_of s)
+bytes_accept m parts rs (scalar.Bytes bs) h = tt
+bytes_accept m parts rs _ h = absurd (cc)
 
 pub accepted : (ty : DataType) (values : Values) (s : ScalarValue) → HaveStorage (storage_of ty) values → is_of ty (value_of s) ≡ true
     → Accepts values (value_of s)
-accepted ty (Nulls n) s kind h = nulls_accept (nullability_of ty) n s (stored_as ty storage.Nulls (value_of s) kind h)
-accepted ty (Bits bits) s kind h = bits_accept (nullability_of ty) bits s (stored_as ty storage.Bits (value_of s) kind h)
+accepted ty (Nulls n) s kind h =
+    nulls_accept (nullability_of ty) (parts_in ty (value_of s)) n s (stored_as ty storage.Nulls (value_of s) kind h)
+accepted ty (Bits bits) s kind h =
+    bits_accept (nullability_of ty) (parts_in ty (value_of s)) bits s (stored_as ty storage.Bits (value_of s) kind h)
 accepted ty (Integers zs) s kind h =
-    integers_accept (nullability_of ty) kind.0 zs s kind.2 (stored_as ty (storage.Integers kind.0) (value_of s) kind.1 h)
+    integers_accept (nullability_of ty) (parts_in ty (value_of s)) kind.0 zs s kind.2 (stored_as ty (storage.Integers kind.0) (value_of s) kind.1 h)
 accepted ty (Decimals zs r) s kind h =
-    decimals_accept (nullability_of ty) kind.0 r zs s kind.2 kind.3 (stored_as ty (storage.Decimals kind.0 r) (value_of s) kind.1 h)
-accepted ty (Bytes rs) s (inl e) h = text_accepts (nullability_of ty) rs s (stored_as ty storage.Text (value_of s) e h)
-accepted ty (Bytes rs) s (inr e) h = bytes_accept (nullability_of ty) rs s (stored_as ty storage.Bytes (value_of s) e h)
+    decimals_accept (nullability_of ty) (parts_in ty (value_of s)) kind.0 r zs s kind.2 kind.3 (stored_as ty (storage.Decimals kind.0 r) (value_of s) kind.1 h)
+accepted ty (Bytes rs) s (inl e) h =
+    text_accepts (nullability_of ty) (parts_in ty (value_of s)) rs s (stored_as ty storage.Text (value_of s) e h)
+accepted ty (Bytes rs) s (inr e) h =
+    bytes_accept (nullability_of ty) (parts_in ty (value_of s)) rs s (stored_as ty storage.Bytes (value_of s) e h)
+
+-- no type with such values is nested
+pub kept_unnested : (st : Storage) (values : Values) → HaveStorage st values → has_parts st ≡ false
+kept_unnested st (Nulls n) e = ap has_parts e
+kept_unnested st (Bits bs) e = ap has_parts e
+kept_unnested st (Integers zs) e = ap has_parts e.1
+kept_unnested st (Decimals zs s) e = ap has_parts e.1
+kept_unnested st (Bytes rs) (inl e) = ap has_parts e
+kept_unnested st (Bytes rs) (inr e) = ap has_parts e
+
+-- the zero value of the types of a storage that isn't nested
+abbrev zero_stored : Storage → Value
+zero_stored storage.Nulls = null
+zero_stored storage.Bits = of.boolean false
+zero_stored (storage.Integers p) = of.integer (pos 0)
+zero_stored (storage.Decimals p s) = of.decimal (pos 0) s
+zero_stored _ = of.bytes []
+
+zero_known : (ty : DataType) → is_nested ty ≡ false → zero_stored (storage_of ty) ≡ zero_of ty
+zero_known type.null h = refl
+zero_known (type.bool m) h = refl
+zero_known (type.primitive p m) h = refl
+zero_known (type.decimal p s m) h = refl
+zero_known (type.utf8 m) h = refl
+zero_known (type.binary m) h = refl
+zero_known _ h = absurd (cc)
 
 -- what stands under a null is the type's zero value
 zero_is : (st : Storage) (values : Values) → HaveStorage st values → zero_in values ≡ zero_stored st
@@ -194,10 +226,12 @@ zero_is st (Bytes rs) (inl e) = ap zero_stored (sym e)
 zero_is st (Bytes rs) (inr e) = ap zero_stored (sym e)
 
 zero_of_type : (ty : DataType) (values : Values) → HaveStorage (storage_of ty) values → is_of ty (zero_in values) ≡ true
-zero_of_type ty values kind = ap (is_of ty) (zero_is (storage_of ty) values kind) ∙ zero_typed ty
+zero_of_type ty values kind =
+    let plain : is_nested ty ≡ false = kept_unnested (storage_of ty) values kind in
+    ap (is_of ty) (zero_is (storage_of ty) values kind ∙ zero_known ty plain) ∙ zero_typed ty plain
 
 null_of_type : (ty : DataType) → nullability_of ty ≡ Nullable → is_of ty null ≡ true
-null_of_type ty e = ap (λ m. is_stored m (storage_of ty) null) e
+null_of_type ty e = ap is_nullable e
 
 all_masked : (p : Value → Bool) (d : Value) (bits : List Bool) (vs : List Value) → (0 < length bits → p d ≡ true) → list_all p vs ≡ true
     → list_all p (masked_by d bits vs) ≡ true
@@ -354,7 +388,9 @@ row_typed : (m : Nullability) (rows : ArgumentRows) (n i : ℕ) → AreStored m 
 row_typed m stored.Nulls n i are ranged lt = refl
 row_typed m (stored.Bits bs) n i are ranged lt = refl
 row_typed m (stored.Integers zs) n i are ranged lt =
-    ap (λ st. is_stored (nullability_of (type_of zs.dtype.now)) st (of.integer (integer_in zs i))) are.0.3 ∙ ranged i lt
+    let ty = type_of zs.dtype.now in
+    let v = of.integer (integer_in zs i) in
+    ap (λ st. is_stored (nullability_of ty) st (parts_in ty v) v) are.0.3 ∙ ranged i lt
 row_typed m (stored.Decimals ds) n i are ranged lt =
     and_from _ _ ((unsigned_Decides ds.decimal.scale ds.decimal.scale).1 refl) (row_digits ds.decimal ds.rows n i are lt)
 row_typed m (stored.Bytes bs) n i are ranged lt = by_storage bs.storage (row_stored bs.storage bs.rows n i are lt)

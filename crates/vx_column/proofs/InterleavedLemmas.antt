@@ -7,6 +7,7 @@ use Rattle.std.proofs.lemmas.Bool.Decides.{nat_tests}
 use Rattle.std.proofs.lemmas.List.{length-map}
 use Rattle.std.proofs.lemmas.Option.{get_or_from_slice_get}
 use Rattle.std.proofs.Math.ListN.{get_or-map as get_or_mapped}
+use Rattle.vx_value.specs.Storage.{is_nested}
 use Rattle.vx_value.specs.Types.{DataType, primitive, nullability_of}
 use Rattle.vx_value.specs.Typed.{Typed}
 use Rattle.vx_value.specs.Values.{Value, integer}
@@ -151,15 +152,15 @@ no_cells : {X : Type 0} (xs : List X) → length xs ≡ 0 → xs ≡ []
 no_cells [] h = refl
 no_cells (x ∷ xs) h = absurd (omega arith)
 
-pub no_pairs : (arrays places : Tree) (values : List Tree) (u : Tree) → IsWell arrays → len arrays ≡ 0 → u ≡ empty_of (first_type values)
+pub no_pairs : (arrays places : Tree) (values : List Tree) (u : Tree) → is_nested (first_type values) ≡ false → IsWell arrays → len arrays ≡ 0 → u ≡ empty_of (first_type values)
     → IsInterleaving arrays places values u
-no_pairs arrays places values u well none new =
+no_pairs arrays places values u plain well none new =
     let constant = is_constant (datum arrays) && is_constant (datum places) in
     let cells : cells_interleaved arrays places values ≡ [] =
     ap (λ is. paired_cells (map rows values) is (rows places)) (no_cells (rows arrays) (rows_counted arrays well ∙ none)) in
     subst (λ n. IsLookedUp (first_type values) n (cells_interleaved arrays places values) constant u) (sym none)
     (subst (λ cs. IsLookedUp (first_type values) 0 cs constant u) (sym cells)
-    (subst (IsLookedUp (first_type values) 0 [] constant) (sym new) (empty_found (first_type values) constant)))
+    (subst (IsLookedUp (first_type values) 0 [] constant) (sym new) (empty_found (first_type values) constant plain)))
 
 -- ---- one pair for every row
 

@@ -24,6 +24,7 @@ pub mod FormedLemmas
 pub mod MadeLemmas
 pub mod PassedLemmas
 mod RowsLemmas
+pub mod UnnestedLemmas
 pub mod UnscaledLemmas
 pub mod ViewsLemmas
 pub mod ArithmeticLemmas

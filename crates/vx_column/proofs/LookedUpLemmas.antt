@@ -8,6 +8,7 @@ use Rattle.std.proofs.lemmas.Bool.{false≢true}
 use Rattle.std.proofs.lemmas.List.{length-map}
 use Rattle.std.proofs.lemmas.Simd.{map-map}
 use Rattle.std.proofs.Math.ListN.{get_or-map as get_or_mapped}
+use Rattle.vx_value.specs.Storage.{is_nested}
 use Rattle.vx_value.specs.Types as type
 use Rattle.vx_value.specs.Types.{DataType, primitive, nullability_of}
 use Rattle.vx_value.specs.IsOf.{is_of}
@@ -235,8 +236,8 @@ canonical_found ty n cells constant u well other h = record {
 
 -- ---- no rows
 
-pub empty_found : (ty : DataType) (constant : Bool) → IsLookedUp ty 0 [] constant (empty_of ty)
-empty_found type.null constant = record {
+pub empty_found : (ty : DataType) (constant : Bool) → is_nested ty ≡ false → IsLookedUp ty 0 [] constant (empty_of ty)
+empty_found type.null constant plain = record {
   typed = refl;
   counted = refl;
   shown = refl;
@@ -244,7 +245,7 @@ empty_found type.null constant = record {
   constant_kept = refl;
   formed = not_flat_formed (nulls_of 0) refl;
 }
-empty_found (type.bool m) constant = record {
+empty_found (type.bool m) constant plain = record {
   typed = refl;
   counted = refl;
   shown = refl;
@@ -252,7 +253,7 @@ empty_found (type.bool m) constant = record {
   constant_kept = refl;
   formed = record { validity_told = λ k. refl; bits_cleared = λ k. refl };
 }
-empty_found (type.primitive p m) constant = record {
+empty_found (type.primitive p m) constant plain = record {
   typed = refl;
   counted = refl;
   shown = refl;
@@ -260,7 +261,7 @@ empty_found (type.primitive p m) constant = record {
   constant_kept = refl;
   formed = record { validity_told = λ k. refl; bits_cleared = λ k. absurd (false≢true k) };
 }
-empty_found (type.decimal p s m) constant = record {
+empty_found (type.decimal p s m) constant plain = record {
   typed = refl;
   counted = refl;
   shown = refl;
@@ -268,7 +269,7 @@ empty_found (type.decimal p s m) constant = record {
   constant_kept = refl;
   formed = record { validity_told = λ k. refl; bits_cleared = λ k. absurd (false≢true k) };
 }
-empty_found (type.utf8 m) constant = record {
+empty_found (type.utf8 m) constant plain = record {
   typed = refl;
   counted = refl;
   shown = refl;
@@ -276,7 +277,7 @@ empty_found (type.utf8 m) constant = record {
   constant_kept = refl;
   formed = record { validity_told = λ k. refl; bits_cleared = λ k. absurd (false≢true k) };
 }
-empty_found (type.binary m) constant = record {
+empty_found (type.binary m) constant plain = record {
   typed = refl;
   counted = refl;
   shown = refl;
@@ -284,18 +285,19 @@ empty_found (type.binary m) constant = record {
   constant_kept = refl;
   formed = record { validity_told = λ k. refl; bits_cleared = λ k. absurd (false≢true k) };
 }
+empty_found _ constant plain = absurd (cc)
 
 no_cells : {X : Type 0} (xs : List X) → length xs ≡ 0 → xs ≡ []
 no_cells [] h = refl
 no_cells (x ∷ xs) h = absurd (omega arith)
 
-pub none_found : (ty : DataType) (t : Tree) (vs : List Cell) (u : Tree) → IsWell t → len t ≡ 0 → u ≡ empty_of ty
+pub none_found : (ty : DataType) (t : Tree) (vs : List Cell) (u : Tree) → is_nested ty ≡ false → IsWell t → len t ≡ 0 → u ≡ empty_of ty
     → IsLookedUp ty (len t) (taken_cells (rows t) vs) (is_constant (datum t)) u
-none_found ty t vs u well none new =
+none_found ty t vs u plain well none new =
     let cells : rows t ≡ [] = no_cells (rows t) (rows_counted t well ∙ none) in
     subst (λ n. IsLookedUp ty n (taken_cells (rows t) vs) (is_constant (datum t)) u) (sym none)
     (subst (λ cs. IsLookedUp ty 0 (taken_cells cs vs) (is_constant (datum t)) u) (sym cells)
-    (subst (IsLookedUp ty 0 [] (is_constant (datum t))) (sym new) (empty_found ty (is_constant (datum t)))))
+    (subst (IsLookedUp ty 0 [] (is_constant (datum t))) (sym new) (empty_found ty (is_constant (datum t)) plain)))
 
 -- ---- a code that is a constant
 

@@ -19,6 +19,7 @@ use Rattle.vx_value.specs.IsOf.{is_null, is_of, is_stored}
 use Rattle.vx_value.specs.Values.{Value, null, boolean, integer, bytes}
 use Rattle.vx_value.specs.Cell.{Cell, value, fault}
 use Rattle.vx_value.specs.Storage.{storage_of}
+use Rattle.vx_column.proofs.StoredLemmas.{parts_in}
 use Rattle.vx_value.specs.declared.dtype.Storage.{Storage}
 use Rattle.vx_value.specs.declared.dtype.Storage.TheVariants as storage
 use Rattle.vx_value.specs.declared.dtype.Nullability.{Nullability}
@@ -233,14 +234,14 @@ false_row zero i = refl
 false_row (suc n) zero = refl
 false_row (suc n) (suc i) = false_row n i
 
-null_nullable : (m : Nullability) (st : Storage) (v : Value) → is_stored m st v ≡ true → v ≡ null → Nullable ≡ m
-null_nullable Nullable st v h e = refl
-null_nullable NonNullable st v h e = let no : false ≡ true = ap (is_stored NonNullable st) (sym e) ∙ h in absurd (cc)
+null_nullable : (m : Nullability) (st : Storage) (parts : Bool) (v : Value) → is_stored m st parts v ≡ true → v ≡ null → Nullable ≡ m
+null_nullable Nullable st parts v h e = refl
+null_nullable NonNullable st parts v h e = let no : false ≡ true = ap (is_stored NonNullable st parts) (sym e) ∙ h in absurd (cc)
 
 pub null_repeated : (s : Typed) (n : ℕ) → is_of s.of_type s.value ≡ true → is_null s.value ≡ true → IsRepeatedValidity s n (rows_valid.Bits (replicate n false))
 null_repeated s n typed h = (
   length-replicate n false,
-  null_nullable (nullability_of s.of_type) (storage_of s.of_type) s.value typed (null_is s.value h),
+  null_nullable (nullability_of s.of_type) (storage_of s.of_type) (parts_in s.of_type s.value) s.value typed (null_is s.value h),
   λ i. false_row n i
       ∙ ap not (sym h),
 )

@@ -16,6 +16,7 @@ use Rattle.vx_tree.specs.Tree.{Tree, node, no_slots, slot, slots_of, dtype, len,
 use Rattle.vx_tree.specs.Cells.{rows, valid_cells}
 use Rattle.vx_tree.specs.Keeps.{KeepsExactly}
 use Rattle.vx_tree.proofs.KeepsLemmas.{exactly_of_rows}
+use Rattle.vx_column.proofs.StoredLemmas.{parts_in}
 
 pub nulls_filtered : (bits : List Bool) (t u : Tree) → t ≡ nulls_of (len t) → length bits ≡ len t → u ≡ nulls_of (true_count bits)
     → KeepsExactly (filter_of bits t) u
@@ -53,15 +54,17 @@ of_nulls : (ty : DataType) → storage_of ty ≡ Nulls → ty ≡ type.null
 of_nulls type.null h = refl
 of_nulls _ h = absurd (cc)
 
-null_stored : (m : Nullability) (v : Value) → is_stored m Nulls v ≡ true → v ≡ null
-null_stored m null h = refl
-null_stored m _ h = absurd (cc)
+null_stored : (m : Nullability) (parts : Bool) (v : Value) → is_stored m Nulls parts v ≡ true → v ≡ null
+null_stored m parts null h = refl
+null_stored m parts _ h = absurd (cc)
 
 pub nulls_repeated : (s : Typed) (n : ℕ) (u : Tree) → storage_of s.of_type ≡ Nulls → is_of s.of_type s.value ≡ true → u ≡ nulls_of n
     → KeepsExactly (constant_of s n) u
 nulls_repeated s n u stored typed made =
-    let kind : is_stored (nullability_of s.of_type) Nulls s.value ≡ true = ap (λ st. is_stored (nullability_of s.of_type) st s.value) (sym stored) ∙ typed in
-    let shown = ap (λ v. replicate n (value v)) (null_stored (nullability_of s.of_type) s.value kind) in
+    let m = nullability_of s.of_type in
+    let parts : Bool = parts_in s.of_type s.value in
+    let kind : is_stored m Nulls parts s.value ≡ true = ap (λ st. is_stored m st parts s.value) (sym stored) ∙ typed in
+    let shown = ap (λ v. replicate n (value v)) (null_stored m parts s.value kind) in
     let kept = exactly_of_rows s.of_type n (enc.constant s) enc.nulls no_slots no_slots shown (λ h. tt) in
     subst (KeepsExactly (constant_of s n)) (sym made) (subst (λ ty. KeepsExactly (constant_of s n) (node ty n enc.nulls no_slots))
     (of_nulls s.of_type stored) kept)

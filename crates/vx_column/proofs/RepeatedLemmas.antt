@@ -36,7 +36,7 @@ use Rattle.vx_tree.proofs.ValiditiesLemmas.{no_child, same_nullability}
 use Rattle.vx_tree.proofs.NativesLemmas.{map_copies}
 use Rattle.vx_column.specs.Stored.{boolean_column, integer_column, bytes_column, decimal_column}
 use Rattle.vx_column.proofs.KeepsLemmas.{same_exactly, any_rows, copies_clean}
-use Rattle.vx_column.proofs.StoredLemmas.{column_of_bytes, stored_boolean, stored_number, stored_as_bytes, stored_decimal}
+use Rattle.vx_column.proofs.StoredLemmas.{parts_in, column_of_bytes, stored_boolean, stored_number, stored_as_bytes, stored_decimal}
 use Rattle.vx_column.specs.Expanded.{repeated_validity, expanded, expanded_stored, expansion}
 use Rattle.vx_value.specs.declared.decimal.DecimalDType.{DecimalDType}
 use Rattle.vx_value.specs.declared.decimal.DecimalType.{DecimalType}
@@ -109,7 +109,7 @@ module _ (s : Typed) (n : ℕ) (typed : is_of s.of_type s.value ≡ true) (v : V
       λ i. column (of_type i) (long i) (bool (made i)) (child_of (told i) (long i)) in
       IfOk-weaker r _ _
       (λ c new. repeated_exactly boolean bool s (λ n xs tys css. refl) bit n (canonical_tree c)
-      (λ k. ap boolean valued ∙ stored_boolean (nullability_of s.of_type) (storage_of s.of_type) s.value stored typed k) (new ∙ is)) column_made
+      (λ k. ap boolean valued ∙ stored_boolean (nullability_of s.of_type) (storage_of s.of_type) (parts_in s.of_type s.value) s.value stored typed k) (new ∙ is)) column_made
 
   pub integers_repeated : (p q : PType) (z : ℤ) (zs : List ℤ) → storage_of s.of_type ≡ Integers p → z ≡ unwrap_or (integer_in s.value) (pos 0) → q ≡ p
       → zs ≡ replicate n z →
@@ -122,7 +122,7 @@ module _ (s : Typed) (n : ℕ) (typed : is_of s.of_type s.value ≡ true) (v : V
       λ i. column (of_type i) (long i) (primitive (same i) (made i)) (child_of (told i) (long i)) in
       IfOk-weaker r _ _
       (λ c new. repeated_exactly integer (primitive p) s (λ n xs tys css. refl) z n (canonical_tree c)
-      (λ k. ap integer valued ∙ stored_number p (nullability_of s.of_type) (storage_of s.of_type) s.value stored typed k) (new ∙ is)) column_made
+      (λ k. ap integer valued ∙ stored_number p (nullability_of s.of_type) (storage_of s.of_type) (parts_in s.of_type s.value) s.value stored typed k) (new ∙ is)) column_made
 
   pub bytes_repeated : (st : Storage) (x : List ℕ) (rs : ViewedRows) → storage_of s.of_type ≡ st → (st ≡ Text) ⊎ (st ≡ Bytes)
       → x ≡ unwrap_or (bytes_in s.value) [] → rs ≡ repeated n x →
@@ -138,7 +138,7 @@ module _ (s : Typed) (n : ℕ) (typed : is_of s.of_type s.value ≡ true) (v : V
       λ i. column (of_type i) (long i) (views (made i)) (child_of (told i) (long i)) in
       IfOk-weaker r _ _
       (λ c new. repeated_exactly (λ y. of.bytes (bytes_at (x ∷ []) y)) (λ vs. views (viewed vs (x ∷ []))) s (λ n xs tys css. refl) all n (canonical_tree c)
-      (λ k. ap of.bytes (whole ∙ valued) ∙ stored_as_bytes (nullability_of s.of_type) (storage_of s.of_type) s.value there typed k) (new ∙ is)) column_made
+      (λ k. ap of.bytes (whole ∙ valued) ∙ stored_as_bytes (nullability_of s.of_type) (storage_of s.of_type) (parts_in s.of_type s.value) s.value there typed k) (new ∙ is)) column_made
 
   pub decimals_repeated : (d : DecimalDType) (m : Nullability) (w : DecimalType) (z : ℤ) (zs : List ℤ) → s.of_type ≡ type.decimal d.precision d.scale m
       → z ≡ unscaled_of s.value → zs ≡ replicate n z →
@@ -149,12 +149,13 @@ module _ (s : Typed) (n : ℕ) (typed : is_of s.of_type s.value ≡ true) (v : V
       ap (type.decimal d.precision d.scale) (nullability ∙ ap nullability_of stored) ∙ sym stored in
       let is : decimal_column d w zs v ≡ column s.of_type n (decimals w (replicate n z)) (child_of (repeated_validity s) n) =
       λ i. column (of_type i) (long i) (decimals w (made i)) (child_of (told i) (long i)) in
-      let there : is_stored (nullability_of s.of_type) (stored_decimals d) s.value ≡ true =
-      ap (λ ty. is_stored (nullability_of s.of_type) (storage_of ty) s.value) (sym stored) ∙ typed in
+      let parts : Bool = parts_in s.of_type s.value in
+      let there : is_stored (nullability_of s.of_type) (stored_decimals d) parts s.value ≡ true =
+      ap (λ ty. is_stored (nullability_of s.of_type) (storage_of ty) parts s.value) (sym stored) ∙ typed in
       IfOk-weaker r _ _
       (λ c new. repeated_exactly (λ x. of.decimal x d.scale) (decimals w) s (λ n xs tys css. ap (λ ty. node_cells ty n (decimals w xs) tys css) stored) z n
       (canonical_tree c)
-      (λ k. ap (λ x. of.decimal x d.scale) valued ∙ stored_decimal d.precision d.scale (nullability_of s.of_type) s.value there k) (new ∙ is)) column_made
+      (λ k. ap (λ x. of.decimal x d.scale) valued ∙ stored_decimal d.precision d.scale (nullability_of s.of_type) parts s.value there k) (new ∙ is)) column_made
 
 -- what passes, repeated, passes everywhere
 pub all_copies : {A : Type 0} (p : A → Bool) (n : ℕ) (x : A) → p x ≡ true → list_all p (replicate n x) ≡ true

@@ -14,10 +14,8 @@ use Rattle.vx_column.proofs.ValidRowsLemmas.{by_rows}
 use Rattle.vx_column.proofs.PassedLemmas.{all_passed, passed_at}
 use Rattle.vx_value.specs.Cell.{Cell, value}
 use Rattle.vx_value.specs.Values.{decimal}
-use Rattle.vx_value.specs.Types as type
-use Rattle.vx_value.specs.declared.dtype.Nullability.TheVariants.{NonNullable}
 use Rattle.vx_value.proofs.DecimalsLemmas.{ten_to}
-use Rattle.vx_value.proofs.DefaultsLemmas.{zero_typed}
+use Rattle.vx_value.proofs.DefaultsLemmas.{zero_has_digits}
 use Rattle.vx_column.specs.ValidRows.{is_valid}
 use Rattle.vx_column.specs.declared.rows.valid.ValidRows.{ValidRows}
 use Rattle.vx_column.specs.Operands.{zero_unless, calculated_rows}
@@ -44,7 +42,7 @@ some_number p = let one : 10 ^ 0 ≤ 10 ^ p = ten_to {p = 0} {q = p} (omega arit
 digits_unless : (p s : ℕ) (b : Bool) (c : Cell) (z : ℤ) → value (decimal z s) ≡ zero_unless (decimal (pos 0) s) b c
     → (c ≡ value (decimal z s) → has_digits p z ≡ true) → has_digits p z ≡ true
 digits_unless p s true c z e h = h (sym e)
-digits_unless p s false c z e h = let same : pos 0 ≡ z = cc (e) in subst (λ x. has_digits p x ≡ true) same (zero_typed (type.decimal p 0 NonNullable))
+digits_unless p s false c z e h = let same : pos 0 ≡ z = cc (e) in subst (λ x. has_digits p x ≡ true) same (zero_has_digits p)
 
 module _ {T : Type 0} (read : T → ℤ) (d : DecimalDType) (valid : ValidRows) (cell : ℕ → Cell) (n : ℕ) (xs : List T) (zs : List ℤ) (are : zs ≡ map read xs)
     (made : map (λ x. value (decimal (read x) d.scale)) xs ≡ calculated_rows (decimal (pos 0) d.scale) (is_valid valid) cell n)

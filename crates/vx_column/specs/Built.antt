@@ -8,7 +8,7 @@ use Rattle.vx_value.specs.Typed.{Typed}
 use Rattle.vx_value.specs.Parts.{boolean_in, integer_in, bytes_in}
 use Rattle.vx_value.specs.Storage.{storage_of}
 use Rattle.vx_value.specs.declared.dtype.Storage.{Storage}
-use Rattle.vx_value.specs.declared.dtype.Storage.TheVariants.{Nulls, Bits, Integers, Decimals, Text, Bytes}
+use Rattle.vx_value.specs.declared.dtype.Storage.TheVariants.{Nulls, Bits, Integers, Decimals, Text, Bytes, Nested}
 use Rattle.vx_value.specs.declared.error.VortexError.{VortexError}
 use Rattle.vx_value.specs.declared.error.VortexError.TheVariants.{OutOfMemory, InvalidArgument, TooLong, Fault}
 use Rattle.vx_value.specs.declared.error.ArgKind.TheVariants.{BadType}
@@ -71,7 +71,7 @@ abbrev pub without_point : Value → Option ℤ
 without_point (decimal z s) = Some z
 without_point _ = None
 
--- the column of the rows, by how the type stores its values: a line for each storage
+-- the column of the rows, by how the type stores its values: a line for each storage. No column is nested yet.
 abbrev pub built_stored : Storage → DataType → List Value → Tree
 built_stored Nulls ty vs = nulls_of (length vs)
 built_stored Bits ty vs = boolean_rows (nullability_of ty) (map boolean_in vs)
@@ -79,6 +79,7 @@ built_stored (Integers p) ty vs = integer_rows (nullability_of ty) p (map intege
 built_stored (Decimals p s) ty vs = decimal_rows ty (map without_point vs)
 built_stored Text ty vs = bytes_rows ty (map bytes_in vs)
 built_stored Bytes ty vs = bytes_rows ty (map bytes_in vs)
+built_stored Nested ty vs = nulls_of (length vs)
 
 abbrev pub built : TypedRows → Tree
 built r = built_stored (storage_of r.of_type) r.of_type r.values

@@ -7,7 +7,7 @@ use Rattle.vx_value.specs.Parts.{boolean_in, integer_in, bytes_in}
 use Rattle.vx_value.specs.Storage.{storage_of}
 use Rattle.vx_value.specs.Decimals.{smallest_width}
 use Rattle.vx_value.specs.declared.dtype.Storage.{Storage}
-use Rattle.vx_value.specs.declared.dtype.Storage.TheVariants.{Nulls, Bits, Integers, Decimals, Text, Bytes}
+use Rattle.vx_value.specs.declared.dtype.Storage.TheVariants.{Nulls, Bits, Integers, Decimals, Text, Bytes, Nested}
 use Rattle.vx_tree.specs.Tree.{Tree, node, constant, nulls_of}
 use Rattle.vx_tree.specs.Columns.{empty_of}
 use Rattle.vx_tree.specs.Validities.{without_nulls}
@@ -21,7 +21,7 @@ use Rattle.vx_tree.specs.Views.{repeated}
 abbrev pub repeated_validity : Typed → Validity
 repeated_validity s = if is_null s.value then AllInvalid else without_nulls (nullability_of s.of_type)
 
--- n rows of the scalar, by how its type's values are stored; under null stand false, 0 or no bytes
+-- n rows of the scalar, by how its type's values are stored; under null stand false, 0 or no bytes. No column is nested yet.
 abbrev pub expanded_stored : Storage → Typed → ℕ → Tree
 expanded_stored Nulls s n = nulls_of n
 expanded_stored Bits s n = boolean_column (replicate n (unwrap_or (boolean_in s.value) false)) (repeated_validity s)
@@ -29,6 +29,7 @@ expanded_stored (Integers p) s n = integer_column p (replicate n (unwrap_or (int
 expanded_stored (Decimals p k) s n = scaled_column p k (smallest_width p) (replicate n (unscaled_of s.value)) (repeated_validity s)
 expanded_stored Text s n = bytes_column Text (repeated n (unwrap_or (bytes_in s.value) [])) (repeated_validity s)
 expanded_stored Bytes s n = bytes_column Bytes (repeated n (unwrap_or (bytes_in s.value) [])) (repeated_validity s)
+expanded_stored Nested s n = nulls_of n
 
 -- n rows of the scalar; without rows, the empty column of its type
 abbrev pub expanded : Typed → ℕ → Tree

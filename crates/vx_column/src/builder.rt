@@ -1,12 +1,13 @@
 //! Columns built row by row.
 
-ghost use Rattle.std.specs.Prelude.{◌≡◌, ◌⊎◌, ◌↔◌, ◌+◌, ◌<◌, ◌^◌, ◌∷◌, [], true, length, map, replicate, Some, None, IsTrue, IfOk, IfErr, OnOk, OnErr, MatchResult};
+ghost use Rattle.std.specs.Prelude.{◌≡◌, ◌⊎◌, ◌↔◌, ◌+◌, ◌<◌, ◌^◌, ◌∷◌, [], true, false, length, map, replicate, Some, None, IsTrue, IfOk, IfErr, OnOk, OnErr, MatchResult};
 ghost use Rattle.std.specs.List.{list_all};
 ghost use Rattle.vx_value.specs.Errors.{OnlyOutOfMemory};
 ghost use Rattle.vx_value.specs.Types.{nullability_of};
 ghost use Rattle.vx_value.specs.declared.dtype.Nullability.TheVariants.{Nullable};
 ghost use Rattle.vx_value.specs.Values.{null};
 ghost use Rattle.vx_value.specs.View.{type_of};
+ghost use Rattle.vx_value.specs.Storage.{is_nested};
 ghost use Rattle.vx_value.specs.Cell.{value};
 ghost use Rattle.vx_value.specs.IsOf.{is_of};
 ghost use Rattle.vx_tree.specs.Cells.{rows, HasNoFault};
@@ -56,8 +57,10 @@ impl Model for Builder {
 }
 
 impl Builder {
-    /// Makes a builder of an empty column of type `dtype`, with room for `capacity` rows. Fails only with `OutOfMemory`.
+    /// Makes a builder of an empty column of type `dtype`, which must not be nested, with room for `capacity` rows. Fails only
+    /// with `OutOfMemory`.
     pub fn with_capacity(alloc: Global, dtype: DType, capacity: usize) -> VortexResult<Builder>
+        requires { is_nested (type_of dtype) ≡ false }
         ensures ok { IfOk result (λ b. b ≡ record { of_type = type_of dtype; values = [] }) }
         ensures err { OnlyOutOfMemory result }
     {
@@ -70,10 +73,11 @@ impl Builder {
         })
     }
 
-    /// Returns the type of the rows.
+    /// Returns the type of the rows, which isn't nested.
     pub fn dtype(&self) -> &DType
         ensures dtype { type_of result.now ≡ self.now.of_type }
         ensures typed { list_all (is_of self.now.of_type) self.now.values ≡ true }
+        ensures unnested { is_nested self.now.of_type ≡ false }
     {
         let _values = &self.values;
         &self.dtype

@@ -1,8 +1,8 @@
 //! Constants expanded to canonical columns.
 
-ghost use Rattle.std.specs.Prelude.{◌≡◌, IfOk};
+ghost use Rattle.std.specs.Prelude.{◌≡◌, IfOk, false};
 ghost use Rattle.vx_value.specs.Errors.{OnlyOutOfMemory};
-ghost use Rattle.vx_value.specs.Storage.{storage_of};
+ghost use Rattle.vx_value.specs.Storage.{storage_of, is_nested};
 ghost use Rattle.vx_tree.specs.Tree.{constant_of};
 ghost use Rattle.vx_tree.specs.Canonicals.{canonical_tree};
 ghost use Rattle.vx_tree.specs.Keeps.{KeepsExactly};
@@ -37,8 +37,10 @@ pub fn constant_canonicalize(
     }
 }
 
-/// Makes the column of `len` rows, each `scalar`; null rows store `false`, 0 or no bytes. Fails only with `OutOfMemory`.
+/// Makes the column of `len` rows, each `scalar`, whose type must not be nested; null rows store `false`, 0 or no bytes. Fails
+/// only with `OutOfMemory`.
 fn repeat(alloc: Global, scalar: &Scalar, len: usize) -> VortexResult<Canonical>
+    requires { is_nested scalar.now.of_type ≡ false }
     ensures ok { IfOk result (λ c. KeepsExactly (constant_of scalar.now len) (canonical_tree c)) }
     ensures layout { IfOk result (λ c. canonical_tree c ≡ expanded_stored (storage_of scalar.now.of_type) scalar.now len) }
     ensures err { OnlyOutOfMemory result }
@@ -70,6 +72,7 @@ fn repeat(alloc: Global, scalar: &Scalar, len: usize) -> VortexResult<Canonical>
             varbinview_column(alloc, storage, rows, &validity)
         }
         Storage::Nulls => Ok(Canonical::Null(NullArray::new(alloc, len)?)),
+        Storage::Nested => unreachable!(),
     }
 }
 

@@ -5,6 +5,7 @@ use Rattle.std.specs.List.{list_all}
 use Rattle.std.proofs.lemmas.List.{length-map}
 use Rattle.vx_value.specs.Types as type
 use Rattle.vx_value.specs.Types.{DataType}
+use Rattle.vx_value.specs.Storage.{is_nested}
 use Rattle.vx_value.specs.Values.{Value, boolean}
 use Rattle.vx_value.specs.Cell.{Cell, value, fault}
 use Rattle.vx_value.specs.IsOf.{is_of}
@@ -19,12 +20,17 @@ use Rattle.vx_column.specs.Built.{TypedRows, built, without_point, appended, val
 use Rattle.vx_column.proofs.BuiltLemmas.{rows_built}
 use Rattle.vx_column.proofs.KeepsLemmas.{whole_clean, copies_clean}
 
-pub built_type : (b : TypedRows) → dtype (built b) ≡ b.of_type
+pub built_type : (b : TypedRows) → is_nested b.of_type ≡ false → dtype (built b) ≡ b.of_type
 built_type b = by_type b.of_type b.values
   where
-    by_type : (ty : DataType) (vs : List Value) → dtype (built (record { of_type = ty; values = vs })) ≡ ty
-    by_type type.null vs = refl
-    by_type _ vs = refl
+    by_type : (ty : DataType) (vs : List Value) → is_nested ty ≡ false → dtype (built (record { of_type = ty; values = vs })) ≡ ty
+    by_type type.null vs plain = refl
+    by_type (type.bool m) vs plain = refl
+    by_type (type.primitive p m) vs plain = refl
+    by_type (type.decimal p s m) vs plain = refl
+    by_type (type.utf8 m) vs plain = refl
+    by_type (type.binary m) vs plain = refl
+    by_type _ vs plain = absurd (cc)
 
 pub built_long : (b : TypedRows) → len (built b) ≡ length b.values
 built_long b = by_type b.of_type b.values
@@ -36,6 +42,7 @@ built_long b = by_type b.of_type b.values
     by_type (type.decimal p s m) vs = length-map vs without_point
     by_type (type.utf8 m) vs = length-map vs bytes_in
     by_type (type.binary m) vs = length-map vs bytes_in
+    by_type _ vs = refl
 
 values_clean : (vs : List Value) → HasNoFault (map (λ v. value v) vs)
 values_clean [] = tt
@@ -60,12 +67,13 @@ slots_clean (type.primitive p m) vs = child_clean (map is_some (map integer_in v
 slots_clean (type.decimal p s m) vs = child_clean (map is_some (map without_point vs))
 slots_clean (type.utf8 m) vs = child_clean (map is_some (map bytes_in vs))
 slots_clean (type.binary m) vs = child_clean (map is_some (map bytes_in vs))
+slots_clean _ vs = tt
 
-pub built_rows : (b : TypedRows) → list_all (is_of b.of_type) b.values ≡ true → rows (built b) ≡ map (λ v. value v) b.values
-built_rows b h = rows_built b.of_type b.values h
+pub built_rows : (b : TypedRows) → is_nested b.of_type ≡ false → list_all (is_of b.of_type) b.values ≡ true → rows (built b) ≡ map (λ v. value v) b.values
+built_rows b plain h = rows_built b.of_type b.values plain h
 
-pub built_clean : (b : TypedRows) → list_all (is_of b.of_type) b.values ≡ true → IsClean (built b)
-built_clean b h = whole_clean (built b) (slots_clean b.of_type b.values) (subst HasNoFault (sym (built_rows b h)) (values_clean b.values))
+pub built_clean : (b : TypedRows) → is_nested b.of_type ≡ false → list_all (is_of b.of_type) b.values ≡ true → IsClean (built b)
+built_clean b plain h = whole_clean (built b) (slots_clean b.of_type b.values) (subst HasNoFault (sym (built_rows b plain h)) (values_clean b.values))
 
 -- ---- the rows of a column without faults, appended
 
@@ -78,10 +86,10 @@ values_append : (us vs : List Value) → map (λ v. value v) (us ++ vs) ≡ map 
 values_append [] vs = refl
 values_append (u ∷ us) vs = ap (λ l. value u ∷ l) (values_append us vs)
 
-pub appended_rows : (b : TypedRows) (cs : List Cell) → HasNoFault cs → list_all (is_of b.of_type) (b.values ++ values_in cs) ≡ true
+pub appended_rows : (b : TypedRows) (cs : List Cell) → is_nested b.of_type ≡ false → HasNoFault cs → list_all (is_of b.of_type) (b.values ++ values_in cs) ≡ true
     → rows (built (appended b (values_in cs))) ≡ map (λ v. value v) b.values ++ cs
-appended_rows b cs h all =
-    built_rows (appended b (values_in cs)) all ∙ values_append b.values (values_in cs) ∙ ap (λ l. map (λ v. value v) b.values ++ l) (values_back cs h)
+appended_rows b cs plain h all =
+    built_rows (appended b (values_in cs)) plain all ∙ values_append b.values (values_in cs) ∙ ap (λ l. map (λ v. value v) b.values ++ l) (values_back cs h)
 
 -- ---- the turns of a canonical column
 
@@ -99,3 +107,4 @@ built_cost b = by_type b.of_type b.values
     by_type (type.decimal p s m) vs = omega (arith, child_cost (child_by (map is_some (map without_point vs))))
     by_type (type.utf8 m) vs = omega (arith, child_cost (child_by (map is_some (map bytes_in vs))))
     by_type (type.binary m) vs = omega (arith, child_cost (child_by (map is_some (map bytes_in vs))))
+    by_type _ vs = omega arith

@@ -66,7 +66,7 @@ put_shapes (suc i) t u (slot s ss) h = ap (λ l. Some (shape_of s) ∷ l) (put_s
 
 put_fits : (b : Option TypedRows) (i : ℕ) (t u p : Tree) → shape_of t ≡ shape_of u → Fits b (put i t p) → Fits b (put i u p)
 put_fits None i t u (node ty n d ss) h w = subst (λ l. IsNode ty n d l) (put_shapes i t u ss h) w
-put_fits (Some b) i t u (node ty n d ss) h w = (w.0, w.1, part_replaced i (built b) t u (node ty n d ss) h w.2)
+put_fits (Some b) i t u (node ty n d ss) h w = (w.0, w.1, part_replaced i (built b) t u (node ty n d ss) h w.2, w.3)
 
 pub frames_replace : (fs : List Frame) (t u : Tree) → shape_of t ≡ shape_of u → AreFrames fs t → AreFrames fs u
 frames_replace [] t u h w = tt

@@ -5,6 +5,7 @@ use Rattle.std.proofs.lemmas.Bool.{lt-ltb}
 use Rattle.std.proofs.lemmas.List.{length-map}
 use Rattle.std.proofs.lemmas.Option.{slice_get_within}
 use Rattle.vx_value.specs.IsOf.{is_of}
+use Rattle.vx_value.specs.Storage.{is_nested}
 use Rattle.vx_value.specs.Cell.{value}
 use Rattle.vx_value.specs.Types.{DataType, same_type, same_type_Decides}
 use Rattle.vx_value.specs.declared.error.VortexError.{VortexError}
@@ -153,12 +154,13 @@ never_refused (Some r) i t c p h next w short long =
 module _ (fits : Tree → Bool) (fs : List Frame) (t : Tree) (i : ℕ) (next : IsAppend i t) (c p : Tree) (w : IsWithout i c p t) (clean : HasNoFault (rows c))
     (counted : length (rows c) ≡ len c) where
   -- with these rows before
-  module _ (r : TypedRows) (all : list_all (is_of r.of_type) (r.values ++ values_in (rows c)) ≡ true) (typed : r.of_type ≡ dtype t) where
+  module _ (r : TypedRows) (plain : is_nested r.of_type ≡ false) (all : list_all (is_of r.of_type) (r.values ++ values_in (rows c)) ≡ true)
+      (typed : r.of_type ≡ dtype t) where
     more_rows : rows (built (appended r (values_in (rows c)))) ≡ map (λ v. value v) r.values ++ rows c
-    more_rows = appended_rows r (rows c) clean all
+    more_rows = appended_rows r (rows c) plain clean all
 
     more_clean : IsClean (built (appended r (values_in (rows c))))
-    more_clean = built_clean (appended r (values_in (rows c))) all
+    more_clean = built_clean (appended r (values_in (rows c))) plain all
 
     more_long : len (built (appended r (values_in (rows c)))) ≡ length r.values + len c
     more_long =
@@ -166,14 +168,14 @@ module _ (fits : Tree → Bool) (fs : List Frame) (t : Tree) (i : ℕ) (next : I
         ∙ ap (λ n. length r.values + n) (length-map (rows c) value_in ∙ counted)
 
     more_typed : dtype (built (appended r (values_in (rows c)))) ≡ dtype t
-    more_typed = built_type (appended r (values_in (rows c))) ∙ typed
+    more_typed = built_type (appended r (values_in (rows c))) plain ∙ typed
 
   -- a step that leads to the node p with these rows in front
   append_by : (e : Focus) (r : TypedRows) → node_in e ≡ t → begun (builder_in e) t ≡ r → is_over fits fs e ≡ false → AreFrames fs (focus_tree e)
-      → list_all (is_of r.of_type) (r.values ++ values_in (rows c)) ≡ true → r.of_type ≡ dtype t
+      → list_all (is_of r.of_type) (r.values ++ values_in (rows c)) ≡ true → r.of_type ≡ dtype t → is_nested r.of_type ≡ false
       → KeepsFirmly (focus_tree e) (with_content (built (appended r (values_in (rows c)))) p) → IsPart (built (appended r (values_in (rows c)))) p
       → IsMove fits fs e fs (Partial p (appended r (values_in (rows c))))
-  append_by e r here first going h all typed firm part =
+  append_by e r here first going h all typed plain firm part =
       let d : Focus = Partial p (appended r (values_in (rows c))) in
       record {
         one = inr (inr (inr (inl (record {
@@ -187,29 +189,29 @@ module _ (fits : Tree → Bool) (fs : List Frame) (t : Tree) (i : ℕ) (next : I
         }))));
         kept = filled_firmly fs (focus_tree e) (focus_tree d) firm;
         frames = frames_replace fs (focus_tree e) (focus_tree d) (firmly_shape _ _ firm) h;
-        focus = (all, typed ∙ sym (put_parts i c p t w.1).0, part);
+        focus = (all, typed ∙ sym (put_parts i c p t w.1).0, part, plain);
         falls = omega (arith, next.falls c p w, ap node_potential here);
       }
 
   append_on : (b : Option TypedRows) → IsGoing fits fs b t → list_all (is_of (begun b t).of_type) ((begun b t).values ++ values_in (rows c)) ≡ true
-      → IsMove fits fs (focus_on b t) fs (Partial p (appended (begun b t) (values_in (rows c))))
-  append_on None h all =
+      → is_nested (begun b t).of_type ≡ false → IsMove fits fs (focus_on b t) fs (Partial p (appended (begun b t) (values_in (rows c))))
+  append_on None h all plain =
       let r : TypedRows = record { of_type = dtype t; values = [] } in
-      let long : len (built (appended r (values_in (rows c)))) ≡ len c = omega (arith, more_long r all refl) in
-      append_by (Whole t) r refl refl h.going h.frames all refl (next.begins (built (appended r (values_in (rows c)))) c p w (more_clean r all refl) (more_rows r all refl))
-      (next.begun (built (appended r (values_in (rows c)))) c p w h.formed (λ j. shape ((more_typed r all refl ∙ sym (next.typed c p w)) j) (long j)))
-  append_on (Some r) h all =
+      let long : len (built (appended r (values_in (rows c)))) ≡ len c = omega (arith, more_long r plain all refl) in
+      append_by (Whole t) r refl refl h.going h.frames all refl plain (next.begins (built (appended r (values_in (rows c)))) c p w (more_clean r plain all refl) (more_rows r plain all refl))
+      (next.begun (built (appended r (values_in (rows c)))) c p w h.formed (λ j. shape ((more_typed r plain all refl ∙ sym (next.typed c p w)) j) (long j)))
+  append_on (Some r) h all plain =
       let typed = h.formed.1 in
-      append_by (Partial t r) r refl refl h.going h.frames all typed
-      (next.continues (built r) (built (appended r (values_in (rows c)))) c p w (more_clean r all typed)
-      (more_rows r all typed ∙ ap (λ l. l ++ rows c) (sym (built_rows r h.formed.0))))
-      (next.continued (built r) (built (appended r (values_in (rows c)))) c p w h.formed.2 (more_typed r all typed)
-      (more_long r all typed ∙ ap (λ n. n + len c) (sym (built_long r))))
+      append_by (Partial t r) r refl refl h.going h.frames all typed plain
+      (next.continues (built r) (built (appended r (values_in (rows c)))) c p w (more_clean r plain all typed)
+      (more_rows r plain all typed ∙ ap (λ l. l ++ rows c) (sym (built_rows r plain h.formed.0))))
+      (next.continued (built r) (built (appended r (values_in (rows c)))) c p w h.formed.2 (more_typed r plain all typed)
+      (more_long r plain all typed ∙ ap (λ n. n + len c) (sym (built_long r))))
 
 pub move_append : (fits : Tree → Bool) (fs : List Frame) (b : Option TypedRows) (t : Tree) (i : ℕ) (d : Focus) → IsGoing fits fs b t → IsAppend i t
     → IsAppendedTo i b t d → IsMove fits fs (focus_on b t) fs d
 move_append fits fs b t i d h next m =
-    subst (IsMove fits fs (focus_on b t) fs) (sym m.3) (append_on fits fs t i next m.0 m.1 m.2 m.4 m.5 b h m.6)
+    subst (IsMove fits fs (focus_on b t) fs) (sym m.3) (append_on fits fs t i next m.0 m.1 m.2 m.4 m.5 b h m.6 m.7)
 
 -- ---- a step that is over
 
@@ -217,7 +219,7 @@ move_append fits fs b t i d h next m =
 move_finish : (fits : Tree → Bool) (fs : List Frame) (t : Tree) (r : TypedRows) → IsGoing fits fs (Some r) t → IsUsedUp t → IsNodeOf (built r)
     → IsMove fits fs (Partial t r) fs (Whole (built r))
 move_finish fits fs t r h used formed =
-    let firm : KeepsFirmly (with_content (built r) t) (built r) = used.kept (built r) h.formed.2 (built_clean r h.formed.0) in
+    let firm : KeepsFirmly (with_content (built r) t) (built r) = used.kept (built r) h.formed.2 (built_clean r h.formed.3 h.formed.0) in
     record {
       one = inr (inr (inr (inr (record { content = r; going = h.going; same = refl; builder = refl; used = used; finished = refl }))));
       kept = filled_firmly fs _ _ firm;

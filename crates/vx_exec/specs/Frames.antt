@@ -1,7 +1,8 @@
 -- The stack of suspended parents, the outermost first, and the current node. Where a builder is under way, its rows stand in front of the slots that are left.
-use Rattle.std.specs.Prelude.{◌≡◌, ℕ, ◌+◌, List, [], ◌∷◌, Option, Some, None, true}
+use Rattle.std.specs.Prelude.{◌≡◌, ℕ, ◌+◌, List, [], ◌∷◌, Option, Some, None, true, false}
 use Rattle.std.specs.List.{list_all}
 use Rattle.vx_value.specs.IsOf.{is_of}
+use Rattle.vx_value.specs.Storage.{is_nested}
 use Rattle.vx_tree.specs.Tree.{Tree, dtype}
 use Rattle.vx_tree.specs.Well.{IsNodeOf}
 use Rattle.vx_tree.specs.Slots.{put, IsHole}
@@ -29,7 +30,7 @@ filled (f ∷ fs) t = wrapped f (filled fs t)
 -- without a builder t has all of its slots; the rows of one and the slots that are left have t's type and together its length
 abbrev pub Fits : Option TypedRows → Tree → Type 0
 Fits None t = IsNodeOf t
-Fits (Some b) t = (list_all (is_of b.of_type) b.values ≡ true) × (b.of_type ≡ dtype t) × IsPart (built b) t
+Fits (Some b) t = (list_all (is_of b.of_type) b.values ≡ true) × (b.of_type ≡ dtype t) × IsPart (built b) t × (is_nested b.of_type ≡ false)
 
 -- t fits the open slot of the frame
 pub record IsFrame (f : Frame) (t : Tree) : Type 0 where

@@ -10,6 +10,7 @@ use Rattle.vx_step.specs.Contents.{IsWithout, IsAppend, IsUsedUp}
 use Rattle.vx_step.specs.Steps.{HasNoShortcut, Awaits, IsDone, IsDue}
 use Rattle.std.specs.List.{list_all}
 use Rattle.vx_value.specs.IsOf.{is_of}
+use Rattle.vx_value.specs.Storage.{is_nested}
 use Rattle.vx_value.specs.declared.error.VortexError.{VortexError}
 use Rattle.vx_value.specs.declared.error.VortexError.TheVariants.{OutOfMemory, Fault}
 use Rattle.vx_tree.specs.Well.{IsNodeOf}
@@ -99,7 +100,7 @@ pub record IsGoing (fits : Tree → Bool) (fs : List Frame) (b : Option TypedRow
 abbrev pub IsAppendedTo : ℕ → Option TypedRows → Tree → Focus → Type 0
 IsAppendedTo i b t d =
     (c : Tree) × (p : Tree) × IsWithout i c p t × (d ≡ Partial p (appended (begun b t) (values_in (rows c)))) × HasNoFault (rows c) × (length (rows c) ≡ len c)
-    × (list_all (is_of (begun b t).of_type) ((begun b t).values ++ values_in (rows c)) ≡ true)
+    × (list_all (is_of (begun b t).of_type) ((begun b t).values ++ values_in (rows c)) ≡ true) × (is_nested (begun b t).of_type ≡ false)
 
 -- why they aren't: out of memory, or one of them is a fault
 abbrev pub IsNotAppended : ℕ → Tree → VortexError → Type 0

@@ -4,6 +4,7 @@ ghost use Rattle.std.specs.Prelude.{◌≡◌, ◌<◌, ◌^◌, [], None, IsOk,
 ghost use Rattle.std.specs.List.{list_all};
 ghost use Rattle.vx_value.specs.Errors.{OnlyOutOfMemory};
 ghost use Rattle.vx_value.specs.IsOf.{is_of};
+ghost use Rattle.vx_value.specs.Storage.{is_nested};
 ghost use Rattle.vx_tree.specs.Tree.{datum, is_canonical};
 ghost use Rattle.vx_tree.specs.Cells.{rows, HasNoFault};
 ghost use Rattle.vx_tree.specs.Slots.{put};
@@ -176,6 +177,7 @@ pub(crate) fn append_rows(
     requires { column_refusal builder (columnar_tree column.now) ≡ None }
     ensures ok { IfOk result (λ b. b ≡ appended builder (values_in (rows (columnar_tree column.now)))) }
     ensures typed { IfOk result (λ b. list_all (is_of b.of_type) b.values ≡ true) }
+    ensures unnested { IfOk result (λ b. is_nested b.of_type ≡ false) }
     ensures clean { IfOk result (λ b. HasNoFault (rows (columnar_tree column.now))) }
     ensures err { IfErr result (IsUnread (columnar_tree column.now)) }
 {

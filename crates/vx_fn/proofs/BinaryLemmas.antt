@@ -26,7 +26,7 @@ use Rattle.vx_fn.specs.Logic.{kleene_and, kleene_or, truth}
 use Rattle.vx_fn.specs.declared.function.Operator.{Operator}
 use Rattle.vx_fn.specs.declared.function.Operator.TheVariants as operator
 use Rattle.vx_fn.specs.declared.function.ScalarFnRef.TheVariants as function
-use Rattle.vx_fn.proofs.MeaningsLemmas.{widened_twice, nullable_by_argument, nullable_before, union_with_plain, past_value}
+use Rattle.vx_fn.proofs.MeaningsLemmas.{widened_twice, nullable_by_argument, nullable_by_second, union_with_plain, past_value}
 use Rattle.vx_fn.proofs.LogicLemmas.{Knows, joined_typed, and_knows, or_knows, and_commutes, or_commutes, truth_back}
 
 -- two arguments of one type
@@ -86,11 +86,7 @@ pub null_first : (op : Operator) (s t ty : DataType) → is_of s null ≡ true �
 null_first op s t ty h e = nullable_by_argument s (widened t (binary_type op s t)) ty h e
 
 pub null_second : (op : Operator) (s t ty : DataType) → is_of t null ≡ true → (binary op).types (s ∷ t ∷ []) ≡ Some ty → is_of ty null ≡ true
-null_second op s t ty h e = by_type (widened t (binary_type op s t)) refl e
-  where
-    by_type : (o : Option DataType) → widened t (binary_type op s t) ≡ o → widened s o ≡ Some ty → is_nullable (nullability_of ty) ≡ true
-    by_type None same e = absurd (none-some ty e)
-    by_type (Some r) same e = nullable_before s r ty (nullable_by_argument t (binary_type op s t) r h same) e
+null_second op s t ty h e = nullable_by_second s t (binary_type op s t) ty h e
 
 -- where no argument is null, the result is the operator's
 pub of_values : (op : Operator) (tys : List DataType) (ty : DataType) (x y : ScalarValue) → is_logical op ≡ false

@@ -2,8 +2,14 @@ pub mod MeaningsLemmas
 pub mod ArityLemmas
 pub mod ReturnTypesLemmas
 pub mod ArithmeticLemmas
+pub mod OrderLemmas
 pub mod LogicLemmas
 pub mod BinaryLemmas
+pub mod BetweenLemmas
+pub mod RetypedLemmas
 pub mod ZipLemmas
 pub mod FillNullLemmas
+pub mod GetItemLemmas
+pub mod ListContainsLemmas
 pub mod CastLemmas
+pub mod PackLemmas

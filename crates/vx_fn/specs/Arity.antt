@@ -1,5 +1,9 @@
--- Functions of exactly one, two or three arguments, on a list of them.
+-- Functions of exactly none, one, two or three arguments, on a list of them.
 use Rattle.std.specs.Prelude.{List, [], ◌∷◌}
+
+abbrev pub of_none : {A B : Type 0} → B → B → List A → B
+of_none other x [] = x
+of_none other x _ = other
 
 -- `rule` adjusts the result for an argument, as for a null one. `other` is the result for another number of arguments.
 abbrev pub of_one : {A B : Type 0} → (A → B → B) → B → (A → B) → List A → B

@@ -1,6 +1,10 @@
 -- Functions of a fixed number of arguments accept only that number.
 use Rattle.std.proofs.Common.{◌≡◌, List, [], ◌∷◌, length, Option, Some, None, refl}
-use Rattle.vx_fn.specs.Arity.{of_one, of_two, of_three}
+use Rattle.vx_fn.specs.Arity.{of_none, of_one, of_two, of_three}
+
+pub on_none : {A B : Type 0} (x : Option B) (xs : List A) (y : B) → of_none None x xs ≡ Some y → length xs ≡ 0
+on_none x [] y e = refl
+on_none x _ y e = absurd (cc)
 
 module _ {A B : Type 0} (rule : A → Option B → Option B) where
   pub on_one : (f : A → Option B) (xs : List A) (y : B) → of_one rule None f xs ≡ Some y → length xs ≡ 1

@@ -19,6 +19,10 @@ meaning function.Zip = Rattle.vx_fn.specs.Zip.zip
 meaning function.FillNull = Rattle.vx_fn.specs.FillNull.fill_null
 meaning function.IsNull = Rattle.vx_fn.specs.IsNull.null_test
 meaning function.IsNotNull = Rattle.vx_fn.specs.IsNull.value_test
+meaning (function.GetItem name) = Rattle.vx_fn.specs.GetItem.get_item name
+meaning (function.Pack options) = Rattle.vx_fn.specs.Pack.pack options
+meaning function.ListContains = Rattle.vx_fn.specs.ListContains.list_contains
+meaning (function.PreparedSet scalar) = Rattle.vx_fn.specs.PreparedSet.prepared_set scalar
 meaning (function.Cast target) = Rattle.vx_fn.specs.Cast.conversion (type_of target)
 
 abbrev pub function_id : ScalarFnRef → Id

@@ -3,6 +3,7 @@ pub use Rattle.vx_value.specs.Types
 pub use Rattle.vx_value.specs.Values
 pub use Rattle.vx_value.specs.Cell
 pub use Rattle.vx_value.specs.Typed
+pub mod ArgumentNames
 pub mod Arity
 pub mod ArityLaws
 pub mod Meanings
@@ -16,6 +17,10 @@ pub mod Mask
 pub mod Zip
 pub mod FillNull
 pub mod IsNull
+pub mod GetItem
+pub mod Pack
+pub mod ListContains
+pub mod PreparedSet
 pub mod Cast
 pub mod Functions
 pub mod ReturnTypes

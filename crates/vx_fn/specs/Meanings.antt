@@ -1,4 +1,4 @@
--- The meaning of a function, and the functions of one, two and three arguments.
+-- The meaning of a function, and the functions of none, one, two and three arguments.
 use Rattle.std.specs.Prelude.{◌≡◌, Bool, true, false, ℕ, List, [], ◌∷◌, length, Option, Some, None, option_map}
 use Rattle.vx_value.specs.Types.{DataType, nullability_of}
 use Rattle.vx_value.specs.Nullabilities.{with_nullability, union}
@@ -7,12 +7,11 @@ use Rattle.vx_value.specs.Cell as cell
 use Rattle.vx_value.specs.Cell.{Cell, fault}
 use Rattle.vx_value.specs.declared.id.Id.{Id}
 use Rattle.vx_value.specs.declared.id.Id.TheVariants as id
-use Rattle.vx_fn.specs.Arity.{of_one, of_two, of_three}
-use Rattle.vx_fn.specs.ArityLaws.{on_one, on_two, on_three}
+use Rattle.vx_fn.specs.Arity.{of_none, of_one, of_two, of_three}
+use Rattle.vx_fn.specs.ArityLaws.{on_none, on_one, on_two, on_three}
 
--- what a function is: its id, the names of its arguments, its result's type from the arguments' types, and its value from the arguments' types, that type, and the
--- arguments' values;
--- it accepts as many arguments as have names
+-- what a function is: its id, the names of its arguments, its result's type from the arguments' types, and its value from the
+-- arguments' types, that type, and the arguments' values; it accepts as many arguments as have names
 pub record Meaning : Type 0 where
   pub id : Id
   pub names : List (List ℕ)
@@ -25,6 +24,9 @@ abbrev pub clones : Id → Bool
 clones id.Mask = true
 clones id.Zip = true
 clones id.FillNull = true
+clones id.GetItem = true
+clones id.Pack = true
+clones id.PreparedSet = true
 clones id.Cast = true
 clones _ = false
 
@@ -47,6 +49,15 @@ abbrev pub as_given : {A B : Type 0} → A → B → B
 as_given x answer = answer
 
 -- ---- functions by their rules on types and on values, their id, the names of their arguments, their type and their value
+
+abbrev pub taking_none : Id → Option DataType → Cell → Meaning
+taking_none i type known = record {
+  id = i;
+  names = [];
+  types = of_none None type;
+  value = λ tys ty. of_none fault known;
+  taken = on_none type;
+}
 
 abbrev pub taking_one : (DataType → Option DataType → Option DataType) → (Value → Cell → Cell) → Id → List ℕ →
     (DataType → Option DataType) → (DataType → Value → Cell) → Meaning

@@ -17,7 +17,8 @@ use vx_value::{Scalar, VortexError, VortexResult};
 /// Applies `function` to `arguments`, one row of each. The function must accept their types. No text or bytes are copied.
 ///
 /// Returns `Fault` exactly if the row has no value: the result is out of its type's range, a divisor is 0, or a cast has no
-/// value. Returns `OutOfMemory` only for a function that clones: `Mask`, `Zip`, `FillNull` and `Cast`. (own)
+/// value. Returns `OutOfMemory` only for a function that clones: `Mask`, `Zip`, `FillNull`, `GetItem`, `Pack`, `PreparedSet`
+/// and `Cast`. (own)
 pub fn apply_row(
     alloc: Global,
     function: &ScalarFnRef,

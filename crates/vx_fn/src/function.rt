@@ -1,13 +1,16 @@
 //! Scalar functions, as in the original's `scalar_fn` module.
 
-ghost use Rattle.std.specs.Prelude.{◌≡◌, ◌==◌, ℕ, map, option_map, slice_get};
+ghost use Rattle.std.specs.Prelude.{◌≡◌, ◌==◌, ℕ, option_map, slice_get};
+ghost use Rattle.vx_fn.specs.ArgumentNames.{names_in};
 ghost use Rattle.vx_fn.specs.Functions.{function_id, arity, argument_names};
 ghost use Rattle.vx_fn.specs.Binary.{is_comparison, is_logical};
 
+use crate::argument_names::ArgumentNames;
 use crate::functions::between::BetweenOptions;
 use crate::functions::by_function;
+use crate::functions::pack::PackOptions;
 use crate::row_function::RowFunction;
-use vx_value::{DType, Id};
+use vx_value::{DType, Id, Name, Scalar};
 
 /// A binary operator.
 #[derive(Clone, Copy, Debug, PartialEq, Eq, Hash)]
@@ -80,6 +83,14 @@ pub enum ScalarFnRef {
     IsNull,
     /// Whether `input` isn't null.
     IsNotNull,
+    /// The field of this name of `input`, a struct.
+    GetItem(Name),
+    /// A struct of the arguments.
+    Pack(PackOptions),
+    /// Whether `needle` is an element of `list`.
+    ListContains,
+    /// This list, of no arguments.
+    PreparedSet(Scalar),
     /// `input` as a value of this type.
     Cast(DType),
 }
@@ -104,9 +115,9 @@ impl Arity {
 
 impl ScalarFnRef {
     /// Returns the function's id, and the names of its arguments, in order.
-    fn signature(&self) -> (Id, &'static [&'static str])
+    fn signature(&self) -> (Id, ArgumentNames<'_>)
         ensures id { result.0 ≡ function_id self.now }
-        ensures names { map (λ s. s.now) result.1.now ≡ argument_names self.now }
+        ensures names { names_in result.1 ≡ argument_names self.now }
     {
         by_function!(self, function => function.signature())
     }
@@ -120,11 +131,11 @@ impl ScalarFnRef {
 
     /// Returns the name of the argument at `index`, counted from 0, for example `lhs` or `input`. Returns `None`
     /// if the function has no such argument.
-    pub fn child_name(&self, index: usize) -> Option<&'static str>
+    pub fn child_name(&self, index: usize) -> Option<&str>
         ensures { option_map (λ s. s.now) result ≡ slice_get (argument_names self.now) index }
     {
         let (_, names) = self.signature();
-        names.get(index).copied()
+        names.get(index)
     }
 
     /// Returns the number of arguments that the function takes.

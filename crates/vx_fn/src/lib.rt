@@ -2,6 +2,7 @@
 #![tactic(auto)]
 
 mod apply;
+mod argument_names;
 mod function;
 mod functions;
 mod laws;
@@ -13,4 +14,5 @@ mod row_function;
 pub use apply::apply_row;
 pub use function::{Arity, Operator, ScalarFnRef};
 pub use functions::between::{BetweenOptions, StrictComparison};
+pub use functions::pack::PackOptions;
 pub use laws::logic_laws;

@@ -19,7 +19,7 @@ impl ScalarFnRef {
     /// argument is.
     ///
     /// Returns `InvalidArgument` with `NoRow` exactly if the function doesn't accept these arguments. Returns `OutOfMemory`
-    /// only for a function that clones a type: `Mask`, `Zip`, `FillNull` and `Cast`.
+    /// only for a function that clones a type: `Mask`, `Zip`, `FillNull`, `GetItem`, `Pack`, `PreparedSet` and `Cast`.
     pub fn return_dtype(&self, alloc: Global, arguments: &[DType]) -> VortexResult<DType>
         ensures ok { IfOk result (λ t. return_type self.now (map type_of arguments.now) ≡ Some (type_of t)) }
         ensures refused { IfErr result (λ e. (e ≡ VortexError.OutOfMemory)

@@ -6,9 +6,11 @@ ghost use Rattle.vx_value.specs.Errors.{OnlyOutOfMemory};
 ghost use Rattle.vx_value.specs.View.{type_of, cell_of};
 ghost use Rattle.vx_value.specs.IsOf.{is_of};
 ghost use Rattle.vx_value.specs.Cell.{value, fault};
+ghost use Rattle.vx_fn.specs.ArgumentNames.{names_in};
 ghost use Rattle.vx_fn.specs.Meanings.{Meaning, clones};
 ghost use Rattle.vx_fn.specs.Apply.{on_values};
 
+use crate::argument_names::ArgumentNames;
 use std::alloc::Global;
 use vx_value::{DType, Id, Scalar, VortexError, VortexResult};
 
@@ -18,9 +20,9 @@ pub(crate) trait RowFunction {
     ghost meaning: { Self → Meaning };
 
     /// Returns the function's id, and the names of its arguments, in order.
-    fn signature(&self) -> (Id, &'static [&'static str])
+    fn signature(&self) -> (Id, ArgumentNames<'_>)
         ensures id { result.0 ≡ (meaning self.now).id }
-        ensures names { map (λ s. s.now) result.1.now ≡ (meaning self.now).names };
+        ensures names { names_in result.1 ≡ (meaning self.now).names };
 
     /// Returns the type of the result, or `None` if the function doesn't accept the arguments. Fails only with
     /// `OutOfMemory`, and only in a function that clones a type.

@@ -4,18 +4,26 @@ use Rattle.std.specs.Prelude.{codes, Bool, true, false}
 use Rattle.std.proofs.lemmas.Grind.{common_steps, flat_map-append}
 use Rattle.vx_value.specs.Types.{DataType}
 use Rattle.vx_value.specs.Values.{Value, null}
+use Rattle.vx_value.specs.Nullabilities.{with_nullability}
+use Rattle.vx_value.specs.Storage.{has_parts, is_nested}
+use Rattle.vx_value.specs.declared.dtype.Nullability.{Nullability}
+use Rattle.vx_value.specs.declared.dtype.Storage.{Storage}
+use Rattle.vx_value.specs.declared.dtype.Storage.TheVariants.{Text}
 use Rattle.vx_value.specs.declared.error.VortexError.{VortexError}
 use Rattle.vx_value.specs.declared.id.Id.{Id}
 use Rattle.vx_value.specs.Cell.{Cell, value, fault}
 use Rattle.vx_tree.specs.Cells.{rows}
 use Rattle.vx_json.specs.RowText.{row_text}
+use Rattle.vx_tree.specs.ColumnTypes.{bytes_type}
 use Rattle.vx_tree.specs.Tree.{Tree, dtype, datum, id_of, len}
 use Rattle.vx_tree.specs.Canonicals.{columnar_tree}
 use Rattle.vx_tree.specs.declared.canonical.columnar.Columnar.{Columnar}
 use Rattle.vx_tree.proofs.CellsLemmas.{no_fault_at}
-use Rattle.vx_column.specs.Arguments.{IsArgument, cell_at, value_at, type_of_argument, IsUnread as IsNotRead}
-use Rattle.vx_column.specs.ValidRows.{is_valid, null_unless}
+use Rattle.vx_column.specs.Arguments.{IsArgument, IsSized, AreStored, cell_at, value_at, type_of_rows, type_of_argument, IsUnread as IsNotRead}
+use Rattle.vx_column.specs.ValidRows.{is_valid, nullability_in, null_unless}
 use Rattle.vx_column.specs.declared.rows.argument.Argument.{Argument}
+use Rattle.vx_column.specs.declared.rows.argument.ArgumentRows.{ArgumentRows}
+use Rattle.vx_column.specs.declared.rows.argument.ArgumentRows.TheVariants as stored
 use Rattle.std.proofs.lemmas.Option.{slice_get-get_or}
 use Rattle.vx_json.specs.Output.{Shows, IsUnread, head_lines, line}
 use Rattle.vx_json.specs.Lines.{unless_null, row_text_at, row_lines}
@@ -70,6 +78,21 @@ shows_all ty id cs i text s h = let e : take i cs ≡ cs = grind (arith, common_
 pub column_unread : (t : Tree) (e : VortexError) → IsNotRead t e → IsUnread t e
 column_unread t e (inl m) = inl m
 column_unread t e (inr f) = inr (f.0, λ whole. no_fault_at (rows t) f.1 whole f.3)
+
+-- the type of an argument isn't nested
+bytes_unnested : (m : Nullability) (s : Storage) → is_nested (with_nullability m (bytes_type s)) ≡ false
+bytes_unnested m Text = refl
+bytes_unnested m _ = refl
+
+stored_unnested : (m : Nullability) (r : ArgumentRows) (n : ℕ) → AreStored m r n → is_nested (type_of_rows m r) ≡ false
+stored_unnested m stored.Nulls n h = refl
+stored_unnested m (stored.Bits bs) n h = refl
+stored_unnested m (stored.Integers zs) n h = ap has_parts h.0.3
+stored_unnested m (stored.Decimals ds) n h = refl
+stored_unnested m (stored.Bytes bs) n h = bytes_unnested m bs.storage
+
+pub argument_unnested : (a : Argument) (n : ℕ) → IsSized n a → is_nested (type_of_argument a) ≡ false
+argument_unnested a n h = stored_unnested (nullability_in a.valid) a.rows n h.0
 
 -- each of its cells is a value, with its text
 value_opened : (a : Argument) (i : ℕ)

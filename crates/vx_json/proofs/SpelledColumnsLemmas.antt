@@ -128,12 +128,12 @@ values_by (type.binary k) ds (Views rows) valid nulls h =
 values_by ty ds v valid nulls h = absurd h
 
 pub values_unread : (ty : DataType) (ds : Items) (nulls : Nulls) → AreUnread NonNullable (storage_of ty) ds → column_of_values nulls ty ds ≡ None
-values_unread type.null ds nulls h = refl
 values_unread (type.bool k) ds nulls h = ap (option_and_then _) (none_null_unread as_bool ds h)
 values_unread (type.primitive p k) ds nulls h = ap (option_and_then _) (none_null_unread (integer_spelled p) ds h)
 values_unread (type.decimal p s k) ds nulls h = ap (option_and_then _) (none_null_unread (decimal_spelled p) ds h)
 values_unread (type.utf8 k) ds nulls h = ap (option_and_then _) (none_null_unread (bytes_spelled Text) ds h)
 values_unread (type.binary k) ds nulls h = ap (option_and_then _) (none_null_unread (bytes_spelled Bytes) ds h)
+values_unread _ ds nulls h = refl
 
 -- they are as many as there are items
 values_counted : (m : Nullability) (ty : DataType) (vs : List Value) (v : ColumnValues) (valid : List Bool) →
@@ -173,12 +173,12 @@ unspelled_by ty of_items read vs nulls h = by_read (all_read read (items_view vs
 
 pub flat_unspelled : (ty : DataType) (vs : List Value) (nulls : Nulls) → validity_spelled (nullability_of ty) (length vs) nulls ≡ None →
     column_of_values nulls ty (items_view vs) ≡ None
-flat_unspelled type.null vs nulls h = refl
 flat_unspelled (type.bool k) vs nulls h = unspelled_by (type.bool k) bool as_bool vs nulls h
 flat_unspelled (type.primitive p k) vs nulls h = unspelled_by (type.primitive p k) (primitive p) (integer_spelled p) vs nulls h
 flat_unspelled (type.decimal p s k) vs nulls h = unspelled_by (type.decimal p s k) (decimals (smallest_width p)) (decimal_spelled p) vs nulls h
 flat_unspelled (type.utf8 k) vs nulls h = unspelled_by (type.utf8 k) (λ rs. views (packed rs)) (bytes_spelled Text) vs nulls h
 flat_unspelled (type.binary k) vs nulls h = unspelled_by (type.binary k) (λ rs. views (packed rs)) (bytes_spelled Bytes) vs nulls h
+flat_unspelled _ vs nulls h = refl
 
 -- rows, null among them, are the column of what they hold and of a validity that tells whether each is there
 rows_column : {A : Type 0} (zero : A) (ty : DataType) (of_items : List A → Data) (read : Json → Option A) (ds : Items) (xs : List A) (valid : List Bool)
@@ -234,7 +234,12 @@ rows_unread (dtype_of.Primitive p Nullable) ds other n h = ap (option_map _) h
 rows_unread (dtype_of.Decimal d Nullable) ds other n h = ap (option_map _) h
 rows_unread (dtype_of.Utf8 Nullable) ds other n h = ap (option_map _) h
 rows_unread (dtype_of.Binary Nullable) ds other n h = ap (option_map _) h
-rows_unread _ ds other n h = absurd (cc n)
+rows_unread (dtype_of.Bool NonNullable) ds other n h = absurd (cc n)
+rows_unread (dtype_of.Primitive p NonNullable) ds other n h = absurd (cc n)
+rows_unread (dtype_of.Decimal d NonNullable) ds other n h = absurd (cc n)
+rows_unread (dtype_of.Utf8 NonNullable) ds other n h = absurd (cc n)
+rows_unread (dtype_of.Binary NonNullable) ds other n h = absurd (cc n)
+rows_unread _ ds other n h = refl
 
 -- rows that are all there are the column of what they hold without nulls
 values_there : {A : Type 0} (d : A) (ty : DataType) (of_items : List A → Data) (read : Json → Option A) (ds : Items) →
@@ -255,7 +260,13 @@ rows_are_values (type.decimal p s NonNullable) ds h =
     values_there (pos 0) (type.decimal p s NonNullable) (decimals (smallest_width p)) (decimal_spelled p) ds
 rows_are_values (type.utf8 NonNullable) ds h = values_there [] (type.utf8 NonNullable) (λ rs. views (packed rs)) (bytes_spelled Text) ds
 rows_are_values (type.binary NonNullable) ds h = values_there [] (type.binary NonNullable) (λ rs. views (packed rs)) (bytes_spelled Bytes) ds
-rows_are_values _ ds h = absurd (cc)
+rows_are_values type.null ds h = absurd (cc)
+rows_are_values (type.bool Nullable) ds h = absurd (cc)
+rows_are_values (type.primitive p Nullable) ds h = absurd (cc)
+rows_are_values (type.decimal p s Nullable) ds h = absurd (cc)
+rows_are_values (type.utf8 Nullable) ds h = absurd (cc)
+rows_are_values (type.binary Nullable) ds h = absurd (cc)
+rows_are_values _ ds h = refl
 
 -- one row more
 one_more : {A : Type 0} (x : A) (n : ℕ) (read : Option (List A)) → option_map (λ rows. nulls_of (length rows)) read ≡ Some (nulls_of n) →

@@ -1,8 +1,9 @@
--- The target of a cast.
+-- The target of a cast, which isn't nested.
 use Rattle.std.proofs.Common.{◌≡◌, ℕ, Bool, true, false, Option, Some, sym, ap, ◌∙◌, refl}
 use Rattle.std.proofs.Math.Bridge.{le_prop}
 use Rattle.std.specs.Prelude.{option_map, option_and_then}
 use Rattle.vx_value.specs.Types.{DataType}
+use Rattle.vx_value.specs.Storage.{is_nested}
 use Rattle.vx_value.specs.View.{type_of}
 use Rattle.vx_value.specs.declared.dtype.DType.{DType}
 use Rattle.vx_value.specs.declared.dtype.DType.TheVariants as dtype
@@ -21,16 +22,18 @@ dtype_again d true holds e =
     λ i. Some (record { precision = d.precision; scale = d.scale; is_decimal = one_decimal d.precision d.scale (holds refl) d.is_decimal i })
 dtype_again d false holds e = absurd (cc)
 
-declared_again : (t : DType) → declared (type_of t) ≡ Some t
-declared_again dtype.Null = refl
-declared_again (dtype.Bool m) = refl
-declared_again (dtype.Primitive p m) = refl
-declared_again (dtype.Decimal d m) =
+declared_again : (t : DType) → is_nested (type_of t) ≡ false → declared (type_of t) ≡ Some t
+declared_again dtype.Null h = refl
+declared_again (dtype.Bool m) h = refl
+declared_again (dtype.Primitive p m) h = refl
+declared_again (dtype.Decimal d m) h =
     let decides = is_decimal_Decides d.precision d.scale in
     ap (option_map (λ (x : DecimalDType). dtype.Decimal x m)) (dtype_again d (is_decimal d.precision d.scale) decides.0 (decides.1 d.is_decimal))
-declared_again (dtype.Utf8 m) = refl
-declared_again (dtype.Binary m) = refl
+declared_again (dtype.Utf8 m) h = refl
+declared_again (dtype.Binary m) h = refl
+declared_again _ h = absurd (cc)
 
 -- a type is the one that its text names
-pub target_named : (t : DType) (o : Option DataType) → Some (type_of t) ≡ o → option_and_then declared o ≡ Some t
-target_named t o named = ap (option_and_then declared) (sym named) ∙ declared_again t
+pub target_named : (t : DType) (o : Option DataType) → is_nested (type_of t) ≡ false → Some (type_of t) ≡ o
+    → option_and_then declared o ≡ Some t
+target_named t o unnested named = ap (option_and_then declared) (sym named) ∙ declared_again t unnested

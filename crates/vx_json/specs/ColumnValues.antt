@@ -55,9 +55,9 @@ AreReadAs m _ ds v valid = ⊥
 
 -- the list doesn't spell rows in this storage
 abbrev pub AreUnread : Nullability → Storage → Items → Type 0
-AreUnread m storage.Nulls ds = Unit {0}
 AreUnread m storage.Bits ds = all_read (or_null m as_bool) ds ≡ None
 AreUnread m (storage.Integers p) ds = all_read (or_null m (integer_spelled p)) ds ≡ None
 AreUnread m (storage.Decimals p s) ds = all_read (or_null m (decimal_spelled p)) ds ≡ None
 AreUnread m storage.Text ds = all_read (or_null m (bytes_spelled storage.Text)) ds ≡ None
 AreUnread m storage.Bytes ds = all_read (or_null m (bytes_spelled storage.Bytes)) ds ≡ None
+AreUnread m _ ds = Unit {0}

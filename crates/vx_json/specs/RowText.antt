@@ -1,5 +1,5 @@
 -- The text of a row.
-use Rattle.std.specs.Prelude.{ℕ, List, ◌++◌, Bool, true, false, ◌||◌, ◌==◌, nat_lt, codes}
+use Rattle.std.specs.Prelude.{ℕ, List, [], ◌++◌, Bool, true, false, ◌||◌, ◌==◌, nat_lt, codes}
 use Rattle.std.specs.Fmt.{signed_decimal}
 use Rattle.hex.specs.Hex.{encode_lower}
 use Rattle.serde_json.specs.Data.{string}
@@ -25,10 +25,11 @@ abbrev pub bytes_text : DataType → List ℕ → List ℕ
 bytes_text (type.utf8 n) bs = compact_text (string bs)
 bytes_text _ bs = in_quotes (encode_lower bs)
 
--- the text of a row, by its type and value: a line for each kind of value
+-- the text of a row, by its type and value: a line for each kind of value that isn't nested
 abbrev pub row_text : DataType → Value → List ℕ
 row_text ty null = codes "null"
 row_text ty (boolean b) = boolean_text b
 row_text ty (integer z) = signed_decimal z
 row_text ty (decimal z s) = in_quotes (signed_decimal z)
 row_text ty (bytes bs) = bytes_text ty bs
+row_text ty _ = []

@@ -21,7 +21,7 @@ use Rattle.vx_json.specs.SpelledValues.{integer_spelled, decimal_spelled, bytes_
 use Rattle.vx_json.specs.declared.nulls.Nulls.{Nulls}
 use Rattle.vx_tree.specs.Views.{packed}
 
--- `{"enc":"col","type":T,"rows":[..]}`: a column of the rows, which may be null if the type is nullable; a line for each storage
+-- `{"enc":"col","type":T,"rows":[..]}`: a column of the rows, which may be null if the type is nullable; a line for each storage that has a spelling
 abbrev pub rows_stored : Nullability → Storage → Items → Option Tree
 rows_stored m storage.Nulls ds = option_map (λ rows. nulls_of (length rows)) (all_read as_null ds)
 rows_stored m Bits ds = option_map (boolean_rows m) (all_read (or_null m as_bool) ds)
@@ -29,6 +29,7 @@ rows_stored m (Integers p) ds = option_map (integer_rows m p) (all_read (or_null
 rows_stored m (Decimals p s) ds = option_map (decimal_rows (type.decimal p s m)) (all_read (or_null m (decimal_spelled p)) ds)
 rows_stored m Text ds = option_map (bytes_rows (type.utf8 m)) (all_read (or_null m (bytes_spelled Text)) ds)
 rows_stored m Bytes ds = option_map (bytes_rows (type.binary m)) (all_read (or_null m (bytes_spelled Bytes)) ds)
+rows_stored m _ ds = None
 
 abbrev pub column_of_rows : DataType → Items → Option Tree
 column_of_rows ty = rows_stored (nullability_of ty) (storage_of ty)

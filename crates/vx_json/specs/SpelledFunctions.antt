@@ -46,7 +46,7 @@ dtype_if precision scale false holds = None
 abbrev pub decimal_dtype : ℕ → ℕ → Option DecimalDType
 decimal_dtype precision scale = dtype_if precision scale (is_decimal precision scale) (is_decimal_Decides precision scale).0
 
--- the program's type for a type: a line for each kind
+-- the program's type for a type that isn't nested: a line for each kind
 abbrev pub declared : DataType → Option DType
 declared type.null = Some dtype.Null
 declared (type.bool m) = Some (dtype.Bool m)
@@ -54,6 +54,7 @@ declared (type.primitive p m) = Some (dtype.Primitive p m)
 declared (type.decimal p s m) = option_map (λ d. dtype.Decimal d m) (decimal_dtype p s)
 declared (type.utf8 m) = Some (dtype.Utf8 m)
 declared (type.binary m) = Some (dtype.Binary m)
+declared _ = None
 
 -- `cast` has its target under `type`
 abbrev pub cast : Data → Option ScalarFnRef

@@ -50,7 +50,7 @@ bytes_spelled Bytes d = option_and_then hex_bytes (as_str d)
 bytes_spelled _ d = None
 
 -- `true` or `false` for a boolean, a whole number for an integer, a string for a decimal, text and bytes: a line for each storage that has a spelling; type
--- null has none
+-- null and nested types have none
 abbrev pub value_stored : Storage → Data → Option Value
 value_stored Bits d = option_map boolean (as_bool d)
 value_stored (Integers p) d = option_map integer (integer_spelled p d)

@@ -48,7 +48,7 @@ impl ColumnValues {
 }
 
 /// Reads a list of values of `dtype`, and records in `nulls` which rows aren't null. `InvalidArgument(BadValue)` if an item is
-/// neither such a value nor a null row, or if `dtype` is `Null`.
+/// neither such a value nor a null row, or if `dtype` is `Null` or nested.
 pub(crate) fn column_values<N: RowNulls>(
     alloc: Global,
     dtype: &DType,
@@ -68,7 +68,7 @@ pub(crate) fn column_values<N: RowNulls>(
         )?),
         DType::Utf8(_) => ColumnValues::Views(byte_rows(alloc, Storage::Text, nulls, list)?),
         DType::Binary(_) => ColumnValues::Views(byte_rows(alloc, Storage::Bytes, nulls, list)?),
-        DType::Null => return Err(BAD_VALUE),
+        _ => return Err(BAD_VALUE),
     })
 }
 

@@ -1,9 +1,10 @@
-//! The types that JSON spells.
+//! The types that JSON spells, none of them nested.
 
-ghost use Rattle.std.specs.Prelude.{◌≡◌, option_map, codes};
+ghost use Rattle.std.specs.Prelude.{◌≡◌, false, option_map, codes, IfSome};
 ghost use Rattle.serde_json.specs.View.{view, items_view};
 ghost use Rattle.serde_json.specs.Find.{get};
 ghost use Rattle.vx_value.specs.View.{type_of};
+ghost use Rattle.vx_value.specs.Storage.{is_nested};
 ghost use Rattle.vx_json.specs.SpelledTypes.{type_named, type_spelled, type_in, type_at};
 ghost use Rattle.vx_json.specs.SpelledTypes.{decimal_sized, decimal_listed, nullability_spelled, decimal_keys, decimal_type_spelled};
 
@@ -13,7 +14,8 @@ use vx_value::{DType, DecimalDType, Nullability, PType};
 
 /// Returns the type named `name`, with this nullability. `null` isn't among them, as it is always nullable.
 fn type_named(name: &str, nullability: Nullability) -> Option<DType>
-    ensures { option_map type_of result ≡ type_named name.now nullability }
+    ensures spelled { option_map type_of result ≡ type_named name.now nullability }
+    ensures unnested { IfSome result (λ t. is_nested (type_of t) ≡ false) }
 {
     let ptype = match name {
         "bool" => return Some(DType::Bool(nullability)),
@@ -35,7 +37,8 @@ fn type_named(name: &str, nullability: Nullability) -> Option<DType>
 /// Returns the type that `text` spells: its name, followed by `?` if the type is nullable. Type null is always nullable, and
 /// takes no `?`.
 fn type_spelled(text: &str) -> Option<DType>
-    ensures { option_map type_of result ≡ type_spelled text.now }
+    ensures spelled { option_map type_of result ≡ type_spelled text.now }
+    ensures unnested { IfSome result (λ t. is_nested (type_of t) ≡ false) }
 {
     if text == "null" {
         return Some(DType::Null);
@@ -48,7 +51,8 @@ fn type_spelled(text: &str) -> Option<DType>
 
 /// Returns the type of decimals of this precision and scale, if there is one.
 fn decimal_sized(nullability: Nullability, precision: u64, scale: u64) -> Option<DType>
-    ensures { option_map type_of result ≡ decimal_sized nullability precision scale }
+    ensures spelled { option_map type_of result ≡ decimal_sized nullability precision scale }
+    ensures unnested { IfSome result (λ t. is_nested (type_of t) ≡ false) }
 {
     let precision = u8::try_from(precision).ok()?;
     let scale = u8::try_from(scale).ok()?;
@@ -59,7 +63,8 @@ fn decimal_sized(nullability: Nullability, precision: u64, scale: u64) -> Option
 /// Returns the type of decimals whose precision and scale are listed.
 #[tactic(auto, using(crate::proofs::SpelledTypesLemmas::listed_none))]
 fn decimal_listed(nullability: Nullability, list: &Vec<Value>) -> Option<DType>
-    ensures { option_map type_of result ≡ decimal_listed nullability (items_view list.now.items) }
+    ensures spelled { option_map type_of result ≡ decimal_listed nullability (items_view list.now.items) }
+    ensures unnested { IfSome result (λ t. is_nested (type_of t) ≡ false) }
 {
     match list.as_slice() {
         [precision, scale] => decimal_sized(nullability, precision.as_u64()?, scale.as_u64()?),
@@ -93,7 +98,8 @@ fn decimal_keys(value: &Value) -> usize
 
 /// Returns the type of decimals that an object spells.
 fn decimal_type_spelled(value: &Value) -> Option<DType>
-    ensures { option_map type_of result ≡ decimal_type_spelled (view value.now) }
+    ensures spelled { option_map type_of result ≡ decimal_type_spelled (view value.now) }
+    ensures unnested { IfSome result (λ t. is_nested (type_of t) ≡ false) }
 {
     if count(value) != decimal_keys(value) {
         return None;
@@ -103,7 +109,8 @@ fn decimal_type_spelled(value: &Value) -> Option<DType>
 
 /// Returns the type that `value` spells.
 fn type_in(value: &Value) -> Option<DType>
-    ensures { option_map type_of result ≡ type_in (view value.now) }
+    ensures spelled { option_map type_of result ≡ type_in (view value.now) }
+    ensures unnested { IfSome result (λ t. is_nested (type_of t) ≡ false) }
 {
     match value {
         Value::String(text) => type_spelled(text.as_str()),
@@ -114,7 +121,8 @@ fn type_in(value: &Value) -> Option<DType>
 
 /// Returns the type under `type`.
 pub(crate) fn type_at(value: &Value) -> Option<DType>
-    ensures { option_map type_of result ≡ type_at (view value.now) }
+    ensures spelled { option_map type_of result ≡ type_at (view value.now) }
+    ensures unnested { IfSome result (λ t. is_nested (type_of t) ≡ false) }
 {
     type_in(value.get("type")?)
 }

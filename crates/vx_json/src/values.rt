@@ -5,6 +5,7 @@ ghost use Rattle.std.specs.List.{list_all};
 ghost use Rattle.serde_json.specs.View.{view, items_view};
 ghost use Rattle.serde_json.specs.Find.{as_bool, as_number, as_integer};
 ghost use Rattle.vx_value.specs.View.{type_of};
+ghost use Rattle.vx_value.specs.Storage.{is_nested};
 ghost use Rattle.vx_tree.specs.Natives.{values_of, ptype_of};
 ghost use Rattle.vx_json.specs.Refused.{IsRead};
 ghost use Rattle.vx_json.specs.ReadRows.{read_unless, RowsRead};
@@ -103,9 +104,13 @@ pub(crate) fn booleans<N: RowNulls>(
     Ok(bits.finish(alloc)?)
 }
 
-/// Reads a value of type `dtype`, or null if the type is nullable. `InvalidArgument(BadValue)` if it isn't one.
+/// Reads a value of type `dtype`, which must not be nested, or null if the type is nullable. `InvalidArgument(BadValue)` if it
+/// isn't one.
+#[tactic(auto, using(vx_value::proofs::FitsLemmas::unnested_fits))]
 pub(crate) fn scalar(alloc: Global, dtype: DType, value: &Value) -> VortexResult<Scalar>
-    ensures { IsRead (scalar_of (view value.now) (type_of dtype)) result }
+    requires { is_nested (type_of dtype) ≡ false }
+    ensures read { IsRead (scalar_of (view value.now) (type_of dtype)) result }
+    ensures unnested { IfOk result (λ s. is_nested s.of_type ≡ false) }
 {
     if value.is_null() {
         return Scalar::try_new(dtype, None);

@@ -12,7 +12,7 @@ use crate::optimizer::ArrayOptimizer;
 use std::alloc::Global;
 use vx_fn::{BetweenOptions, Operator, ScalarFnRef};
 use vx_tree::{ArrayRef, ConstantArray, InterleaveArray, IntoArray, ScalarFnArray};
-use vx_value::{DType, Scalar, VortexResult};
+use vx_value::{ArgKind, DType, Scalar, VortexError, VortexResult};
 
 /// The functions as methods. Each makes the node of its function over the array and optimizes it; only `zip` and
 /// `interleave` don't optimize.
@@ -98,7 +98,10 @@ impl ArrayBuiltins for ArrayRef {
             let target = fill_value.dtype().clone()?;
             return cast_to(alloc, self, target);
         }
-        let fill = ConstantArray::new(alloc, fill_value, self.len())?;
+        if fill_value.dtype().is_nested() {
+            return Err(VortexError::InvalidArgument(ArgKind::NoRow));
+        }
+        let fill = ConstantArray::new_unchecked(alloc, fill_value, self.len())?;
         call_of_two(alloc, ScalarFnRef::FillNull, self, fill.into_array())
     }
 

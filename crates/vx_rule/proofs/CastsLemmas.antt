@@ -1,27 +1,31 @@
 -- What a cast to the child's own type keeps: C1.
-use Rattle.std.proofs.Common.{◌≡◌, ℕ, suc, ◌+◌, ◌-◌, ℤ, pos, negsuc, ◌*ℤ◌, Bool, true, false, List, [], ◌∷◌, length, map, get_or, Some, None}
+use Rattle.std.proofs.Common.{◌≡◌, ℕ, suc, ◌+◌, ◌-◌, ℤ, pos, negsuc, ◌*ℤ◌, Bool, true, false, List, [], ◌∷◌, length, map, get_or, Option, Some, None}
 use Rattle.std.proofs.Common.{refl, sym, ap, subst, ◌∙◌, if◌then◌else◌, arith}
-use Rattle.std.specs.Prelude.{neg_ℤ}
+use Rattle.std.specs.Prelude.{neg_ℤ, ◌==◌}
 use Rattle.std.specs.List.{range_with_len}
-use Rattle.std.specs.Cmp.{unsigned_Decides}
+use Rattle.std.specs.Cmp.{unsigned_Decides, second_so, first_so}
 use Rattle.std.specs.Str.{is_utf8}
 use Rattle.std.proofs.Math.Nat.{mul-one, sub_self, le_refl}
 use Rattle.std.proofs.lemmas.Bool.{le-leb}
 use Rattle.vx_value.specs.Types as type
-use Rattle.vx_value.specs.Types.{DataType, nullability_of, is_nullable}
-use Rattle.vx_value.specs.Values.{Value, null, boolean, integer, decimal, bytes}
+use Rattle.vx_value.specs.Types.{DataType, Fields, nullability_of, is_nullable}
+use Rattle.vx_value.specs.Nested.{bare}
+use Rattle.vx_value.specs.Fits.{fits}
+use Rattle.vx_value.specs.Values.{Value, null, boolean, integer, decimal, bytes, list, fields}
+use Rattle.vx_value.specs.Values.{Values, no_values, item, count}
 use Rattle.vx_value.specs.Cell.{Cell, value, fault}
-use Rattle.vx_value.specs.Casts.{sized, power, lengthened, shortened, rescaled, has_cast, cast_to}
+use Rattle.vx_value.specs.Casts.{sized, power, lengthened, shortened, rescaled, joined, list_cell, fields_cell, has_cast, into, all_into, each_into, cast_to}
 use Rattle.vx_value.specs.Decimals.{has_digits}
-use Rattle.vx_value.specs.IsOf.{in_range}
+use Rattle.vx_value.specs.IsOf.{in_range, are_parts, is_null}
 use Rattle.vx_value.specs.View.{type_of}
 use Rattle.vx_value.specs.declared.dtype.DType.{DType}
+use Rattle.vx_value.specs.declared.dtype.Nullability.TheVariants.{NonNullable}
 use Rattle.vx_value.proofs.CastsLemmas.{cast_to_self}
 use Rattle.vx_fn.specs.Apply.{apply}
 use Rattle.vx_fn.specs.ReturnTypes.{return_type}
 use Rattle.vx_fn.specs.declared.function.ScalarFnRef.TheVariants as fn_of
 use Rattle.vx_tree.specs.Tree as enc
-use Rattle.vx_tree.specs.Tree.{Tree, node, no_slots, slot, dtype, len}
+use Rattle.vx_tree.specs.Tree.{Tree, node, no_slots, slot, dtype}
 use Rattle.vx_tree.specs.Cells.{rows}
 use Rattle.vx_tree.specs.Keeps.{CellKeeps, RowsKeep, Keeps}
 use Rattle.vx_tree.specs.Well.{IsWell}
@@ -51,16 +55,72 @@ decimal_kept p s z r e =
     subst (λ x. CellKeeps (rescaled p x z r) (value (decimal z r))) e
     (subst (λ c. CellKeeps c (value (decimal z r))) (sym (same_scale p r z)) (if_kept (has_digits p z) (decimal z r)))
 
+-- an extension's values are those of what it is stored as
+stored_fits : (id : List ℕ) (ty : DataType) (v : Value) → is_null v ≡ false → CellFits (type.extension id ty) (value v) → CellFits ty (value v)
+stored_fits id ty null e h = absurd (cc (e))
+stored_fits id type.null _ e h = h
+stored_fits id _ _ e h = h
+
+-- the values that a cast gives, if it gives some, are the same
+abbrev AreKept : Option Values → Values → Type 0
+AreKept None vs = Unit {0}
+AreKept (Some ws) vs = vs ≡ ws
+
+joined_kept : (c : Cell) (o : Option Values) (v : Value) (vs : Values) → CellKeeps c (value v) → AreKept o vs → AreKept (joined c o) (item v vs)
+joined_kept fault o v vs h k = tt
+joined_kept (value w) None v vs h k = tt
+joined_kept (value w) (Some ws) v vs h k = let same : v ≡ w = cc (h) in λ i. item (same i) (k i)
+
+list_kept : (o : Option Values) (vs : Values) → AreKept o vs → CellKeeps (list_cell o) (value (list vs))
+list_kept None vs h = tt
+list_kept (Some ws) vs h = ap (λ us. value (list us)) h
+
+fields_kept : (o : Option Values) (vs : Values) → AreKept o vs → CellKeeps (fields_cell o) (value (fields vs))
+fields_kept None vs h = tt
+fields_kept (Some ws) vs h = ap (λ us. value (fields us)) h
+
+kept_if : (b : Bool) (c d : Cell) → CellKeeps c d → CellKeeps (if b then c else fault) d
+kept_if true c d h = h
+kept_if false c d h = tt
+
+null_kept : (ty : DataType) (v : Value) → (is_null v ≡ false → CellKeeps (into (bare ty) v) (value v)) → CellKeeps (cast_to ty v) (value v)
+null_kept ty null h = if_kept (is_nullable (nullability_of ty)) null
+null_kept ty v h = h refl
+
 -- the value that a cast to the type gives, if it gives one: a line for each type
+mutual
+  into_kept : (ty : DataType) (v : Value) → is_null v ≡ false → CellFits ty (value v) → CellKeeps (into (bare ty) v) (value v)
+  into_kept ty null e h = absurd (cc (e))
+  into_kept (type.extension id ty) v e h = into_kept ty v e (stored_fits id ty v e h)
+  into_kept (type.bool n) (boolean b) e h = refl
+  into_kept (type.primitive p n) (integer z) e h = if_kept (in_range p z) (integer z)
+  into_kept (type.decimal p s n) (decimal z r) e h = decimal_kept p s z r ((unsigned_Decides r s).0 h)
+  into_kept (type.decimal p s n) _ e h = absurd (cc (h))
+  into_kept (type.utf8 n) (bytes bs) e h = if_kept (is_utf8 bs) (bytes bs)
+  into_kept (type.binary n) (bytes bs) e h = refl
+  into_kept (type.list t n) (list vs) e h =
+      kept_if (fits t (count vs)) (list_cell (all_into t vs)) (value (list vs)) (list_kept (all_into t vs) vs (all_kept t vs h))
+  into_kept (type.fixed_size_list t k n) (list vs) e h =
+      kept_if (count vs == k) (list_cell (all_into t vs)) (value (list vs)) (list_kept (all_into t vs) vs (all_kept t vs (second_so _ _ h)))
+  into_kept (type.map k t n) v e h = if_kept (are_parts (type.map k t n) v) v
+  into_kept (type.struct fs n) (fields vs) e h = fields_kept (each_into fs vs) vs (each_kept fs vs h)
+  into_kept (type.union us n) v e h = if_kept (are_parts (type.union us n) v) v
+  into_kept (type.variant n) v e h = if_kept (are_parts (type.variant n) v) v
+  into_kept _ _ e h = tt
+
+  all_kept : (ty : DataType) (vs : Values) → CellFits (type.list ty NonNullable) (value (list vs)) → AreKept (all_into ty vs) vs
+  all_kept ty no_values h = refl
+  all_kept ty (item v vs) h =
+      joined_kept (cast_to ty v) (all_into ty vs) v vs (null_kept ty v (λ e. into_kept ty v e (first_so _ _ h))) (all_kept ty vs (second_so _ _ h))
+
+  each_kept : (fs : Fields) (vs : Values) → CellFits (type.struct fs NonNullable) (value (fields vs)) → AreKept (each_into fs vs) vs
+  each_kept type.no_fields no_values h = refl
+  each_kept (type.field name ty fs) (item v vs) h =
+      joined_kept (cast_to ty v) (each_into fs vs) v vs (null_kept ty v (λ e. into_kept ty v e (first_so _ _ h))) (each_kept fs vs (second_so _ _ h))
+  each_kept _ _ h = tt
+
 value_kept : (ty : DataType) (v : Value) → CellFits ty (value v) → CellKeeps (cast_to ty v) (value v)
-value_kept ty null h = if_kept (is_nullable (nullability_of ty)) null
-value_kept (type.bool n) (boolean b) h = refl
-value_kept (type.primitive p n) (integer z) h = if_kept (in_range p z) (integer z)
-value_kept (type.decimal p s n) (decimal z r) h = decimal_kept p s z r ((unsigned_Decides r s).0 h)
-value_kept (type.decimal p s n) _ h = absurd (cc (h))
-value_kept (type.utf8 n) (bytes bs) h = if_kept (is_utf8 bs) (bytes bs)
-value_kept (type.binary n) (bytes bs) h = refl
-value_kept _ _ h = tt
+value_kept ty v h = null_kept ty v (λ e. into_kept ty v e h)
 
 -- ---- rows
 

@@ -124,10 +124,13 @@ module _ (ty : DataType) (n : ℕ) (f : ScalarFnRef) (ss : Slots) (t : Tree) (vs
       let w : IsWell (node ty n (enc.function f) ss) = subst IsWell is well in
       ap (return_type f) (types_are n ss ok.0 vs w.1 ok.1 e) ∙ ok.2
 
+  pub folded_same : (x : Typed) → return_type f (map (λ v. v.of_type) vs) ≡ Some x.of_type → x.of_type ≡ ty
+  folded_same x typed = cc (typed, folded_type)
+
   pub folded_value : (x : Typed) (u : Tree) → return_type f (map (λ v. v.of_type) vs) ≡ Some x.of_type
       → apply f (map (λ v. v.of_type) vs) x.of_type (map (λ v. value v.value) vs) ≡ value x.value → u ≡ constant_of x n → IsFolded f ty n ss (Some u)
   folded_value x u typed h made =
-      let same : x.of_type ≡ ty = cc (typed, folded_type) in
+      let same : x.of_type ≡ ty = folded_same x typed in
       (vs, x.value, e, subst (λ s. apply f (map (λ v. v.of_type) vs) s (map (λ v. value v.value) vs) ≡ value x.value) same h, made ∙ ap (λ s. constants s x.value n) same)
 
   pub folded_none : ((s : DataType) → return_type f (map (λ v. v.of_type) vs) ≡ Some s → apply f (map (λ v. v.of_type) vs) s (map (λ v. value v.value) vs) ≡ fault)

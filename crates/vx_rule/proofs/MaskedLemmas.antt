@@ -43,6 +43,7 @@ arguments x m ty n (s ∷ t ∷ u ∷ tys) e r = absurd (cc)
 
 twice : (s : DataType) → with_nullability Nullable (with_nullability Nullable s) ≡ with_nullability Nullable s
 twice type.null = refl
+twice (type.extension id s) = ap (type.extension id) (twice s)
 twice _ = refl
 
 told_rows : (n k : ℕ) (v : Option Tree) → IfSome v IsWell → IsValidity Nullable k (option_map shape_of v) → k ≡ n

@@ -258,6 +258,7 @@ widen_fixed c s h = ap (λ m. with_nullability (union m (nullability_of s)) s) h
   where
     own : (s : DataType) → with_nullability (nullability_of s) s ≡ s
     own type.null = refl
+    own (type.extension id s) = ap (type.extension id) (own s)
     own _ = refl
 
 taken_shape_by : (codes : Tree) (d : Data) (t : Tree) → nullability_of (dtype codes) ≡ NonNullable → datum t ≡ d → IsWell t
@@ -334,3 +335,10 @@ masked_copies ty c u h e r = (
     set_own (type.decimal q r m) h = ap (type.decimal q r) (sym h)
     set_own (type.utf8 m) h = ap type.utf8 (sym h)
     set_own (type.binary m) h = ap type.binary (sym h)
+    set_own (type.list t m) h = ap (type.list t) (sym h)
+    set_own (type.fixed_size_list t k m) h = ap (type.fixed_size_list t k) (sym h)
+    set_own (type.map k t m) h = ap (type.map k t) (sym h)
+    set_own (type.struct fs m) h = ap (type.struct fs) (sym h)
+    set_own (type.union us m) h = ap (type.union us) (sym h)
+    set_own (type.variant m) h = ap type.variant (sym h)
+    set_own (type.extension id t) h = ap (type.extension id) (set_own t h)

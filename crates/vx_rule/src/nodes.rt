@@ -1,8 +1,9 @@
 //! Takes nodes apart, and makes the nodes of answers.
 
-ghost use Rattle.std.specs.Prelude.{◌≡◌, ◌≤◌, [], ◌∷◌, Some, IfOk, true};
+ghost use Rattle.std.specs.Prelude.{◌≡◌, ◌≤◌, [], ◌∷◌, Some, IfOk, true, false};
 ghost use Rattle.vx_value.specs.Errors.{OnlyOutOfMemory};
 ghost use Rattle.vx_value.specs.View.{type_of};
+ghost use Rattle.vx_value.specs.Storage.{is_nested};
 ghost use Rattle.vx_tree.specs.Tree.{dtype, len, datum, node, function, masked, slots_of, masked_of, dict_of, is_function, is_masked, is_dict, is_constant, is_canonical};
 ghost use Rattle.vx_tree.specs.Well.{IsNode, IsWell, shapes};
 ghost use Rattle.vx_value.specs.IsOf.{is_of};
@@ -110,6 +111,7 @@ pub(crate) fn dict_node(alloc: Global, codes: ArrayRef, values: ArrayRef) -> Vor
 
 /// Returns the constant of `array`'s type and length with the value `value`, which must be of that type. Fails only with
 /// `OutOfMemory`.
+#[tactic(auto, using(vx_value::proofs::FitsLemmas::unnested_fits))]
 pub(crate) fn repeated(
     alloc: Global,
     array: &ArrayRef,
@@ -120,7 +122,7 @@ pub(crate) fn repeated(
     ensures err { OnlyOutOfMemory result }
 {
     let scalar = Scalar::new_unchecked(array.dtype().clone()?, value);
-    Ok(ConstantArray::new(alloc, scalar, array.len())?.into_array())
+    Ok(ConstantArray::new_unchecked(alloc, scalar, array.len())?.into_array())
 }
 
 /// Returns the constant of `len` rows with the value of `array`, which must be a constant. Fails only with `OutOfMemory`.
@@ -129,14 +131,16 @@ pub(crate) fn constant_like(alloc: Global, array: &ArrayRef, len: usize) -> Vort
     ensures ok { IfOk result (λ t. IsConstantLike array.now len t) }
     ensures err { OnlyOutOfMemory result }
 {
+    array.well_formed_tree();
     let ArrayKind::Constant(scalar) = array.kind() else {
         unreachable!()
     };
-    Ok(ConstantArray::new(alloc, scalar.clone()?, len)?.into_array())
+    Ok(ConstantArray::new_unchecked(alloc, scalar.clone()?, len)?.into_array())
 }
 
-/// Returns the column of type `dtype` without rows. Fails only with `OutOfMemory`.
+/// Returns the column of type `dtype`, which must not be nested, without rows. Fails only with `OutOfMemory`.
 pub(crate) fn empty_column(alloc: Global, dtype: &DType) -> VortexResult<ArrayRef>
+    requires { is_nested (type_of dtype.now) ≡ false }
     ensures ok { IfOk result (λ t. t ≡ empty_of (type_of dtype.now)) }
     ensures err { OnlyOutOfMemory result }
 {

@@ -111,5 +111,5 @@ pub(crate) fn truths(alloc: Global, value: bool, len: usize) -> VortexResult<Arr
     ensures err { OnlyOutOfMemory result }
 {
     let scalar = Scalar::bool(value, Nullability::NonNullable);
-    Ok(ConstantArray::new(alloc, scalar, len)?.into_array())
+    Ok(ConstantArray::new_unchecked(alloc, scalar, len)?.into_array())
 }

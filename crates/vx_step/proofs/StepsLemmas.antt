@@ -1,6 +1,7 @@
 -- The column that a node steps to, and why a function has none.
 use Rattle.std.proofs.Common.{◌≡◌, inl, inr, ℕ, zero, suc, Option, None, ◌<◌, ◌&&◌, nat_lt, List, [], ◌∷◌, map, true, false, Some, refl, sym, ◌∙◌, ap, subst, arith}
 use Rattle.vx_value.specs.Types.{DataType}
+use Rattle.vx_value.specs.Storage.{is_nested}
 use Rattle.vx_value.specs.declared.error.VortexError.{VortexError}
 use Rattle.vx_fn.specs.ReturnTypes.{return_type}
 use Rattle.vx_fn.specs.declared.function.ScalarFnRef.{ScalarFnRef}
@@ -133,6 +134,9 @@ function_waits f t ss i shown awaited =
     subst (λ x. IsAnswer x (Wait i Columnar)) (sym shown)
     (unless_filter (node (dtype t) (len t) (function f) ss) refl, (each_executed i, awaited), refl)
 
+pub slots_present : (f : ScalarFnRef) (t : Tree) (ss : Slots) → IsNode (dtype t) (len t) (function f) (shapes ss) → all_present (shapes ss) ≡ true
+slots_present f t ss well = ap all_present well.1 ∙ present_types (len t) well.0
+
 module _ (f : ScalarFnRef) (t : Tree) (ss : Slots) (ts : List Tree) (shown : t ≡ node (dtype t) (len t) (function f) ss)
     (well : IsNode (dtype t) (len t) (function f) (shapes ss)) (filled : filled_slots ts ≡ ss) where
   -- the function takes the columns
@@ -141,8 +145,9 @@ module _ (f : ScalarFnRef) (t : Tree) (ss : Slots) (ts : List Tree) (shown : t �
       let types : map dtype ts ≡ well.0 = sym (filled_types ts) ∙ ap (λ x. types_in (shapes x)) filled ∙ ap types_in well.1 ∙ types_back (len t) well.0 in
       ap (return_type f) types ∙ well.2
 
-  pub slots_present : all_present (shapes ss) ≡ true
-  slots_present = ap all_present well.1 ∙ present_types (len t) well.0
+  -- and gives no nested values
+  pub call_unnested : is_nested (dtype t) ≡ false → (ty : DataType) → return_type f (map dtype ts) ≡ Some ty → is_nested ty ≡ false
+  call_unnested plain ty row = let same : dtype t ≡ ty = cc (sym typed ∙ row) in subst (λ u. is_nested u ≡ false) same plain
 
   pub may_call : IsCall f ts (len t)
   may_call = (dtype t, subst (λ x. IsNode (dtype t) (len t) (function f) (shapes x)) (sym filled) well)

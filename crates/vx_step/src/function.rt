@@ -32,6 +32,7 @@ pub(crate) fn apply_or_wait(
     match first_waiting(slots) {
         Some(slot) => Ok(Answer::Wait(slot, SlotTarget::Columnar)),
         None => {
+            array.well_formed_tree();
             let columns = columns_of(alloc, slots)?;
             let column = apply_fn(alloc, scalar_fn, columns.as_slice(), array.len())?;
             column.as_array().well_formed_tree();

@@ -13,6 +13,8 @@ mod casts;
 #[cfg(test)]
 mod errors;
 #[cfg(test)]
+mod nested;
+#[cfg(test)]
 mod parts;
 mod refusals;
 #[cfg(test)]

@@ -1,10 +1,11 @@
 -- A call of a function: its node, and why there is none.
-use Rattle.std.proofs.Common.{◌≡◌, ℕ, List, [], ◌∷◌, ◌++◌, length, map, true, ◌&&◌, Option, Some, None, refl, sym, ◌∙◌, ap}
-use Rattle.std.specs.Prelude.{◌==◌, option_map}
+use Rattle.std.proofs.Common.{◌≡◌, ℕ, List, [], ◌∷◌, ◌++◌, length, map, true, false, ◌&&◌, Option, Some, None, refl, sym, ◌∙◌, ap}
+use Rattle.std.specs.Prelude.{◌==◌, not, option_map}
 use Rattle.vx_value.specs.Types.{DataType}
+use Rattle.vx_value.specs.Storage.{is_nested}
 use Rattle.vx_value.specs.declared.error.VortexError.{VortexError}
 use Rattle.vx_value.specs.declared.error.VortexError.TheVariants.{InvalidArgument}
-use Rattle.vx_value.specs.declared.error.ArgKind.TheVariants.{ChildLen, NoRow}
+use Rattle.vx_value.specs.declared.error.ArgKind.TheVariants.{ChildLen, NoRow, BadType}
 use Rattle.vx_fn.specs.ReturnTypes.{return_type}
 use Rattle.vx_fn.specs.declared.function.ScalarFnRef.{ScalarFnRef}
 use Rattle.vx_tree.specs.Tree.{Tree, Slots, node, function, no_slots, absent, slot, filled_slots, slots_of, dtype, len, call_of, lengths_refusal}
@@ -75,17 +76,17 @@ module _ (f : ScalarFnRef) (ts : List Tree) (n : ℕ) (ss : Slots) (filled : ss 
     row_is : return_type f tys ≡ return_type f (map dtype ts)
     row_is = ap (return_type f) (typed ∙ ap (λ x. types_in (shapes x)) filled ∙ filled_types ts)
 
-    pub call_row_refused : arity_refusal f (length ts) ≡ None → lengths_refusal n (shapes ss) ≡ None →
-        return_type f tys ≡ None → call_refusal f ts n ≡ Some (InvalidArgument NoRow)
-    call_row_refused count long row =
+    pub call_row_refused : (e : VortexError) → arity_refusal f (length ts) ≡ None → lengths_refusal n (shapes ss) ≡ None →
+        row_refusal (return_type f tys) ≡ Some e → call_refusal f ts n ≡ Some e
+    call_row_refused e count long row =
         later_refused (arity_refusal f (length ts)) _ _ count
-        (later_refused (unless (all_of_len n ts) (InvalidArgument ChildLen)) _ _ (sym lengths_are ∙ long) (ap row_refusal (sym row_is ∙ row)))
+        (later_refused (unless (all_of_len n ts) (InvalidArgument ChildLen)) _ _ (sym lengths_are ∙ long) (ap row_refusal (sym row_is) ∙ row))
 
-    pub call_taken : (ty : DataType) → arity_refusal f (length ts) ≡ None → lengths_refusal n (shapes ss) ≡ None →
-        return_type f tys ≡ Some ty → call_refusal f ts n ≡ None
-    call_taken ty count long row =
+    pub call_taken : arity_refusal f (length ts) ≡ None → lengths_refusal n (shapes ss) ≡ None →
+        row_refusal (return_type f tys) ≡ None → call_refusal f ts n ≡ None
+    call_taken count long row =
         none_refused (arity_refusal f (length ts)) _ count
-        (none_refused (unless (all_of_len n ts) (InvalidArgument ChildLen)) _ (sym lengths_are ∙ long) (ap row_refusal (sym row_is ∙ row)))
+        (none_refused (unless (all_of_len n ts) (InvalidArgument ChildLen)) _ (sym lengths_are ∙ long) (ap row_refusal (sym row_is) ∙ row))
 
     pub call_made : (ty : DataType) → return_type f tys ≡ Some ty → called f ts n ≡ Some (node ty n (function f) ss)
     call_made ty row =

@@ -1,9 +1,9 @@
 -- Ranges of columns that hold their rows themselves.
-use Rattle.std.proofs.Common.{◌≡◌, ◌≢◌, None, ◌≤◌, ℕ, ◌-◌, List, [], ◌∷◌, slice_range, true, Option, refl, ap, ◌∙◌, subst}
-use Rattle.std.proofs.lemmas.Bool.{and_from}
+use Rattle.std.proofs.Common.{◌≡◌, ◌≢◌, None, ◌≤◌, ℕ, ◌-◌, List, [], ◌∷◌, slice_range, true, false, Option, refl, sym, ap, ◌∙◌, subst}
+use Rattle.std.proofs.lemmas.Bool.{and_from, false≢true}
 use Rattle.vx_value.specs.Types as type
 use Rattle.vx_value.specs.Types.{DataType}
-use Rattle.vx_value.specs.Storage.{storage_of}
+use Rattle.vx_value.specs.Storage.{storage_of, is_nested}
 use Rattle.vx_value.specs.Values.{boolean, integer, decimal, bytes}
 use Rattle.vx_value.specs.Decimals.{smallest_width, same_width_Decides}
 use Rattle.vx_value.specs.declared.dtype.Nullability.TheVariants.{NonNullable}
@@ -70,12 +70,14 @@ flat_slot t xs w h e =
     only_slot xs flat.0 (ap shapes e ∙ flat.3)
 
 -- the one without rows: a line for each type
-pub no_rows_node : (ty : DataType) → storage_of ty ≢ Nulls → IsNode ty 0 (no_rows (storage_of ty)) (None ∷ [])
-no_rows_node type.null h = absurd (h refl)
-no_rows_node (type.decimal p s m) h = ((None, refl, refl, refl, tt), and_from _ _ ((same_width_Decides (smallest_width p) (smallest_width p)).1 refl) refl)
-no_rows_node (type.utf8 m) h = ((None, refl, refl, refl, tt), refl)
-no_rows_node (type.binary m) h = ((None, refl, refl, refl, tt), refl)
-no_rows_node _ h = (None, refl, refl, refl, tt)
+pub no_rows_node : (ty : DataType) → storage_of ty ≢ Nulls → is_nested ty ≡ false → IsNode ty 0 (no_rows (storage_of ty)) (None ∷ [])
+no_rows_node type.null h u = absurd (h refl)
+no_rows_node (type.bool m) h u = (None, refl, refl, refl, tt)
+no_rows_node (type.primitive p m) h u = (None, refl, refl, refl, tt)
+no_rows_node (type.decimal p s m) h u = ((None, refl, refl, refl, tt), and_from _ _ ((same_width_Decides (smallest_width p) (smallest_width p)).1 refl) refl)
+no_rows_node (type.utf8 m) h u = ((None, refl, refl, refl, tt), refl)
+no_rows_node (type.binary m) h u = ((None, refl, refl, refl, tt), refl)
+no_rows_node _ h u = absurd (false≢true (sym u))
 
 pub no_rows_column : (ty : DataType) → storage_of ty ≢ Nulls → column ty 0 (no_rows (storage_of ty)) None ≡ empty_of ty
 no_rows_column type.null h = absurd (h refl)

@@ -138,13 +138,17 @@ own_rows v k t c w read counted shown well =
     let sized : HasRows (validity_of Nullable w) (len c) = slot_sized w (len c) (second_slot _ (len c) c w h.0) h.1.1 in
     subst (λ x. HasRows x k) (sym read) (subst (HasRows (validity_of Nullable w)) (sym (counted ∙ ap len shown)) sized)
 
+-- the validity that is joined of the two is the node's
+own_told : (t c : Tree) (w : Option Tree) (k : ℕ) (own v : Validity) → t ≡ masked_of c w → k ≡ len t
+    → own ≡ validity_of Nullable w → v ≡ node_validity c → joined k own v ≡ node_validity t
+own_told t c w k own v shown counted first second =
+    (λ i. joined ((counted ∙ ap len shown) i) (first i) (second i))
+    ∙ ap (λ x. joined (len c) (validity_of Nullable x) (node_validity c)) (sym (first_tree w))
+    ∙ ap (λ m. if_nullable m (joined (len c) (validity_of Nullable (slot_tree 0 (slots_of (w ∷ [])))) (node_validity c))) (sym (nullable_set (dtype c)))
+    ∙ sym (ap node_validity shown)
+
 pub masked_told : (r : Result Validity VortexError) (t c : Tree) (w : Option Tree) (k : ℕ) (own v : Validity) → t ≡ masked_of c w → k ≡ len t
     → own ≡ validity_of Nullable w → v ≡ node_validity c → IfOk r (λ x. x ≡ joined k own v) → IfOk r (λ x. x ≡ node_validity t)
-masked_told r t c w k own v shown counted first second h = IfOk-weaker r _ _ (λ x g. g ∙ told) h
-  where
-    told : joined k own v ≡ node_validity t
-    told =
-        (λ i. joined ((counted ∙ ap len shown) i) (first i) (second i))
-        ∙ ap (λ x. joined (len c) (validity_of Nullable x) (node_validity c)) (sym (first_tree w))
-        ∙ ap (λ m. if_nullable m (joined (len c) (validity_of Nullable (slot_tree 0 (slots_of (w ∷ [])))) (node_validity c))) (sym (nullable_set (dtype c)))
-        ∙ sym (ap node_validity shown)
+masked_told r t c w k own v shown counted first second h =
+    let told : joined k own v ≡ node_validity t = own_told t c w k own v shown counted first second in
+    IfOk-weaker r (λ x. x ≡ joined k own v) (λ x. x ≡ node_validity t) (λ x g. g ∙ told) h

@@ -1,21 +1,25 @@
 -- What the cells of a well-formed tree are: null only if its type is nullable, and else values of the kind that the type stores.
 use Rattle.std.proofs.Common.{◌≡◌, ℕ, zero, suc, ℤ, pos, drop, List, [], ◌∷◌, length, map, get_or, Bool, true, false, Option, Some, None}
 use Rattle.std.proofs.Common.{refl, sym, ap, subst, ◌∙◌, if◌then◌else◌}
-use Rattle.std.specs.Prelude.{◌==◌, ◌&&◌}
+use Rattle.std.specs.Prelude.{◌==◌, ◌&&◌, ◌-◌, is_some, option_map}
 use Rattle.std.proofs.Math.Bool.{not}
-use Rattle.std.specs.Cmp.{unsigned_Decides, first_so}
+use Rattle.std.specs.Cmp.{unsigned_Decides, first_so, second_so}
+use Rattle.std.specs.Str.{bytes_eq}
 use Rattle.std.specs.List.{All, AllByRecursion, AllZip, range_with_len}
 use Rattle.std.proofs.lemmas.Bool.{false≢true}
 use Rattle.std.proofs.lemmas.Option.{none-some}
 use Rattle.std.proofs.lemmas.List.Elements.{All-nil, All-cons, All-head, All-tail, All-take, All-drop, All-replicate, All-map, All-weaker, All-append}
 use Rattle.std.proofs.lemmas.List.Elements.{recursion_from_All}
 use Rattle.vx_value.specs.Types as type
-use Rattle.vx_value.specs.Types.{DataType, nullability_of, is_nullable}
+use Rattle.vx_value.specs.Types.{DataType, Fields, nullability_of, is_nullable}
 use Rattle.vx_value.specs.Nullabilities.{with_nullability, union, same_but_nullability}
-use Rattle.vx_value.specs.Values.{Value, null, boolean, integer, decimal, bytes}
-use Rattle.vx_value.specs.IsOf.{is_of, in_range, is_null}
+use Rattle.vx_value.specs.Values.{Value, null, boolean, integer, decimal, bytes, list, fields, tagged, variant}
+use Rattle.vx_value.specs.Values.{Values, no_values, item, count}
+use Rattle.vx_value.specs.Typed.{Typed}
+use Rattle.vx_value.specs.IsOf.{is_of, is_stored, is_held, are_parts, all_of, are_of, in_range, is_null}
+use Rattle.vx_value.specs.Nested.{bare, entry_type, tag_type, the_type, field_type, field_place, are_fields}
 use Rattle.vx_value.specs.Storage.{storage_of}
-use Rattle.vx_value.specs.Casts.{sized, cast_to, into}
+use Rattle.vx_value.specs.Casts.{sized, cast_to}
 use Rattle.vx_value.specs.Decimals.{has_digits}
 use Rattle.vx_value.specs.Cell.{Cell, value, fault}
 use Rattle.vx_value.specs.Parts.{boolean_in}
@@ -23,23 +27,27 @@ use Rattle.vx_value.specs.View.{type_of}
 use Rattle.vx_value.specs.declared.dtype.Nullability.{Nullability}
 use Rattle.vx_value.specs.declared.dtype.Nullability.TheVariants.{NonNullable, Nullable}
 use Rattle.vx_value.specs.declared.dtype.Storage.{Storage}
-use Rattle.vx_value.specs.declared.dtype.Storage.TheVariants.{Bits, Integers, Decimals, Text, Bytes}
-use Rattle.vx_value.proofs.CastsLemmas.{into_typed}
-use Rattle.vx_value.proofs.NullabilitiesLemmas.{union_first, union_second, set_alike, alike_but_nullability}
+use Rattle.vx_value.specs.declared.dtype.Storage.TheVariants.{Bits, Integers, Decimals, Text, Bytes, Nested}
+use Rattle.vx_value.proofs.CastsLemmas.{cast_to_typed}
+use Rattle.vx_value.proofs.NullabilitiesLemmas.{union_first, union_second, set_alike, alike_but_nullability, storage_kept, bare_kept}
 use Rattle.vx_mask.specs.Places.{chosen}
 use Rattle.vx_fn.specs.Apply.{apply, on_values, value_of}
 use Rattle.vx_fn.specs.Arithmetic.{number, calculated_by}
-use Rattle.vx_fn.specs.Arity.{of_one, of_two, of_three}
+use Rattle.vx_fn.specs.Arity.{of_none, of_one, of_two, of_three}
 use Rattle.vx_fn.specs.Between.{between, between_type, lies_between}
 use Rattle.vx_fn.specs.Binary.{binary, binary_type, logical_type, null_rule, is_logical, decided, operated}
 use Rattle.vx_fn.specs.Cast.{cast_type}
 use Rattle.vx_fn.specs.Comparisons.{is_ordered, ordered_type}
 use Rattle.vx_fn.specs.FillNull.{fill_type, filled}
+use Rattle.vx_fn.specs.GetItem.{get_item, item_type, item_of, value_at_place}
 use Rattle.vx_fn.specs.IsNull.{test_type}
+use Rattle.vx_fn.specs.ListContains.{contains_type, contains, contained, has}
 use Rattle.vx_fn.specs.Logic.{kleene_and, kleene_or, truth}
 use Rattle.vx_fn.specs.Mask.{mask_type, masked}
 use Rattle.vx_fn.specs.Meanings.{widen, widened, null_through, as_given}
 use Rattle.vx_fn.specs.Negation.{not_type, negated}
+use Rattle.vx_fn.specs.Pack.{pack, fields_with, struct_of, in_order}
+use Rattle.vx_fn.specs.PreparedSet.{set_type, list_type}
 use Rattle.vx_fn.specs.ReturnTypes.{return_type}
 use Rattle.vx_fn.specs.Zip.{zip_type, zipped}
 use Rattle.vx_fn.specs.declared.function.Operator.{Operator}
@@ -47,6 +55,7 @@ use Rattle.vx_fn.specs.declared.function.Operator.TheVariants as operator
 use Rattle.vx_fn.specs.declared.function.ScalarFnRef.{ScalarFnRef}
 use Rattle.vx_fn.specs.declared.function.ScalarFnRef.TheVariants as function
 use Rattle.vx_fn.specs.declared.functions.between.BetweenOptions.{BetweenOptions}
+use Rattle.vx_fn.specs.declared.functions.pack.PackOptions.{PackOptions}
 use Rattle.vx_fn.proofs.BinaryLemmas.{null_first, null_second}
 use Rattle.vx_fn.proofs.LogicLemmas.{Knows, and_knows, or_knows}
 use Rattle.vx_fn.proofs.MeaningsLemmas.{nullable_by_argument}
@@ -60,19 +69,44 @@ use Rattle.vx_tree.specs.Views.{bytes_at}
 use Rattle.vx_tree.specs.Well.{Shape, shape, shapes, IsValidity, IsFlat, IsNode, IsWell, AreWell}
 use Rattle.vx_tree.proofs.RefusalsLemmas.{types_back}
 
--- of the kind that is stored, however large: a line for each storage
-abbrev is_kind : Value → Storage → Bool
-is_kind (boolean b) Bits = true
-is_kind (integer z) (Integers p) = true
-is_kind (decimal z r) (Decimals p s) = r == s
-is_kind (bytes bs) Text = true
-is_kind (bytes bs) Bytes = true
-is_kind _ _ = false
+-- of the kind that is stored, however large: a line for each storage. Of a nested type the parts decide.
+abbrev is_kind : Bool → Value → Storage → Bool
+is_kind parts (boolean b) Bits = true
+is_kind parts (integer z) (Integers p) = true
+is_kind parts (decimal z r) (Decimals p s) = r == s
+is_kind parts (bytes bs) Text = true
+is_kind parts (bytes bs) Bytes = true
+is_kind parts _ Nested = parts
+is_kind parts _ _ = false
 
--- null if the type is nullable, or a value of the type's kind
+-- null if the type is nullable, or a value of the type's kind, given whether the parts are
+abbrev fits_by : DataType → Bool → Value → Bool
+fits_by ty parts null = is_nullable (nullability_of ty)
+fits_by ty parts v = is_kind (is_kind parts v (storage_of (bare ty))) v (storage_of ty)
+
+abbrev mutual
+  -- of a type that isn't an extension: a line for each nested type
+  parts_fit : DataType → Value → Bool
+  parts_fit (type.list t n) (list vs) = all_fit t vs
+  parts_fit (type.fixed_size_list t k n) (list vs) = (count vs == k) && all_fit t vs
+  parts_fit (type.map k t n) (list vs) = all_fit (entry_type k t) vs
+  parts_fit (type.struct fs n) (fields vs) = each_fits fs vs
+  parts_fit (type.union us n) (tagged tag v) =
+      is_some (tag_type tag us) && fits_by (the_type (tag_type tag us)) (parts_fit (bare (the_type (tag_type tag us))) v) v
+  parts_fit (type.variant n) (variant t v) = fits_by t (parts_fit (bare t) v) v
+  parts_fit _ _ = false
+
+  all_fit : DataType → Values → Bool
+  all_fit t no_values = true
+  all_fit t (item v vs) = fits_by t (parts_fit (bare t) v) v && all_fit t vs
+
+  each_fits : Fields → Values → Bool
+  each_fits type.no_fields no_values = true
+  each_fits (type.field name t fs) (item v vs) = fits_by t (parts_fit (bare t) v) v && each_fits fs vs
+  each_fits _ _ = false
+
 abbrev fits : Value → DataType → Bool
-fits null ty = is_nullable (nullability_of ty)
-fits v ty = is_kind v (storage_of ty)
+fits v ty = fits_by ty (parts_fit (bare ty) v) v
 
 -- a fault fits every type
 abbrev pub CellFits : DataType → Cell → Type 0
@@ -87,33 +121,96 @@ fit_at ty [] i h = tt
 fit_at ty (c ∷ cs) zero h = h.0
 fit_at ty (c ∷ cs) (suc i) h = fit_at ty cs i h.1
 
--- a value of the type
+-- ---- a value of the type
+
+both : {a b : Bool} → a ≡ true → b ≡ true → (a && b) ≡ true
+both h k = λ i. h i && k i
+
+stored_kind : (n : Nullability) (st : Storage) (p q : Bool) (v : Value) → is_null v ≡ false → (p ≡ true → q ≡ true) → is_stored n st p v ≡ true → is_kind q v st ≡ true
+stored_kind n st p q null e k h = absurd (cc)
+stored_kind n Bits p q (boolean b) e k h = refl
+stored_kind n (Integers r) p q (integer z) e k h = refl
+stored_kind n (Decimals r s) p q (decimal z x) e k h = first_so (x == s) (has_digits r z) h
+stored_kind n Text p q (bytes bs) e k h = refl
+stored_kind n Bytes p q (bytes bs) e k h = refl
+stored_kind n Nested p q (boolean b) e k h = k h
+stored_kind n Nested p q (integer z) e k h = k h
+stored_kind n Nested p q (decimal z r) e k h = k h
+stored_kind n Nested p q (bytes bs) e k h = k h
+stored_kind n Nested p q (list vs) e k h = k h
+stored_kind n Nested p q (fields vs) e k h = k h
+stored_kind n Nested p q (tagged tag v) e k h = k h
+stored_kind n Nested p q (variant t v) e k h = k h
+stored_kind n _ p q _ e k h = absurd (cc)
+
+held_fits : (ty : DataType) (p q : Bool) (v : Value) → (p ≡ true → q ≡ true) → is_held ty p v ≡ true → fits_by ty q v ≡ true
+held_fits ty p q null k h = h
+held_fits ty p q v k h =
+    let n : Nullability = nullability_of ty in
+    stored_kind n (storage_of ty) (is_stored n (storage_of (bare ty)) p v) (is_kind q v (storage_of (bare ty))) v refl
+    (stored_kind n (storage_of (bare ty)) p q v refl k) h
+
+mutual
+  typed_parts : (ty : DataType) (v : Value) → are_parts ty v ≡ true → parts_fit ty v ≡ true
+  typed_parts (type.list t n) (list vs) h = typed_all t vs h
+  typed_parts (type.fixed_size_list t k n) (list vs) h = both (first_so (count vs == k) (all_of t vs) h) (typed_all t vs (second_so (count vs == k) (all_of t vs) h))
+  typed_parts (type.map k t n) (list vs) h = typed_all (entry_type k t) vs h
+  typed_parts (type.struct fs n) (fields vs) h = typed_each fs vs h
+  typed_parts (type.union us n) (tagged tag v) h =
+      let u : DataType = the_type (tag_type tag us) in
+      both (first_so _ _ h) (held_fits u (are_parts (bare u) v) (parts_fit (bare u) v) v (typed_parts (bare u) v) (second_so _ _ h))
+  typed_parts (type.variant n) (variant t v) h = held_fits t (are_parts (bare t) v) (parts_fit (bare t) v) v (typed_parts (bare t) v) h
+  typed_parts _ _ h = absurd (cc)
+
+  typed_all : (t : DataType) (vs : Values) → all_of t vs ≡ true → all_fit t vs ≡ true
+  typed_all t no_values h = refl
+  typed_all t (item v vs) h =
+      both (held_fits t (are_parts (bare t) v) (parts_fit (bare t) v) v (typed_parts (bare t) v) (first_so _ _ h)) (typed_all t vs (second_so _ _ h))
+
+  typed_each : (fs : Fields) (vs : Values) → are_of fs vs ≡ true → each_fits fs vs ≡ true
+  typed_each type.no_fields no_values h = refl
+  typed_each (type.field name t fs) (item v vs) h =
+      both (held_fits t (are_parts (bare t) v) (parts_fit (bare t) v) v (typed_parts (bare t) v) (first_so _ _ h)) (typed_each fs vs (second_so _ _ h))
+  typed_each _ _ h = absurd (cc)
+
 typed_fits : (v : Value) (ty : DataType) → is_of ty v ≡ true → fits v ty ≡ true
-typed_fits null ty h = h
-typed_fits (boolean b) (type.bool m) h = refl
-typed_fits (integer z) (type.primitive p m) h = refl
-typed_fits (decimal z r) (type.decimal p s m) h = first_so (r == s) (has_digits p z) h
-typed_fits (bytes bs) (type.utf8 m) h = refl
-typed_fits _ _ h = h
+typed_fits v ty h = held_fits ty (are_parts (bare ty) v) (parts_fit (bare ty) v) v (typed_parts (bare ty) v) h
 
 -- ---- another nullability
 
 set_nullable : (m : Nullability) (t : DataType) → is_nullable m ≡ true → is_nullable (nullability_of (with_nullability m t)) ≡ true
 set_nullable m type.null h = refl
+set_nullable m (type.extension id t) h = set_nullable m t h
 set_nullable m _ h = h
 
-set_storage : (m : Nullability) (t : DataType) → storage_of (with_nullability m t) ≡ storage_of t
-set_storage m type.null = refl
-set_storage m _ = refl
+parts_set : (m : Nullability) (t : DataType) (v : Value) → parts_fit (with_nullability m t) v ≡ parts_fit t v
+parts_set m (type.list t n) (list vs) = refl
+parts_set m (type.fixed_size_list t k n) (list vs) = refl
+parts_set m (type.map k t n) (list vs) = refl
+parts_set m (type.struct fs n) (fields vs) = refl
+parts_set m (type.union us n) (tagged tag v) = refl
+parts_set m (type.variant n) (variant t v) = refl
+parts_set m _ _ = refl
+
+-- the nullability decides of null alone
+set_kind : (m : Nullability) (t : DataType) (v : Value) → is_null v ≡ false → fits v (with_nullability m t) ≡ fits v t
+set_kind m t null h = absurd (cc)
+set_kind m t v h =
+    λ i. is_kind
+    (is_kind ((ap (λ u. parts_fit u v) (bare_kept m t) ∙ parts_set m (bare t) v) i) v ((ap storage_of (bare_kept m t) ∙ storage_kept m (bare t)) i))
+    v (storage_kept m t i)
+
+alike_kind : (s t : DataType) (v : Value) → same_but_nullability s t ≡ true → is_null v ≡ false → fits v s ≡ fits v t
+alike_kind s t v e h = ap (fits v) (alike_but_nullability s t e) ∙ set_kind (nullability_of s) t v h
 
 same_storage : (s t : DataType) → same_but_nullability s t ≡ true → storage_of s ≡ storage_of t
-same_storage s t h = ap storage_of (alike_but_nullability s t h) ∙ set_storage (nullability_of s) t
+same_storage s t h = ap storage_of (alike_but_nullability s t h) ∙ storage_kept (nullability_of s) t
 
 -- which is nullable if it was
 set_fits : (m : Nullability) (t : DataType) (c : Cell) → (is_nullable (nullability_of t) ≡ true → is_nullable m ≡ true) → CellFits t c
     → CellFits (with_nullability m t) c
 set_fits m t (value null) n h = set_nullable m t (n h)
-set_fits m t (value v) n h = ap (is_kind v) (set_storage m t) ∙ h
+set_fits m t (value v) n h = set_kind m t v refl ∙ h
 set_fits m t fault n h = tt
 
 -- ---- what stands under a test or below an argument
@@ -188,8 +285,12 @@ joined_fits : (join : Option Bool → Option Bool → Option Bool) → Knows joi
 joined_fits join knows s t m null w h k e = truth_fits _ m (null_first operator.And s t (type.bool m) h e)
 joined_fits join knows s t m (boolean p) null h k e = truth_fits _ m (null_second operator.And s t (type.bool m) k e)
 joined_fits join knows s t m (boolean p) (boolean q) h k e = ap (λ o. fits (truth o) (type.bool m)) (knows p q).1
-joined_fits join knows s t m (boolean p) w h k e = let no = ap (is_kind w) (sym (logical_bits s t (type.bool m) e).1) ∙ k in absurd (false≢true no)
-joined_fits join knows s t m v w h k e = let no = ap (is_kind v) (sym (logical_bits s t (type.bool m) e).0) ∙ h in absurd (false≢true no)
+joined_fits join knows s t m (boolean p) w h k e =
+    let no = ap (is_kind (is_kind (parts_fit (bare t) w) w (storage_of (bare t))) w) (sym (logical_bits s t (type.bool m) e).1) ∙ k in
+    absurd (false≢true no)
+joined_fits join knows s t m v w h k e =
+    let no = ap (is_kind (is_kind (parts_fit (bare s) v) v (storage_of (bare s))) v) (sym (logical_bits s t (type.bool m) e).0) ∙ h in
+    absurd (false≢true no)
 
 binary_fits : (op : Operator) (s t ty : DataType) (v w : Value) → fits v s ≡ true → fits w t ≡ true → (binary op).types (s ∷ t ∷ []) ≡ Some ty
     → CellFits ty ((binary op).value (s ∷ t ∷ []) ty (v ∷ w ∷ []))
@@ -254,20 +355,83 @@ fill_fits : (s t ty : DataType) (v w : Value) → fits v s ≡ true → fits w t
 fill_fits s t ty v w h k e =
     let found = if_some (same_but_nullability s t) (Some t) ty e in
     let is : t ≡ ty = cc (found.1) in
-    subst (λ x. CellFits x (filled v w)) is (by_value v h (same_storage s t found.0))
+    subst (λ x. CellFits x (filled v w)) is (by_value v h found.0)
   where
-    by_value : (v : Value) → fits v s ≡ true → storage_of s ≡ storage_of t → CellFits t (filled v w)
+    by_value : (v : Value) → fits v s ≡ true → same_but_nullability s t ≡ true → CellFits t (filled v w)
     by_value null h same = k
-    by_value v h same = ap (is_kind v) (sym same) ∙ h
+    by_value v h same = sym (alike_kind s t v same refl) ∙ h
 
 -- what a cast gives is of its target
 cast_fits : (ty : DataType) (v : Value) → CellFits ty (cast_to ty v)
 cast_fits ty null = if_fits (is_nullable (nullability_of ty)) ty (value null) fault (λ n. n) tt
-cast_fits ty _ = by_cell _ _ refl
+cast_fits ty v = by_cell v _ refl
   where
-    by_cell : (v : Value) (c : Cell) → into ty v ≡ c → CellFits ty c
-    by_cell v (value w) h = typed_fits w ty (into_typed ty v w h)
+    by_cell : (v : Value) (c : Cell) → cast_to ty v ≡ c → CellFits ty c
+    by_cell v (value w) h = typed_fits w ty (cast_to_typed ty v w h)
     by_cell v fault h = tt
+
+-- ---- functions of nested values
+
+-- a null among values that fit is of a nullable type
+null_among : (t : DataType) (vs : Values) → all_fit t vs ≡ true → has null vs ≡ true → is_nullable (nullability_of t) ≡ true
+null_among t no_values h e = absurd (cc)
+null_among t (item null vs) h e = first_so _ _ h
+null_among t (item v vs) h e = null_among t vs (second_so _ _ h) e
+
+contained_fits : (t : DataType) (vs : Values) (w : Value) → all_fit t vs ≡ true → fits (truth (contained w vs)) (type.bool (nullability_of t)) ≡ true
+contained_fits t vs w h = by_tests (has w vs) (has null vs) (null_among t vs h)
+  where
+    by_tests : (b c : Bool) → (c ≡ true → is_nullable (nullability_of t) ≡ true)
+        → fits (truth (if b then Some true else (if c then None else Some false))) (type.bool (nullability_of t)) ≡ true
+    by_tests true c n = refl
+    by_tests false true n = n refl
+    by_tests false false n = refl
+
+contains_fits : (s t ty : DataType) (v w : Value) → fits v s ≡ true → fits w t ≡ true → widened s (widened t (contains_type s t)) ≡ Some ty
+    → CellFits ty (null_through v (null_through w (contains v w)))
+contains_fits s t ty v w h k e =
+    through_fits s (widened t (contains_type s t)) ty v _ h e
+    (λ q first. through_fits t (contains_type s t) q w _ k first (λ r second. by_list s v r second h))
+  where
+    by_list : (s : DataType) (v : Value) (r : DataType) → contains_type s t ≡ Some r → fits v s ≡ true → CellFits r (contains v w)
+    by_list (type.list u n) (list vs) r e h =
+        let found = if_some (same_but_nullability u t) (Some (type.bool (nullability_of u))) r e in
+        let is : type.bool (nullability_of u) ≡ r = cc (found.1) in
+        subst (λ x. CellFits x (contains (list vs) w)) is (contained_fits u vs w h)
+    by_list (type.list u n) _ r e h = tt
+    by_list _ v r e h = absurd (none-some r e)
+
+-- the field of a name, by its place
+place_fits : (name : List ℕ) (fs : Fields) (vs : Values) (r : DataType) → field_type name fs ≡ Some r → each_fits fs vs ≡ true
+    → CellFits r (value_at_place (field_place name fs) vs)
+place_fits name type.no_fields vs r e h = absurd (none-some r e)
+place_fits name (type.field other t fs) no_values r e h = absurd (cc)
+place_fits name (type.field other t fs) (item v vs) r e h = by_name (bytes_eq name other) e (λ found. place_fits name fs vs r found (second_so _ _ h))
+  where
+    later : (o : Option ℕ) → CellFits r (value_at_place o vs) → CellFits r (value_at_place (option_map suc o) (item v vs))
+    later None k = k
+    later (Some place) k = k
+
+    by_name : (b : Bool) → (if b then Some t else field_type name fs) ≡ Some r
+        → (field_type name fs ≡ Some r → CellFits r (value_at_place (field_place name fs) vs))
+        → CellFits r (value_at_place (if b then Some 0 else option_map suc (field_place name fs)) (item v vs))
+    by_name true e k = let is : t ≡ r = cc in subst (λ x. CellFits x (value v)) is (first_so _ _ h)
+    by_name false e k = later (field_place name fs) (k e)
+
+item_fits : (name : List ℕ) (s r : DataType) (v : Value) → item_type name s ≡ Some r → fits v s ≡ true → CellFits r (item_of name s v)
+item_fits name (type.struct fs n) r (fields vs) e h = place_fits name fs vs r e h
+item_fits name (type.struct fs n) r _ e h = tt
+item_fits name _ r v e h = absurd (none-some r e)
+
+-- a struct of values that fit
+packed_fits : (names : List (List ℕ)) (tys : List DataType) (vs : List Value) → length tys ≡ length names → AllZip (λ s v. fits v s ≡ true) tys vs
+    → each_fits (fields_with names tys) (in_order vs) ≡ true
+packed_fits [] [] [] e h = refl
+packed_fits [] [] (v ∷ vs) e h = absurd h
+packed_fits [] (t ∷ tys) vs e h = absurd (cc)
+packed_fits (name ∷ names) [] vs e h = absurd (cc)
+packed_fits (name ∷ names) (t ∷ tys) [] e h = absurd h
+packed_fits (name ∷ names) (t ∷ tys) (v ∷ vs) e h = let counted : length tys ≡ length names = cc in both h.0 (packed_fits names tys vs counted h.1)
 
 -- ---- functions of lists of values
 
@@ -301,6 +465,37 @@ module _ (typed : DataType → Option DataType → Option DataType) (valued : Va
   three_fit type f k (s ∷ t ∷ u ∷ []) ty _ e h = tt
   three_fit type f k _ ty vs e h = absurd (none-some ty e)
 
+-- of none
+none_fits : (type : Option DataType) (x : Cell) → ((ty : DataType) → type ≡ Some ty → CellFits ty x)
+    → IsTyped (of_none None type) (λ tys ty. of_none fault x)
+none_fits type x k [] ty [] e h = k ty e
+none_fits type x k [] ty (v ∷ vs) e h = tt
+none_fits type x k (t ∷ tys) ty vs e h = absurd (none-some ty e)
+
+-- of a struct's field
+get_fits : (name : List ℕ) → IsTyped (get_item name).types (get_item name).value
+get_fits name (s ∷ []) ty (v ∷ []) e h = through_fits s (item_type name s) ty v (item_of name s v) h.0 e (λ r found. item_fits name s r v found h.0)
+get_fits name (s ∷ []) ty _ e h = tt
+get_fits name _ ty vs e h = absurd (none-some ty e)
+
+pack_fits : (options : PackOptions) → IsTyped (pack options).types (pack options).value
+pack_fits options tys ty vs e h =
+    let fs : Fields = fields_with options.names tys in
+    let counted = if_some (length tys == length options.names) (struct_of options.nullability fs) ty e in
+    let made = if_some (are_fields fs) (Some (type.struct fs options.nullability)) ty counted.1 in
+    let is : type.struct fs options.nullability ≡ ty = cc (made.1) in
+    subst (λ x. CellFits x (value (fields (in_order vs)))) is
+    (packed_fits options.names tys vs ((unsigned_Decides (length tys) (length options.names)).0 counted.0) h)
+
+prepared_fits : (s : Typed) (ty : DataType) → set_type s ≡ Some ty → CellFits ty (value s.value)
+prepared_fits s ty e =
+    let found = if_some (is_of s.of_type s.value) (list_type s.of_type) ty e in
+    subst (λ x. CellFits x (value s.value)) (same_list s.of_type found.1) (typed_fits s.value s.of_type found.0)
+  where
+    same_list : (u : DataType) → list_type u ≡ Some ty → u ≡ ty
+    same_list (type.list t n) e = cc
+    same_list _ e = absurd (none-some ty e)
+
 -- a line for each function
 values_fit : (f : ScalarFnRef) → IsTyped (return_type f) (value_of f)
 values_fit (function.Binary op) = two_fit widened (null_rule (is_logical op)) (binary_type op) (operated op) (binary_fits op)
@@ -311,6 +506,10 @@ values_fit function.Zip = three_fit as_given as_given zip_type (λ ty. zipped) z
 values_fit function.FillNull = two_fit as_given as_given fill_type (λ ty. filled) fill_fits
 values_fit function.IsNull = one_fits as_given as_given test_type (λ ty v. value (boolean (is_null v))) (λ s ty v h. test_fits ty)
 values_fit function.IsNotNull = one_fits as_given as_given test_type (λ ty v. value (boolean (not (is_null v)))) (λ s ty v h. test_fits ty)
+values_fit (function.GetItem name) = get_fits name
+values_fit (function.Pack options) = pack_fits options
+values_fit function.ListContains = two_fit widened null_through contains_type (λ ty. contains) contains_fits
+values_fit (function.PreparedSet scalar) = none_fits (set_type scalar) (value scalar.value) (prepared_fits scalar)
 values_fit (function.Cast target) = one_fits as_given as_given (cast_type (type_of target)) cast_to (λ s ty v h e. cast_fits ty v)
 
 -- of cells
@@ -493,13 +692,13 @@ node_fits ty n (enc.views rs) css ss h k =
     column_fits _ rs.views (bytes_type (storage_of ty)) (length rs.views) ty n css ss (λ m v. bytes_fit (storage_of ty) m (bytes_at rs.buffers v)) h.0 k
 
 mutual
-  all_fit : (t : Tree) → IsWell t → All (CellFits (dtype t)) (rows t)
-  all_fit (node ty n d ss) w = node_fits ty n d (slots_rows ss) (shapes ss) w.0 (slots_fit ss w.1)
+  tree_fits : (t : Tree) → IsWell t → All (CellFits (dtype t)) (rows t)
+  tree_fits (node ty n d ss) w = node_fits ty n d (slots_rows ss) (shapes ss) w.0 (slots_fit ss w.1)
 
   slots_fit : (ss : Slots) → AreWell ss → AllZip SlotFits (slots_rows ss) (shapes ss)
   slots_fit no_slots w = tt
   slots_fit (absent ss) w = (refl, slots_fit ss w)
-  slots_fit (slot t ss) w = (all_fit t w.0, slots_fit ss w.1)
+  slots_fit (slot t ss) w = (tree_fits t w.0, slots_fit ss w.1)
 
 pub rows_fit : (t : Tree) → IsWell t → AllFit (dtype t) (rows t)
-rows_fit t w = recursion_from_All (CellFits (dtype t)) (rows t) (all_fit t w)
+rows_fit t w = recursion_from_All (CellFits (dtype t)) (rows t) (tree_fits t w)

@@ -4,6 +4,8 @@ use Rattle.std.proofs.Common.{Option}
 use Rattle.std.proofs.Common.{Some}
 use Rattle.std.proofs.Common.{None}
 use Rattle.std.proofs.Common.{refl}
+use Rattle.vx_value.specs.Storage.{is_nested}
+use Rattle.vx_value.proofs.NullabilitiesLemmas.{nested_kept}
 use Rattle.std.proofs.Common.{sym}
 use Rattle.std.proofs.Common.{ap}
 use Rattle.std.proofs.Common.{subst}
@@ -49,10 +51,12 @@ same_nullability Nullable = refl
 
 set_again : (m : Nullability) (s : DataType) → with_nullability (nullability_of (with_nullability m s)) s ≡ with_nullability m s
 set_again m type.null = refl
+set_again m (type.extension id t) = ap (type.extension id) (set_again m t)
 set_again m _ = refl
 
 pub nullable_set : (s : DataType) → nullability_of (with_nullability Nullable s) ≡ Nullable
 nullable_set type.null = refl
+nullable_set (type.extension id t) = nullable_set t
 nullable_set _ = refl
 
 nullable_validity : (m : Nullability) (n : ℕ) (t : Tree) → m ≡ Nullable → dtype t ≡ type.bool NonNullable → len t ≡ n → IsValidity m n (Some (shape_of t))
@@ -71,6 +75,12 @@ validity_kept of_type ty n (validity.Array t) typed h =
     let booleans : dtype t ≡ type.bool NonNullable = (same_type_Decides (dtype t) (type.bool NonNullable)).0 (unless_none _ _ (first_none _ _ h)) in
     let counted : len t ≡ n = (unsigned_Decides (len t) n).0 (unless_none _ _ (second_none _ _ h)) in
     nullable_validity (nullability_of ty) n t (ap nullability_of typed ∙ nullable_set of_type) booleans counted
+
+-- a column's type is nested only if that of its values is
+pub flat_unnested : (of_type ty : DataType) (n : ℕ) (v : Validity) → flat_refusal of_type ty n v ≡ None → is_nested of_type ≡ false → is_nested ty ≡ false
+flat_unnested of_type ty n v h unnested =
+    ap is_nested ((same_type_Decides ty (with_nullability (nullability_by v) of_type)).0 (unless_none _ _ (first_none _ _ h)))
+    ∙ nested_kept (nullability_by v) of_type ∙ unnested
 
 -- the parts of a column with a validity meet its conditions
 pub flat_made : (of_type ty : DataType) (n : ℕ) (v : Validity) (child : Option Tree) (xs : List (Option Tree)) →
@@ -310,3 +320,7 @@ tree_allowed t n typed counted = none_refused _ _ (none_unless _ _ ((same_type_D
 pub rows_allowed : (n : ℕ) (v : Validity) → HasRows v n → array_refusal n v ≡ None
 rows_allowed n (validity.Array t) h = tree_allowed t n h.1 h.2
 rows_allowed n _ h = refl
+
+-- the type of a constant's value is nested only if the constant's is
+pub constant_unnested : (t : Tree) (v : Typed) (n : ℕ) → t ≡ constant_of v n → is_nested (dtype t) ≡ false → is_nested v.of_type ≡ false
+constant_unnested t v n shown h = ap (λ u. is_nested (dtype u)) (sym shown) ∙ h

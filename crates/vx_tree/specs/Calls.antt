@@ -1,9 +1,10 @@
--- A function applied to trees, and why the call is refused: the number of arguments, their lengths, their types, in this order.
-use Rattle.std.specs.Prelude.{ℕ, List, [], ◌∷◌, length, map, Bool, true, ◌==◌, ◌&&◌, Option, Some, None, option_map}
+-- A function applied to trees, and why the call is refused: the number of arguments, their lengths, their types, and the type of the result, in this order.
+use Rattle.std.specs.Prelude.{ℕ, List, [], ◌∷◌, length, map, Bool, true, not, ◌==◌, ◌&&◌, Option, Some, None, option_map}
 use Rattle.vx_value.specs.Types.{DataType}
+use Rattle.vx_value.specs.Storage.{is_nested}
 use Rattle.vx_value.specs.declared.error.VortexError.{VortexError}
 use Rattle.vx_value.specs.declared.error.VortexError.TheVariants.{InvalidArgument}
-use Rattle.vx_value.specs.declared.error.ArgKind.TheVariants.{ChildLen, NoChildren, NoRow}
+use Rattle.vx_value.specs.declared.error.ArgKind.TheVariants.{ChildLen, NoChildren, NoRow, BadType}
 use Rattle.vx_fn.specs.ReturnTypes.{return_type}
 use Rattle.vx_fn.specs.declared.function.ScalarFnRef.{ScalarFnRef}
 use Rattle.vx_tree.specs.Tree.{Tree, dtype, len, call_of, arity_refusal}
@@ -14,10 +15,10 @@ abbrev pub all_of_len : ℕ → List Tree → Bool
 all_of_len n [] = true
 all_of_len n (t ∷ ts) = (len t == n) && all_of_len n ts
 
--- NoRow if the function takes no arguments of these types
+-- NoRow if the function takes no arguments of these types, BadType if its result is nested: there are no such columns yet
 abbrev pub row_refusal : Option DataType → Option VortexError
 row_refusal None = Some (InvalidArgument NoRow)
-row_refusal (Some ty) = None
+row_refusal (Some ty) = unless (not (is_nested ty)) (InvalidArgument BadType)
 
 -- why the function can't be applied to the trees with n rows, None if it can
 abbrev pub call_refusal : ScalarFnRef → List Tree → ℕ → Option VortexError

@@ -1,7 +1,8 @@
 -- Which trees are well formed: the invariant of an `ArrayRef`.
-use Rattle.std.specs.Prelude.{ℕ, List, Option}
+use Rattle.std.specs.Prelude.{ℕ, List, Option, ◌≡◌, false}
 use Rattle.vx_value.specs.Types.{DataType}
-use Rattle.vx_tree.specs.Tree.{Tree, Data, Slots, node, no_slots, absent, slot, meaning}
+use Rattle.vx_value.specs.Storage.{is_nested}
+use Rattle.vx_tree.specs.Tree.{Tree, dtype, Data, Slots, node, no_slots, absent, slot, meaning}
 pub use Rattle.vx_tree.specs.Shapes.{Shape, shape, shape_of, shapes, IsValidity, IsFlat}
 
 -- the conditions on a node, its slots' own apart
@@ -20,3 +21,7 @@ abbrev mutual
   AreWell no_slots = Unit {0}
   AreWell (absent ss) = AreWell ss
   AreWell (slot t ss) = IsWell t × AreWell ss
+
+-- the invariant of an array: no column is nested yet
+abbrev pub IsTree : Tree → Type 0
+IsTree t = IsWell t × is_nested (dtype t) ≡ false

@@ -1,7 +1,8 @@
 //! Nodes whose slots are taken out and put back.
 
-ghost use Rattle.std.specs.Prelude.{◌≡◌, ◌==◌, ◌⊎◌, ◌+◌, ◌^◌, ◌<◌, ◌≤◌, IfOk, MatchOption};
+ghost use Rattle.std.specs.Prelude.{◌≡◌, ◌==◌, ◌⊎◌, ◌+◌, ◌^◌, ◌<◌, ◌≤◌, IfOk, MatchOption, false};
 ghost use Rattle.vx_value.specs.View.{type_of};
+ghost use Rattle.vx_value.specs.Storage.{is_nested};
 ghost use Rattle.vx_tree.specs.Tree.{dtype, len, datum, slots, slots_of};
 ghost use Rattle.vx_tree.specs.TreeView.{data_of};
 ghost use Rattle.vx_value.specs.Errors.{OnlyOutOfMemory};
@@ -37,12 +38,15 @@ impl Model for Suspended {
     ghost coded = { coded_tree };
 
     ghost use Rattle.vx_tree.specs.TreeView.{tree_of};
-    ghost use Rattle.vx_tree.specs.Tree.{slots};
+    ghost use Rattle.std.specs.Prelude.{◌≡◌, false};
+    ghost use Rattle.vx_value.specs.Storage.{is_nested};
+    ghost use Rattle.vx_tree.specs.Tree.{slots, dtype};
     ghost use Rattle.vx_tree.specs.Slots.{NoneBefore};
 
     ghost view = { λ a. tree_of a.node.value };
 
-    ghost invariant = { λ a. NoneBefore a.first (slots (tree_of a.node.value)) };
+    // no column is nested yet
+    ghost invariant = { λ a. NoneBefore a.first (slots (tree_of a.node.value)) × is_nested (dtype (tree_of a.node.value)) ≡ false };
 }
 
 impl ArrayRef {
@@ -101,7 +105,8 @@ impl Suspended {
 
     /// Returns the type of the rows.
     pub fn dtype(&self) -> &DType
-        ensures { type_of result.now ≡ dtype self.now }
+        ensures dtype { type_of result.now ≡ dtype self.now }
+        ensures unnested { is_nested (dtype self.now) ≡ false }
     {
         &self.node.dtype
     }

@@ -1,7 +1,8 @@
 //! Which rows of a column are null, and the slots of validities.
 
-ghost use Rattle.std.specs.Prelude.{◌≡◌, ℕ, IfOk, length, option_map, Some};
+ghost use Rattle.std.specs.Prelude.{◌≡◌, ℕ, IfOk, length, option_map, Some, false};
 ghost use Rattle.vx_value.specs.Errors.{OnlyOutOfMemory};
+ghost use Rattle.vx_value.specs.Storage.{is_nested};
 ghost use Rattle.vx_tree.specs.Validities.{nullability_by, without_nulls, child_of, child_by, validity_by, count_children, validity_of, array_refusal, HasRange};
 ghost use Rattle.vx_mask.specs.Masks.{bits_in};
 ghost use Rattle.vx_tree.specs.Tree.{constant_of};
@@ -127,7 +128,7 @@ pub fn validity_to_child(
         Validity::NonNullable | Validity::AllValid => Ok(None),
         Validity::AllInvalid => {
             let invalid = Scalar::bool(false, Nullability::NonNullable);
-            Ok(Some(ConstantArray::new(alloc, invalid, len)?.into_array()))
+            Ok(Some(ConstantArray::new_unchecked(alloc, invalid, len)?.into_array()))
         }
         Validity::Array(array) => Ok(Some(array.clone()?)),
     }
@@ -150,14 +151,16 @@ pub(crate) fn check_validity(validity: &Validity, len: usize) -> VortexResult<()
 
 /// Returns the slot of a validity that is `scalar` for each of `len` rows. Fails only with `OutOfMemory`.
 fn repeated(alloc: Global, scalar: &Scalar, len: usize) -> VortexResult<Option<ArrayRef>>
+    requires { is_nested scalar.now.of_type ≡ false }
     ensures ok { IfOk result (λ w. w ≡ Some (constant_of scalar.now len)) }
     ensures err { OnlyOutOfMemory result }
 {
-    Ok(Some(ConstantArray::new(alloc, scalar.clone()?, len)?.into_array()))
+    Ok(Some(ConstantArray::new_unchecked(alloc, scalar.clone()?, len)?.into_array()))
 }
 
 /// Returns the validity of the rows in `range`, which must be in order and in bounds, given the slot of the whole column's. A
 /// constant stays one. Fails only with `OutOfMemory`. (own)
+#[tactic(auto, using(crate::proofs::ValiditiesLemmas::constant_unnested))]
 pub fn slice_validity(
     alloc: Global,
     validity: &Option<ArrayRef>,
@@ -170,6 +173,7 @@ pub fn slice_validity(
     let Some(child) = validity else {
         return Ok(None);
     };
+    child.well_formed_tree();
     if let ArrayKind::Constant(scalar) = child.kind() {
         return repeated(alloc, scalar, range.end - range.start);
     }
@@ -178,6 +182,7 @@ pub fn slice_validity(
 
 /// Returns the validity of the rows that `mask` chooses, given the slot of the whole column's, which must have as many rows as
 /// `mask`. A constant stays one. Fails only with `OutOfMemory`. (own)
+#[tactic(auto, using(crate::proofs::ValiditiesLemmas::constant_unnested))]
 pub fn choose_validity(
     alloc: Global,
     validity: &Option<ArrayRef>,
@@ -190,6 +195,7 @@ pub fn choose_validity(
     let Some(child) = validity else {
         return Ok(None);
     };
+    child.well_formed_tree();
     if let ArrayKind::Constant(scalar) = child.kind() {
         return repeated(alloc, scalar, mask.true_count());
     }

@@ -5,3 +5,9 @@ pub mod NullabilitiesLemmas
 pub mod CastsLemmas
 pub mod PowersLemmas
 pub mod BytesLemmas
+pub mod SamesLemmas
+pub mod TypedLemmas
+pub mod CastPartsLemmas
+pub mod FitsLemmas
+pub mod ValuesLemmas
+pub mod NestedLemmas

@@ -1,15 +1,17 @@
 -- Which casts there are, and their results.
-use Rattle.std.specs.Prelude.{ℕ, ℤ, pos, ◌*ℤ◌, ◌-◌, ◌^◌, int_div, int_rem, nat_le, Bool, true, false, Option, Some, None, is_some, if◌then◌else◌}
+use Rattle.std.specs.Prelude.{ℕ, ℤ, pos, ◌*ℤ◌, ◌-◌, ◌^◌, int_div, int_rem, nat_le, Bool, true, false, ◌&&◌, ◌||◌, ◌==◌, Option, Some, None, if◌then◌else◌}
 use Rattle.std.specs.Ordering.{int_eq}
-use Rattle.std.specs.Str.{is_utf8}
+use Rattle.std.specs.Str.{is_utf8, bytes_eq}
 use Rattle.vx_value.specs.Types as type
-use Rattle.vx_value.specs.Types.{DataType, nullability_of, is_nullable}
+use Rattle.vx_value.specs.Types.{DataType, Fields, nullability_of, is_nullable}
+use Rattle.vx_value.specs.Nested.{bare}
+use Rattle.vx_value.specs.Fits.{fits}
 use Rattle.vx_value.specs.Nullabilities.{same_but_nullability}
 use Rattle.vx_value.specs.Values as value
-use Rattle.vx_value.specs.Values.{Value}
+use Rattle.vx_value.specs.Values.{Value, Values, count}
 use Rattle.vx_value.specs.Cell as cell
 use Rattle.vx_value.specs.Cell.{Cell}
-use Rattle.vx_value.specs.IsOf.{in_range}
+use Rattle.vx_value.specs.IsOf.{in_range, are_parts}
 use Rattle.vx_value.specs.Decimals.{has_digits}
 use Rattle.vx_value.specs.declared.dtype.PType.{PType}
 
@@ -59,53 +61,123 @@ abbrev pub to_bytes : Value → Cell
 to_bytes (value.bytes bs) = cell.value (value.bytes bs)
 to_bytes _ = cell.fault
 
--- a line for each type; only null is of type null
-abbrev pub into : DataType → Value → Cell
-into (type.bool n) v = to_bool v
-into (type.primitive p n) v = to_integer p v
-into (type.decimal p s n) v = to_decimal p s v
-into (type.utf8 n) v = to_text v
-into (type.binary n) v = to_bytes v
-into type.null v = cell.fault
+-- ---- nested results: a fault if a part is one, or if a list has more elements than a column of their type can have
 
--- ---- the table: the result of a cast from the first type to the second, for a value that isn't null; None if there is no row
+abbrev pub joined : Cell → Option Values → Option Values
+joined (cell.value v) (Some vs) = Some (value.item v vs)
+joined _ _ = None
 
--- whether one of the rows after the first accepts the types: a line each
-abbrev pub has_other_row : DataType → DataType → Bool
-has_other_row type.null t = is_nullable (nullability_of t)
-has_other_row (type.primitive p m) (type.primitive q n) = true
-has_other_row (type.primitive p m) (type.decimal q s n) = true
-has_other_row (type.decimal p r m) (type.decimal q s n) = true
-has_other_row (type.utf8 m) (type.binary n) = true
-has_other_row (type.binary m) (type.utf8 n) = true
-has_other_row _ _ = false
+abbrev pub list_cell : Option Values → Cell
+list_cell (Some vs) = cell.value (value.list vs)
+list_cell None = cell.fault
 
-abbrev pub other_row : DataType → DataType → Option (Value → Cell)
-other_row s t = if has_other_row s t then Some (into t) else None
+abbrev pub fields_cell : Option Values → Cell
+fields_cell (Some vs) = cell.value (value.fields vs)
+fields_cell None = cell.fault
 
--- the first row: a cast to the same type, up to nullability, leaves each value unchanged
-abbrev pub cast_row : DataType → DataType → Option (Value → Cell)
-cast_row s t = if same_but_nullability s t then Some cell.value else other_row s t
-
-abbrev pub has_cast : DataType → DataType → Bool
-has_cast s t = is_some (cast_row s t)
-
--- ---- the result for any value
-
-abbrev pub by_row : Option (Value → Cell) → Value → Cell
-by_row (Some f) v = f v
-by_row None v = cell.fault
+abbrev pub fitting : DataType → ℕ → Cell → Cell
+fitting t n c = if fits t n then c else cell.fault
 
 -- null stays null if the type is nullable, else it is a fault
 abbrev pub null_into : DataType → Cell
 null_into t = if is_nullable (nullability_of t) then cell.value value.null else cell.fault
 
--- the result of a cast, by all rows
-abbrev pub cast_value : DataType → DataType → Value → Cell
-cast_value s t value.null = null_into t
-cast_value s t v = by_row (cast_row s t) v
+-- ---- the table: whether there is a cast from the first type to the second
 
--- the same from the target alone, for a value of a type that has a cast to it
+-- whether one of the rows after the first accepts the types, the second of which isn't an extension: a line each. Extensions are
+-- cast as what they are stored as.
+abbrev mutual
+  pub has_other_row : DataType → DataType → Bool
+  has_other_row type.null t = is_nullable (nullability_of t)
+  has_other_row (type.extension id s) t = same_but_nullability s t || has_other_row s t
+  has_other_row (type.primitive p m) (type.primitive q n) = true
+  has_other_row (type.primitive p m) (type.decimal q s n) = true
+  has_other_row (type.decimal p r m) (type.decimal q s n) = true
+  has_other_row (type.utf8 m) (type.binary n) = true
+  has_other_row (type.binary m) (type.utf8 n) = true
+  has_other_row (type.list s m) (type.list t n) = same_but_nullability s t || has_other_row s (bare t)
+  has_other_row (type.fixed_size_list s j m) (type.fixed_size_list t k n) = (j == k) && (same_but_nullability s t || has_other_row s (bare t))
+  has_other_row (type.struct fs m) (type.struct gs n) = have_rows fs gs
+  has_other_row _ _ = false
+
+  -- of the same names in order
+  pub have_rows : Fields → Fields → Bool
+  have_rows type.no_fields type.no_fields = true
+  have_rows (type.field i s fs) (type.field j t gs) = bytes_eq i j && (same_but_nullability s t || has_other_row s (bare t)) && have_rows fs gs
+  have_rows _ _ = false
+
+-- the first row: a cast to the same type, up to nullability
+abbrev pub has_cast : DataType → DataType → Bool
+has_cast s t = same_but_nullability s t || has_other_row s (bare t)
+
+-- ---- the result of a cast
+
+-- null by the target, a value of the same type stays, and each other value is cast by the other rows
+abbrev pub cast_by : DataType → DataType → Value → Cell → Cell
+cast_by s t value.null other = null_into t
+cast_by s t v other = if same_but_nullability (bare s) (bare t) then cell.value v else other
+
+-- between types that aren't extensions
+abbrev mutual
+  pub other_cast : DataType → DataType → Value → Cell
+  other_cast (type.primitive p m) (type.primitive q n) v = to_integer q v
+  other_cast (type.primitive p m) (type.decimal q s n) v = to_decimal q s v
+  other_cast (type.decimal p r m) (type.decimal q s n) v = to_decimal q s v
+  other_cast (type.utf8 m) (type.binary n) v = to_bytes v
+  other_cast (type.binary m) (type.utf8 n) v = to_text v
+  other_cast (type.list s m) (type.list t n) (value.list vs) = fitting t (count vs) (list_cell (cast_all s t vs))
+  other_cast (type.fixed_size_list s j m) (type.fixed_size_list t k n) (value.list vs) =
+      if count vs == k then list_cell (cast_all s t vs) else cell.fault
+  other_cast (type.struct fs m) (type.struct gs n) (value.fields vs) = fields_cell (cast_each fs gs vs)
+  other_cast _ _ _ = cell.fault
+
+  pub cast_all : DataType → DataType → Values → Option Values
+  cast_all s t value.no_values = Some value.no_values
+  cast_all s t (value.item v vs) = joined (cast_by s t v (other_cast (bare s) (bare t) v)) (cast_all s t vs)
+
+  pub cast_each : Fields → Fields → Values → Option Values
+  cast_each type.no_fields type.no_fields value.no_values = Some value.no_values
+  cast_each (type.field i s fs) (type.field j t gs) (value.item v vs) =
+      joined (cast_by s t v (other_cast (bare s) (bare t) v)) (cast_each fs gs vs)
+  cast_each _ _ _ = None
+
+abbrev pub cast_value : DataType → DataType → Value → Cell
+cast_value s t v = cast_by s t v (other_cast (bare s) (bare t) v)
+
+-- ---- the same from the target alone, for a value of a type that has a cast to it
+
+abbrev pub into_by : DataType → Value → Cell → Cell
+into_by t value.null other = null_into t
+into_by t v other = other
+
+-- a value of the type
+abbrev pub kept : DataType → Value → Cell
+kept t v = if are_parts t v then cell.value v else cell.fault
+
+-- a line for each type that isn't an extension; only null is of type null
+abbrev mutual
+  pub into : DataType → Value → Cell
+  into (type.bool n) v = to_bool v
+  into (type.primitive p n) v = to_integer p v
+  into (type.decimal p s n) v = to_decimal p s v
+  into (type.utf8 n) v = to_text v
+  into (type.binary n) v = to_bytes v
+  into (type.list t n) (value.list vs) = fitting t (count vs) (list_cell (all_into t vs))
+  into (type.fixed_size_list t k n) (value.list vs) = if count vs == k then list_cell (all_into t vs) else cell.fault
+  into (type.map k t n) v = kept (type.map k t n) v
+  into (type.struct fs n) (value.fields vs) = fields_cell (each_into fs vs)
+  into (type.union us n) v = kept (type.union us n) v
+  into (type.variant n) v = kept (type.variant n) v
+  into _ v = cell.fault
+
+  pub all_into : DataType → Values → Option Values
+  all_into t value.no_values = Some value.no_values
+  all_into t (value.item v vs) = joined (into_by t v (into (bare t) v)) (all_into t vs)
+
+  pub each_into : Fields → Values → Option Values
+  each_into type.no_fields value.no_values = Some value.no_values
+  each_into (type.field name t fs) (value.item v vs) = joined (into_by t v (into (bare t) v)) (each_into fs vs)
+  each_into _ _ = None
+
 abbrev pub cast_to : DataType → Value → Cell
-cast_to t value.null = null_into t
-cast_to t v = into t v
+cast_to t v = into_by t v (into (bare t) v)

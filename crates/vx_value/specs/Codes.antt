@@ -1,5 +1,5 @@
 -- The codes of types given by constructors, and whether two values are the same, by their codes.
-use Rattle.std.specs.Prelude.{◌≡◌, Bool, true, false, ◌&&◌, ◌==◌, ◌⊎◌, refl}
+use Rattle.std.specs.Prelude.{◌≡◌, ℕ, zero, suc, ℤ, pos, negsuc, List, [], ◌∷◌, Bool, true, false, ◌&&◌, ◌==◌, ◌⊎◌, refl}
 use Rattle.std.specs.Bool.{Decides}
 use Rattle.std.specs.Cmp.{unsigned_Decides, first_so, second_so}
 use Rattle.std.specs.Coded.{Coded, code_by, coded⊎, prop_coded}
@@ -34,6 +34,65 @@ no_part = record { holds = ⊥; coded = prop_coded (λ x y. absurd x); make = λ
 -- the code of a type whose values the constructors make
 abbrev pub coded_by : {A : Type 0} (p : Part A) (split : A → p.holds) → ((x : A) → p.make (split x) ≡ x) → Coded A
 coded_by p split back = code_by p.holds p.coded split p.make back
+
+-- ---- parts of the codes of recursive types, and their undoing
+
+-- the code of a type by a code that can be undone
+abbrev pub coded_back : {A : Type 0} (code : A → Gv) (undo : Gv → A) → ((x : A) → undo (code x) ≡ x) → Coded A
+coded_back code undo back = record { code = code; inj = λ x y e. sym (back x) ∙ ap undo e ∙ back y }
+
+-- the item of this number, from 0; the first argument if there are fewer
+abbrev pub pick : {A : Type 0} → ℕ → A → List A → A
+pick n x [] = x
+pick zero x (y ∷ ys) = y
+pick (suc n) x (y ∷ ys) = pick n x ys
+
+abbrev pub first : Gv → Gv
+first (gcons a b) = a
+first c = c
+
+abbrev pub rest : Gv → Gv
+rest (gcons a b) = b
+rest c = c
+
+abbrev pub number_in : Gv → ℕ
+number_in (gnum n) = n
+number_in _ = 0
+
+abbrev pub bytes_code : List ℕ → Gv
+bytes_code [] = gnil
+bytes_code (b ∷ bs) = gcons (gnum b) (bytes_code bs)
+
+abbrev pub bytes_in_code : Gv → List ℕ
+bytes_in_code (gcons b bs) = number_in b ∷ bytes_in_code bs
+bytes_in_code _ = []
+
+pub bytes_back : (bs : List ℕ) → bytes_in_code (bytes_code bs) ≡ bs
+bytes_back [] = refl
+bytes_back (b ∷ bs) = ap (λ cs. b ∷ cs) (bytes_back bs)
+
+abbrev pub boolean_code : Bool → Gv
+boolean_code false = gnum 0
+boolean_code true = gnum 1
+
+abbrev pub boolean_in_code : Gv → Bool
+boolean_in_code c = pick (number_in c) false (false ∷ true ∷ [])
+
+pub boolean_back : (b : Bool) → boolean_in_code (boolean_code b) ≡ b
+boolean_back false = refl
+boolean_back true = refl
+
+abbrev pub integer_code : ℤ → Gv
+integer_code (pos n) = gcons gnil (gnum n)
+integer_code (negsuc n) = gnum n
+
+abbrev pub integer_in_code : Gv → ℤ
+integer_in_code (gcons sign n) = pos (number_in n)
+integer_in_code n = negsuc (number_in n)
+
+pub integer_back : (z : ℤ) → integer_in_code (integer_code z) ≡ z
+integer_back (pos n) = refl
+integer_back (negsuc n) = refl
 
 -- ---- sameness
 

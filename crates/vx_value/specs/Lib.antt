@@ -1,5 +1,6 @@
 pub mod Codes
 pub mod Errors
+pub mod Names
 pub mod Bytes
 pub mod Types
 pub mod Nullabilities
@@ -7,7 +8,12 @@ pub mod Decimals
 pub mod Values
 pub mod Cell
 pub mod View
+pub mod Sames
 pub mod Storage
+pub mod Nested
+pub mod Fits
+pub mod Falls
+pub mod ValueFalls
 pub mod IsOf
 pub mod Casts
 pub mod Powers
@@ -17,7 +23,6 @@ pub mod Parts
 pub mod Order
 pub mod Writes
 pub mod OrderLaws
-pub mod Fits
 pub mod Text
 pub mod Ids
 pub mod ScalarKinds

@@ -2,9 +2,9 @@
 use Rattle.std.specs.Prelude.{◌≡◌, ℕ}
 use Rattle.vx_value.specs.Values as value
 use Rattle.vx_value.specs.Typed.{Typed}
-use Rattle.vx_value.specs.View.{type_of}
+use Rattle.vx_value.specs.View.{type_of, value_of}
 use Rattle.vx_value.specs.Storage.{storage_of}
-use Rattle.vx_value.specs.declared.dtype.Storage.TheVariants.{Bits, Integers, Decimals, Text, Bytes}
+use Rattle.vx_value.specs.declared.dtype.Storage.TheVariants.{Bits, Integers, Decimals, Text, Bytes, Nested}
 use Rattle.vx_value.specs.declared.scalar.ScalarKind.{ScalarKind}
 use Rattle.vx_value.specs.declared.scalar.ScalarKind.TheVariants as kind
 
@@ -16,6 +16,7 @@ scalar_of (kind.Integer z p ty) = record { of_type = type_of ty.now; value = val
 scalar_of (kind.Decimal d ty) = record { of_type = type_of ty.now; value = value.decimal d.unscaled d.scale }
 scalar_of (kind.Utf8 bs ty) = record { of_type = type_of ty.now; value = value.bytes bs.now }
 scalar_of (kind.Binary bs ty) = record { of_type = type_of ty.now; value = value.bytes bs.now }
+scalar_of (kind.Nested v ty) = record { of_type = type_of ty.now; value = value_of v.now }
 
 -- the kind is that of the type's storage
 abbrev pub IsStored : ScalarKind → Type 0
@@ -25,3 +26,4 @@ IsStored (kind.Integer z p ty) = storage_of (type_of ty.now) ≡ Integers p
 IsStored (kind.Decimal d ty) = (p : ℕ) × (storage_of (type_of ty.now) ≡ Decimals p d.scale)
 IsStored (kind.Utf8 bs ty) = storage_of (type_of ty.now) ≡ Text
 IsStored (kind.Binary bs ty) = storage_of (type_of ty.now) ≡ Bytes
+IsStored (kind.Nested v ty) = storage_of (type_of ty.now) ≡ Nested

@@ -1,13 +1,14 @@
 //! Logical types, as in the original's `dtype` module.
 
-ghost use Rattle.std.specs.Prelude.{◌≡◌, ◌↔◌, IsTrue, IfOk};
+ghost use Rattle.std.specs.Prelude.{◌≡◌, IfOk};
 ghost use Rattle.vx_value.specs.Errors.{OnlyOutOfMemory};
 ghost use Rattle.vx_value.specs.View.{type_of};
-ghost use Rattle.vx_value.specs.Storage.{storage_of};
+ghost use Rattle.vx_value.specs.Storage.{storage_of, is_nested};
+ghost use Rattle.vx_value.specs.Nested.{bare};
 ghost use Rattle.vx_value.specs.Types.{nullability_of, is_nullable};
-ghost use Rattle.vx_value.specs.Nullabilities.{with_nullability, union, same_but_nullability};
+ghost use Rattle.vx_value.specs.Nullabilities.{with_nullability, union};
 
-use crate::{DecimalDType, VortexResult};
+use crate::{DecimalDType, ExtDType, MapDType, StructFields, TypeRef, UnionVariants, VortexResult};
 use std::alloc::{AllocError, Global};
 
 /// The nullability of a type: whether null is one of its values.
@@ -67,10 +68,13 @@ pub enum Storage {
     Text,
     /// Bytes for each row.
     Bytes,
+    /// Columns of their own for the parts.
+    Nested,
 }
 
 /// The logical type of an array's rows.
-#[derive(Debug, PartialEq, Eq, Hash, Drop)]
+#[cycle(dtype)]
+#[derive(Debug, Drop)]
 pub enum DType {
     /// Only null, so always nullable.
     Null,
@@ -79,6 +83,19 @@ pub enum DType {
     Decimal(DecimalDType, Nullability),
     Utf8(Nullability),
     Binary(Nullability),
+    /// Lists of elements of this type.
+    List(TypeRef, Nullability),
+    /// Lists of elements of this type, as many in each row.
+    FixedSizeList(TypeRef, u32, Nullability),
+    /// Lists of entries, each a key and a value.
+    Map(MapDType, Nullability),
+    Struct(StructFields, Nullability),
+    /// A value of one of the variants, with its tag.
+    Union(UnionVariants, Nullability),
+    /// A value of any type, with its type.
+    Variant(Nullability),
+    /// Values of another type, as which they are stored. They are null as these are.
+    Extension(ExtDType),
 }
 
 impl Clone for DType {
@@ -92,12 +109,21 @@ impl Clone for DType {
             DType::Decimal(decimal, nullability) => DType::Decimal(*decimal, *nullability),
             DType::Utf8(nullability) => DType::Utf8(*nullability),
             DType::Binary(nullability) => DType::Binary(*nullability),
+            DType::List(element, nullability) => DType::List(element.clone()?, *nullability),
+            DType::FixedSizeList(element, size, nullability) => {
+                DType::FixedSizeList(element.clone()?, *size, *nullability)
+            }
+            DType::Map(map, nullability) => DType::Map(map.clone()?, *nullability),
+            DType::Struct(fields, nullability) => DType::Struct(fields.clone()?, *nullability),
+            DType::Union(variants, nullability) => DType::Union(variants.clone()?, *nullability),
+            DType::Variant(nullability) => DType::Variant(*nullability),
+            DType::Extension(extension) => DType::Extension(extension.clone()?),
         })
     }
 }
 
 impl DType {
-    /// Returns the nullability of the type itself, apart from that of its nested types.
+    /// Returns the nullability of the type itself, apart from that of its nested types. That of an extension is its storage's.
     pub fn nullability(&self) -> Nullability
         ensures { result ≡ nullability_of (type_of self.now) }
     {
@@ -108,6 +134,23 @@ impl DType {
             DType::Decimal(_, nullability) => *nullability,
             DType::Utf8(nullability) => *nullability,
             DType::Binary(nullability) => *nullability,
+            DType::List(_, nullability) => *nullability,
+            DType::FixedSizeList(_, _, nullability) => *nullability,
+            DType::Map(_, nullability) => *nullability,
+            DType::Struct(_, nullability) => *nullability,
+            DType::Union(_, nullability) => *nullability,
+            DType::Variant(nullability) => *nullability,
+            DType::Extension(extension) => extension.storage.nullability(),
+        }
+    }
+
+    /// Returns the type that an extension is stored as, however often that is an extension itself; any other type as it is. (own)
+    pub fn bare(&self) -> &DType
+        ensures { type_of result.now ≡ bare (type_of self.now) }
+    {
+        match self {
+            DType::Extension(extension) => extension.storage.bare(),
+            _ => self,
         }
     }
 
@@ -125,6 +168,17 @@ impl DType {
             },
             DType::Utf8(_) => Storage::Text,
             DType::Binary(_) => Storage::Bytes,
+            _ => Storage::Nested,
+        }
+    }
+
+    /// Checks whether the parts of the values are stored in columns of their own. (own)
+    pub fn is_nested(&self) -> bool
+        ensures { result ≡ is_nested (type_of self.now) }
+    {
+        match self.storage() {
+            Storage::Nested => true,
+            _ => false,
         }
     }
 
@@ -152,12 +206,32 @@ impl DType {
         self.with_nullability(alloc, Nullability::NonNullable)
     }
 
-    /// Returns the type with nullability `nullability`; `Null` stays. Fails only with `OutOfMemory`.
+    /// Returns the type with nullability `nullability`, of an extension that of its storage; `Null` stays. Nested types are
+    /// shared. Fails only with `OutOfMemory`.
     pub fn with_nullability(&self, alloc: Global, nullability: Nullability) -> VortexResult<DType>
         ensures ok { IfOk result (λ t. type_of t ≡ with_nullability nullability (type_of self.now)) }
         ensures err { OnlyOutOfMemory result }
     {
-        self.clone()?.into_nullability(alloc, nullability)
+        Ok(match self {
+            DType::Null => DType::Null,
+            DType::Bool(_) => DType::Bool(nullability),
+            DType::Primitive(ptype, _) => DType::Primitive(*ptype, nullability),
+            DType::Decimal(decimal, _) => DType::Decimal(*decimal, nullability),
+            DType::Utf8(_) => DType::Utf8(nullability),
+            DType::Binary(_) => DType::Binary(nullability),
+            DType::List(element, _) => DType::List(element.clone()?, nullability),
+            DType::FixedSizeList(element, size, _) => {
+                DType::FixedSizeList(element.clone()?, *size, nullability)
+            }
+            DType::Map(map, _) => DType::Map(map.clone()?, nullability),
+            DType::Struct(fields, _) => DType::Struct(fields.clone()?, nullability),
+            DType::Union(variants, _) => DType::Union(variants.clone()?, nullability),
+            DType::Variant(_) => DType::Variant(nullability),
+            DType::Extension(extension) => {
+                let storage = extension.storage.with_nullability(alloc, nullability)?;
+                DType::Extension(extension.with_storage(TypeRef::new(alloc, storage)?)?)
+            }
+        })
     }
 
     /// Returns the type, nullable if it is or `other` is. Fails only with `OutOfMemory`.
@@ -166,42 +240,5 @@ impl DType {
         ensures err { OnlyOutOfMemory result }
     {
         self.with_nullability(alloc, self.nullability().union(other))
-    }
-
-    /// Checks whether two types are the same apart from their own nullability. That of nested types counts.
-    #[tactic(auto, using(crate::specs::Nullabilities::same_but_nullability_Decides))]
-    pub fn eq_ignore_nullability(&self, other: &DType) -> bool
-        ensures value { result ≡ same_but_nullability (type_of self.now) (type_of other.now) }
-        ensures same { IsTrue result
-            ↔ (with_nullability Nullability.NonNullable (type_of self.now) ≡ with_nullability Nullability.NonNullable (type_of other.now)) }
-    {
-        match (self, other) {
-            (DType::Null, DType::Null) => true,
-            (DType::Bool(_), DType::Bool(_)) => true,
-            (DType::Primitive(left, _), DType::Primitive(right, _)) => left == right,
-            (DType::Decimal(left, _), DType::Decimal(right, _)) => left == right,
-            (DType::Utf8(_), DType::Utf8(_)) => true,
-            (DType::Binary(_), DType::Binary(_)) => true,
-            _ => false,
-        }
-    }
-
-    /// Returns the type with nullability `nullability`; `Null` stays. Fails only with `OutOfMemory`.
-    pub(crate) fn into_nullability(
-        self,
-        _alloc: Global,
-        nullability: Nullability,
-    ) -> VortexResult<DType>
-        ensures ok { IfOk result (λ t. type_of t ≡ with_nullability nullability (type_of self)) }
-        ensures err { OnlyOutOfMemory result }
-    {
-        Ok(match self {
-            DType::Null => DType::Null,
-            DType::Bool(_) => DType::Bool(nullability),
-            DType::Primitive(ptype, _) => DType::Primitive(ptype, nullability),
-            DType::Decimal(decimal, _) => DType::Decimal(decimal, nullability),
-            DType::Utf8(_) => DType::Utf8(nullability),
-            DType::Binary(_) => DType::Binary(nullability),
-        })
     }
 }

@@ -1,27 +1,33 @@
 //! Scalars, as in the original's `scalar` module.
 
-ghost use Rattle.std.specs.Prelude.{◌≡◌, ◌↔◌, IfOk, IfErr, IsErrOf, OnOk, true, false, option_copied, option_map};
+ghost use Rattle.std.specs.Prelude.{◌≡◌, ◌↔◌, ◌⊎◌, IfOk, IfErr, OnOk, true, false, option_copied, option_map};
 ghost use Rattle.vx_value.specs.Errors.{OnlyOutOfMemory};
 ghost use Rattle.vx_value.specs.View.{type_of, value_of, cell_of, cell_seen};
 ghost use Rattle.vx_value.specs.Values.{Value, null, boolean, integer, decimal};
 ghost use Rattle.vx_value.specs.Types.{nullability_of, is_nullable};
 ghost use Rattle.vx_value.specs.Nullabilities.{with_nullability};
-ghost use Rattle.vx_value.specs.Defaults.{zero_stored, zero_of, default_of};
+ghost use Rattle.vx_value.specs.Defaults.{zero_of, default_of};
 ghost use Rattle.vx_value.specs.IsOf.{is_of, in_range, is_null};
+ghost use Rattle.vx_value.specs.Fits.{ListsFit, list_overflow};
+ghost use Rattle.vx_value.specs.Errors.{IsOverflow};
 ghost use Rattle.vx_value.specs.Parts.{boolean_in, integer_in, decimal_in, bytes_in, text_in};
 ghost use Rattle.vx_value.specs.ScalarKinds.{scalar_of, IsStored};
 ghost use Rattle.vx_value.specs.Types as type;
 ghost use Rattle.vx_value.specs.Decimals.{has_digits};
 
+use crate::fitting::list_overflow;
+use crate::typed::is_of;
+use crate::zero::zero_of;
 use crate::{
-    ArgKind, ByteBuffer, DType, DecimalDType, DecimalValue, Nullability, PType, Storage,
-    VortexError, VortexResult,
+    ArgKind, ByteBuffer, DType, DecimalDType, DecimalValue, Nullability, PType, ScalarValues,
+    Storage, TypeRef, ValueRef, VortexError, VortexResult,
 };
 use std::alloc::{AllocError, Global};
 use std::marker::Model;
 
 /// A value that isn't null. `Scalar` holds its type.
-#[derive(Clone, Debug, PartialEq, Eq, PartialOrd, Ord, Hash, Drop)]
+#[cycle(value)]
+#[derive(Debug, Drop)]
 pub enum ScalarValue {
     Bool(bool),
     /// An integer of any of the integer types.
@@ -29,6 +35,34 @@ pub enum ScalarValue {
     Decimal(DecimalValue),
     /// The bytes of a `Utf8` or of a `Binary` value, shared.
     Bytes(ByteBuffer),
+    /// The elements of a list or of a fixed-size list, or the entries of a map.
+    List(ScalarValues),
+    /// The fields of a struct, or the key and the value of a map's entry.
+    Struct(ScalarValues),
+    /// The tag of a union's variant, and a value of its type.
+    Union(u8, ValueRef),
+    /// A type, and a value of it.
+    Variant(TypeRef, ValueRef),
+}
+
+impl Clone for ScalarValue {
+    ghost is_clone = { λ a b. b ≡ a };
+
+    /// Returns the same value. Bytes and nested values are shared.
+    fn clone(&self) -> Result<ScalarValue, AllocError> {
+        Ok(match self {
+            ScalarValue::Bool(boolean) => ScalarValue::Bool(*boolean),
+            ScalarValue::Integer(number) => ScalarValue::Integer(*number),
+            ScalarValue::Decimal(number) => ScalarValue::Decimal(*number),
+            ScalarValue::Bytes(bytes) => ScalarValue::Bytes(bytes.clone()?),
+            ScalarValue::List(values) => ScalarValue::List(values.clone()?),
+            ScalarValue::Struct(values) => ScalarValue::Struct(values.clone()?),
+            ScalarValue::Union(tag, value) => ScalarValue::Union(*tag, value.clone()?),
+            ScalarValue::Variant(dtype, value) => {
+                ScalarValue::Variant(dtype.clone()?, value.clone()?)
+            }
+        })
+    }
 }
 
 /// The type and the value of a scalar, together, by how the type's values are stored. (own)
@@ -46,6 +80,8 @@ pub enum ScalarKind<'a> {
     Utf8(&'a ByteBuffer, &'a DType),
     /// Bytes of this type.
     Binary(&'a ByteBuffer, &'a DType),
+    /// A value of this nested type.
+    Nested(&'a ScalarValue, &'a DType),
 }
 
 /// A value with its type. The value may be null if the type is nullable.
@@ -60,6 +96,7 @@ impl Model for Scalar {
     ghost use Rattle.vx_value.specs.Typed.{Typed, coded_typed};
     ghost use Rattle.vx_value.specs.View.{type_of, cell_of};
     ghost use Rattle.vx_value.specs.IsOf.{is_of};
+    ghost use Rattle.vx_value.specs.Fits.{ListsFit};
 
     ghost Value = { Typed };
 
@@ -67,17 +104,16 @@ impl Model for Scalar {
 
     ghost view = { λ s. record { of_type = type_of s.dtype; value = cell_of s.value } };
 
-    ghost invariant = { λ s. is_of (type_of s.dtype) (cell_of s.value) ≡ true };
+    ghost invariant = { λ s. (is_of (type_of s.dtype) (cell_of s.value) ≡ true)
+        × ListsFit (type_of s.dtype) (cell_of s.value) };
 }
 
 impl Clone for Scalar {
     ghost is_clone = { λ a b. b ≡ a };
 
     fn clone(&self) -> Result<Scalar, AllocError> {
-        Ok(Scalar {
-            dtype: self.dtype.clone()?,
-            value: self.value.clone()?,
-        })
+        let (dtype, value) = (self.dtype().clone()?, self.entry().clone()?);
+        Ok(Scalar::new_unchecked(dtype, value))
     }
 }
 
@@ -85,18 +121,20 @@ impl Scalar {
     /// Makes a scalar of type `dtype` from `value`, without allocating. `None` is null.
     ///
     /// Returns `InvalidArgument` with `BadValue` exactly if `value` isn't of type `dtype`: it is of another kind,
-    /// out of the type's range, or null and the type isn't nullable.
+    /// out of the type's range, or null and the type isn't nullable, or one of its parts is so. Returns `TooLong` exactly if it is
+    /// of the type, and a list in it has more elements than fit their type.
     pub fn try_new(dtype: DType, value: Option<ScalarValue>) -> VortexResult<Scalar>
         ensures ok { IfOk result (λ s. (s.of_type ≡ type_of dtype) × (s.value ≡ cell_of value)) }
-        ensures valid { OnOk result (is_of (type_of dtype) (cell_of value) ≡ true) }
-        ensures refused { IfErr result
-            (λ e. (e ≡ VortexError.InvalidArgument ArgKind.BadValue)
-            × (is_of (type_of dtype) (cell_of value) ≡ false)) }
+        ensures valid { OnOk result ((is_of (type_of dtype) (cell_of value) ≡ true) × ListsFit (type_of dtype) (cell_of value)) }
+        ensures refused { IfErr result (λ e. ((e ≡ VortexError.InvalidArgument ArgKind.BadValue) × (is_of (type_of dtype) (cell_of value) ≡ false))
+            ⊎ ((is_of (type_of dtype) (cell_of value) ≡ true) × IsOverflow e (list_overflow (type_of dtype) (cell_of value)))) }
     {
-        if is_of(&dtype, value.as_ref()) {
-            Ok(Scalar { dtype, value })
-        } else {
-            Err(VortexError::InvalidArgument(ArgKind::BadValue))
+        if !is_of(&value, &dtype) {
+            return Err(VortexError::InvalidArgument(ArgKind::BadValue));
+        }
+        match list_overflow(&value, &dtype) {
+            None => Ok(Scalar { dtype, value }),
+            Some((len, factor)) => Err(VortexError::TooLong { len, factor }),
         }
     }
 
@@ -142,13 +180,15 @@ impl Scalar {
         Scalar { dtype, value: None }
     }
 
-    /// Returns the zero value of type `dtype`: `false`, 0, or no bytes; null if the type is `Null`. Fails only with `OutOfMemory`.
-    #[tactic(auto, using(crate::proofs::DefaultsLemmas::zero_typed))]
-    pub fn zero_value(_alloc: Global, dtype: DType) -> VortexResult<Scalar>
+    /// Returns the zero value of type `dtype`: `false`, 0, no bytes, or no elements; as many zero values as a fixed-size list has;
+    /// the zero value of each field; that of a union's first variant; for type `Variant` the null of type `Null`. Null if the
+    /// type is `Null`. Fails only with `OutOfMemory`.
+    #[tactic(auto, using(crate::proofs::DefaultsLemmas::zero_fits))]
+    pub fn zero_value(alloc: Global, dtype: DType) -> VortexResult<Scalar>
         ensures ok { IfOk result (λ s. s ≡ record { of_type = type_of dtype; value = zero_of (type_of dtype) }) }
         ensures err { OnlyOutOfMemory result }
     {
-        let value = zero_of(dtype.storage());
+        let value = zero_of(alloc, &dtype)?;
         Ok(Scalar { dtype, value })
     }
 
@@ -169,14 +209,25 @@ impl Scalar {
     pub fn dtype(&self) -> &DType
         ensures dtype { type_of result.now ≡ self.now.of_type }
         ensures typed { is_of self.now.of_type self.now.value ≡ true }
+        ensures fits { ListsFit self.now.of_type self.now.value }
     {
         &self.dtype
+    }
+
+    /// Returns the value, or `None` if it is null.
+    pub(crate) fn entry(&self) -> &Option<ScalarValue>
+        ensures value { cell_of result.now ≡ self.now.value }
+        ensures typed { is_of self.now.of_type self.now.value ≡ true }
+        ensures fits { ListsFit self.now.of_type self.now.value }
+    {
+        &self.value
     }
 
     /// Returns the value, or `None` if it is null.
     pub fn value(&self) -> Option<&ScalarValue>
         ensures value { cell_seen result ≡ self.now.value }
         ensures typed { is_of self.now.of_type self.now.value ≡ true }
+        ensures fits { ListsFit self.now.of_type self.now.value }
     {
         self.value.as_ref()
     }
@@ -251,19 +302,20 @@ impl Scalar {
     }
 
     /// Returns the same value of the nullable type. Fails only with `OutOfMemory`.
-    #[tactic(auto, using(crate::proofs::NullabilitiesLemmas::nullable_typed))]
+    #[tactic(auto, using(crate::proofs::NullabilitiesLemmas::nullable_typed, crate::proofs::NullabilitiesLemmas::nullable_fits))]
     pub fn into_nullable(self, alloc: Global) -> VortexResult<Scalar>
         ensures ok { IfOk result (λ s. s ≡ record { of_type = with_nullability Nullability.Nullable self.of_type; value = self.value }) }
         ensures err { OnlyOutOfMemory result }
     {
         let Scalar { dtype, value } = self;
-        let dtype = dtype.into_nullability(alloc, Nullability::Nullable)?;
+        let dtype = dtype.as_nullable(alloc)?;
         Ok(Scalar { dtype, value })
     }
 
-    /// Makes a scalar of type `dtype` from `value`, which must be of that type, without checking it. `None` is null. (own)
+    /// Makes a scalar of type `dtype` from `value`, which must be of that type, without checking it; a list in it must fit. `None` is null. (own)
     pub fn new_unchecked(dtype: DType, value: Option<ScalarValue>) -> Scalar
-        requires { is_of (type_of dtype) (cell_of value) ≡ true }
+        requires typed { is_of (type_of dtype) (cell_of value) ≡ true }
+        requires fits { ListsFit (type_of dtype) (cell_of value) }
         ensures { result ≡ record { of_type = type_of dtype; value = cell_of value } }
     {
         Scalar { dtype, value }
@@ -278,6 +330,7 @@ fn kind_of<'a>(dtype: &'a DType, value: &'a ScalarValue) -> ScalarKind<'a>
     ensures stored { IsStored result }
 {
     match (dtype.storage(), value) {
+        (Storage::Nested, _) => ScalarKind::Nested(value, dtype),
         (Storage::Bits, ScalarValue::Bool(value)) => ScalarKind::Bool(*value, dtype),
         (Storage::Integers(ptype), ScalarValue::Integer(value)) => {
             ScalarKind::Integer(*value, ptype, dtype)
@@ -288,22 +341,6 @@ fn kind_of<'a>(dtype: &'a DType, value: &'a ScalarValue) -> ScalarKind<'a>
         (Storage::Text, ScalarValue::Bytes(bytes)) => ScalarKind::Utf8(bytes, dtype),
         (Storage::Bytes, ScalarValue::Bytes(bytes)) => ScalarKind::Binary(bytes, dtype),
         _ => unreachable!(),
-    }
-}
-
-/// Returns the zero value of types with this storage; `None` is null.
-fn zero_of(storage: Storage) -> Option<ScalarValue>
-    ensures { cell_of result ≡ zero_stored storage }
-{
-    match storage {
-        Storage::Nulls => None,
-        Storage::Bits => Some(ScalarValue::Bool(false)),
-        Storage::Integers(_) => Some(ScalarValue::Integer(0)),
-        Storage::Decimals { scale, .. } => Some(ScalarValue::Decimal(DecimalValue {
-            unscaled: 0,
-            scale,
-        })),
-        Storage::Text | Storage::Bytes => Some(ScalarValue::Bytes(ByteBuffer::empty())),
     }
 }
 
@@ -320,24 +357,5 @@ pub(crate) fn in_range(ptype: PType, number: i128) -> bool
         PType::I16 => -32768 <= number && number < 32768,
         PType::I32 => -2147483648 <= number && number < 2147483648,
         PType::I64 => -9223372036854775808 <= number && number < 9223372036854775808,
-    }
-}
-
-/// Checks whether `value` is of type `dtype`. `None` is null.
-fn is_of(dtype: &DType, value: Option<&ScalarValue>) -> bool
-    ensures { result ≡ is_of (type_of dtype.now) (cell_seen value.entry) }
-{
-    match (dtype, value) {
-        (_, None) => dtype.is_nullable(),
-        (DType::Bool(_), Some(ScalarValue::Bool(_))) => true,
-        (DType::Primitive(ptype, _), Some(ScalarValue::Integer(number))) => {
-            in_range(*ptype, *number)
-        }
-        (DType::Decimal(dtype, _), Some(ScalarValue::Decimal(number))) => {
-            number.scale == dtype.scale() && dtype.has_digits(number.unscaled)
-        }
-        (DType::Utf8(_), Some(ScalarValue::Bytes(bytes))) => bytes.as_str().is_some(),
-        (DType::Binary(_), Some(ScalarValue::Bytes(_))) => true,
-        _ => false,
     }
 }

@@ -1,13 +1,13 @@
 //! The values of a growing column.
 
-ghost use Rattle.std.specs.Prelude.{◌≡◌, ◌+◌, ◌<◌, ◌^◌, ◌∷◌, [], ◌++◌, true, IfOk, OnOk, OnErr, length, replicate};
+ghost use Rattle.std.specs.Prelude.{◌≡◌, ◌+◌, ◌<◌, ◌^◌, ◌∷◌, [], ◌++◌, true, false, IfOk, OnOk, OnErr, length, replicate};
 ghost use Rattle.std.specs.List.{list_all};
 ghost use Rattle.vx_value.specs.Errors.{OnlyOutOfMemory};
 ghost use Rattle.vx_value.specs.IsOf.{is_of};
 ghost use Rattle.vx_tree.specs.Canonicals.{canonical_tree};
 ghost use Rattle.vx_tree.specs.Validities.{HasRows};
 ghost use Rattle.vx_value.specs.View.{type_of, value_of};
-ghost use Rattle.vx_value.specs.Storage.{storage_of};
+ghost use Rattle.vx_value.specs.Storage.{storage_of, is_nested};
 ghost use Rattle.vx_value.specs.declared.dtype.Storage.{Storage as StorageOf};
 ghost use Rattle.vx_column.specs.Growing.{stored_values, zero_in, HaveStorage, Accepts, AcceptRows, values_or, IsColumnOf};
 ghost use Rattle.vx_column.specs.ValidRows.{HasValidity};
@@ -34,13 +34,14 @@ pub(super) enum Values {
 }
 
 impl Values {
-    /// Makes the values of no rows of type `dtype`, with room for `capacity` of them. Fails only with
-    /// `OutOfMemory`.
+    /// Makes the values of no rows of type `dtype`, which must not be nested, with room for `capacity` of them. Fails only
+    /// with `OutOfMemory`.
     pub(super) fn with_capacity(
         alloc: Global,
         dtype: &DType,
         capacity: usize,
     ) -> VortexResult<Values>
+        requires { is_nested (type_of dtype.now) ≡ false }
         ensures stored { IfOk result (HaveStorage (storage_of (type_of dtype.now))) }
         ensures empty { IfOk result (λ values. stored_values values ≡ []) }
         ensures err { OnlyOutOfMemory result }
@@ -59,6 +60,7 @@ impl Values {
             DType::Utf8(_) | DType::Binary(_) => {
                 Values::Bytes(BinaryBuilder::with_capacity(alloc, capacity)?)
             }
+            _ => unreachable!(),
         })
     }
 

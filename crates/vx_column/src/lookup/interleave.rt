@@ -3,6 +3,7 @@
 ghost use Rattle.std.specs.Prelude.{◌≡◌, ◌<◌, ◌&&◌, ℕ, false, true, map, length, replicate, IfOk, IfErr};
 ghost use Rattle.vx_value.specs.Errors.{OnlyOutOfMemory};
 ghost use Rattle.vx_value.specs.Cell.{value};
+ghost use Rattle.vx_value.specs.Storage.{is_nested};
 ghost use Rattle.vx_tree.specs.Tree.{dtype, len as count, datum, is_constant};
 ghost use Rattle.vx_tree.specs.Cells.{rows};
 ghost use Rattle.vx_tree.specs.Lookups.{paired_cells};
@@ -12,7 +13,7 @@ ghost use Rattle.vx_column.specs.LookedUp.{IsCanonicalOf, IsLookedUp, IsNotLooke
 
 use crate::builder::Builder;
 use crate::lookup::take::{code_of, place_of_code};
-use crate::rows::execute_scalar;
+use crate::rows::{constant, execute_scalar};
 use std::alloc::Global;
 use vx_tree::{Canonical, Columnar};
 use vx_value::{Scalar, VortexResult};
@@ -85,7 +86,7 @@ fn interleave_constant(
         (replicate len (value array.now.value)) (replicate len (value row.now.value)))) }
 {
     let scalar = row_paired(alloc, values, array, row)?;
-    Columnar::constant(alloc, scalar, len)
+    constant(alloc, scalar, len)
 }
 
 /// Builds the column of the rows that the pairs name, of which there must be one; not both columns of indices may be constants.
@@ -146,6 +147,7 @@ fn row_paired(
     requires row { IsIndexType row.now.of_type }
     requires typed { AreOfType (first_type (map columnar_tree values.now)) (map columnar_tree values.now) }
     ensures ok { IfOk result (IsPaired (map columnar_tree values.now) array.now row.now) }
+    ensures unnested { IfOk result (λ s. is_nested s.of_type ≡ false) }
     ensures err { IfErr result (IsNotPaired (map columnar_tree values.now) array.now row.now) }
 {
     let Some(place) = place_of_code(array, values.len())? else {

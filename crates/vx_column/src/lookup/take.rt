@@ -18,7 +18,7 @@ ghost use Rattle.vx_column.specs.LookedUp.{AreTaken, AreNotTaken, IsLookedUp, Is
 use crate::lookup::each::{row_named, take_each};
 use crate::lookup::gather::{gather, gather_valid};
 use crate::lookup::places::{place_of, places_of};
-use crate::rows::{Argument, ValidRows, argument_of};
+use crate::rows::{Argument, ValidRows, argument_of, constant};
 use std::alloc::Global;
 use vx_tree::{ArrayKind, Canonical, Columnar};
 use vx_value::{Scalar, VortexError, VortexResult};
@@ -88,7 +88,7 @@ fn take_constant(
     let place = place_of_code(code, array.len())?;
     let nullability = code.dtype().nullability();
     let scalar = row_named(alloc, array, place, nullability)?;
-    Columnar::constant(alloc, scalar, len)
+    constant(alloc, scalar, len)
 }
 
 /// Returns the number of the row that `code` names among `bound` rows, or `None` if it is null. `Fault` if it is negative or

@@ -4,6 +4,7 @@ ghost use Rattle.std.specs.Prelude.{◌≡◌, ◌<◌, ℕ, IfOk, IfErr, false,
 ghost use Rattle.std.specs.List.{AllZip};
 ghost use Rattle.vx_value.specs.Errors.{OnlyOutOfMemory};
 ghost use Rattle.vx_value.specs.Types.{nullability_of};
+ghost use Rattle.vx_value.specs.Storage.{is_nested};
 ghost use Rattle.vx_tree.specs.Canonicals.{columnar_tree};
 ghost use Rattle.vx_tree.specs.Tree.{dtype, len};
 ghost use Rattle.vx_column.specs.Arguments.{IsArgument, IsTold, IsUnread, IsRepeated, AreUnread, AnyUnread, AreBytes, ptype_in, bytes_in, unscaled_of};
@@ -197,9 +198,10 @@ fn bytes_of(storage: Storage, rows: BytesRows<'_>) -> ArgumentRows<'_>
     ArgumentRows::Bytes(BytesOperand { storage, rows })
 }
 
-/// Returns the rows of a constant, each `scalar`; null rows store `false`, 0 or no bytes. (own)
+/// Returns the rows of a constant, each `scalar`, whose type must not be nested; null rows store `false`, 0 or no bytes. (own)
 #[tactic(auto, using(crate::proofs::StoredLemmas::stored_integer))]
 pub(crate) fn repeated_rows(scalar: &Scalar) -> ArgumentRows<'_>
+    requires { is_nested scalar.now.of_type ≡ false }
     ensures { IsRepeated scalar.now result }
 {
     let dtype = scalar.dtype();
@@ -220,6 +222,7 @@ pub(crate) fn repeated_rows(scalar: &Scalar) -> ArgumentRows<'_>
             let bytes = scalar.as_bytes().unwrap_or(&[]);
             bytes_of(dtype.storage(), BytesRows::Value(bytes))
         }
+        Storage::Nested => unreachable!(),
     }
 }
 
@@ -233,8 +236,9 @@ pub(crate) fn unscaled_of(scalar: &Scalar) -> i128
     }
 }
 
-/// Returns the rows of a constant of `len` rows, each `scalar`. Fails only with `OutOfMemory`.
+/// Returns the rows of a constant of `len` rows, each `scalar`, whose type must not be nested. Fails only with `OutOfMemory`.
 fn constant_argument(alloc: Global, scalar: &Scalar, len: usize) -> VortexResult<Argument<'_>>
+    requires { is_nested scalar.now.of_type ≡ false }
     ensures rows { IfOk result (λ a. IsRepeated scalar.now a.rows) }
     ensures valid { IfOk result (λ a. IsRepeatedValidity scalar.now len a.valid) }
     ensures err { OnlyOutOfMemory result }

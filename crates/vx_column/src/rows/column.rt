@@ -1,12 +1,14 @@
 //! Columns of stored values.
 
-ghost use Rattle.std.specs.Prelude.{◌≡◌, length, true, IfOk};
+ghost use Rattle.std.specs.Prelude.{◌≡◌, length, true, false, IfOk};
 ghost use Rattle.vx_value.specs.Errors.{OnlyOutOfMemory};
+ghost use Rattle.vx_value.specs.Storage.{is_nested};
+ghost use Rattle.vx_tree.specs.Tree.{constant_of};
 ghost use Rattle.vx_tree.specs.Natives.{values_of, ptype_of};
 ghost use Rattle.vx_tree.specs.DecimalNumbers.{numbers_of, decimal_type_of};
 ghost use Rattle.vx_tree.specs.ColumnTypes.{are_decimals_of, are_bytes_of};
 ghost use Rattle.vx_tree.specs.Validities.{HasRows};
-ghost use Rattle.vx_tree.specs.Canonicals.{canonical_tree};
+ghost use Rattle.vx_tree.specs.Canonicals.{canonical_tree, columnar_tree};
 ghost use Rattle.vx_column.specs.Arguments.{stored_decimals};
 ghost use Rattle.vx_column.specs.Stored.{boolean_column, integer_column, decimal_column, bytes_column};
 ghost use Rattle.vx_tree.specs.Views.{rows_of};
@@ -14,10 +16,10 @@ ghost use Rattle.vx_tree.specs.Views.{rows_of};
 use std::alloc::Global;
 use vx_mask::BitBuffer;
 use vx_tree::{
-    BinaryViews, BoolArray, Canonical, DecimalArray, DecimalValues, PrimitiveArray,
-    PrimitiveValues, Validity, VarBinViewArray, bytes_type,
+    BinaryViews, BoolArray, Canonical, Columnar, ConstantArray, DecimalArray, DecimalValues,
+    PrimitiveArray, PrimitiveValues, Validity, VarBinViewArray, bytes_type,
 };
-use vx_value::{DType, DecimalDType, Storage, VortexResult};
+use vx_value::{DType, DecimalDType, Scalar, Storage, VortexResult};
 
 /// Makes the column of `bits`; `validity` says which rows are null. Fails only with `OutOfMemory`.
 #[tactic(auto, using(crate::proofs::NullRowsLemmas::flat_taken))]
@@ -85,4 +87,13 @@ pub(crate) fn varbinview_column(
     let dtype = bytes_type(storage, validity.nullability());
     let column = VarBinViewArray::new_unchecked(alloc, dtype, rows, validity)?;
     Ok(Canonical::VarBinView(column))
+}
+
+/// Makes the constant of `len` rows, each `scalar`, whose type must not be nested. Fails only with `OutOfMemory`.
+pub(crate) fn constant(alloc: Global, scalar: Scalar, len: usize) -> VortexResult<Columnar>
+    requires { is_nested scalar.of_type ≡ false }
+    ensures ok { IfOk result (λ c. columnar_tree c ≡ constant_of scalar len) }
+    ensures err { OnlyOutOfMemory result }
+{
+    Ok(Columnar::Constant(ConstantArray::new_unchecked(alloc, scalar, len)?))
 }

@@ -12,7 +12,9 @@ pub use argument::{
     IntegerRows, argument_of,
 };
 pub(crate) use argument::{arguments_of, repeated_rows, unscaled_of};
-pub(crate) use column::{bool_column, decimal_column, primitive_column, varbinview_column};
+pub(crate) use column::{
+    bool_column, constant, decimal_column, primitive_column, varbinview_column,
+};
 pub use probe::execute_scalar;
 pub(crate) use probe::truths_in;
 pub use valid::ValidRows;

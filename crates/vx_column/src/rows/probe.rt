@@ -382,10 +382,8 @@ fn into_integer(scalar: Scalar) -> Option<i128>
     ensures value { result ≡ integer_in scalar.value }
     ensures typed { is_of scalar.of_type scalar.value ≡ true }
 {
-    match scalar.kind() {
-        ScalarKind::Integer(number, _, _) => Some(number),
-        _ => None,
-    }
+    let _dtype = scalar.dtype();
+    scalar.as_integer()
 }
 
 /// Returns `number` if it is at least 0 and below `bound`, else `None`.

@@ -9,7 +9,8 @@ ghost use Rattle.vx_fn.specs.Between.{between, between_type, is_below};
 ghost use Rattle.vx_fn.specs.Arity.{of_three};
 ghost use Rattle.vx_fn.specs.Meanings.{widened};
 
-use crate::order::is_ordered;
+use crate::argument_names::ArgumentNames;
+use crate::order::{compare, is_ordered};
 use crate::row_function::RowFunction;
 use std::alloc::Global;
 use std::cmp::Ordering;
@@ -36,8 +37,11 @@ pub struct BetweenOptions {
 impl RowFunction for BetweenOptions {
     ghost meaning = { between };
 
-    fn signature(&self) -> (Id, &'static [&'static str]) {
-        (Id::Between, &["array", "lower", "upper"])
+    fn signature(&self) -> (Id, ArgumentNames<'_>) {
+        (
+            Id::Between,
+            ArgumentNames::Fixed(&["array", "lower", "upper"]),
+        )
     }
 
     fn return_dtype(&self, _alloc: Global, arguments: &[DType]) -> VortexResult<Option<DType>> {
@@ -83,8 +87,8 @@ fn lies_between(options: BetweenOptions, array: &Scalar, lower: &Scalar, upper: 
     };
     match (array.value(), lower.value(), upper.value()) {
         (Some(value), Some(least), Some(greatest)) => Scalar::bool(
-            is_below(options.lower_strict, least.cmp(value))
-                && is_below(options.upper_strict, value.cmp(greatest)),
+            is_below(options.lower_strict, compare(least, value))
+                && is_below(options.upper_strict, compare(value, greatest)),
             nullability,
         ),
         _ => Scalar::null(DType::Bool(nullability)),

@@ -5,14 +5,16 @@ ghost use Rattle.vx_value.specs.Types.{DataType};
 ghost use Rattle.vx_value.specs.Nullabilities.{with_nullability};
 ghost use Rattle.vx_value.specs.View.{type_of, value_of, cell_of};
 ghost use Rattle.vx_value.specs.IsOf.{is_of};
+ghost use Rattle.vx_value.specs.Order.{is_unnested};
 ghost use Rattle.vx_value.specs.Cell.{Cell, value, fault};
 ghost use Rattle.vx_fn.specs.Binary.{binary, operator_type, operated, is_logical};
 ghost use Rattle.vx_fn.specs.Comparisons.{holds};
 ghost use Rattle.vx_fn.specs.Arithmetic.{calculated_by, divided, IsBounded};
 ghost use Rattle.vx_fn.specs.Logic.{kleene_and, kleene_or};
 
+use crate::argument_names::ArgumentNames;
 use crate::function::Operator;
-use crate::order::is_ordered;
+use crate::order::{compare, is_ordered};
 use crate::row_function::RowFunction;
 use std::alloc::Global;
 use std::cmp::Ordering;
@@ -23,8 +25,8 @@ use vx_value::{
 impl RowFunction for Operator {
     ghost meaning = { binary };
 
-    fn signature(&self) -> (Id, &'static [&'static str]) {
-        (Id::Binary, &["lhs", "rhs"])
+    fn signature(&self) -> (Id, ArgumentNames<'_>) {
+        (Id::Binary, ArgumentNames::Fixed(&["lhs", "rhs"]))
     }
 
     fn return_dtype(&self, _alloc: Global, arguments: &[DType]) -> VortexResult<Option<DType>> {
@@ -127,7 +129,7 @@ fn operate_values(
         × (operated operator (type_of dtype) (value_of lhs.now) (value_of rhs.now) ≡ fault)) }
 {
     let value = match (&dtype, lhs, rhs) {
-        (DType::Bool(_), _, _) => ScalarValue::Bool(holds(operator, lhs.cmp(rhs))),
+        (DType::Bool(_), _, _) => ScalarValue::Bool(holds(operator, compare(lhs, rhs))),
         (DType::Primitive(_, _), ScalarValue::Integer(x), ScalarValue::Integer(y)) => {
             ScalarValue::Integer(exactly(operator, *x, *y)?)
         }
@@ -142,12 +144,17 @@ fn operate_values(
     fitted(dtype, Some(value))
 }
 
-/// Returns `value` as a scalar of type `dtype`; `None` is null. `Fault` if the type can't hold it.
+/// Returns `value`, which isn't nested, as a scalar of type `dtype`; `None` is null. `Fault` if the type can't hold it.
+#[tactic(auto, using(crate::proofs::OrderLemmas::unnested_fits))]
 fn fitted(dtype: DType, value: Option<ScalarValue>) -> VortexResult<Scalar>
+    requires { is_unnested (cell_of value) ≡ true }
     ensures ok { IfOk result (λ s. (s.of_type ≡ type_of dtype) × (s.value ≡ cell_of value) × (is_of (type_of dtype) (cell_of value) ≡ true)) }
     ensures fault { IfErr result (λ e. (e ≡ VortexError.Fault) × (is_of (type_of dtype) (cell_of value) ≡ false)) }
 {
-    Scalar::try_new(dtype, value).map_err(|_| VortexError::Fault)
+    match Scalar::try_new(dtype, value) {
+        Ok(scalar) => Ok(scalar),
+        Err(_) => Err(VortexError::Fault),
+    }
 }
 
 /// Returns whether a comparison holds for two values that compare as `ordering`.

@@ -7,6 +7,7 @@ ghost use Rattle.vx_value.specs.Casts.{cast_to};
 ghost use Rattle.vx_value.specs.Cell.{value, fault};
 ghost use Rattle.vx_fn.specs.Cast.{conversion, cast_type};
 
+use crate::argument_names::ArgumentNames;
 use crate::row_function::RowFunction;
 use std::alloc::Global;
 use vx_value::{DType, Id, Scalar, VortexError, VortexResult, has_cast};
@@ -14,8 +15,8 @@ use vx_value::{DType, Id, Scalar, VortexError, VortexResult, has_cast};
 impl RowFunction for DType {
     ghost meaning = { λ target. conversion (type_of target) };
 
-    fn signature(&self) -> (Id, &'static [&'static str]) {
-        (Id::Cast, &["input"])
+    fn signature(&self) -> (Id, ArgumentNames<'_>) {
+        (Id::Cast, ArgumentNames::Fixed(&["input"]))
     }
 
     fn return_dtype(&self, _alloc: Global, arguments: &[DType]) -> VortexResult<Option<DType>> {

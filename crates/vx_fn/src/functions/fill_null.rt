@@ -6,6 +6,7 @@ ghost use Rattle.vx_value.specs.View.{type_of};
 ghost use Rattle.vx_value.specs.Cell.{value};
 ghost use Rattle.vx_fn.specs.FillNull.{fill_null};
 
+use crate::argument_names::ArgumentNames;
 use crate::retyped::retyped;
 use crate::row_function::RowFunction;
 use std::alloc::Global;
@@ -17,8 +18,8 @@ pub(crate) struct FillNull;
 impl RowFunction for FillNull {
     ghost meaning = { λ _. fill_null };
 
-    fn signature(&self) -> (Id, &'static [&'static str]) {
-        (Id::FillNull, &["input", "fill_value"])
+    fn signature(&self) -> (Id, ArgumentNames<'_>) {
+        (Id::FillNull, ArgumentNames::Fixed(&["input", "fill_value"]))
     }
 
     fn return_dtype(&self, _alloc: Global, arguments: &[DType]) -> VortexResult<Option<DType>> {

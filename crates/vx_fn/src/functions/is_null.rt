@@ -2,6 +2,7 @@
 
 ghost use Rattle.vx_fn.specs.IsNull.{null_meaning};
 
+use crate::argument_names::ArgumentNames;
 use crate::row_function::RowFunction;
 use std::alloc::Global;
 use vx_value::{DType, Id, Nullability, Scalar, VortexResult};
@@ -18,10 +19,10 @@ pub(crate) enum NullTest {
 impl RowFunction for NullTest {
     ghost meaning = { null_meaning };
 
-    fn signature(&self) -> (Id, &'static [&'static str]) {
+    fn signature(&self) -> (Id, ArgumentNames<'_>) {
         match self {
-            NullTest::IsNull => (Id::IsNull, &["input"]),
-            NullTest::IsNotNull => (Id::IsNotNull, &["input"]),
+            NullTest::IsNull => (Id::IsNull, ArgumentNames::Fixed(&["input"])),
+            NullTest::IsNotNull => (Id::IsNotNull, ArgumentNames::Fixed(&["input"])),
         }
     }
 

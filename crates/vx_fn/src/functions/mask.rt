@@ -6,6 +6,7 @@ ghost use Rattle.vx_value.specs.View.{type_of};
 ghost use Rattle.vx_value.specs.Cell.{value};
 ghost use Rattle.vx_fn.specs.Mask.{mask};
 
+use crate::argument_names::ArgumentNames;
 use crate::row_function::RowFunction;
 use std::alloc::Global;
 use vx_value::{DType, Id, Nullability, Scalar, VortexResult};
@@ -16,8 +17,8 @@ pub(crate) struct Mask;
 impl RowFunction for Mask {
     ghost meaning = { λ _. mask };
 
-    fn signature(&self) -> (Id, &'static [&'static str]) {
-        (Id::Mask, &["input", "mask"])
+    fn signature(&self) -> (Id, ArgumentNames<'_>) {
+        (Id::Mask, ArgumentNames::Fixed(&["input", "mask"]))
     }
 
     fn return_dtype(&self, alloc: Global, arguments: &[DType]) -> VortexResult<Option<DType>> {
@@ -36,6 +37,7 @@ impl RowFunction for Mask {
 }
 
 /// Returns `input` if `choice` is true, else null. Fails only with `OutOfMemory`.
+#[tactic(auto, using(crate::proofs::MeaningsLemmas::nullable_set))]
 fn masked(alloc: Global, input: &Scalar, choice: &Scalar) -> VortexResult<Scalar>
     requires { IsSome (mask.types (input.now.of_type ∷ choice.now.of_type ∷ [])) }
     ensures typed { IfOk result (λ s. mask.types (input.now.of_type ∷ choice.now.of_type ∷ []) ≡ Some s.of_type) }

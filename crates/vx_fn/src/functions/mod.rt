@@ -4,9 +4,13 @@ pub(crate) mod between;
 pub(crate) mod binary;
 pub(crate) mod cast;
 pub(crate) mod fill_null;
+pub(crate) mod get_item;
 pub(crate) mod is_null;
+pub(crate) mod list_contains;
 pub(crate) mod mask;
 pub(crate) mod not;
+pub(crate) mod pack;
+pub(crate) mod prepared_set;
 pub(crate) mod zip;
 
 /// Evaluates one expression over the function that a `ScalarFnRef` names:
@@ -22,6 +26,10 @@ macro_rules! by_function {
             $crate::function::ScalarFnRef::FillNull => { let $function = &$crate::functions::fill_null::FillNull; $body }
             $crate::function::ScalarFnRef::IsNull => { let $function = &$crate::functions::is_null::NullTest::IsNull; $body }
             $crate::function::ScalarFnRef::IsNotNull => { let $function = &$crate::functions::is_null::NullTest::IsNotNull; $body }
+            $crate::function::ScalarFnRef::GetItem($function) => $body,
+            $crate::function::ScalarFnRef::Pack($function) => $body,
+            $crate::function::ScalarFnRef::ListContains => { let $function = &$crate::functions::list_contains::ListContains; $body }
+            $crate::function::ScalarFnRef::PreparedSet($function) => $body,
             $crate::function::ScalarFnRef::Cast($function) => $body,
         }
     };

@@ -5,6 +5,7 @@ ghost use Rattle.vx_value.specs.View.{type_of};
 ghost use Rattle.vx_value.specs.Cell.{value};
 ghost use Rattle.vx_fn.specs.Negation.{negation};
 
+use crate::argument_names::ArgumentNames;
 use crate::row_function::RowFunction;
 use std::alloc::Global;
 use vx_value::{DType, Id, Scalar, VortexResult};
@@ -15,8 +16,8 @@ pub(crate) struct Not;
 impl RowFunction for Not {
     ghost meaning = { λ _. negation };
 
-    fn signature(&self) -> (Id, &'static [&'static str]) {
-        (Id::Not, &["input"])
+    fn signature(&self) -> (Id, ArgumentNames<'_>) {
+        (Id::Not, ArgumentNames::Fixed(&["input"]))
     }
 
     fn return_dtype(&self, _alloc: Global, arguments: &[DType]) -> VortexResult<Option<DType>> {

@@ -6,6 +6,7 @@ ghost use Rattle.vx_value.specs.View.{type_of};
 ghost use Rattle.vx_value.specs.Cell.{value};
 ghost use Rattle.vx_fn.specs.Zip.{zip};
 
+use crate::argument_names::ArgumentNames;
 use crate::retyped::retyped;
 use crate::row_function::RowFunction;
 use std::alloc::Global;
@@ -17,8 +18,11 @@ pub(crate) struct Zip;
 impl RowFunction for Zip {
     ghost meaning = { λ _. zip };
 
-    fn signature(&self) -> (Id, &'static [&'static str]) {
-        (Id::Zip, &["if_true", "if_false", "mask"])
+    fn signature(&self) -> (Id, ArgumentNames<'_>) {
+        (
+            Id::Zip,
+            ArgumentNames::Fixed(&["if_true", "if_false", "mask"]),
+        )
     }
 
     fn return_dtype(&self, alloc: Global, arguments: &[DType]) -> VortexResult<Option<DType>> {

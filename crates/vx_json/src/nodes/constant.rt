@@ -1,6 +1,8 @@
 //! A constant.
 
+ghost use Rattle.std.specs.Prelude.{◌≡◌, false, IfOk};
 ghost use Rattle.serde_json.specs.View.{view};
+ghost use Rattle.vx_value.specs.Storage.{is_nested};
 ghost use Rattle.vx_json.specs.Refused.{IsRead};
 ghost use Rattle.vx_json.specs.SpelledNodes.Constant.{scalar_spelled, constant_spelled};
 
@@ -15,7 +17,8 @@ use vx_value::{Scalar, VortexResult};
 
 /// Reads the value of a constant, which is of its type.
 fn constant_value(alloc: Global, value: &Value) -> VortexResult<Scalar>
-    ensures { IsRead (scalar_spelled (view value.now)) result }
+    ensures read { IsRead (scalar_spelled (view value.now)) result }
+    ensures unnested { IfOk result (λ s. is_nested s.of_type ≡ false) }
 {
     let Some(spelled) = value.get("value") else {
         return Err(BAD_VALUE);
@@ -35,5 +38,5 @@ pub(crate) fn read(alloc: Global, value: &Value) -> VortexResult<ArrayRef>
         return Err(BAD_VALUE);
     };
     let scalar = constant_value(alloc, value)?;
-    Ok(ConstantArray::new(alloc, scalar, len as usize)?.into_array())
+    Ok(ConstantArray::new_unchecked(alloc, scalar, len as usize)?.into_array())
 }

@@ -1,12 +1,13 @@
 //! The text of a row.
 
-ghost use Rattle.std.specs.Prelude.{◌≡◌, ◌++◌, OnOk, IfOk, true, string_bytes};
+ghost use Rattle.std.specs.Prelude.{◌≡◌, ◌++◌, OnOk, IfOk, true, false, string_bytes};
 ghost use Rattle.std.specs.Fmt.{signed_decimal};
 ghost use Rattle.hex.specs.Hex.{encode_lower};
 ghost use Rattle.serde_json.specs.Data.{string};
 ghost use Rattle.serde_json.specs.Written.{compact_text};
 ghost use Rattle.std.specs.Str.{is_utf8};
 ghost use Rattle.std.specs.List.{list_any};
+ghost use Rattle.vx_value.specs.Storage.{is_nested};
 ghost use Rattle.vx_json.specs.RowText.{has_escape, in_quotes, row_text};
 
 use crate::text::printed::PrintedNumber;
@@ -16,9 +17,10 @@ use std::alloc::{AllocError, Global};
 use vx_value::{DType, Scalar, ScalarValue, VortexResult};
 
 /// Appends the text of a row: `null`, `true`, `false`, an integer in decimal, or a string. The string of a decimal is its
-/// unscaled integer, as `"4200"` for 42.00; that of a binary value has two lower-case hexadecimal digits for each byte. If
-/// memory runs out, part of it may have been appended. (own)
+/// unscaled integer, as `"4200"` for 42.00; that of a binary value has two lower-case hexadecimal digits for each byte. The
+/// scalar's type must not be nested. If memory runs out, part of it may have been appended. (own)
 pub(crate) fn push_row(text: &mut String, scalar: &Scalar) -> Result<(), AllocError>
+    requires { is_nested scalar.now.of_type ≡ false }
     ensures { OnOk result (string_bytes text.new ≡ string_bytes text.old ++ row_text scalar.now.of_type scalar.now.value) }
 {
     match scalar.value() {
@@ -31,6 +33,7 @@ pub(crate) fn push_row(text: &mut String, scalar: &Scalar) -> Result<(), AllocEr
             DType::Utf8(_) => push_utf8(text, bytes.as_slice()),
             _ => push_hex(text, bytes.as_slice()),
         },
+        Some(_) => unreachable!(),
     }
 }
 
@@ -99,8 +102,10 @@ pub(crate) fn push_hex(text: &mut String, bytes: &[u8]) -> Result<(), AllocError
     push_quoted(text, digits.as_str())
 }
 
-/// Returns the text of a row, as `push_row` appends it. Fails only with `OutOfMemory`. (own)
+/// Returns the text of a row, as `push_row` appends it. The scalar's type must not be nested. Fails only with `OutOfMemory`.
+/// (own)
 pub fn row_text(alloc: Global, scalar: &Scalar) -> VortexResult<String>
+    requires { is_nested scalar.now.of_type ≡ false }
     ensures { IfOk result (λ s. string_bytes s ≡ row_text scalar.now.of_type scalar.now.value) }
 {
     let mut text = String::new(alloc);

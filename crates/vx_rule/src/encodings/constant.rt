@@ -245,7 +245,8 @@ fn fold_constants(alloc: Global, parent: &ArrayRef) -> VortexResult<Option<RawNo
     };
     match apply_row(alloc, scalar_fn, scalars.as_slice()) {
         Ok(scalar) => {
-            let constant = ConstantArray::new(alloc, scalar, parent.len())?;
+            parent.well_formed_tree();
+            let constant = ConstantArray::new_unchecked(alloc, scalar, parent.len())?;
             Ok(Some(RawNode::done(alloc, constant.into_array())))
         }
         Err(VortexError::Fault) => Ok(None),

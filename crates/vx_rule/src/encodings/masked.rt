@@ -194,7 +194,8 @@ fn take_validity(
         return Ok(None);
     };
     if let ArrayKind::Constant(scalar) = child.kind() {
-        let rows = ConstantArray::new(alloc, scalar.clone()?, codes.len())?;
+        child.well_formed_tree();
+        let rows = ConstantArray::new_unchecked(alloc, scalar.clone()?, codes.len())?;
         return Ok(Some(rows.into_array()));
     }
     Ok(Some(dict_node(alloc, codes.clone()?, child.clone()?)?))

@@ -1,7 +1,8 @@
 //! The readers of an untyped reference.
 
-ghost use Rattle.std.specs.Prelude.{◌≡◌, ◌==◌, is_some, IfSome, length, map, option_map, slice_get, Some};
+ghost use Rattle.std.specs.Prelude.{◌≡◌, ◌==◌, is_some, IfSome, length, map, option_map, slice_get, Some, false};
 ghost use Rattle.vx_value.specs.View.{type_of};
+ghost use Rattle.vx_value.specs.Storage.{is_nested};
 ghost use Rattle.vx_tree.specs.Tree.{dtype, len, datum, slots, slots_of, id_of, meaning, interleave_name};
 ghost use Rattle.vx_tree.specs.Slots.{name_at};
 ghost use Rattle.vx_tree.specs.Names.{name_text};
@@ -14,14 +15,14 @@ use crate::matcher::Matcher;
 use vx_value::{DType, Id};
 
 /// Returns name `index` of `names`.
-fn named(names: &[&'static str], index: usize) -> Option<SlotName>
+fn named(names: &[&'static str], index: usize) -> Option<SlotName<'static>>
     ensures { option_map name_text result ≡ slice_get (map (λ s. s.now) names.now) index }
 {
     whole(names.get(index).copied())
 }
 
 /// Returns `name` as the name of a slot.
-fn whole(name: Option<&'static str>) -> Option<SlotName>
+fn whole(name: Option<&str>) -> Option<SlotName<'_>>
     ensures { option_map name_text result ≡ option_map (λ s. s.now) name.entry }
 {
     match name {
@@ -31,7 +32,7 @@ fn whole(name: Option<&'static str>) -> Option<SlotName>
 }
 
 /// Returns the name of slot `index` of an interleaved array.
-fn interleaved(index: usize) -> SlotName
+fn interleaved(index: usize) -> SlotName<'static>
     ensures { Some (name_text result) ≡ interleave_name index }
 {
     match index {
@@ -42,7 +43,7 @@ fn interleaved(index: usize) -> SlotName
 }
 
 /// Returns the name of slot `index` of a node of this encoding: a line for each encoding.
-fn name_of(encoding: &Encoding, index: usize) -> Option<SlotName>
+fn name_of(encoding: &Encoding, index: usize) -> Option<SlotName<'_>>
     ensures { option_map name_text result ≡ (meaning (data_of encoding.now)).name index }
 {
     match encoding {
@@ -80,7 +81,8 @@ impl ArrayRef {
 
     /// Returns the type of the rows.
     pub fn dtype(&self) -> &DType
-        ensures { type_of result.now ≡ dtype self.now }
+        ensures dtype { type_of result.now ≡ dtype self.now }
+        ensures unnested { is_nested (dtype self.now) ≡ false }
     {
         &self.node.dtype
     }
@@ -126,7 +128,7 @@ impl ArrayRef {
     /// names of its arguments. Chunks are numbered from `chunk0` on; an interleaved array has `array_indices`, `row_indices`
     /// and then its values from `value0` on. `None` if there is no such slot.
     #[tactic(auto, using(crate::proofs::SlotsLemmas::names))]
-    pub fn slot_name(&self, index: usize) -> Option<SlotName>
+    pub fn slot_name(&self, index: usize) -> Option<SlotName<'_>>
         ensures { option_map name_text result ≡ name_at index self.now }
     {
         if index < self.slots().len() {
@@ -136,11 +138,12 @@ impl ArrayRef {
         }
     }
 
-    /// States what holds of every tree: it is well formed, and its meaning has one cell per row. (own)
+    /// States what holds of every tree: it is well formed, its meaning has one cell per row, and its type isn't nested. (own)
     #[tactic(auto, using(crate::proofs::CellsLemmas::rows_counted))]
     pub fn well_formed_tree(&self)
         ensures formed { IsWell self.now }
         ensures counted { length (rows self.now) ≡ len self.now }
+        ensures unnested { is_nested (dtype self.now) ≡ false }
     {
         let _well = &self.node;
     }

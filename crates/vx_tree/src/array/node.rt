@@ -1,6 +1,8 @@
 //! The nodes that all handles share.
 
-ghost use Rattle.std.specs.Prelude.{◌≡◌, IfOk, IfErr, IfSome};
+ghost use Rattle.std.specs.Prelude.{◌≡◌, IfOk, IfErr, IfSome, false};
+ghost use Rattle.vx_value.specs.View.{type_of};
+ghost use Rattle.vx_value.specs.Storage.{is_nested};
 ghost use Rattle.vx_value.specs.Errors.{OnlyOutOfMemory};
 ghost use Rattle.vx_tree.specs.Tree.{Tree, slots_of};
 ghost use Rattle.vx_tree.specs.TreeView.{data_of, tree_of};
@@ -77,11 +79,11 @@ impl Model for ArrayRef {
     ghost coded = { coded_tree };
 
     ghost use Rattle.vx_tree.specs.TreeView.{tree_of};
-    ghost use Rattle.vx_tree.specs.Well.{IsWell};
+    ghost use Rattle.vx_tree.specs.Well.{IsTree};
 
     ghost view = { λ a. tree_of a.node.value };
 
-    ghost invariant = { λ a. IsWell (tree_of a.node.value) };
+    ghost invariant = { λ a. IsTree (tree_of a.node.value) };
 
     ghost size = { height };
 
@@ -159,10 +161,11 @@ pub(crate) fn know_well(slots: &[Option<ArrayRef>])
 }
 
 impl Node {
-    /// Makes the tree of these parts. They must meet the conditions of the encoding. Fails only with
-    /// `OutOfMemory`.
+    /// Makes the tree of these parts. They must meet the conditions of the encoding, and the type must not be nested. Fails only
+    /// with `OutOfMemory`.
     pub fn into_array(self, alloc: Global) -> VortexResult<ArrayRef>
-        requires { IsNodeOf (tree_of self) }
+        requires node { IsNodeOf (tree_of self) }
+        requires unnested { is_nested (type_of self.dtype) ≡ false }
         ensures ok { IfOk result (λ t. t ≡ tree_of self) }
         ensures err { OnlyOutOfMemory result }
     {

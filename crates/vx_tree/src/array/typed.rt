@@ -1,8 +1,9 @@
 //! Handles that know their encoding.
 
-ghost use Rattle.std.specs.Prelude.{◌≡◌, ◌⊎◌, ◌==◌, [], ◌∷◌, is_ok, IfOk, IfErr, OnOk, Some, None, true};
+ghost use Rattle.std.specs.Prelude.{◌≡◌, ◌⊎◌, ◌==◌, [], ◌∷◌, is_ok, IfOk, IfErr, OnOk, Some, None, true, false};
 ghost use Rattle.vx_value.specs.Errors.{OnlyOutOfMemory};
 ghost use Rattle.vx_value.specs.View.{type_of};
+ghost use Rattle.vx_value.specs.Storage.{is_nested};
 ghost use Rattle.vx_tree.specs.Tree.{Tree, dtype, len, datum, slots, slots_of, node, id_of};
 ghost use Rattle.vx_tree.specs.Well.{shapes, IsNode};
 ghost use Rattle.vx_tree.specs.Refusals.{refusal};
@@ -12,7 +13,7 @@ use std::alloc::{AllocError, Global};
 use std::marker::{Model, PhantomData};
 use std::ops::Deref;
 use std::rc::Rc;
-use vx_value::{DType, VortexError, VortexResult};
+use vx_value::{ArgKind, DType, VortexError, VortexResult};
 
 /// A handle of a node of `V`'s encoding. It shares the node with its reference.
 #[derive(Drop)]
@@ -80,9 +81,29 @@ impl<V: Encoded> ArrayParts<V> {
 }
 
 impl<V: VTable> Array<V> {
-    /// Makes the node of `parts`. Refuses with the error of `VTable::validate` if they break a condition of the encoding.
-    #[tactic(auto, using(crate::proofs::RefusedExactlyLemmas::node_unless_refused))]
+    /// Makes the node of `parts`. `InvalidArgument` with `BadType` if its type is nested, or the error of `VTable::validate` if
+    /// they break a condition of the encoding.
     pub fn try_from_parts(alloc: Global, parts: ArrayParts<V>) -> VortexResult<Array<V>>
+        ensures ok { IfOk result (λ a. a ≡ node (type_of parts.dtype) parts.len (V.stands_for parts.payload) (slots_of parts.slots.items)) }
+        ensures valid { OnOk result (refusal (V.named parts.vtable) (type_of parts.dtype) parts.len
+            (V.stands_for parts.payload) (shapes (slots_of parts.slots.items)) ≡ None) }
+        ensures unnested { OnOk result (is_nested (type_of parts.dtype) ≡ false) }
+        ensures refused { IfErr result (λ e. (e ≡ VortexError.OutOfMemory)
+            ⊎ ((e ≡ VortexError.InvalidArgument ArgKind.BadType) × (is_nested (type_of parts.dtype) ≡ true))
+            ⊎ (refusal (V.named parts.vtable) (type_of parts.dtype) parts.len
+            (V.stands_for parts.payload) (shapes (slots_of parts.slots.items)) ≡ Some e)) }
+    {
+        if parts.dtype.is_nested() {
+            return Err(VortexError::InvalidArgument(ArgKind::BadType));
+        }
+        Array::validated(alloc, parts)
+    }
+
+    /// Makes the node of `parts`, whose type must not be nested. Refuses with the error of `VTable::validate` if they break a
+    /// condition of the encoding.
+    #[tactic(auto, using(crate::proofs::RefusedExactlyLemmas::node_unless_refused))]
+    pub(crate) fn validated(alloc: Global, parts: ArrayParts<V>) -> VortexResult<Array<V>>
+        requires { is_nested (type_of parts.dtype) ≡ false }
         ensures ok { IfOk result (λ a. a ≡ node (type_of parts.dtype) parts.len (V.stands_for parts.payload) (slots_of parts.slots.items)) }
         ensures valid { OnOk result (refusal (V.named parts.vtable) (type_of parts.dtype) parts.len
             (V.stands_for parts.payload) (shapes (slots_of parts.slots.items)) ≡ None) }
@@ -97,7 +118,8 @@ impl<V: VTable> Array<V> {
     /// Makes the node of `parts` without checking them. They must meet the conditions of the encoding. Fails only with
     /// `OutOfMemory`.
     pub fn from_parts_unchecked(alloc: Global, parts: ArrayParts<V>) -> VortexResult<Array<V>>
-        requires { IsNode (type_of parts.dtype) parts.len (V.stands_for parts.payload) (shapes (slots_of parts.slots.items)) }
+        requires node { IsNode (type_of parts.dtype) parts.len (V.stands_for parts.payload) (shapes (slots_of parts.slots.items)) }
+        requires unnested { is_nested (type_of parts.dtype) ≡ false }
         ensures ok { IfOk result (λ a. a ≡ node (type_of parts.dtype) parts.len (V.stands_for parts.payload) (slots_of parts.slots.items)) }
         ensures err { OnlyOutOfMemory result }
     {
@@ -112,7 +134,8 @@ impl<V: VTable> Array<V> {
         payload: V::TypedArrayData,
         slots: Vec<Option<ArrayRef>>,
     ) -> VortexResult<Array<V>>
-        requires { IsNode (type_of dtype) len (V.stands_for payload) (shapes (slots_of slots.items)) }
+        requires node { IsNode (type_of dtype) len (V.stands_for payload) (shapes (slots_of slots.items)) }
+        requires unnested { is_nested (type_of dtype) ≡ false }
         ensures ok { IfOk result (λ a. a ≡ node (type_of dtype) len (V.stands_for payload) (slots_of slots.items)) }
         ensures err { OnlyOutOfMemory result }
     {
@@ -137,7 +160,8 @@ impl<V: VTable> Array<V> {
         payload: V::TypedArrayData,
         slot: Option<ArrayRef>,
     ) -> VortexResult<Array<V>>
-        requires { IsNode (type_of dtype) len (V.stands_for payload) (shapes (slots_of (slot ∷ []))) }
+        requires node { IsNode (type_of dtype) len (V.stands_for payload) (shapes (slots_of (slot ∷ []))) }
+        requires unnested { is_nested (type_of dtype) ≡ false }
         ensures ok { IfOk result (λ a. a ≡ node (type_of dtype) len (V.stands_for payload) (slots_of (slot ∷ []))) }
         ensures err { OnlyOutOfMemory result }
     {
@@ -245,7 +269,8 @@ impl<V: VTable> Array<V> {
 
     /// Returns the type of the rows.
     pub fn dtype(&self) -> &DType
-        ensures { type_of result.now ≡ dtype self.now }
+        ensures dtype { type_of result.now ≡ dtype self.now }
+        ensures unnested { is_nested (dtype self.now) ≡ false }
     {
         self.array.dtype()
     }

@@ -1,10 +1,11 @@
 //! Chunked arrays: the rows of their chunks, one after the other.
 
-ghost use Rattle.std.specs.Prelude.{◌≡◌, ◌⊎◌, ◌==◌, refl, sum, IfOk, IfErr, OnOk, Some, None};
+ghost use Rattle.std.specs.Prelude.{◌≡◌, ◌⊎◌, ◌==◌, refl, sum, IfOk, IfErr, OnOk, Some, None, true, false};
 ghost use Rattle.vx_tree.specs.Tree.{chunked, is_chunked, chunked_of, chunks_refusal, slots_of};
 ghost use Rattle.vx_tree.specs.Well.{shapes};
 ghost use Rattle.vx_tree.specs.SlotTypes.{lengths_in};
 ghost use Rattle.vx_value.specs.View.{type_of};
+ghost use Rattle.vx_value.specs.Storage.{is_nested};
 ghost use Rattle.vx_value.specs.declared.id.Id.TheVariants as id;
 
 use crate::array::{
@@ -88,15 +89,21 @@ fn has_total(len: usize, slots: &[Option<ArrayRef>]) -> bool
 impl ChunkedArray {
     /// Makes the array of the rows of `chunks`, one chunk after the other, each of which must be of type `dtype`.
     ///
-    /// The first condition that fails gives the error: `InvalidArgument` with `SlotType` of the first chunk that has another
+    /// The first condition that fails gives the error: `InvalidArgument` with `BadType` if `dtype` is nested, with `SlotType` of
+    /// the first chunk that has another
     /// type, then `TooLong` if the rows together exceed `usize::MAX`.
     #[tactic(auto, using(crate::proofs::ChunkedLemmas::chunks, crate::proofs::SlotTypesLemmas::filled_map, crate::proofs::ConditionsLemmas::in_turn))]
     pub fn try_new(alloc: Global, chunks: Vec<ArrayRef>, dtype: DType) -> VortexResult<ChunkedArray>
         ensures ok { IfOk result (λ a. a ≡ chunked_of (type_of dtype) chunks.items) }
         ensures valid { OnOk result (chunks_refusal (type_of dtype) chunks.items ≡ None) }
+        ensures unnested { OnOk result (is_nested (type_of dtype) ≡ false) }
         ensures refused { IfErr result (λ e. (e ≡ VortexError.OutOfMemory)
+            ⊎ ((e ≡ VortexError.InvalidArgument ArgKind.BadType) × (is_nested (type_of dtype) ≡ true))
             ⊎ (chunks_refusal (type_of dtype) chunks.items ≡ Some e)) }
     {
+        if dtype.is_nested() {
+            return Err(VortexError::InvalidArgument(ArgKind::BadType));
+        }
         let slots = append_slots(Vec::new(alloc), chunks)?;
         check_types(&dtype, 0, slots.as_slice())?;
         let len = total_len(slots.as_slice())?;

@@ -1,9 +1,10 @@
 //! What all flat columns share: a value in each row, and a slot for their validity.
 
-ghost use Rattle.std.specs.Prelude.{◌≡◌, ◌⊎◌, ℕ, List, [], ◌∷◌, Option, IfOk, IfErr, OnOk, Some, None, option_map};
+ghost use Rattle.std.specs.Prelude.{◌≡◌, ◌⊎◌, ℕ, List, [], ◌∷◌, Option, IfOk, IfErr, OnOk, Some, None, option_map, false};
 ghost use Rattle.vx_value.specs.Errors.{OnlyOutOfMemory};
 ghost use Rattle.vx_value.specs.Types.{DataType};
 ghost use Rattle.vx_value.specs.View.{type_of};
+ghost use Rattle.vx_value.specs.Storage.{is_nested};
 ghost use Rattle.vx_tree.specs.Tree.{column, slots_of};
 ghost use Rattle.vx_tree.specs.Conditions.{Checks};
 ghost use Rattle.vx_tree.specs.Well.{Shape, shape_of, IsFlat, IsNode, shapes};
@@ -113,7 +114,8 @@ pub(crate) fn flat_column<V: VTable>(
     payload: V::TypedArrayData,
     validity: &Validity,
 ) -> VortexResult<Array<V>>
-    requires { (ty : DataType) (n : ℕ) (ss : List (Option Shape)) → IsFlat (type_of of_type.now) len ty n ss → IsNode ty n (V.stands_for payload) ss }
+    requires unnested { is_nested (type_of of_type.now) ≡ false }
+    requires node { (ty : DataType) (n : ℕ) (ss : List (Option Shape)) → IsFlat (type_of of_type.now) len ty n ss → IsNode ty n (V.stands_for payload) ss }
     ensures ok { IfOk result (λ a. a ≡ column (type_of dtype) len (V.stands_for payload) (child_of validity.now len)) }
     ensures valid { OnOk result (flat_refusal (type_of of_type.now) (type_of dtype) len validity.now ≡ None) }
     ensures refused { IfErr result (λ e. (e ≡ VortexError.OutOfMemory)
@@ -132,7 +134,8 @@ pub(crate) fn flat_unchecked<V: VTable>(
     payload: V::TypedArrayData,
     validity: &Validity,
 ) -> VortexResult<Array<V>>
-    requires { IsNode (type_of dtype) len (V.stands_for payload) (shapes (slots_of (child_of validity.now len ∷ []))) }
+    requires node { IsNode (type_of dtype) len (V.stands_for payload) (shapes (slots_of (child_of validity.now len ∷ []))) }
+    requires unnested { is_nested (type_of dtype) ≡ false }
     ensures ok { IfOk result (λ a. a ≡ column (type_of dtype) len (V.stands_for payload) (child_of validity.now len)) }
     ensures err { OnlyOutOfMemory result }
 {

@@ -1,7 +1,8 @@
 //! Arrays that repeat one value.
 
-ghost use Rattle.std.specs.Prelude.{◌≡◌, refl, IfOk};
+ghost use Rattle.std.specs.Prelude.{◌≡◌, ◌⊎◌, refl, IfOk, IfErr, OnOk, true, false};
 ghost use Rattle.vx_value.specs.Errors.{OnlyOutOfMemory};
+ghost use Rattle.vx_value.specs.Storage.{is_nested};
 ghost use Rattle.vx_tree.specs.Tree.{constant, is_constant, constant_of};
 ghost use Rattle.vx_value.specs.declared.id.Id.TheVariants as id;
 
@@ -14,7 +15,7 @@ use crate::arrays::{into_payload, payload};
 use crate::conditions::check_that;
 use crate::types::is_same_type;
 use std::alloc::Global;
-use vx_value::{ArgKind, Id, Scalar, VortexResult};
+use vx_value::{ArgKind, Id, Scalar, VortexError, VortexResult};
 
 /// The tag of the constant encoding.
 #[derive(Clone, Copy, Debug)]
@@ -97,8 +98,25 @@ impl VTable for Constant {
 }
 
 impl ConstantArray {
-    /// Makes the constant of `len` rows, each `scalar`. Fails only with `OutOfMemory`.
+    /// Makes the constant of `len` rows, each `scalar`.
+    ///
+    /// Returns `InvalidArgument` with `BadType` exactly if the scalar's type is nested.
     pub fn new(alloc: Global, scalar: Scalar, len: usize) -> VortexResult<ConstantArray>
+        ensures ok { IfOk result (λ a. a ≡ constant_of scalar len) }
+        ensures valid { OnOk result (is_nested scalar.of_type ≡ false) }
+        ensures refused { IfErr result (λ e. (e ≡ VortexError.OutOfMemory)
+            ⊎ ((e ≡ VortexError.InvalidArgument ArgKind.BadType) × (is_nested scalar.of_type ≡ true))) }
+    {
+        if scalar.dtype().is_nested() {
+            return Err(VortexError::InvalidArgument(ArgKind::BadType));
+        }
+        ConstantArray::new_unchecked(alloc, scalar, len)
+    }
+
+    /// Makes the constant of `len` rows, each `scalar`, whose type must not be nested, without checking it. Fails only with
+    /// `OutOfMemory`. (own)
+    pub fn new_unchecked(alloc: Global, scalar: Scalar, len: usize) -> VortexResult<ConstantArray>
+        requires { is_nested scalar.of_type ≡ false }
         ensures ok { IfOk result (λ a. a ≡ constant_of scalar len) }
         ensures err { OnlyOutOfMemory result }
     {

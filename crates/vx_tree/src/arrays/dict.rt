@@ -1,10 +1,11 @@
 //! Dictionaries: arrays whose rows are looked up among values by codes.
 
-ghost use Rattle.std.specs.Prelude.{◌≡◌, ◌⊎◌, refl, ℕ, ◌∷◌, [], IfOk, IfErr, OnOk, MatchResult, Some, None};
+ghost use Rattle.std.specs.Prelude.{◌≡◌, ◌⊎◌, refl, ℕ, ◌∷◌, [], IfOk, IfErr, OnOk, MatchResult, Some, None, false};
 ghost use Rattle.vx_tree.specs.Tree.{dict, is_dict, dict_of, dict_refusal, codes_refusal, slots_of, dtype};
 ghost use Rattle.vx_value.specs.Errors.{OnlyOutOfMemory};
 ghost use Rattle.vx_value.specs.Types.{DataType};
 ghost use Rattle.vx_value.specs.View.{type_of};
+ghost use Rattle.vx_value.specs.Storage.{is_nested};
 ghost use Rattle.vx_fn.specs.Meanings.{widen};
 ghost use Rattle.vx_value.specs.declared.id.Id.TheVariants as id;
 ghost use Rattle.vx_tree.specs.Well.{shape_of, shapes};
@@ -100,8 +101,10 @@ fn codes_and_values(slots: &[Option<ArrayRef>]) -> VortexResult<(&ArrayRef, &Arr
 }
 
 /// Returns the type of a dictionary: that of its values, nullable if its codes are. Fails only with `OutOfMemory`.
+#[tactic(auto, using(vx_value::proofs::NullabilitiesLemmas::nested_kept))]
 fn type_by(alloc: Global, codes: &ArrayRef, values: &ArrayRef) -> VortexResult<DType>
     ensures ok { IfOk result (λ t. type_of t ≡ widen (dtype codes.now) (dtype values.now)) }
+    ensures unnested { IfOk result (λ t. is_nested (type_of t) ≡ false) }
     ensures err { OnlyOutOfMemory result }
 {
     values

@@ -1,8 +1,9 @@
 //! Interleaved arrays: each row is a row of one of several arrays.
 
-ghost use Rattle.std.specs.Prelude.{◌≡◌, ◌⊎◌, ◌≤◌, refl, length, IfOk, IfErr, OnOk, Some, None};
+ghost use Rattle.std.specs.Prelude.{◌≡◌, ◌⊎◌, ◌≤◌, refl, length, IfOk, IfErr, OnOk, Some, None, false};
 ghost use Rattle.vx_value.specs.Errors.{OnlyOutOfMemory};
 ghost use Rattle.vx_value.specs.View.{type_of};
+ghost use Rattle.vx_value.specs.Storage.{is_nested};
 ghost use Rattle.vx_tree.specs.Conditions.{Checks};
 ghost use Rattle.vx_tree.specs.Tree.{interleave, is_interleave, interleave_of, interleaved_refusal, present_refusal, first_type, slots_of};
 ghost use Rattle.vx_tree.specs.Well.{shapes};
@@ -103,6 +104,7 @@ fn check_interleaved(dtype: &DType, len: usize, slots: &[Option<ArrayRef>]) -> V
 /// Returns the type of the first array, the null type if there is none. Fails only with `OutOfMemory`.
 fn first_type(values: &[ArrayRef]) -> VortexResult<DType>
     ensures ok { IfOk result (λ t. type_of t ≡ first_type values.now) }
+    ensures unnested { IfOk result (λ t. is_nested (type_of t) ≡ false) }
     ensures err { OnlyOutOfMemory result }
 {
     match values.first() {
@@ -134,6 +136,6 @@ impl InterleaveArray {
         let indices = vec![in alloc; Some(array_indices), Some(row_indices)]?;
         let slots = append_slots(indices, values)?;
         let parts = ArrayParts::new(Interleave, dtype, len, EmptyArrayData, slots);
-        Array::try_from_parts(alloc, parts)
+        Array::validated(alloc, parts)
     }
 }

@@ -1,12 +1,13 @@
 //! Lazy functions of other arrays.
 
-ghost use Rattle.std.specs.Prelude.{◌≡◌, refl, ◌⊎◌, ◌++◌, map, IfOk, IfErr, OnOk, Some, None};
+ghost use Rattle.std.specs.Prelude.{◌≡◌, refl, ◌⊎◌, ◌++◌, map, IfOk, IfErr, OnOk, Some, None, false};
 ghost use Rattle.vx_tree.specs.Tree.{function, is_function, slots_of, filled_slots, arity_refusal, slots_refusal, types_refusal, result_refusal, all_present, all_long, types_in};
 ghost use Rattle.vx_value.specs.View.{type_of};
+ghost use Rattle.vx_value.specs.Storage.{is_nested};
 ghost use Rattle.vx_tree.specs.Conditions.{Checks};
 ghost use Rattle.vx_tree.specs.Well.{shapes};
 ghost use Rattle.vx_tree.specs.Refusals.{is_long, type_in};
-ghost use Rattle.vx_tree.specs.Calls.{call_refusal, inferred_refusal, called, inferred};
+ghost use Rattle.vx_tree.specs.Calls.{row_refusal, call_refusal, inferred_refusal, called, inferred};
 ghost use Rattle.vx_fn.specs.ReturnTypes.{return_type};
 
 use crate::array::{
@@ -211,6 +212,24 @@ fn check_result(
     )
 }
 
+/// Returns the type of the rows of `function` applied to the trees in `slots`. It must not be nested.
+fn column_dtype(
+    alloc: Global,
+    function: &ScalarFnRef,
+    slots: &[Option<ArrayRef>],
+) -> VortexResult<DType>
+    ensures ok { IfOk result (λ t. return_type function.now (types_in (shapes (slots_of slots.now))) ≡ Some (type_of t)) }
+    ensures unnested { IfOk result (λ t. is_nested (type_of t) ≡ false) }
+    ensures valid { OnOk result (row_refusal (return_type function.now (types_in (shapes (slots_of slots.now)))) ≡ None) }
+    ensures refused { IfErr result (λ e. (e ≡ VortexError.OutOfMemory)
+        ⊎ (row_refusal (return_type function.now (types_in (shapes (slots_of slots.now)))) ≡ Some e)) }
+{
+    let types = types_of(alloc, slots)?;
+    let dtype = function.return_dtype(alloc, types.as_slice())?;
+    check_that(!dtype.is_nested(), ArgKind::BadType)?;
+    Ok(dtype)
+}
+
 /// Puts each tree in a slot.
 #[tactic(auto, using(crate::proofs::CallsLemmas::filled_more))]
 fn fill_slots(alloc: Global, children: Vec<ArrayRef>) -> Result<Vec<Option<ArrayRef>>, AllocError>
@@ -247,7 +266,8 @@ impl ScalarFnArray {
     /// Makes a node that applies `scalar_fn` to `children`, with `len` rows.
     ///
     /// The first condition that fails gives the error: `InvalidArgument` with `Arity` if the function takes another number of
-    /// arguments, `ChildLen` if a child doesn't have `len` rows, and `NoRow` if the function takes no arguments of their types.
+    /// arguments, `ChildLen` if a child doesn't have `len` rows, `NoRow` if the function takes no arguments of their types, and
+    /// `BadType` if its result is nested.
     #[tactic(auto, using(crate::proofs::CallsLemmas::calls))]
     pub fn try_new_with_len(
         alloc: Global,
@@ -263,8 +283,7 @@ impl ScalarFnArray {
         check_arity(&scalar_fn, children.len())?;
         let slots = fill_slots(alloc, children)?;
         check_that(are_long(len, slots.as_slice()), ArgKind::ChildLen)?;
-        let types = types_of(alloc, slots.as_slice())?;
-        let dtype = scalar_fn.return_dtype(alloc, types.as_slice())?;
+        let dtype = column_dtype(alloc, &scalar_fn, slots.as_slice())?;
         Ok(Array::of(alloc, dtype, len, ScalarFnData { scalar_fn }, slots)?)
     }
 }

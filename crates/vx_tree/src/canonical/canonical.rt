@@ -1,8 +1,9 @@
 //! Columns in the canonical encoding of their type.
 
-ghost use Rattle.std.specs.Prelude.{◌≡◌, ◌==◌, true, is_ok, IfOk, IfErr, option_map};
+ghost use Rattle.std.specs.Prelude.{◌≡◌, ◌==◌, true, is_ok, IfOk, IfErr, option_map, false};
 ghost use Rattle.vx_value.specs.Errors.{OnlyOutOfMemory};
 ghost use Rattle.vx_value.specs.View.{type_of};
+ghost use Rattle.vx_value.specs.Storage.{is_nested};
 ghost use Rattle.vx_tree.specs.Tree.{dtype, len, datum, is_canonical};
 ghost use Rattle.vx_tree.specs.Columns.{empty_of};
 ghost use Rattle.vx_tree.specs.Canonicals.{canonical_tree, null_column, bool_column, primitive_column, decimal_column, varbinview_column};
@@ -52,8 +53,9 @@ pub enum Canonical {
 }
 
 impl Canonical {
-    /// Makes the column of type `dtype` without rows. Fails only with `OutOfMemory`.
+    /// Makes the column of type `dtype`, which must not be nested, without rows. Fails only with `OutOfMemory`.
     pub fn empty(alloc: Global, dtype: &DType) -> VortexResult<Canonical>
+        requires { is_nested (type_of dtype.now) ≡ false }
         ensures ok { IfOk result (λ c. canonical_tree c ≡ empty_of (type_of dtype.now)) }
         ensures err { OnlyOutOfMemory result }
     {
@@ -65,6 +67,7 @@ impl Canonical {
             DType::Utf8(_) | DType::Binary(_) => {
                 Ok(Canonical::VarBinView(flat_empty(alloc, dtype)?))
             }
+            _ => unreachable!(),
         }
     }
 
@@ -115,7 +118,8 @@ impl Canonical {
 
     /// Returns the type of the rows.
     pub fn dtype(&self) -> &DType
-        ensures { type_of result.now ≡ dtype (canonical_tree self.now) }
+        ensures dtype { type_of result.now ≡ dtype (canonical_tree self.now) }
+        ensures unnested { is_nested (dtype (canonical_tree self.now)) ≡ false }
     {
         self.as_array().dtype()
     }

@@ -1,8 +1,8 @@
 //! Columns whose rows can be read without executing anything.
 
-ghost use Rattle.std.specs.Prelude.{◌≡◌, ◌==◌, true, is_ok, IfOk, IfErr};
-ghost use Rattle.vx_value.specs.Errors.{OnlyOutOfMemory};
+ghost use Rattle.std.specs.Prelude.{◌≡◌, ◌==◌, ◌⊎◌, true, is_ok, IfOk, IfErr, OnOk, false};
 ghost use Rattle.vx_value.specs.View.{type_of};
+ghost use Rattle.vx_value.specs.Storage.{is_nested};
 ghost use Rattle.vx_tree.specs.Tree.{dtype, len, datum, is_columnar, constant_of};
 ghost use Rattle.vx_tree.specs.Canonicals.{columnar_tree};
 
@@ -10,7 +10,7 @@ use crate::array::{ArrayRef, IntoArray};
 use crate::arrays::constant::ConstantArray;
 use crate::canonical::canonical::Canonical;
 use std::alloc::Global;
-use vx_value::{DType, Scalar, VortexResult};
+use vx_value::{ArgKind, DType, Scalar, VortexError, VortexResult};
 
 /// A canonical column, or a constant.
 #[derive(Clone, Debug, Drop)]
@@ -20,10 +20,14 @@ pub enum Columnar {
 }
 
 impl Columnar {
-    /// Makes the constant of `len` rows, each `scalar`. Fails only with `OutOfMemory`.
+    /// Makes the constant of `len` rows, each `scalar`.
+    ///
+    /// Returns `InvalidArgument` with `BadType` exactly if the scalar's type is nested.
     pub fn constant(alloc: Global, scalar: Scalar, len: usize) -> VortexResult<Columnar>
         ensures ok { IfOk result (λ c. columnar_tree c ≡ constant_of scalar len) }
-        ensures err { OnlyOutOfMemory result }
+        ensures valid { OnOk result (is_nested scalar.of_type ≡ false) }
+        ensures refused { IfErr result (λ e. (e ≡ VortexError.OutOfMemory)
+            ⊎ ((e ≡ VortexError.InvalidArgument ArgKind.BadType) × (is_nested scalar.of_type ≡ true))) }
     {
         Ok(Columnar::Constant(ConstantArray::new(alloc, scalar, len)?))
     }
@@ -71,7 +75,8 @@ impl Columnar {
 
     /// Returns the type of the rows.
     pub fn dtype(&self) -> &DType
-        ensures { type_of result.now ≡ dtype (columnar_tree self.now) }
+        ensures dtype { type_of result.now ≡ dtype (columnar_tree self.now) }
+        ensures unnested { is_nested (dtype (columnar_tree self.now)) ≡ false }
     {
         self.as_array().dtype()
     }

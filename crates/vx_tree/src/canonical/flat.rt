@@ -1,9 +1,9 @@
 //! Slices of flat columns, and empty ones.
 
-ghost use Rattle.std.specs.Prelude.{◌≡◌, ◌≢◌, ◌≤◌, true, [], ◌∷◌, IfOk};
+ghost use Rattle.std.specs.Prelude.{◌≡◌, ◌≢◌, ◌≤◌, true, false, [], ◌∷◌, IfOk};
 ghost use Rattle.vx_value.specs.Errors.{OnlyOutOfMemory};
 ghost use Rattle.vx_value.specs.View.{type_of};
-ghost use Rattle.vx_value.specs.Storage.{storage_of};
+ghost use Rattle.vx_value.specs.Storage.{storage_of, is_nested};
 ghost use Rattle.vx_value.specs.declared.dtype.Storage.TheVariants.{Nulls};
 ghost use Rattle.vx_tree.specs.Tree.{datum, slots, slots_of, len, is_flat, slice_of};
 ghost use Rattle.vx_tree.specs.Columns.{count_in, data_range, no_rows, empty_of};
@@ -44,6 +44,7 @@ pub(crate) trait FlatEncoding: VTable {
 pub(crate) fn flat_empty<V: FlatEncoding>(alloc: Global, dtype: &DType) -> VortexResult<Array<V>>
     requires stored { storage_of (type_of dtype.now) ≢ Nulls }
     requires kind { V.is_kind (no_rows (storage_of (type_of dtype.now))) ≡ true }
+    requires unnested { is_nested (type_of dtype.now) ≡ false }
     ensures ok { IfOk result (λ a. a ≡ empty_of (type_of dtype.now)) }
     ensures err { OnlyOutOfMemory result }
 {

@@ -11,7 +11,7 @@ use Rattle.vx_column.specs.Expanded.{expanded_stored}
 use Rattle.vx_column.specs.Stored.{boolean_column, integer_column, decimal_column, bytes_column}
 use Rattle.std.proofs.lemmas.Result.{IfOk-weaker}
 use Rattle.vx_tree.specs.ColumnTypes.{are_bytes_of}
-use Rattle.vx_column.proofs.StoredLemmas.{stored_integer, bytes_kept, decimal_kept}
+use Rattle.vx_column.proofs.StoredLemmas.{parts_in, stored_integer, bytes_kept, decimal_kept}
 use Rattle.vx_tree.specs.Natives.{values_of, ptype_of}
 use Rattle.vx_column.proofs.RepeatedLemmas.{repeated_has, bools_repeated, integers_repeated, bytes_repeated, bytes_copies, bytes_expanded, decimals_repeated, all_copies}
 use Rattle.vx_column.proofs.NullsLemmas.{nulls_repeated}
@@ -97,8 +97,8 @@ returns-in-Text-clause-layout c =
     (λ u e. e ∙ (λ i. bytes_column st (made i) (c.repeated_validity-validity.ensures i)) ∙ sym (bytes_expanded s n st c.in-Text.is)
     ∙ sym (ap (λ x. expanded_stored x s n) stored)) c.varbinview_column.ensures.ok
 
-pub returns-clause-layout : goal.returns-clause-layout
-returns-clause-layout c =
+pub returns-in-Nulls-clause-layout : goal.returns-in-Nulls-clause-layout
+returns-in-Nulls-clause-layout c =
     let s = c.args.scalar.now in
     let stored : storage_of s.of_type ≡ Nulls = ap storage_of (sym c.dtype.ensures.dtype) ∙ sym c.storage-storage.ensures ∙ c.in-Nulls.is in
     c.in_ok-new-in-Nulls.ensures.ok ∙ sym (ap (λ st. expanded_stored st s c.args.len) stored)
@@ -111,9 +111,9 @@ decimal_column-requires-clause-stored c =
     let made = c.in_ok-values-in-Decimals in
     let fits : FitsSigned w128 c.unscaled_of.result = search rules in
     let typed = sym c.dtype-in-Decimals.ensures.dtype ∙ ap type_of c.in-Decimal.is in
-    let there = ap (λ ty. is_stored m (storage_of ty) s.value) (sym typed) ∙ c.dtype.ensures.typed in
+    let there = ap (λ ty. is_stored m (storage_of ty) (parts_in s.of_type s.value) s.value) (sym typed) ∙ c.dtype.ensures.typed in
     let width = (same_width_Decides _ _).1 (ap (λ v. v.kind) made.ensures.ok ∙ c.smallest_decimal_value_type-width.ensures.value) in
-    let digits = ap (has_digits d.precision) c.unscaled_of.ensures ∙ decimal_kept d.precision d.scale m s.value there in
+    let digits = ap (has_digits d.precision) c.unscaled_of.ensures ∙ decimal_kept d.precision d.scale m (parts_in s.of_type s.value) s.value there in
     let numbers = ap (λ v. v.numbers) made.ensures.ok ∙ ap (replicate c.args.len) (to_z-of_z fits) in
     and_from _ _ width (ap (list_all (has_digits d.precision)) numbers ∙ all_copies (has_digits d.precision) c.args.len c.unscaled_of.result digits)
 
@@ -132,9 +132,9 @@ varbinview_column-requires-clause-stored c =
     let s = c.args.scalar.now in
     let st = c.storage-storage.result in
     let valued : c.in_ok-bytes-in-Text.bytes ≡ unwrap_or (bytes_in s.value) [] = search rules in
-    let kept = ap (λ x. is_stored (nullability_of s.of_type) x s.value) (c.storage-storage.ensures ∙ ap storage_of c.dtype.ensures.dtype)
+    let kept = ap (λ x. is_stored (nullability_of s.of_type) x (parts_in s.of_type s.value) s.value) (c.storage-storage.ensures ∙ ap storage_of c.dtype.ensures.dtype)
     ∙ c.dtype.ensures.typed in
-    let one = ap (λ x. are_bytes_of st (x ∷ [])) valued ∙ bytes_kept (nullability_of s.of_type) st s.value c.in-Text.is kept in
+    let one = ap (λ x. are_bytes_of st (x ∷ [])) valued ∙ bytes_kept (nullability_of s.of_type) st (parts_in s.of_type s.value) s.value c.in-Text.is kept in
     ap (λ r. are_bytes_of st (rows_of r)) c.in_ok-rows-in-Text.ensures.ok
     ∙ ap (are_bytes_of st) (rows_repeated c.args.len c.in_ok-bytes-in-Text.bytes) ∙ bytes_copies st c.args.len c.in_ok-bytes-in-Text.bytes one
 
@@ -145,8 +145,8 @@ returns-in-Text-clause-ok c =
     c.varbinview_column.result c.storage-storage.result c.in_ok-bytes-in-Text.bytes c.in_ok-rows-in-Text.rows
     (ap storage_of (sym c.dtype.ensures.dtype) ∙ sym c.storage-storage.ensures) c.in-Text.is valued c.in_ok-rows-in-Text.ensures.ok c.varbinview_column.ensures.ok
 
-pub returns-clause-ok : goal.returns-clause-ok
-returns-clause-ok c =
+pub returns-in-Nulls-clause-ok : goal.returns-in-Nulls-clause-ok
+returns-in-Nulls-clause-ok c =
     let s = c.args.scalar.now in
     let stored : storage_of s.of_type ≡ Nulls = ap storage_of (sym c.dtype.ensures.dtype) ∙ sym c.storage-storage.ensures ∙ c.in-Nulls.is in
     nulls_repeated s c.args.len c.in_ok-new-in-Nulls.field-0 stored c.dtype.ensures.typed c.in_ok-new-in-Nulls.ensures.ok

@@ -46,7 +46,7 @@ returns-in_ok-filter-in-Bool-clause-ok c =
     let validity = c.in_ok-validity-in-Bool in
     let flat = subst IsNodeOf c.in-Bool.ensures.0 c.in-Bool.ensures.1 in
     let long = c.requires ∙ ap len (sym c.as_array-array.ensures.of) in
-    let same = validity.ensures.nullability ∙ c.nullability-nullability.ensures ∙ ap nullability_of c.dtype.ensures in
+    let same = validity.ensures.nullability ∙ c.nullability-nullability.ensures ∙ ap nullability_of c.dtype.ensures.dtype in
     IfOk-weaker c.bool_column.result _ _
     (λ u made. subst (λ x. KeepsExactly (filter_of bits x) (canonical_tree u)) c.as_array-array.ensures.of
     (column_filtered boolean enc.bool (bool NonNullable) (λ m n xs tys css. refl) bits c.in-Bool.bits.now c.in_ok-filter-in-Bool.field-0 c.in-Bool.validity.now
@@ -62,7 +62,7 @@ returns-in_ok-filter-in-Primitive-clause-ok c =
     let kept = c.in_ok-filter-in-Primitive in
     let flat = subst IsNodeOf c.in-Primitive.ensures.0 c.in-Primitive.ensures.1 in
     let long = c.requires ∙ ap len (sym c.as_array-array.ensures.of) in
-    let same = validity.ensures.nullability ∙ c.nullability-nullability.ensures ∙ ap nullability_of c.dtype.ensures in
+    let same = validity.ensures.nullability ∙ c.nullability-nullability.ensures ∙ ap nullability_of c.dtype.ensures.dtype in
     let column_made = rw (ap (λ v. v.kind) kept.ensures.ok) at c.primitive_column.ensures.ok in
     IfOk-weaker c.primitive_column.result _ _
     (λ u made. subst (λ x. KeepsExactly (filter_of bits x) (canonical_tree u)) c.as_array-array.ensures.of
@@ -77,7 +77,7 @@ unreachable-requires c =
     let values = c.in-Decimal.values.now in
     let flat = subst IsNodeOf c.in-Decimal.ensures.0 c.in-Decimal.ensures.1 in
     decimal_typed c.dtype-in-Decimal.result.now (decimal_type_of values) (numbers_of values)
-    (subst (λ ty. are_decimals_of (storage_of ty) (decimal_type_of values) (numbers_of values) ≡ true) (sym c.dtype-in-Decimal.ensures) flat.1)
+    (subst (λ ty. are_decimals_of (storage_of ty) (decimal_type_of values) (numbers_of values) ≡ true) (sym c.dtype-in-Decimal.ensures.dtype) flat.1)
     c.in_default-dtype.not-Decimal
 
 pub decimal_column-requires-clause-sized : goal.decimal_column-requires-clause-sized
@@ -92,7 +92,7 @@ decimal_column-requires-clause-stored c =
     let flat = subst IsNodeOf c.in-Decimal.ensures.0 c.in-Decimal.ensures.1 in
     let values = c.in-Decimal.values.now in
     let kept = c.in_ok-filter-in-Decimal in
-    let stored = ap storage_of (sym c.dtype-in-Decimal.ensures ∙ ap type_of c.in-Decimal-dtype.is) in
+    let stored = ap storage_of (sym c.dtype-in-Decimal.ensures.dtype ∙ ap type_of c.in-Decimal-dtype.is) in
     decimals_chosen c.in-Decimal-dtype.decimal (bits_in c.args.mask.now) (decimal_type_of values) (decimal_type_of kept.field-0) (numbers_of values)
     (numbers_of kept.field-0)
     (subst (λ st. are_decimals_of st (decimal_type_of values) (numbers_of values) ≡ true) stored flat.1) (ap (λ v. v.kind) kept.ensures.ok)
@@ -108,9 +108,9 @@ returns-in_ok-filter-in-Decimal-clause-ok c =
     let validity = c.in_ok-validity-in-Decimal in
     let kept = c.in_ok-filter-in-Decimal in
     let flat = subst IsNodeOf c.in-Decimal.ensures.0 c.in-Decimal.ensures.1 in
-    let stored = ap storage_of (sym c.dtype-in-Decimal.ensures ∙ ap type_of c.in-Decimal-dtype.is) in
+    let stored = ap storage_of (sym c.dtype-in-Decimal.ensures.dtype ∙ ap type_of c.in-Decimal-dtype.is) in
     let long = c.requires ∙ ap len (sym c.as_array-array.ensures.of) in
-    let same = validity.ensures.nullability ∙ c.nullability-nullability.ensures ∙ ap nullability_of c.dtype.ensures in
+    let same = validity.ensures.nullability ∙ c.nullability-nullability.ensures ∙ ap nullability_of c.dtype.ensures.dtype in
     let column_made = rw (ap (λ v. v.kind) kept.ensures.ok) at c.decimal_column.ensures.ok in
     IfOk-weaker c.decimal_column.result _ _
     (λ u made. subst (λ x. KeepsExactly (filter_of bits x) (canonical_tree u)) c.as_array-array.ensures.of
@@ -131,7 +131,7 @@ varbinview_column-requires-clause-sized c =
 pub varbinview_column-requires-clause-stored : goal.varbinview_column-requires-clause-stored
 varbinview_column-requires-clause-stored c =
     let flat = subst IsNodeOf c.in-VarBinView.ensures.0 c.in-VarBinView.ensures.1 in
-    let kind = c.storage-storage.ensures ∙ ap storage_of c.dtype-in-VarBinView.ensures in
+    let kind = c.storage-storage.ensures ∙ ap storage_of c.dtype-in-VarBinView.ensures.dtype in
     let bits = bits_in c.args.mask.now in
     let rs = c.in-VarBinView.rows.now in
     let st = storage_of (dtype c.as_array-array.result.now) in
@@ -147,9 +147,9 @@ returns-in_ok-filter-in-VarBinView-clause-ok c =
     let validity = c.in_ok-validity-in-VarBinView in
     let rs = c.in-VarBinView.rows.now in
     let flat = subst IsNodeOf c.in-VarBinView.ensures.0 c.in-VarBinView.ensures.1 in
-    let kind = c.storage-storage.ensures ∙ ap storage_of c.dtype-in-VarBinView.ensures in
+    let kind = c.storage-storage.ensures ∙ ap storage_of c.dtype-in-VarBinView.ensures.dtype in
     let long = c.requires ∙ ap len (sym c.as_array-array.ensures.of) in
-    let same = validity.ensures.nullability ∙ c.nullability-nullability.ensures ∙ ap nullability_of c.dtype.ensures in
+    let same = validity.ensures.nullability ∙ c.nullability-nullability.ensures ∙ ap nullability_of c.dtype.ensures.dtype in
     IfOk-weaker c.varbinview_column.result _ _
     (λ u made. subst (λ x. KeepsExactly (filter_of bits x) (canonical_tree u)) c.as_array-array.ensures.of
     (column_filtered (λ x. bytes (bytes_at rs.buffers x)) (λ vs. enc.views (viewed vs rs.buffers)) (bytes_type st) (λ m n xs tys css. refl) bits rs.views

@@ -55,13 +55,13 @@ unreachable-requires c =
     let values = c.in-Decimal.values.now in
     let flat = subst IsNodeOf c.in-Decimal.ensures.0 c.in-Decimal.ensures.1 in
     decimal_typed c.dtype.result.now (decimal_type_of values) (numbers_of values)
-    (subst (λ ty. are_decimals_of (storage_of ty) (decimal_type_of values) (numbers_of values) ≡ true) (sym c.dtype.ensures) flat.1)
+    (subst (λ ty. are_decimals_of (storage_of ty) (decimal_type_of values) (numbers_of values) ≡ true) (sym c.dtype.ensures.dtype) flat.1)
     c.in_default-dtype.not-Decimal
 
 pub decimal_column-requires-clause-stored : goal.decimal_column-requires-clause-stored
 decimal_column-requires-clause-stored c =
     let flat = subst IsNodeOf c.in-Decimal.ensures.0 c.in-Decimal.ensures.1 in
-    let stored = ap storage_of (sym c.dtype.ensures ∙ ap type_of c.in-Decimal-dtype.is) in
+    let stored = ap storage_of (sym c.dtype.ensures.dtype ∙ ap type_of c.in-Decimal-dtype.is) in
     let shared = c.in_ok-clone-in-Decimal.ensures.cases in
     (λ i. are_decimals_of (stored_decimals c.in-Decimal-dtype.decimal) (shared i).kind (shared i).numbers)
     ∙ subst (λ st. are_decimals_of st (decimal_type_of c.in-Decimal.values.now) (numbers_of c.in-Decimal.values.now) ≡ true) stored flat.1
@@ -74,7 +74,7 @@ returns-in_ok-clone-in-Decimal-clause-ok c =
     let t = c.args.array.now in
     let both = c.in_ok-both-in-Decimal in
     let flat = subst IsNodeOf c.in-Decimal.ensures.0 c.in-Decimal.ensures.1 in
-    let stored = ap storage_of (sym c.dtype.ensures ∙ ap type_of c.in-Decimal-dtype.is) in
+    let stored = ap storage_of (sym c.dtype.ensures.dtype ∙ ap type_of c.in-Decimal-dtype.is) in
     let shared = c.in_ok-clone-in-Decimal.ensures.cases in
     canonical_masked (λ z. decimal z d.scale) (enc.decimals (decimal_type_of values)) (type.decimal d.precision d.scale NonNullable)
     (λ m n xs tys css. refl) (λ m. refl) c.decimal_column.result (numbers_of values) own c.args.child both.both c.len-len.result t _ c.len-len.ensures
@@ -85,7 +85,7 @@ returns-in_ok-clone-in-Decimal-clause-ok c =
 pub varbinview_column-requires-clause-stored : goal.varbinview_column-requires-clause-stored
 varbinview_column-requires-clause-stored c =
     let flat = subst IsNodeOf c.in-VarBinView.ensures.0 c.in-VarBinView.ensures.1 in
-    let kind = c.storage.ensures ∙ ap storage_of c.dtype-in-VarBinView.ensures in
+    let kind = c.storage.ensures ∙ ap storage_of c.dtype-in-VarBinView.ensures.dtype in
     let shared : c.in_ok-clone-in-VarBinView.field-0 ≡ c.in-VarBinView.rows.now = search rules in
     let rs = c.in-VarBinView.rows.now in
     let st = storage_of (dtype c.args.array.now) in
@@ -98,7 +98,7 @@ returns-in_ok-clone-in-VarBinView-clause-ok c =
     let st = storage_of (dtype t) in
     let both = c.in_ok-both-in-VarBinView in
     let flat = subst IsNodeOf c.in-VarBinView.ensures.0 c.in-VarBinView.ensures.1 in
-    let kind = c.storage.ensures ∙ ap storage_of c.dtype-in-VarBinView.ensures in
+    let kind = c.storage.ensures ∙ ap storage_of c.dtype-in-VarBinView.ensures.dtype in
     let shared : c.in_ok-clone-in-VarBinView.field-0 ≡ rows = search rules in
     canonical_masked (λ x. bytes (bytes_at rows.buffers x)) (λ vs. enc.views (viewed vs rows.buffers)) (bytes_type st) (λ m n xs tys css. refl) (bytes_set st)
     c.varbinview_column.result rows.views c.in-VarBinView.own.now

@@ -1,8 +1,13 @@
 //! Functions applied to whole columns.
 
-ghost use Rattle.std.specs.Prelude.{map, IfOk, IfErr};
+ghost use Rattle.std.specs.Prelude.{◌≡◌, map, false, IfOk, IfErr, Some};
+ghost use Rattle.vx_value.specs.Types.{DataType};
+ghost use Rattle.vx_value.specs.Storage.{is_nested};
+ghost use Rattle.vx_fn.specs.ReturnTypes.{return_type};
+ghost use Rattle.vx_tree.specs.Tree.{dtype};
 ghost use Rattle.vx_tree.specs.Canonicals.{columnar_tree, canonical_tree};
 ghost use Rattle.vx_column.specs.Applied.{IsCall, IsApplied, IsUnapplied};
+ghost use Rattle.vx_column.specs.Arguments.{types_of};
 ghost use Rattle.vx_column.specs.Computed.{Takes, IsCanonicalResult, HasNoCanonicalResult};
 
 use crate::functions::apply::constant::{apply_constants, constants};
@@ -17,7 +22,8 @@ use vx_value::VortexResult;
 
 /// Applies `function` to `arguments`, each `len` rows long, in one pass and one allocation for the rows; constants
 /// aren't expanded, and values under nulls aren't computed. The result is a constant if `len > 0` and every argument is
-/// one, else canonical; its validity is absent if no row is null, and booleans are `false` under nulls. (own)
+/// one, else canonical; its validity is absent if no row is null, and booleans are `false` under nulls. Its type must not be
+/// nested. (own)
 ///
 /// # Errors
 ///
@@ -28,7 +34,8 @@ pub fn apply_fn(
     arguments: &[Columnar],
     len: usize,
 ) -> VortexResult<Columnar>
-    requires { IsCall function.now (map columnar_tree arguments.now) len }
+    requires call { IsCall function.now (map columnar_tree arguments.now) len }
+    requires unnested { (ty : DataType) → return_type function.now (map dtype (map columnar_tree arguments.now)) ≡ Some ty → is_nested ty ≡ false }
     ensures ok { IfOk result (λ c. IsApplied function.now (map columnar_tree arguments.now) len (columnar_tree c)) }
     ensures err { IfErr result (IsUnapplied function.now (map columnar_tree arguments.now) len) }
 {
@@ -43,14 +50,16 @@ pub fn apply_fn(
     }
 }
 
-/// Applies `function` to `arguments`, `len` rows each, whose types it must accept. `Fault` if a row has no value.
+/// Applies `function` to `arguments`, `len` rows each, whose types it must accept; its result must not be nested. `Fault` if a
+/// row has no value.
 fn apply_to_columns(
     alloc: Global,
     function: &ScalarFnRef,
     arguments: &[Argument<'_>],
     len: usize,
 ) -> VortexResult<Canonical>
-    requires { Takes function.now arguments.now len }
+    requires taken { Takes function.now arguments.now len }
+    requires unnested { (ty : DataType) → return_type function.now (types_of arguments.now) ≡ Some ty → is_nested ty ≡ false }
     ensures ok { IfOk result (λ c. IsCanonicalResult function.now arguments.now len (canonical_tree c)) }
     ensures err { IfErr result (HasNoCanonicalResult function.now arguments.now len) }
 {

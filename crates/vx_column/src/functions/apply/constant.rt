@@ -1,7 +1,9 @@
 //! Functions applied to constants.
 
-ghost use Rattle.std.specs.Prelude.{◌≡◌, ◌<◌, map, IfOk, IfErr, IfSome, IfNone, IsSome, MatchOption, true, false};
+ghost use Rattle.std.specs.Prelude.{◌≡◌, ◌<◌, map, IfOk, IfErr, IfSome, IfNone, IsSome, Some, MatchOption, true, false};
 ghost use Rattle.std.specs.List.{AllZip};
+ghost use Rattle.vx_value.specs.Types.{DataType};
+ghost use Rattle.vx_value.specs.Storage.{is_nested};
 ghost use Rattle.vx_fn.specs.ReturnTypes.{return_type};
 ghost use Rattle.vx_tree.specs.Tree.{datum, is_constant};
 ghost use Rattle.vx_tree.specs.Cells.{rows, HasNoFault};
@@ -10,6 +12,7 @@ ghost use Rattle.vx_column.specs.Applied.{Repeats, gives_constant};
 ghost use Rattle.vx_column.specs.Arguments.{types_of_scalars, cells_of_scalars};
 ghost use Rattle.vx_column.specs.Computed.{IsResult, IsNoResult};
 
+use crate::rows::constant;
 use std::alloc::{AllocError, Global};
 use vx_fn::{ScalarFnRef, apply_row};
 use vx_tree::{ArrayKind, Columnar};
@@ -48,7 +51,8 @@ fn constant_of(column: &Columnar) -> Result<Option<Scalar>, AllocError>
     }
 }
 
-/// Applies `function` to `scalars` once, and returns a constant of `len` rows. `Fault` if there is no value.
+/// Applies `function` to `scalars` once, and returns a constant of `len` rows, whose type must not be nested. `Fault` if there
+/// is no value.
 pub(crate) fn apply_constants(
     alloc: Global,
     function: &ScalarFnRef,
@@ -56,6 +60,7 @@ pub(crate) fn apply_constants(
     len: usize,
 ) -> VortexResult<Columnar>
     requires taken { IsSome (return_type function.now (types_of_scalars scalars.now)) }
+    requires unnested { (ty : DataType) → return_type function.now (types_of_scalars scalars.now) ≡ Some ty → is_nested ty ≡ false }
     requires some { 0 < len }
     ensures ok { IfOk result (λ c. IsResult function.now (types_of_scalars scalars.now) (λ _. cells_of_scalars scalars.now) len (columnar_tree c)) }
     ensures constant { IfOk result (λ c. is_constant (datum (columnar_tree c)) ≡ true) }
@@ -63,5 +68,5 @@ pub(crate) fn apply_constants(
     ensures err { IfErr result (IsNoResult function.now (types_of_scalars scalars.now) (λ _. cells_of_scalars scalars.now) len) }
 {
     let scalar = apply_row(alloc, function, scalars)?;
-    Columnar::constant(alloc, scalar, len)
+    constant(alloc, scalar, len)
 }

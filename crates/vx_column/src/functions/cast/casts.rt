@@ -4,6 +4,7 @@ ghost use Rattle.std.specs.Prelude.{◌≡◌, ◌⊎◌, ◌<◌, ◌∷◌, []
 ghost use Rattle.vx_value.specs.Errors.{OnlyOutOfMemory};
 ghost use Rattle.vx_value.specs.Types.{nullability_of};
 ghost use Rattle.vx_value.specs.View.{type_of};
+ghost use Rattle.vx_value.specs.Storage.{is_nested};
 ghost use Rattle.vx_value.specs.Values.{null, integer};
 ghost use Rattle.vx_value.specs.Casts.{cast_to, to_integer};
 ghost use Rattle.vx_value.specs.IsOf.{in_range};
@@ -30,8 +31,8 @@ use vx_mask::Buffer;
 use vx_tree::{Canonical, NativeInteger, NativeNumber, PrimitiveValues, by_native, by_type};
 use vx_value::{DType, Nullability, PType, Scalar, Storage, VortexError, VortexResult};
 
-/// Casts `input`, `len` rows, to `target`. Shares the values if both types store them the same; casts no value under a null.
-/// `Fault` if a row has no value in `target`. (own)
+/// Casts `input`, `len` rows, to `target`, which must not be nested. Shares the values if both types store them the same; casts
+/// no value under a null. `Fault` if a row has no value in `target`. (own)
 #[tactic(auto, using(crate::proofs::KernelArgumentsLemmas::has_stored))]
 pub(crate) fn cast(
     alloc: Global,
@@ -39,7 +40,8 @@ pub(crate) fn cast(
     input: &Argument<'_>,
     len: usize,
 ) -> VortexResult<Canonical>
-    requires { Takes (Cast target.now) (input.now ∷ []) len }
+    requires taken { Takes (Cast target.now) (input.now ∷ []) len }
+    requires unnested { is_nested (type_of target.now) ≡ false }
     ensures ok { IfOk result (λ c. IsCanonicalResult (Cast target.now) (input.now ∷ []) len (canonical_tree c)) }
     ensures err { IfErr result (HasNoCanonicalResult (Cast target.now) (input.now ∷ []) len) }
 {
@@ -74,8 +76,8 @@ fn cast_valid_rows(
     }
 }
 
-/// Casts the `valid` rows of `rows`, `len` rows, to `target`; the others are null. `Fault` if a valid row has no value in
-/// `target`.
+/// Casts the `valid` rows of `rows`, `len` rows, to `target`, which must not be nested; the others are null. `Fault` if a valid
+/// row has no value in `target`.
 fn cast_rows(
     alloc: Global,
     target: &DType,
@@ -88,6 +90,7 @@ fn cast_rows(
     requires shown { AreShown rows valid.now len }
     requires nullability { nullability_in valid.now ≡ nullability_of (type_of target.now) }
     requires target { IsCastTarget rows (type_of target.now) }
+    requires unnested { is_nested (type_of target.now) ≡ false }
     ensures ok { IfOk result (λ c. (dtype (canonical_tree c) ≡ type_of target.now)
         × IsColumnOfCells valid.now (λ i. cast_to (type_of target.now) (value_at rows.entry i)) len (canonical_tree c)) }
     ensures err { IfErr result (IsFaultyRow (is_valid valid.now) (λ i. cast_to (type_of target.now) (value_at rows.entry i)) len) }
@@ -115,8 +118,8 @@ fn cast_rows(
     }
 }
 
-/// Makes the column of `len` nulls of type `target`, which must be nullable. No row may be `valid`. Fails only with
-/// `OutOfMemory`.
+/// Makes the column of `len` nulls of type `target`, which must be nullable and not nested. No row may be `valid`. Fails only
+/// with `OutOfMemory`.
 fn cast_nulls(
     alloc: Global,
     target: &DType,
@@ -127,6 +130,7 @@ fn cast_nulls(
     requires shown { AreShown Nulls valid.now len }
     requires nullability { nullability_in valid.now ≡ nullability_of (type_of target.now) }
     requires target { IsCastTarget Nulls (type_of target.now) }
+    requires unnested { is_nested (type_of target.now) ≡ false }
     ensures ok { IfOk result (λ c. (dtype (canonical_tree c) ≡ type_of target.now)
         × IsColumnOfCells valid.now (λ i. cast_to (type_of target.now) null) len (canonical_tree c)) }
     ensures err { OnlyOutOfMemory result }

@@ -1,6 +1,7 @@
-use Rattle.std.proofs.Common.{◌≡◌, ◌<◌, ◌^◌, length, true, None, sym, ap, subst, ◌∙◌}
+use Rattle.std.proofs.Common.{◌≡◌, ◌<◌, ◌^◌, length, true, false, None, sym, ap, subst, ◌∙◌}
 use Rattle.std.specs.List.{list_all}
 use Rattle.vx_value.specs.IsOf.{is_of}
+use Rattle.vx_value.specs.Storage.{is_nested}
 use Rattle.vx_tree.specs.Tree.{len}
 use Rattle.vx_tree.specs.Cells.{rows}
 use Rattle.vx_tree.specs.Canonicals.{columnar_tree}
@@ -35,4 +36,5 @@ returns-in-Ok-append_rows-clause-ok c =
       c.in-Ok-append_rows.ensures.clean,
       subst (λ x. length (rows x) ≡ len x) c.as_array.ensures.of c.well_formed_tree.ensures.counted,
       subst (λ (r : TypedRows). list_all (is_of r.of_type) r.values ≡ true) grown c.in-Ok-append_rows.ensures.typed,
+      subst (λ (r : TypedRows). is_nested r.of_type ≡ false) grown c.in-Ok-append_rows.ensures.unnested,
     )

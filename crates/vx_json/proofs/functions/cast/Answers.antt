@@ -9,5 +9,5 @@ use Rattle.vx_json.proofs.functions.cast.Goals as goal
 pub returns : goal.returns
 returns c =
     let d = view c.args.value.now in
-    let named = target_named c.in_ok-type_at.field-0 (type_at d) c.in_ok-type_at.ensures in
+    let named = target_named c.in_ok-type_at.field-0 (type_at d) c.in_ok-type_at.ensures.unnested c.in_ok-type_at.ensures.spelled in
     c.with_keys.ensures ∙ ap (λ o. keyed 4 d (option_map function.Cast o)) (sym named)

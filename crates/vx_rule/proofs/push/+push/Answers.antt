@@ -24,7 +24,7 @@ push-returns-then-range-clause-ok t c =
     let none : a ≡ b = grind (arith, common_steps) in
     let some : a ≡ 0 → b ≡ len c.args.array.now → ⊥ = λ z w. grind (arith, common_steps) in
     IfOk-weaker c.empty_column.result _ _
-    (λ u e. empty_pushed a b c.args.array.now c.well_formed_tree.ensures.formed c.requires.0 c.requires.1 u none some (e ∙ ap empty_of c.dtype.ensures))
+    (λ u e. empty_pushed a b c.args.array.now c.well_formed_tree.ensures.formed c.requires.0 c.requires.1 u none some (e ∙ ap empty_of c.dtype.ensures.dtype))
     c.empty_column.ensures.ok
 
 pub push-returns-in-Constant-clause-ok : goal.push-returns-in-Constant-clause-ok

@@ -18,7 +18,7 @@ returns-then-has_none-clause-ok c =
     let known : IsColumn u = column_known u well (canonical_columnar _ c.as_array.ensures.canonical) in
     let same : c.of.result ≡ u = c.of.ensures.is ∙ c.into_array.ensures in
     rw (c.done.ensures) (subst (λ x. IsStepTo t x Done) (sym same)
-    (chunks_empty t u c.requires.chunked c.requires.slots bare (c.in_ok-empty-in-None.ensures.ok ∙ ap empty_of c.dtype.ensures) known
+    (chunks_empty t u c.requires.chunked c.requires.slots bare (c.in_ok-empty-in-None.ensures.ok ∙ ap empty_of c.dtype.ensures.dtype) known
     c.as_array.ensures.canonical (subst IsNodeOf same c.of.ensures.whole)))
 
 pub returns-else-has_none-clause-ok : goal.returns-else-has_none-clause-ok

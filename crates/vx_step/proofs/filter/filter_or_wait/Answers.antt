@@ -13,7 +13,7 @@ pub returns-then-true_count-eq0-clause-ok : goal.returns-then-true_count-eq0-cla
 returns-then-true_count-eq0-clause-ok c =
     let bits = bits_in c.args.mask.now in
     let none : true_count bits ≡ 0 = grind (arith, common_steps) in
-    let empty = c.in_ok-empty.ensures.ok ∙ ap empty_of c.dtype.ensures in
+    let empty = c.in_ok-empty.ensures.ok ∙ ap empty_of c.dtype.ensures.dtype in
     subst (IsAnswer (filter_of bits c.args.child.now)) (sym c.done.ensures.done)
     (nothing_done bits c.args.child.now c.requires c.well_formed_tree.ensures.counted
     (canonical_tree c.in_ok-empty.field-0) none empty c.done.ensures.known c.done.ensures.canonical)

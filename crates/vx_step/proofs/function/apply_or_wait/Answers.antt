@@ -1,21 +1,33 @@
-use Rattle.std.proofs.Common.{List, map, sym, subst, rules}
+use Rattle.std.proofs.Common.{◌≡◌, false, Some, List, map, sym, subst, rules}
+use Rattle.vx_value.specs.Types.{DataType}
+use Rattle.vx_value.specs.Storage.{is_nested}
+use Rattle.vx_fn.specs.ReturnTypes.{return_type}
 use Rattle.vx_value.specs.declared.error.VortexError.{VortexError}
-use Rattle.vx_tree.specs.Tree.{slots_of}
+use Rattle.vx_tree.specs.Tree.{slots_of, dtype}
 use Rattle.vx_tree.specs.Canonicals.{columnar_tree}
 use Rattle.vx_tree.specs.Well.{IsWell}
 use Rattle.vx_tree.specs.declared.canonical.columnar.Columnar.{Columnar}
 use Rattle.vx_step.specs.Steps.{IsDone, IsFailed}
 use Rattle.vx_column.specs.Applied.{IsCall, IsApplied, IsUnapplied}
-use Rattle.vx_step.proofs.StepsLemmas.{function_waits, may_call, applied_done, unapplied_failed}
+use Rattle.vx_step.proofs.StepsLemmas.{function_waits, slots_present, may_call, call_unnested, applied_done, unapplied_failed}
 use Rattle.vx_step.proofs.function.apply_or_wait.Goals as goal
 
-pub apply_fn-requires : goal.apply_fn-requires
-apply_fn-requires c =
+pub apply_fn-requires-clause-call : goal.apply_fn-requires-clause-call
+apply_fn-requires-clause-call c =
     let f = c.args.scalar_fn.now in
     let ts = map columnar_tree c.in_ok-columns-in-None.columns.items in
     let call = may_call f c.args.array.now (slots_of c.args.slots.now) ts c.requires.shape c.requires.well c.in_ok-columns-in-None.ensures in
     subst (λ (xs : List Columnar). IsCall f (map columnar_tree xs) c.len.result) (sym c.as_slice.ensures.value)
     (subst (λ n. IsCall f ts n) (sym c.len.ensures) call)
+
+pub apply_fn-requires-clause-unnested : goal.apply_fn-requires-clause-unnested
+apply_fn-requires-clause-unnested c =
+    let f = c.args.scalar_fn.now in
+    let ts = map columnar_tree c.in_ok-columns-in-None.columns.items in
+    let unnested = call_unnested f c.args.array.now (slots_of c.args.slots.now) ts c.requires.shape c.requires.well c.in_ok-columns-in-None.ensures
+    c.well_formed_tree.ensures.unnested in
+    subst (λ (xs : List Columnar). (ty : DataType) → return_type f (map dtype (map columnar_tree xs)) ≡ Some ty → is_nested ty ≡ false) (sym c.as_slice.ensures.value)
+    unnested
 
 pub returns-in_ok-column-in-None-clause-ok : goal.returns-in_ok-column-in-None-clause-ok
 returns-in_ok-column-in-None-clause-ok c =
@@ -25,7 +37,7 @@ returns-in_ok-column-in-None-clause-ok c =
     let listed =
     subst (λ (xs : List Columnar). IsApplied f (map columnar_tree xs) c.len.result u) c.as_slice.ensures.value c.in_ok-column-in-None.ensures.ok in
     let applied = subst (λ n. IsApplied f ts n u) c.len.ensures listed in
-    let well : IsWell u = subst IsWell c.as_array.ensures.of c.well_formed_tree.ensures.formed in
+    let well : IsWell u = subst IsWell c.as_array.ensures.of c.well_formed_tree-in-None.ensures.formed in
     subst (λ x. IsDone c.args.array.now x) (sym c.into_array.ensures)
     (applied_done f c.args.array.now (slots_of c.args.slots.now) ts c.requires.shape c.requires.well c.in_ok-columns-in-None.ensures
     c.in-None.ensures u applied well c.as_array.ensures.columnar)
@@ -45,3 +57,6 @@ returns-in_err-column-in-None-clause-err c =
 pub returns-in-Some-clause-ok : goal.returns-in-Some-clause-ok
 returns-in-Some-clause-ok c =
     function_waits c.args.scalar_fn.now c.args.array.now (slots_of c.args.slots.now) c.in-Some.slot c.requires.shape c.in-Some.ensures
+
+pub first_waiting-requires : goal.first_waiting-requires
+first_waiting-requires c = slots_present c.args.scalar_fn.now c.args.array.now (slots_of c.args.slots.now) c.requires.well

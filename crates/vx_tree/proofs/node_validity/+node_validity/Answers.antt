@@ -1,4 +1,12 @@
-use Rattle.std.proofs.Common.{arith}
+use Rattle.std.proofs.Common.{rules, arith, ◌≡◌, true, ◌∙◌, sym, Result, IfOk}
+use Rattle.std.proofs.lemmas.Result.{IfOk-weaker}
+use Rattle.vx_value.specs.Types.{nullability_of, is_nullable}
+use Rattle.vx_value.specs.declared.error.VortexError.{VortexError}
+use Rattle.vx_tree.specs.Tree.{dtype, len, slots_of, validity_in}
+use Rattle.vx_tree.specs.NodeValidities.{node_validity}
+use Rattle.vx_tree.specs.declared.validity.Validity.{Validity}
+use Rattle.vx_tree.specs.declared.validity.Validity.TheVariants as validity
+use Rattle.vx_tree.proofs.ScalarFnLemmas.{function_told}
 use Rattle.vx_tree.proofs.MaskedLemmas.{own_rows, masked_told}
 use Rattle.vx_tree.proofs.NodeValiditiesLemmas.{first_counted, first_rows}
 use Rattle.vx_tree.proofs.node_validity.+node_validity.Goals as goal
@@ -15,3 +23,13 @@ join-requires-clause-second t c =
 
 pub returns-in_ok-node_validity-in-Masked-clause-ok : goal.returns-in_ok-node_validity-in-Masked-clause-ok
 returns-in_ok-node_validity-in-Masked-clause-ok t c = grind (arith, masked_told)
+
+told_as : (r : Result Validity VortexError) (v w : Validity) → w ≡ v → IfOk r (λ x. x ≡ v) → IfOk r (λ x. x ≡ w)
+told_as r v w e h = IfOk-weaker r (λ x. x ≡ v) (λ x. x ≡ w) (λ x made. made ∙ sym e) h
+
+pub returns-in-ScalarFn-clause-ok : goal.returns-in-ScalarFn-clause-ok
+returns-in-ScalarFn-clause-ok t c =
+    let tree = c.args.array.now in
+    let nullable : is_nullable (nullability_of (dtype tree)) ≡ true = search rules in
+    let told = function_told tree (dtype tree) (len tree) c.in-ScalarFn.field-0.now (slots_of c.in-ScalarFn.field-1.now) c.in-ScalarFn.ensures.0 nullable in
+    told_as c.test_lazily.result (validity.Array (validity_in tree)) (node_validity tree) told c.test_lazily.ensures.ok

@@ -1,5 +1,6 @@
 use Rattle.std.proofs.Common.{◌≡◌, OnOk, replicate, length, ap, sym, subst, ◌∙◌}
 use Rattle.std.proofs.lemmas.Result.{on_ok_weaker}
+use Rattle.vx_value.specs.Types.{nullability_of}
 use Rattle.vx_value.specs.Values.{null}
 use Rattle.vx_tree.specs.Tree.{len}
 use Rattle.vx_tree.specs.Cells.{rows}
@@ -23,14 +24,20 @@ returns-then-is_null_constant-clause-valid c =
     let r = c.args.self.now in
     let t = columnar_tree c.args.column.now in
     let is = c.is_null_constant.ensures c.if-is_null_constant.true in
-    let none = none_refused _ _ (ap (type_refusal r) (sym c.dtype.ensures) ∙ c.in_ok-check_type.ensures)
+    let none = none_refused _ _ (ap (type_refusal r) (sym c.dtype.ensures.dtype) ∙ c.in_ok-check_type.ensures)
     (ap (length_refusal (length r.values)) (sym c.len.ensures) ∙ c.in_ok-check_len.ensures) in
     on_ok_weaker c.push_nulls.result (λ _. (none, clean_null t is)) c.push_nulls.ensures.ok
+
+pub push_nulls-requires-clause-nullable : goal.push_nulls-requires-clause-nullable
+push_nulls-requires-clause-nullable c =
+    let r = c.args.self.now in
+    ap nullability_of (sym (same_as r _ (ap (type_refusal r) (sym c.dtype.ensures.dtype) ∙ c.in_ok-check_type.ensures)))
+    ∙ (c.is_null_constant.ensures c.if-is_null_constant.true).1
 
 pub push_argument-requires-clause-typed : goal.push_argument-requires-clause-typed
 push_argument-requires-clause-typed c =
     let r = c.args.self.now in
-    sym (same_as r _ (ap (type_refusal r) (sym c.dtype.ensures) ∙ c.in_ok-check_type.ensures)) ∙ c.in-Ok.ensures.ok.typed
+    sym (same_as r _ (ap (type_refusal r) (sym c.dtype.ensures.dtype) ∙ c.in_ok-check_type.ensures)) ∙ c.in-Ok.ensures.ok.typed
 
 pub returns-in-Ok-clause-ok : goal.returns-in-Ok-clause-ok
 returns-in-Ok-clause-ok c =
@@ -45,13 +52,13 @@ returns-in-Ok-clause-valid c =
     let r = c.args.self.now in
     let t = columnar_tree c.args.column.now in
     let counted = subst (λ u. length (rows u) ≡ len u) c.as_array.ensures.of c.well_formed_tree.ensures.counted in
-    let none = none_refused _ _ (ap (type_refusal r) (sym c.dtype.ensures) ∙ c.in_ok-check_type.ensures)
+    let none = none_refused _ _ (ap (type_refusal r) (sym c.dtype.ensures.dtype) ∙ c.in_ok-check_type.ensures)
     (ap (length_refusal (length r.values)) (sym c.len.ensures) ∙ c.in_ok-check_len.ensures) in
     on_ok_weaker c.push_argument.result (λ _. (none, clean_shown t c.in-Ok.argument counted c.in-Ok.ensures.ok.shown)) c.push_argument.ensures.ok
 
 pub returns-in-Err-clause-refused : goal.returns-in-Err-clause-refused
 returns-in-Err-clause-refused c =
     let r = c.args.self.now in
-    let none = none_refused _ _ (ap (type_refusal r) (sym c.dtype.ensures) ∙ c.in_ok-check_type.ensures)
+    let none = none_refused _ _ (ap (type_refusal r) (sym c.dtype.ensures.dtype) ∙ c.in_ok-check_type.ensures)
     (ap (length_refusal (length r.values)) (sym c.len.ensures) ∙ c.in_ok-check_len.ensures) in
     unread_unappended r (columnar_tree c.args.column.now) c.in-Err.e none c.in-Err.ensures.err

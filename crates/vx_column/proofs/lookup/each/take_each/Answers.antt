@@ -2,6 +2,9 @@ use Rattle.std.proofs.Common.{inl, inr, ap, map, length, sym, subst, arith, ◌�
 use Rattle.std.proofs.lemmas.List.{length-map}
 use Rattle.std.proofs.lemmas.List.FromFn.{length-map-range_with_len}
 use Rattle.std.proofs.lemmas.Result.{err_from_is_err_and}
+use Rattle.vx_value.specs.Storage.{is_nested}
+use Rattle.vx_value.specs.Nullabilities.{with_nullability}
+use Rattle.vx_value.proofs.NullabilitiesLemmas.{nested_kept}
 use Rattle.vx_value.specs.Cell.{value}
 use Rattle.vx_tree.specs.Canonicals.{canonical_tree}
 use Rattle.vx_tree.specs.Cells.{rows}
@@ -71,6 +74,12 @@ returns-clause-ok c =
     let cells = c.loop-index.invariant.1 ∙ ap (named_cells valid places (rows values)) all in
     IfOk-both c.finish.result
     (λ u new shown. built_found column (named_type (nullability_in valid) (dtype values)) c.args.len (named_cells valid places (rows values) c.args.len)
-    (canonical_tree u) new shown c.dtype-dtype.ensures.typed c.loop-index.invariant.0 cells
+    (canonical_tree u) new shown c.dtype-dtype.ensures.unnested c.dtype-dtype.ensures.typed c.loop-index.invariant.0 cells
     (length-map-range_with_len (λ k. cell_named (rows values) (place_if (is_valid valid k) (place_at places k))) 0 c.args.len))
     c.finish.ensures.ok c.finish.ensures.rows
+
+pub with_capacity-requires : goal.with_capacity-requires
+with_capacity-requires c =
+    let ty = dtype c.args.values.now in
+    let made = c.in_ok-dtype.ensures.ok ∙ ap (with_nullability c.union.result) c.dtype.ensures.dtype in
+    ap is_nested made ∙ nested_kept c.union.result ty ∙ c.dtype.ensures.unnested

@@ -93,6 +93,6 @@ returns-clause-ok c =
     let all : c.loop-index.index ≡ len arrays = over ∙ c.len-len.ensures in
     IfOk-both c.finish.result
     (λ u new shown. built_found c.loop-index.column (first_type values) (len arrays) (pair_cells arrays places values (len arrays)) (canonical_tree u) new shown
-    c.dtype-dtype.ensures.typed c.loop-index.invariant.0 (c.loop-index.invariant.1 ∙ ap (pair_cells arrays places values) all)
+    c.dtype-dtype.ensures.unnested c.dtype-dtype.ensures.typed c.loop-index.invariant.0 (c.loop-index.invariant.1 ∙ ap (pair_cells arrays places values) all)
     (length-map-range_with_len (pair_cell arrays places values) 0 (len arrays)))
     c.finish.ensures.ok c.finish.ensures.rows

@@ -1,6 +1,7 @@
 use Rattle.std.proofs.Common.{◌≡◌, ◌<◌, length, map, get_or, inl, inr, sym, ap, subst, ◌∙◌}
 use Rattle.std.proofs.lemmas.Option.{get_or_from_slice_get}
 use Rattle.std.proofs.lemmas.Result.{IfOk-weaker, IfErr-weaker, err_from_is_err_and}
+use Rattle.vx_value.specs.Storage.{is_nested}
 use Rattle.vx_value.specs.Cell.{value, fault}
 use Rattle.vx_tree.specs.Canonicals.{columnar_tree}
 use Rattle.vx_tree.specs.Cells.{rows, cells_at}
@@ -76,3 +77,7 @@ returns-clause-err c =
       | inr missed ↦ inr (missed.0, cell ∙ missed.1)
     ])
     c.execute_scalar.ensures.err
+
+pub returns-clause-unnested : goal.returns-clause-unnested
+returns-clause-unnested c =
+    IfOk-weaker c.execute_scalar.result _ _ (λ s row. ap is_nested row.1 ∙ c.well_formed_tree.ensures.unnested) c.execute_scalar.ensures.ok

@@ -1,6 +1,6 @@
 use Rattle.std.proofs.Common.{refl, sym, ap, subst, ◌∙◌, ◌≡◌, replicate, true, false}
 use Rattle.std.proofs.lemmas.Result.{IfOk-weaker, IfErr-weaker}
-use Rattle.vx_value.specs.Storage.{storage_of}
+use Rattle.vx_value.specs.Storage.{storage_of, is_nested}
 use Rattle.vx_value.specs.Values.{boolean, integer, decimal, bytes}
 use Rattle.vx_tree.specs.DecimalNumbers.{numbers_of, decimal_type_of}
 use Rattle.vx_tree.specs.ColumnTypes.{scale_of, are_decimals_of}
@@ -62,7 +62,7 @@ returns-in-Primitive-clause-ok c =
     (λ valid told same sized. rw c.integers_of.ensures (integers_argument c.args.column.now k.validity.now valid told same sized c.as_array.result.now
     c.as_array.ensures.of k.ensures.1 (record { dtype = c.dtype-dtype.result; rows = Rows k.values }) (ptype_of k.values.now) (values_of k.values.now) refl
     (λ i. refl)
-    (λ n e. (tt, e)) c.dtype-dtype.ensures k.ensures.0))
+    (λ n e. (tt, e)) c.dtype-dtype.ensures.dtype k.ensures.0))
     c.column_argument-in-Primitive.result c.column_argument-in-Primitive.ensures.ok
 
 pub returns-in-Primitive-clause-err : goal.returns-in-Primitive-clause-err
@@ -76,7 +76,7 @@ pub unreachable-requires : goal.unreachable-requires
 unreachable-requires c =
     let values = c.in-Decimal.values.now in
     let flat = subst IsNodeOf c.in-Decimal.ensures.0 c.in-Decimal.ensures.1 in
-    let typed = c.dtype-dtype.ensures ∙ ap dtype (sym c.as_array.ensures.of) in
+    let typed = c.dtype-dtype.ensures.dtype ∙ ap dtype (sym c.as_array.ensures.of) in
     decimal_typed c.dtype-dtype.result.now (decimal_type_of values) (numbers_of values)
     (subst (λ ty. are_decimals_of (storage_of ty) (decimal_type_of values) (numbers_of values) ≡ true) (sym typed) flat.1) c.in_default-dtype.not-Decimal
 
@@ -86,7 +86,7 @@ returns-in-Decimal-dtype-clause-ok c =
     told_argument c.args.column.now c.decimals_of-rows.result k.validity.now
     (λ valid told same sized. rw c.decimals_of-rows.ensures (decimals_argument c.args.column.now k.validity.now valid told same sized c.as_array.result.now
     c.as_array.ensures.of k.ensures.1 c.in-Decimal-dtype.decimal (RowsOfDecimals k.values) (decimal_type_of k.values.now) (numbers_of k.values.now)
-    c.in-Decimal-dtype.field-1 (λ i. refl) (sym c.dtype-dtype.ensures ∙ ap type_of c.in-Decimal-dtype.is) (λ n e k. (e, k)) k.ensures.0))
+    c.in-Decimal-dtype.field-1 (λ i. refl) (sym c.dtype-dtype.ensures.dtype ∙ ap type_of c.in-Decimal-dtype.is) (λ n e k. (e, k)) k.ensures.0))
     c.column_argument-in-Decimal.result c.column_argument-in-Decimal.ensures.ok
 
 pub returns-in-Decimal-dtype-clause-err : goal.returns-in-Decimal-dtype-clause-err
@@ -103,7 +103,7 @@ returns-in-VarBinView-clause-ok c =
     told_argument c.args.column.now c.bytes_of-rows.result k.validity.now
     (λ valid told same sized. rw c.bytes_of-rows.ensures (bytes_argument c.args.column.now k.validity.now valid told same sized c.as_array.result.now
     c.as_array.ensures.of k.ensures.1 (record { storage = c.storage.result; rows = RowsOfBytes k.rows }) k.rows.now (λ i. refl)
-    (c.storage.ensures ∙ ap storage_of c.dtype-dtype.ensures) (λ n e k. (e, k)) k.ensures.0))
+    (c.storage.ensures ∙ ap storage_of c.dtype-dtype.ensures.dtype) (λ n e k. (e, k)) k.ensures.0))
     c.column_argument-in-VarBinView.result c.column_argument-in-VarBinView.ensures.ok
 
 pub returns-in-VarBinView-clause-err : goal.returns-in-VarBinView-clause-err
@@ -113,3 +113,7 @@ returns-in-VarBinView-clause-err c =
     (λ e h. column_unread c.args.column.now k.validity.now e c.as_array.result.now c.as_array.ensures.of h (λ x. bytes (bytes_at k.rows.now.buffers x))
     (λ vs. enc.views (viewed vs k.rows.now.buffers)) (λ n xs tys css. refl) k.rows.now.views
     (sym (subst IsNodeOf k.ensures.0 k.ensures.1).0.2) k.ensures.0) c.column_argument-in-VarBinView.ensures.err
+
+pub constant_argument-requires : goal.constant_argument-requires
+constant_argument-requires c =
+    ap (λ u. is_nested (dtype u)) (sym c.in-Constant.ensures.0 ∙ c.as_array.ensures.of) ∙ c.dtype-dtype.ensures.unnested

@@ -2,13 +2,15 @@ use Rattle.std.proofs.Common.{◌≡◌, ◌≤◌, ◌+◌, ◌-◌, ℕ, pos, 
 use Rattle.std.proofs.lemmas.Result.{IfOk-weaker, IfErr-weaker}
 use Rattle.vx_column.specs.Nulls.{IsRowBy}
 use Rattle.vx_value.specs.Cell.{value, fault}
+use Rattle.vx_value.specs.Types.{nullability_of}
+use Rattle.vx_column.specs.ValidRows.{null_unless}
 use Rattle.vx_value.specs.Parts.{integer_in}
 use Rattle.vx_fn.specs.Meanings.{widen}
 use Rattle.vx_tree.specs.Tree.{slots_of, slots_height, len, dtype}
 use Rattle.vx_column.proofs.ArgumentsLemmas.{zipped_more}
 use Rattle.vx_tree.proofs.SlotsLemmas.{IsBelow}
-use Rattle.vx_column.proofs.CellsLemmas.{unread_by, IsRead, row_by, child_below, child_faulted, function_taken, function_row, function_faulted, row_told, row_known, bits_row, IfOk-both}
-use Rattle.vx_column.proofs.DictRowsLemmas.{dict_unnamed, dict_row, dict_value_fault}
+use Rattle.vx_column.proofs.CellsLemmas.{null_typed, unread_by, IsRead, row_by, child_below, child_faulted, function_taken, function_row, function_faulted, row_told, row_known, bits_row, IfOk-both}
+use Rattle.vx_column.proofs.DictRowsLemmas.{dict_nullable, dict_null, dict_unnamed, dict_row, dict_value_fault}
 use Rattle.vx_column.proofs.ChunkedRowsLemmas.{left_first, left_present, left_at, left_all, left_later, chunk_low, chunk_row, chunk_typed}
 use Rattle.vx_column.proofs.InterleaveRowsLemmas.{slots_many, slots_present, slots_low, shown_by, arrays_fault, rows_fault, tree_unnamed, row_unnamed, pair_row, arrays_long, rows_long, named_typed, child_there, IsOfType}
 use Rattle.vx_column.proofs.rows.probe.+scalar_at.Goals as goal
@@ -73,14 +75,16 @@ unless_null-returns-in-Bool-default-None-clause-ok t c =
     let plain = c.in-Bool-default-None in
     let told = bits_row c.in-Some.child plain.field-1.now plain.bits.now c.args.index c.value.result plain.ensures.0 plain.field-1-is c.value.ensures in
     let known = row_known c.args.validity.now c.in-Some.child c.args.index c.value.result c.args.stored.value c.in-Some.is told in
-    IfOk-weaker c.kept_or_null.result _ _ (λ s e. subst (IsRowBy c.args.validity.now c.args.index (value c.args.stored.value)) (sym e) known)
+    IfOk-weaker c.kept_or_null.result (λ s. value s.value ≡ null_unless c.value.result (value c.args.stored.value))
+    (λ s. IsRowBy c.args.validity.now c.args.index (value c.args.stored.value) (value s.value)) (λ s e. subst (IsRowBy c.args.validity.now c.args.index (value c.args.stored.value)) (sym e) known)
     c.kept_or_null.ensures.ok
 
 pub unless_null-returns-in-Ok-clause-ok : goal.unless_null-returns-in-Ok-clause-ok
 unless_null-returns-in-Ok-clause-ok t c =
     let told = c.in-Ok.ensures.ok.0 ∙ ap (λ v. Some (value v)) c.into_truth.ensures in
     let known = row_known c.args.validity.now c.in-Some.child c.args.index c.into_truth.result c.args.stored.value c.in-Some.is told in
-    IfOk-weaker c.kept_or_null-in-Ok.result _ _ (λ s e. subst (IsRowBy c.args.validity.now c.args.index (value c.args.stored.value)) (sym e) known)
+    IfOk-weaker c.kept_or_null-in-Ok.result (λ s. value s.value ≡ null_unless c.into_truth.result (value c.args.stored.value))
+    (λ s. IsRowBy c.args.validity.now c.args.index (value c.args.stored.value) (value s.value)) (λ s e. subst (IsRowBy c.args.validity.now c.args.index (value c.args.stored.value)) (sym e) known)
     c.kept_or_null-in-Ok.ensures.ok
 
 pub unless_null-returns-in-Err-clause-err : goal.unless_null-returns-in-Err-clause-err
@@ -89,6 +93,19 @@ unless_null-returns-in-Err-clause-err t c =
       | inl m ↦ inl m
       | inr m ↦ inr (m.0, row_told c.args.validity.now c.in-Some.child c.args.index fault (value c.args.stored.value) c.in-Some.is m.1)
     ]
+
+pub named_at-null_of-requires : goal.named_at-null_of-requires
+named_at-null_of-requires t c =
+    ap nullability_of c.dtype.ensures.dtype
+    ∙ dict_nullable c.args.array.now c.args.codes.now c.args.values.now c.args.index c.requires.shape c.in-Ok.scalar c.in-Ok.ensures.ok c.requires.well
+    (sym c.in_default.is ∙ c.into_integer-code.ensures.value) c.into_integer-code.ensures.typed
+
+pub named_at-returns-in_default-clause-ok : goal.named_at-returns-in_default-clause-ok
+named_at-returns-in_default-clause-ok t c =
+    IfOk-weaker c.null_of.result _ _
+    (λ q e. dict_null c.args.array.now c.args.codes.now c.args.values.now c.args.index c.requires.shape c.in-Ok.scalar c.in-Ok.ensures.ok c.requires.well
+    (sym c.in_default.is ∙ c.into_integer-code.ensures.value) c.into_integer-code.ensures.typed q (e ∙ ap null_typed c.dtype.ensures.dtype))
+    c.null_of.ensures.ok
 
 pub named_at-returns-in_default-number_below-clause-err : goal.named_at-returns-in_default-number_below-clause-err
 named_at-returns-in_default-number_below-clause-err t c =
@@ -108,7 +125,7 @@ named_at-returns-in-Ok-scalar_at-clause-ok t c =
     IfOk-weaker c.widened.result _ _
     (λ s wide.
     dict_row c.args.array.now c.args.codes.now c.args.values.now c.args.index c.requires.shape c.in-Ok.scalar c.in-Ok.ensures.ok
-    c.in-Some-number_below.place named read s c.in-Ok-scalar_at.ensures.ok wide.0 (wide.1 ∙ ap (λ ty. widen ty read.of_type) c.dtype-in-Ok-scalar_at.ensures))
+    c.in-Some-number_below.place named read s c.in-Ok-scalar_at.ensures.ok wide.0 (wide.1 ∙ ap (λ ty. widen ty read.of_type) c.dtype-in-Ok-scalar_at.ensures.dtype))
     c.widened.ensures.ok
 
 pub named_at-returns-in-Err-scalar_at-clause-err : goal.named_at-returns-in-Err-scalar_at-clause-err

@@ -20,7 +20,7 @@ decimal-requires c =
     let fits : FitsSigned w128 c.wide_at.result = search rules in
     let zs = numbers_of c.args.values.now in
     let p = c.in-Decimal.decimal.precision in
-    let is = sym c.dtype.ensures ∙ ap type_of c.in-Decimal.is in
+    let is = sym c.dtype.ensures.dtype ∙ ap type_of c.in-Decimal.is in
     let typed = subst (λ ty. are_decimals_of (storage_of ty) (decimal_type_of c.args.values.now) zs ≡ true) is c.requires.typed in
     ap (has_digits p) (to_z-of_z fits) ∙ passes_at (has_digits p) zs c.args.index c.wide_at.result (second_so _ _ typed) c.wide_at.ensures.value
 
@@ -29,7 +29,7 @@ returns-clause-row c =
     let fits : FitsSigned w128 c.wide_at.result = search rules in
     let zs = numbers_of c.args.values.now in
     let cell : ℤ → Cell = λ z. value (decimal z (scale_of (storage_of (dtype c.args.array.now)))) in
-    let is = sym c.dtype.ensures ∙ ap type_of c.in-Decimal.is in
+    let is = sym c.dtype.ensures.dtype ∙ ap type_of c.in-Decimal.is in
     rw c.decimal.ensures
     (slice_get-map cell zs c.args.index ∙ ap (option_map cell) c.wide_at.ensures.value
     ∙ ap (λ ty. Some (value (decimal c.wide_at.result (scale_of (storage_of ty))))) is

@@ -3,13 +3,22 @@ use Rattle.std.proofs.lemmas.Result.{IfOk-weaker}
 use Rattle.vx_value.specs.View.{type_of}
 use Rattle.vx_value.specs.Cell.{value}
 use Rattle.vx_value.specs.IsOf.{is_of, is_null}
+use Rattle.vx_value.specs.Fits.{list_overflow}
 use Rattle.vx_value.proofs.CastsLemmas.{same_typed}
 use Rattle.vx_fn.specs.FillNull.{filled}
+use Rattle.vx_fn.proofs.RetypedLemmas.{lists_alike}
 use Rattle.vx_fn.proofs.FillNullLemmas.{fill_taken, fill_typed, value_there, filled_there}
 use Rattle.vx_fn.proofs.functions.fill_null.filled.Goals as goal
 
-pub retyped-requires : goal.retyped-requires
-retyped-requires c =
+pub retyped-requires-clause-fits : goal.retyped-requires-clause-fits
+retyped-requires-clause-fits c =
+    let i = c.args.input.now in
+    let f = c.args.fill_value.now in
+    ap (λ t. list_overflow t i.value) (ap type_of c.in_ok-clone-in-Some.ensures.cases ∙ c.dtype.ensures.dtype)
+    ∙ sym (lists_alike i.of_type f.of_type i.value (fill_taken i.of_type f.of_type c.requires)) ∙ c.value.ensures.fits
+
+pub retyped-requires-clause-typed : goal.retyped-requires-clause-typed
+retyped-requires-clause-typed c =
     let i = c.args.input.now in
     let f = c.args.fill_value.now in
     let there : is_null i.value ≡ false = ap is_null (sym c.in-Some.ensures.value) ∙ value_there c.in-Some.field-0.now in

@@ -10,5 +10,5 @@ returns-then-range-len-clause-keeps c =
 pub returns-then-range-len-2-clause-keeps : goal.returns-then-range-len-2-clause-keeps
 returns-then-range-len-2-clause-keeps c =
     let within = subst (λ n. c.args.range.end ≤ n) c.len-then-range.ensures c.if-range-len-2.true in
-    let none = c.into_array.ensures ∙ c.in_ok-empty.ensures.ok ∙ ap empty_of c.dtype.ensures in
+    let none = c.into_array.ensures ∙ c.in_ok-empty.ensures.ok ∙ ap empty_of c.dtype.ensures.dtype in
     empty_keeps _ _ c.args.self.now _ c.well_formed_tree.ensures.formed c.if-range.true within none

@@ -1,9 +1,10 @@
-use Rattle.std.proofs.Common.{rules, ◌≡◌, Some, ap, inl, inr, true, subst}
+use Rattle.std.proofs.Common.{rules, ◌≡◌, ◌∙◌, Some, ap, inl, inr, true, subst}
 use Rattle.std.specs.Prelude.{is_some}
+use Rattle.vx_value.specs.Storage.{is_nested}
 use Rattle.vx_tree.specs.Tree.{dtype, len, datum, slots_of}
 use Rattle.vx_rule.specs.Tags.{applies}
 use Rattle.vx_rule.specs.Constants.{constant_values, folds}
-use Rattle.vx_rule.proofs.ConstantsLemmas.{folded_type, folded_value, folded_none, folded_quiet, fit_folded}
+use Rattle.vx_rule.proofs.ConstantsLemmas.{folded_type, folded_same, folded_value, folded_none, folded_quiet, fit_folded}
 use Rattle.vx_rule.proofs.encodings.constant.fold_constants.Goals as goal
 
 pub apply_row-requires : goal.apply_row-requires
@@ -13,6 +14,15 @@ apply_row-requires c =
     let vs : constant_values (slots_of p.result.1.now) ≡ Some c.as_slice.result.now = search rules in
     ap is_some
     (folded_type (dtype t) (len t) p.result.0.now (slots_of p.result.1.now) t c.as_slice.result.now p.ensures.well p.ensures.shape p.ensures.node vs)
+
+pub new_unchecked-requires : goal.new_unchecked-requires
+new_unchecked-requires c =
+    let t = c.args.parent.now in
+    let p = c.function_parts in
+    let vs : constant_values (slots_of p.result.1.now) ≡ Some c.as_slice.result.now = search rules in
+    let same = folded_same (dtype t) (len t) p.result.0.now (slots_of p.result.1.now) t c.as_slice.result.now p.ensures.well p.ensures.shape
+    p.ensures.node vs c.in-Ok.scalar c.in-Ok.ensures.typed in
+    ap is_nested same ∙ c.well_formed_tree.ensures.unnested
 
 pub returns-in-Ok : goal.returns-in-Ok
 returns-in-Ok c =

@@ -6,10 +6,10 @@ use Rattle.vx_tree.specs.Well.{IsNode}
 use Rattle.vx_tree.proofs.FlatLemmas.{no_rows_node, no_rows_column}
 use Rattle.vx_tree.proofs.canonical.flat.flat_empty.Goals as goal
 
-pub over-requires : goal.over-requires
-over-requires g c =
+pub over-requires-clause-node : goal.over-requires-clause-node
+over-requires-clause-node g c =
     subst (λ x. x) (λ i. IsNode (type_of (sym c.in_ok-clone.ensures.cases i)) 0 (sym c.in_ok-payload.ensures.ok i) (None ∷ []))
-    (no_rows_node (type_of c.args.dtype.now) c.requires.stored)
+    (no_rows_node (type_of c.args.dtype.now) c.requires.stored c.requires.unnested)
 
 pub returns-clause-ok : goal.returns-clause-ok
 returns-clause-ok g c =

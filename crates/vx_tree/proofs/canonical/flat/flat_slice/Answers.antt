@@ -29,8 +29,8 @@ cut g c =
     (g.V.EncodingVariant.stands_for c.in_ok-payload.payload) (g.V.EncodingVariant.stands_for c.data.result.now) e.formed e.slot c.requires.0 c.requires.1 e.flat
     c.in_ok-validity.ensures.ok typed c.in_ok-payload.ensures.ok c.data.ensures
 
-pub over-requires : goal.over-requires
-over-requires g c = (cut g c).0
+pub over-requires-clause-node : goal.over-requires-clause-node
+over-requires-clause-node g c = (cut g c).0
 
 pub returns-clause-ok : goal.returns-clause-ok
 returns-clause-ok g c =

@@ -31,3 +31,6 @@ returns-in_err-scalar-clause-err c =
       | inl memory ↦ inl memory
       | inr fault ↦ inr (fault.0, fault_at_row f (types_of_scalars ss) (λ _. cells_of_scalars ss) c.args.len 0 c.requires.some fault.1)
     ]))
+
+pub constant-requires : goal.constant-requires
+constant-requires c = c.requires.unnested c.in_ok-scalar.scalar.of_type c.in_ok-scalar.ensures.typed

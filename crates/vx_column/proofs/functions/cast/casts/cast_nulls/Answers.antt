@@ -1,6 +1,8 @@
 use Rattle.std.proofs.Common.{ap, ◌∙◌}
 use Rattle.std.proofs.lemmas.Result.{IfOk-weaker}
 use Rattle.vx_value.specs.View.{type_of}
+use Rattle.vx_value.specs.Storage.{is_nested}
+use Rattle.vx_value.specs.Typed.{Typed}
 use Rattle.vx_tree.specs.Canonicals.{canonical_tree}
 use Rattle.vx_column.proofs.CastsLemmas.{null_stored, nulls_cast}
 use Rattle.vx_column.proofs.functions.cast.casts.cast_nulls.Goals as goal
@@ -17,3 +19,7 @@ returns-clause-ok c =
     (ap (λ x. x.of_type) c.null-null.ensures ∙ ap type_of c.in_ok-clone.ensures.cases) c.requires.nullability c.requires.valid c.requires.shown
     (canonical_tree u) h)
     c.stored_column.ensures.ok
+
+pub repeated_rows-requires : goal.repeated_rows-requires
+repeated_rows-requires c =
+    ap (λ x. is_nested (Typed.of_type x)) c.null-null.ensures ∙ ap (λ d. is_nested (type_of d)) c.in_ok-clone.ensures.cases ∙ c.requires.unnested

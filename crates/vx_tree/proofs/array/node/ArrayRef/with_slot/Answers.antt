@@ -26,8 +26,8 @@ index_mut-requires c =
     (data_of n.encoding) n.slots.items c.args.self c.in_ok-node.ensures.ok c.args.slot c.args.child (same ∙ c.in_ok-check_slot.ensures) in
     omega (arith, n.slots.ok.0)
 
-pub into_array-requires : goal.into_array-requires
-into_array-requires c =
+pub into_array-requires-clause-node : goal.into_array-requires-clause-node
+into_array-requires-clause-node c =
     let n = c.in_ok-node.node in
     let same = slot_found c.slots.result.now c.args.slot c.args.child c.args.self c.slots.ensures c.in-Some.old.now c.in-Some.ensures.lookup.3.0
     c.in-Some.ensures.lookup.1 in

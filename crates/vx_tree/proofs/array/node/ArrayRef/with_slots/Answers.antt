@@ -19,8 +19,8 @@ returns-in_err-check_slots-clause-refused c =
     ∙ rw c.deref.ensures.value at c.in_err-check_slots.ensures in
     search rules
 
-pub into_array-requires : goal.into_array-requires
-into_array-requires c =
+pub into_array-requires-clause-node : goal.into_array-requires-clause-node
+into_array-requires-clause-node c =
     let n = c.in_ok-node.node in
     let alike : length c.args.slots.items ≡ length c.slots-old.result.now = omega arith in
     let same = slots_counted c.args.slots.items c.slots-old.result.now c.args.self c.slots-old.ensures alike in

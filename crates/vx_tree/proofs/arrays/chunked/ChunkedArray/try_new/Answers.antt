@@ -12,8 +12,8 @@ all_filled : (xs ys zs : List (Option Tree)) (ts : List Tree) → xs ≡ ys ++ m
     → slots_of xs ≡ filled_slots ts
 all_filled xs ys zs ts e f g = ap slots_of (e ∙ ap (λ l. l ++ map Some ts) f) ∙ g
 
-pub of-requires : goal.of-requires
-of-requires c =
+pub of-requires-clause-node : goal.of-requires-clause-node
+of-requires-clause-node c =
     let xs = c.in_ok-slots.slots.items in
     let ts = c.args.chunks.items in
     let filled = all_filled xs _ _ ts c.in_ok-slots.ensures c.new.ensures.items (filled_map ts) in

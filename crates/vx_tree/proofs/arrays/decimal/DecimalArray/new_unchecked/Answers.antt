@@ -11,8 +11,8 @@ use Rattle.vx_tree.proofs.DecimalsLemmas.{decimals_node}
 use Rattle.vx_tree.proofs.ValiditiesLemmas.{flat_made}
 use Rattle.vx_tree.proofs.arrays.decimal.DecimalArray.new_unchecked.Goals as goal
 
-pub flat_unchecked-requires : goal.flat_unchecked-requires
-flat_unchecked-requires c =
+pub flat_unchecked-requires-clause-node : goal.flat_unchecked-requires-clause-node
+flat_unchecked-requires-clause-node c =
     let ty = type_of c.args.dtype in
     let s = storage_of ty in
     let w = decimal_type_of c.args.values in

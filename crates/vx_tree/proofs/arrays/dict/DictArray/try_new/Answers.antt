@@ -5,8 +5,8 @@ use Rattle.vx_tree.specs.SlotTypes.{is_integer}
 use Rattle.vx_tree.proofs.ConditionsLemmas.{unless_none}
 use Rattle.vx_tree.proofs.arrays.dict.DictArray.try_new.Goals as goal
 
-pub of-requires : goal.of-requires
-of-requires c =
+pub of-requires-clause-node : goal.of-requires-clause-node
+of-requires-clause-node c =
     let codes = c.args.codes in
     let values = c.args.values in
     let integer : is_integer (dtype codes) ≡ true = sym c.is_integer.ensures ∙ unless_none _ _ c.in_ok-check_that.ensures in

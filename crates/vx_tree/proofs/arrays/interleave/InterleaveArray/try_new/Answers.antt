@@ -13,5 +13,5 @@ returns-clause-ok c =
     let typed : type_of parts.dtype ≡ first_type ts = search rules in
     let counted : parts.len ≡ len a = search rules in
     let listed : parts.slots.items ≡ Some a ∷ Some r ∷ map Some ts = search rules in
-    subst (λ t. IfOk c.try_from_parts.result (λ h. h ≡ t)) (interleave_made (type_of parts.dtype) parts.len parts.slots.items a r ts typed counted listed)
-    c.try_from_parts.ensures.ok
+    subst (λ t. IfOk c.validated.result (λ h. h ≡ t)) (interleave_made (type_of parts.dtype) parts.len parts.slots.items a r ts typed counted listed)
+    c.validated.ensures.ok

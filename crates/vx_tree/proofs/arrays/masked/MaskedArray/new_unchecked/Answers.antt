@@ -7,8 +7,8 @@ use Rattle.vx_tree.specs.Validities.{child_of}
 use Rattle.vx_tree.proofs.ValiditiesLemmas.{masked_is_node}
 use Rattle.vx_tree.proofs.arrays.masked.MaskedArray.new_unchecked.Goals as goal
 
-pub of-requires : goal.of-requires
-of-requires c =
+pub of-requires-clause-node : goal.of-requires-clause-node
+of-requires-clause-node c =
     let t = c.args.child in
     let v = c.args.validity.now in
     let slots_are : c.in_ok-slots.slots.items ≡ Some t ∷ child_of v (len t) ∷ [] =
