@@ -131,13 +131,13 @@ pair_missed arrays places values n i e lt (inr h) = inr (h.0, fault_among (pair_
 
 -- ---- whole columns
 
-pub pairs_found : (arrays places : Tree) (values : List Tree) (u : Tree) → IsWell arrays → IsWell places → IsWell u → len places ≡ len arrays
+pub pairs_found : (arrays places : Tree) (values : List Tree) (u : Tree) → is_nested (first_type values) ≡ false → IsWell arrays → IsWell places → IsWell u → len places ≡ len arrays
     → (is_constant (datum arrays) && is_constant (datum places)) ≡ false
     → IsCanonicalOf (first_type values) (len arrays) (pair_cells arrays places values (len arrays)) u → IsInterleaving arrays places values u
-pairs_found arrays places values u well wells whole long other h =
+pairs_found arrays places values u plain well wells whole long other h =
     subst (λ cs. IsLookedUp (first_type values) (len arrays) cs (is_constant (datum arrays) && is_constant (datum places)) u)
     (all_pairs arrays places values well wells long)
-    (canonical_found (first_type values) (len arrays) _ (is_constant (datum arrays) && is_constant (datum places)) u whole
+    (canonical_found (first_type values) (len arrays) _ (is_constant (datum arrays) && is_constant (datum places)) u plain whole
     (neither (nat_lt 0 (len arrays)) _ other) h)
   where
     neither : (b d : Bool) → d ≡ false → (b && d) ≡ false

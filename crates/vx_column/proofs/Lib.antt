@@ -1,4 +1,6 @@
 pub mod BuiltLemmas
+pub mod ComposedLemmas
+pub mod ExpandedLemmas
 pub mod FilteredLemmas
 pub mod GrowingLemmas
 pub mod MaskedLemmas
@@ -10,6 +12,8 @@ pub mod CellsLemmas
 pub mod FilterLemmas
 pub mod KeepsLemmas
 pub mod MaskedRowsLemmas
+pub mod NestedLemmas
+pub mod NestedRowsLemmas
 pub mod NullRowsLemmas
 pub mod ScalarFnValidityLemmas
 pub mod SliceLemmas
@@ -44,6 +48,7 @@ pub mod SelectedLemmas
 pub mod AppliedLemmas
 pub mod CallsLemmas
 pub mod WholeLemmas
+pub mod RowByRowLemmas
 pub mod GatheredLemmas
 pub mod LookedUpLemmas
 pub mod EachLemmas

@@ -17,6 +17,7 @@ use Rattle.vx_value.specs.Typed.{Typed}
 use Rattle.vx_value.specs.Values.{Value, null, integer}
 use Rattle.vx_value.specs.Cell.{Cell, value, fault}
 use Rattle.vx_value.specs.Nullabilities.{with_nullability, union}
+use Rattle.vx_value.proofs.NullabilitiesLemmas.{nested_kept}
 use Rattle.vx_value.specs.declared.dtype.Nullability.{Nullability}
 use Rattle.vx_value.specs.declared.dtype.Nullability.TheVariants.{NonNullable, Nullable}
 use Rattle.vx_value.specs.declared.dtype.PType.{PType}
@@ -223,13 +224,13 @@ rows_named c a codes places n u shown lies h = record {
 -- ---- whole columns
 
 -- a canonical column of the cells
-pub canonical_found : (ty : DataType) (n : ℕ) (cells : List Cell) (constant : Bool) (u : Tree) → IsWell u → (nat_lt 0 n && constant) ≡ false → IsCanonicalOf ty n cells u
+pub canonical_found : (ty : DataType) (n : ℕ) (cells : List Cell) (constant : Bool) (u : Tree) → is_nested ty ≡ false → IsWell u → (nat_lt 0 n && constant) ≡ false → IsCanonicalOf ty n cells u
     → IsLookedUp ty n cells constant u
-canonical_found ty n cells constant u well other h = record {
+canonical_found ty n cells constant u plain well other h = record {
   typed = h.typed;
   counted = h.counted;
   shown = h.shown;
-  clean = whole_clean u h.clean (canonical_whole u well h.canonical h.clean);
+  clean = whole_clean u h.clean (canonical_whole u (ap is_nested h.typed ∙ plain) well h.canonical h.clean);
   constant_kept = canonical_open (datum u) h.canonical ∙ sym other;
   formed = h.formed;
 }
@@ -340,15 +341,16 @@ module _ (c v : Columnar) (a : Argument) (bound n : ℕ) (well : IsWell (columna
       ap (λ m. named_type m (dtype (columnar_tree v)))
       (sym (argument_nullability (len (columnar_tree c)) a shown.sized) ∙ ap nullability_of (sym shown.typed))
 
-  pub column_found : (places : List ℕ) (u : Tree) → IsWell u → AreNamed a.rows a.valid bound n places → is_constant (datum (columnar_tree c)) ≡ false
+  pub column_found : (places : List ℕ) (u : Tree) → is_nested (dtype (columnar_tree v)) ≡ false → IsWell u → AreNamed a.rows a.valid bound n places → is_constant (datum (columnar_tree c)) ≡ false
       → AreNamedRows a.valid places (columnar_tree v) n u → AreTaken (columnar_tree c) (columnar_tree v) u
-  column_found places u whole h other k =
+  column_found places u plain whole h other k =
       let ty = widen (dtype (columnar_tree c)) (dtype (columnar_tree v)) in
       let same : IsCanonicalOf ty n (taken_cells (rows (columnar_tree c)) vs) u =
       subst (λ t. IsCanonicalOf t n (taken_cells (rows (columnar_tree c)) vs) u) type_same
       (subst (λ cs. IsCanonicalOf (named_type (nullability_in a.valid) (dtype (columnar_tree v))) n cs u) (cells_same places h) k) in
+      let flat = ap is_nested (sym type_same) ∙ nested_kept (union (nullability_in a.valid) (nullability_of (dtype (columnar_tree v)))) (dtype (columnar_tree v)) ∙ plain in
       subst (λ m. IsLookedUp ty m (taken_cells (rows (columnar_tree c)) vs) (is_constant (datum (columnar_tree c))) u) counted
-      (canonical_found ty n _ (is_constant (datum (columnar_tree c))) u whole (neither (nat_lt 0 n) _ other) same)
+      (canonical_found ty n _ (is_constant (datum (columnar_tree c))) u flat whole (neither (nat_lt 0 n) _ other) same)
     where
       neither : (b d : Bool) → d ≡ false → (b && d) ≡ false
       neither true d h = h

@@ -1,5 +1,5 @@
 -- A column of one value, repeated.
-use Rattle.std.proofs.Common.{◌≡◌, ◌⊎◌, inl, inr, ◌==◌, ℕ, zero, suc, ℤ, pos, Bool, true, false, List, [], ◌∷◌, length, map, replicate, Result, IfOk, refl, sym, ◌∙◌, ap, subst, arith}
+use Rattle.std.proofs.Common.{◌≡◌, ◌⊎◌, inl, inr, ℕ, zero, suc, ℤ, pos, Bool, true, false, List, [], ◌∷◌, length, map, replicate, Result, IfOk, refl, sym, ◌∙◌, ap, subst, arith}
 use Rattle.std.specs.Prelude.{unwrap_or, if◌then◌else◌}
 use Rattle.std.proofs.lemmas.List.{length-replicate, take_all}
 use Rattle.std.proofs.lemmas.Result.{IfOk-weaker}
@@ -44,11 +44,11 @@ use Rattle.vx_column.specs.Arguments.{stored_decimals, unscaled_of}
 use Rattle.std.specs.List.{list_all}
 use Rattle.vx_tree.specs.Views.{ViewedRows, viewed, view_at, bytes_at, repeated}
 
-nullable_null : (m : Nullability) → is_nullable m ≡ true → m ≡ Nullable
+pub nullable_null : (m : Nullability) → is_nullable m ≡ true → m ≡ Nullable
 nullable_null Nullable h = refl
 nullable_null NonNullable h = absurd (cc)
 
-abbrev validity_by : DataType → Value → Validity
+abbrev pub validity_by : DataType → Value → Validity
 validity_by ty v = if is_null v then AllInvalid else without_nulls (nullability_of ty)
 
 nullability_back : (ty : DataType) (v : Value) → is_of ty v ≡ true → nullability_by (validity_by ty v) ≡ nullability_of ty
@@ -68,7 +68,7 @@ pub repeated_has : {X : Type 0} (s : Typed) (n : ℕ) (v : Validity) → v ≡ r
 repeated_has s n v told xs x made =
     subst (λ w. HasRows w (length xs)) (sym told) (subst (HasRows (repeated_validity s)) (sym (ap length made ∙ length-replicate n x)) (repeated_rows s n))
 
-validity_clean : (ty : DataType) (v : Value) (n : ℕ) → AreClean (slots_of (child_of (validity_by ty v) n ∷ []))
+pub validity_clean : (ty : DataType) (v : Value) (n : ℕ) → AreClean (slots_of (child_of (validity_by ty v) n ∷ []))
 validity_clean ty of.null n = ((copies_clean n (boolean false), tt), tt)
 validity_clean ty _ n = subst (λ w. AreClean (slots_of (w ∷ []))) (sym (no_child (nullability_of ty) n)) tt
 
@@ -77,10 +77,10 @@ nulls : {X : Type 0} (read : X → Value) (x : X) (n : ℕ)
 nulls read x zero = refl
 nulls read x (suc n) = ap (λ cs. value of.null ∷ cs) (nulls read x n)
 
-validity_cells : {X : Type 0} (read : X → Value) (x : X) (ty : DataType) (v : Value) (n : ℕ) → (is_null v ≡ false → read x ≡ v) →
+pub repeated_cells : {X : Type 0} (read : X → Value) (x : X) (ty : DataType) (v : Value) (n : ℕ) → (is_null v ≡ false → read x ≡ v) →
     valid_cells (cells_at (slots_rows (slots_of (child_of (validity_by ty v) n ∷ []))) 0) (map (λ y. value (read y)) (replicate n x)) ≡ replicate n (value v)
-validity_cells read x ty of.null n h = nulls read x n
-validity_cells read x ty v n h =
+repeated_cells read x ty of.null n h = nulls read x n
+repeated_cells read x ty v n h =
     ap (λ w. valid_cells (cells_at (slots_rows (slots_of (w ∷ []))) 0) (map (λ y. value (read y)) (replicate n x))) (no_child (nullability_of ty) n)
     ∙ map_copies (λ y. value (read y)) n x
     ∙ ap (λ u. replicate n (value u)) (h refl)
@@ -93,7 +93,7 @@ repeated_exactly read of_items s cells x n u valued made =
     let whole = column s.of_type n (of_items (replicate n x)) (child_of (repeated_validity s) n) in
     let css = slots_rows (slots_of (child_of (repeated_validity s) n ∷ [])) in
     let shown : rows (constant_of s n) ≡ rows whole =
-    sym (cells n (replicate n x) _ css ∙ validity_cells read x s.of_type s.value n valued) in
+    sym (cells n (replicate n x) _ css ∙ repeated_cells read x s.of_type s.value n valued) in
     subst (KeepsExactly (constant_of s n)) (sym made) (same_exactly (constant_of s n) whole refl refl shown (validity_clean s.of_type s.value n))
 
 module _ (s : Typed) (n : ℕ) (typed : is_of s.of_type s.value ≡ true) (v : Validity) (told : v ≡ repeated_validity s) (r : Result Canonical VortexError) where
@@ -175,10 +175,6 @@ bytes_expanded s n Text h = refl
 bytes_expanded s n Bytes h = refl
 bytes_expanded s n _ (inl e) = absurd (cc)
 bytes_expanded s n _ (inr e) = absurd (cc)
-
-pub some_expanded : (s : Typed) (n : ℕ) → (n == 0) ≡ false → expanded_stored (storage_of s.of_type) s n ≡ expanded s n
-some_expanded s zero h = absurd (cc)
-some_expanded s (suc n) h = refl
 
 pub expansion_of : (t : Tree) (s : Typed) → constant s ≡ datum t → expanded s (len t) ≡ expansion t
 expansion_of (node ty n d ss) s e = ap (λ x. expansion (node ty n x ss)) e

@@ -11,12 +11,13 @@ use Rattle.vx_tree.specs.Tree as enc
 use Rattle.vx_tree.specs.Tree.{Tree, Data, Slots, node, no_slots, absent, slot, dtype, len, datum, slots, is_canonical}
 use Rattle.vx_tree.specs.Well.{Shape, shape_of, shapes, IsWell, AreWell, IsValidity, IsFlat}
 use Rattle.vx_tree.specs.Cells.{rows, slots_rows, cells_at, valid_cells, HasNoFault, AreClean}
-use Rattle.vx_value.specs.Storage.{storage_of}
+use Rattle.vx_value.specs.Storage.{storage_of, is_nested}
 use Rattle.vx_tree.specs.ColumnTypes.{scale_of, decimal_type, bytes_type}
 use Rattle.vx_tree.proofs.KindsLemmas.{type_in}
 use Rattle.vx_tree.proofs.TypedLemmas.{AllFit, rows_fit}
 use Rattle.vx_tree.proofs.ValiditiesLemmas.{whole}
 use Rattle.vx_column.proofs.KeepsLemmas.{copies_clean}
+use Rattle.vx_column.proofs.NestedLemmas.{not_composed}
 use Rattle.vx_tree.specs.Views.{bytes_at}
 use Rattle.vx_tree.specs.declared.views.view.View.{View}
 
@@ -53,21 +54,22 @@ flat_whole of_type k ty n (slot t us) cs flat wells clean h =
     let typed = first_validity (nullability_of ty) n t (shapes us) flat.0 flat.3 flat.4 in
     valid_whole (rows t) cs (subst (λ s. AllFit s (rows t)) typed (rows_fit t wells.0)) (whole t clean.0) h
 
-column_whole : (ty : DataType) (n : ℕ) (d : Data) (ss : Slots) → IsWell (node ty n d ss) → is_canonical d ≡ true → AreClean ss
+column_whole : (ty : DataType) (n : ℕ) (d : Data) (ss : Slots) → is_nested ty ≡ false → IsWell (node ty n d ss) → is_canonical d ≡ true → AreClean ss
     → HasNoFault (rows (node ty n d ss))
-column_whole ty n enc.nulls ss w h clean = copies_clean n null
-column_whole ty n (enc.bool bs) ss w h clean =
+column_whole ty n enc.nulls ss plain w h clean = copies_clean n null
+column_whole ty n (enc.bool bs) ss plain w h clean =
     flat_whole (type.bool NonNullable) (length bs) ty n ss (map (λ b. value (boolean b)) bs) w.0 w.1 clean (values_whole boolean bs)
-column_whole ty n (enc.primitive p zs) ss w h clean =
+column_whole ty n (enc.primitive p zs) ss plain w h clean =
     flat_whole (type.primitive p NonNullable) (length zs) ty n ss (map (λ z. value (integer z)) zs) w.0 w.1 clean (values_whole integer zs)
-column_whole ty n (enc.decimals k zs) ss w h clean =
+column_whole ty n (enc.decimals k zs) ss plain w h clean =
     let s = scale_of (storage_of ty) in
     flat_whole (decimal_type (storage_of ty)) (length zs) ty n ss (map (λ z. value (decimal z s)) zs) w.0.0 w.1 clean (values_whole (λ z. decimal z s) zs)
-column_whole ty n (enc.views rs) ss w h clean =
+column_whole ty n (enc.views rs) ss plain w h clean =
     let read : View → Value = λ v. bytes (bytes_at rs.buffers v) in
     flat_whole (bytes_type (storage_of ty)) (length rs.views) ty n ss (map (λ v. value (read v)) rs.views) w.0.0 w.1 clean (values_whole read rs.views)
-column_whole ty n _ ss w h clean = absurd (false≢true h)
+column_whole ty n (enc.composed l) ss plain w h clean = absurd (not_composed l ty n (shapes ss) w.0 plain)
+column_whole ty n _ ss plain w h clean = absurd (false≢true h)
 
--- no row of a canonical column with clean slots is a fault
-pub canonical_whole : (u : Tree) → IsWell u → is_canonical (datum u) ≡ true → AreClean (slots u) → HasNoFault (rows u)
-canonical_whole (node ty n d ss) w h clean = column_whole ty n d ss w h clean
+-- no row of a canonical column with clean slots is a fault, if its type isn't nested
+pub canonical_whole : (u : Tree) → is_nested (dtype u) ≡ false → IsWell u → is_canonical (datum u) ≡ true → AreClean (slots u) → HasNoFault (rows u)
+canonical_whole (node ty n d ss) plain w h clean = column_whole ty n d ss plain w h clean

@@ -2,16 +2,19 @@
 use Rattle.std.specs.Prelude.{◌≡◌, ◌⊎◌, ℕ, List, [], ◌∷◌, map, Bool, true, ◌&&◌, nat_lt, Some}
 use Rattle.vx_value.specs.Types.{DataType}
 use Rattle.vx_value.specs.Typed.{Typed}
+use Rattle.vx_value.specs.Cell.{Cell, value, fault}
 use Rattle.vx_value.specs.declared.error.VortexError.{VortexError}
 use Rattle.vx_value.specs.declared.error.VortexError.TheVariants.{OutOfMemory, Fault}
+use Rattle.vx_fn.specs.Apply.{apply}
 use Rattle.vx_fn.specs.ReturnTypes.{return_type}
 use Rattle.vx_fn.specs.declared.function.ScalarFnRef.{ScalarFnRef}
-use Rattle.vx_tree.specs.Tree.{Tree, function, filled_slots, dtype, len, datum, is_constant, constant_of, call_of}
+use Rattle.vx_tree.specs.Tree.{Tree, function, filled_slots, dtype, len, datum, is_constant, is_canonical, constant_of, call_of}
 use Rattle.vx_tree.specs.Well.{IsNode, shapes}
-use Rattle.vx_tree.specs.Cells.{rows, HasNoFault, IsClean}
+use Rattle.vx_tree.specs.Cells.{rows, row_at, slots_rows, HasNoFault, IsClean}
 use Rattle.vx_tree.specs.Canonicals.{columnar_tree}
 use Rattle.vx_tree.specs.Keeps.{KeepsExactly}
 use Rattle.vx_tree.specs.declared.canonical.columnar.Columnar.{Columnar}
+use Rattle.vx_column.specs.Computed.{IsResult}
 use Rattle.vx_column.specs.Formed.{IsFormed}
 
 -- f accepts the trees ts, each n rows long, and computes a column of them
@@ -26,6 +29,10 @@ all_constant (t ∷ ts) = is_constant (datum t) && all_constant ts
 abbrev pub gives_constant : List Tree → ℕ → Bool
 gives_constant ts n = nat_lt 0 n && all_constant ts
 
+-- the cells of the trees in row i
+abbrev pub row_in : List Tree → ℕ → List Cell
+row_in ts i = row_at (slots_rows (filled_slots ts)) i
+
 -- the column is a constant of the scalar
 abbrev pub Repeats : Columnar → Typed → Type 0
 Repeats c s = columnar_tree c ≡ constant_of s (len (columnar_tree c))
@@ -37,6 +44,21 @@ pub record IsApplied (f : ScalarFnRef) (ts : List Tree) (n : ℕ) (u : Tree) : T
   pub exactly : KeepsExactly (call_of f (dtype u) n ts) u
   pub clean : IsClean u
   pub constant_kept : is_constant (datum u) ≡ gives_constant ts n
+  pub formed : IsFormed u
+
+-- s is what f gives on row i
+abbrev pub IsAppliedRow : ScalarFnRef → List Tree → ℕ → Typed → Type 0
+IsAppliedRow f ts i s = (return_type f (map dtype ts) ≡ Some s.of_type) × (apply f (map dtype ts) s.of_type (row_in ts i) ≡ value s.value)
+
+-- why it gives none: out of memory, or the row is a fault
+abbrev pub IsUnappliedRow : ScalarFnRef → List Tree → ℕ → VortexError → Type 0
+IsUnappliedRow f ts i e =
+    (e ≡ OutOfMemory) ⊎ ((e ≡ Fault) × ((ty : DataType) → return_type f (map dtype ts) ≡ Some ty → apply f (map dtype ts) ty (row_in ts i) ≡ fault))
+
+-- u is the canonical column of f applied to each of n rows
+pub record IsAppliedEach (f : ScalarFnRef) (ts : List Tree) (n : ℕ) (u : Tree) : Type 0 where
+  pub result : IsResult f (map dtype ts) (row_in ts) n u
+  pub canonical : is_canonical (datum u) ≡ true
   pub formed : IsFormed u
 
 -- why f can't be applied: out of memory, or a fault in one of the node's rows

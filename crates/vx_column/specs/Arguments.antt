@@ -1,11 +1,11 @@
 -- The arguments of a function: for each a type, and a value for each row.
-use Rattle.std.specs.Prelude.{◌≡◌, ◌⊎◌, ◌<◌, ℕ, ℤ, pos, List, [], ◌∷◌, map, length, true, false, Option, Some, None, slice_index_or, slice_get}
+use Rattle.std.specs.Prelude.{◌≡◌, ◌⊎◌, ◌||◌, ◌<◌, Bool, ℕ, ℤ, pos, List, [], ◌∷◌, map, length, true, false, Option, Some, None, slice_index_or, slice_get}
 use Rattle.vx_value.specs.Types as type
 use Rattle.vx_value.specs.Types.{DataType, nullability_of}
 use Rattle.vx_value.specs.Values.{Value, null, boolean, integer, decimal, bytes}
 use Rattle.vx_value.specs.Cell.{Cell, value, fault}
 use Rattle.vx_value.specs.View.{type_of}
-use Rattle.vx_value.specs.Storage.{storage_of}
+use Rattle.vx_value.specs.Storage.{storage_of, is_nested}
 use Rattle.vx_value.specs.declared.dtype.Storage.{Storage}
 use Rattle.vx_value.specs.declared.dtype.Storage.TheVariants as storage
 use Rattle.vx_value.specs.Nullabilities.{with_nullability}
@@ -190,6 +190,11 @@ IsUnread t e = (e ≡ OutOfMemory) ⊎ ((e ≡ Fault) × (i : ℕ) × (i < len t
 abbrev pub AreUnread : ℕ → Option Tree → VortexError → Type 0
 AreUnread n None e = e ≡ OutOfMemory
 AreUnread n (Some t) e = (e ≡ OutOfMemory) ⊎ ((e ≡ Fault) × (i : ℕ) × (i < n) × (slice_get (rows t) i ≡ Some fault))
+
+-- whether one of the trees has a nested type
+abbrev pub any_nested : List Tree → Bool
+any_nested [] = false
+any_nested (t ∷ ts) = is_nested (dtype t) || any_nested ts
 
 -- why one of the columns can't be read
 abbrev pub AnyUnread : List Columnar → VortexError → Type 0

@@ -1,16 +1,21 @@
 -- The layout of a function's column, as far as its rows tell it: its validity, and its bits.
-use Rattle.std.specs.Prelude.{◌≡◌, [], ◌∷◌, map, Bool, true, false, not}
+use Rattle.std.specs.Prelude.{◌≡◌, List, [], ◌∷◌, length, map, Bool, true, false, not}
 use Rattle.vx_value.specs.IsOf.{is_null}
 use Rattle.vx_value.specs.Values.{boolean}
 use Rattle.vx_value.specs.Cell.{Cell, value}
-use Rattle.vx_tree.specs.Tree.{Tree, datum, slots, slots_of, bool, is_bool, is_flat}
-use Rattle.vx_tree.specs.Cells.{rows}
+use Rattle.vx_tree.specs.Tree.{Tree, len, datum, slots, slots_of, bool, is_bool, is_flat}
+use Rattle.vx_tree.specs.Cells.{rows, shown_cell}
 use Rattle.vx_tree.specs.Validities.{child_by}
 
 -- whether the cell isn't null
 abbrev pub is_shown : Cell → Bool
 is_shown (value v) = not (is_null v)
 is_shown _ = true
+
+-- the bits tell which rows of the tree aren't null
+pub record TellsShown (t : Tree) (bits : List Bool) : Type 0 where
+  pub long : length bits ≡ len t
+  pub told : map shown_cell (rows t) ≡ map (λ b. value (boolean b)) bits
 
 -- whether the cell is the value true
 abbrev pub is_true : Cell → Bool

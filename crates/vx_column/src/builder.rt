@@ -155,6 +155,7 @@ impl Builder {
     {
         self.check_type(column.dtype())?;
         self.check_len(column.len())?;
+        let _dtype = self.dtype();
         if is_null_constant(column) {
             return self.push_nulls(column.len());
         }

@@ -1,12 +1,12 @@
 //! Columns with some rows made null.
 
-ghost use Rattle.std.specs.Prelude.{◌≡◌, ◌⊎◌, ◌∷◌, [], Some, true, map, IfOk, IfErr, IfSome};
+ghost use Rattle.std.specs.Prelude.{◌≡◌, ◌⊎◌, ◌∷◌, [], ℕ, Some, true, map, IfOk, IfErr, IfSome};
 ghost use Rattle.vx_value.specs.Errors.{OnlyOutOfMemory};
 ghost use Rattle.vx_value.specs.Types.{bool, null};
 ghost use Rattle.vx_value.specs.Values.{boolean};
 ghost use Rattle.vx_value.specs.Cell.{value};
 ghost use Rattle.vx_fn.specs.declared.function.ScalarFnRef.TheVariants.{Binary};
-ghost use Rattle.vx_tree.specs.Tree.{dtype, len, datum, nulls, nulls_of, call_of, masked_of, is_canonical};
+ghost use Rattle.vx_tree.specs.Tree.{node, dtype, len, datum, composed, slots_of, nulls, nulls_of, call_of, masked_of, is_canonical};
 ghost use Rattle.vx_tree.specs.Cells.{rows};
 ghost use Rattle.vx_tree.specs.Keeps.{KeepsExactly};
 ghost use Rattle.vx_tree.specs.Canonicals.{canonical_tree};
@@ -15,16 +15,20 @@ ghost use Rattle.vx_tree.specs.declared.validity.Validity.TheVariants.{Array};
 ghost use Rattle.vx_column.specs.Arguments.{AreUnread};
 ghost use Rattle.vx_column.specs.Masked.{TellsAll, IsBoth};
 
+use crate::canonicalize::composed_column;
 use crate::rows::{
     ValidRows, bool_column, decimal_column, primitive_column, truths_in, varbinview_column,
 };
 use std::alloc::Global;
 use vx_mask::{BitAnd, BitBuffer, BitOperand};
-use vx_tree::{ArrayKind, ArrayRef, Canonical, NullArray, Validity, and_lazily, validity_to_child};
+use vx_tree::{
+    ArrayKind, ArrayRef, Canonical, IntoArray, Layout, MaskedArray, NullArray, Validity,
+    and_lazily, extension_storage, struct_slots, validity_to_child,
+};
 use vx_value::{DType, Nullability, VortexError, VortexResult};
 
-/// Returns the rows of `column`, null where `validity` says so, as a nullable column that shares its values. `validity` must be
-/// a nullable one of as many rows. (own)
+/// Returns the rows of `column`, null where `validity` says so, as a nullable column that shares its values; the storage of an
+/// extension is masked lazily. `validity` must be a nullable one of as many rows. (own)
 ///
 /// # Errors
 ///
@@ -79,7 +83,68 @@ fn mask_column(alloc: Global, array: &ArrayRef, child: Option<ArrayRef>) -> Vort
             let both = both_valid(alloc, own, child, len)?;
             varbinview_column(alloc, array.dtype().storage(), rows.clone()?, &both)
         }
+        ArrayKind::Composed(Layout::Struct, slots) => mask_struct(alloc, array, slots, child),
+        ArrayKind::Composed(Layout::Extension, slots) => mask_extension(alloc, array, slots, child),
         _ => unreachable!(),
+    }
+}
+
+/// Returns the rows of `array`, a column of structs with these slots, null where `child`, the slot of a validity, says so: the
+/// fields stay as they are. Fails only with `OutOfMemory`.
+fn mask_struct(
+    alloc: Global,
+    array: &ArrayRef,
+    slots: &[Option<ArrayRef>],
+    child: Option<ArrayRef>,
+) -> VortexResult<Canonical>
+    requires structs { array.now ≡ node (dtype array.now) (len array.now) (composed Layout.Struct) (slots_of slots.now) }
+    requires child { TellsAll (len array.now) child }
+    ensures ok { IfOk result (λ c. KeepsExactly (masked_of array.now child) (canonical_tree c)) }
+    ensures stored { IfOk result (λ c. datum (canonical_tree c) ≡ composed Layout.Struct) }
+    ensures err { OnlyOutOfMemory result }
+{
+    array.well_formed_tree();
+    let len = array.len();
+    let (fields, own) = struct_slots(slots);
+    let both = both_valid(alloc, own, child, len)?;
+    let mut slots = fields.to_vec(alloc)?;
+    slots.push(validity_to_child(alloc, &both, len)?)?;
+    let dtype = array.dtype().as_nullable(alloc)?;
+    composed_column(alloc, Layout::Struct, dtype, len, slots)
+}
+
+/// Returns the rows of `array`, a column of an extension type with these slots, null where `child`, the slot of a validity, says
+/// so: the storage is masked lazily. Fails only with `OutOfMemory`.
+fn mask_extension(
+    alloc: Global,
+    array: &ArrayRef,
+    slots: &[Option<ArrayRef>],
+    child: Option<ArrayRef>,
+) -> VortexResult<Canonical>
+    requires extension { array.now ≡ node (dtype array.now) (len array.now) (composed Layout.Extension) (slots_of slots.now) }
+    requires child { TellsAll (len array.now) child }
+    ensures ok { IfOk result (λ c. KeepsExactly (masked_of array.now child) (canonical_tree c)) }
+    ensures stored { IfOk result (λ c. datum (canonical_tree c) ≡ composed Layout.Extension) }
+    ensures err { OnlyOutOfMemory result }
+{
+    array.well_formed_tree();
+    let storage = extension_storage(slots).clone()?;
+    let masked = MaskedArray::new_unchecked(alloc, storage, &told_by(child))?.into_array();
+    masked.well_formed_tree();
+    let slots = vec![in alloc; Some(masked)]?;
+    let dtype = array.dtype().as_nullable(alloc)?;
+    composed_column(alloc, Layout::Extension, dtype, array.len(), slots)
+}
+
+/// Returns the validity of a nullable column that has `child` in its slot.
+fn told_by(child: Option<ArrayRef>) -> Validity
+    ensures nullable { nullability_by result ≡ Nullability.Nullable }
+    ensures slot { (n : ℕ) → child_of result n ≡ child }
+    ensures rows { (n : ℕ) → TellsAll n child → HasRows result n }
+{
+    match child {
+        Some(child) => Validity::Array(child),
+        None => Validity::AllValid,
     }
 }
 

@@ -2,6 +2,7 @@
 use Rattle.std.proofs.Common.{◌≡◌, ◌++◌, ◌≤◌, arith, List, [], ◌∷◌, length, map, if◌then◌else◌, Bool, true, false, Option, Some, None, refl, sym, ◌∙◌, ap, subst}
 use Rattle.std.specs.Prelude.{is_some}
 use Rattle.std.specs.List.{list_all}
+use Rattle.std.proofs.lemmas.Bool.{false≢true}
 use Rattle.std.proofs.lemmas.List.{length-map}
 use Rattle.vx_value.specs.Types as type
 use Rattle.vx_value.specs.Types.{DataType}
@@ -11,14 +12,24 @@ use Rattle.vx_value.specs.Cell.{Cell, value, fault}
 use Rattle.vx_value.specs.IsOf.{is_of}
 use Rattle.vx_value.specs.Parts.{boolean_in, integer_in, bytes_in}
 use Rattle.vx_mask.specs.Masks.{is_all_true, is_all_false}
-use Rattle.vx_tree.specs.Tree.{Tree, dtype, len, slots, slots_of, booleans}
+use Rattle.vx_tree.specs.Tree.{Tree, Data, dtype, len, datum, slots, slots_of, booleans, chunked, is_chunked}
 use Rattle.vx_tree.specs.Cells.{rows, HasNoFault, IsClean, AreClean}
 use Rattle.vx_tree.specs.Charges.{put_back, none}
 use Rattle.vx_tree.specs.Cost.{cost, slots_cost}
+use Rattle.vx_tree.specs.Support.{supports}
 use Rattle.vx_tree.specs.Validities.{child_by, truths}
+use Rattle.vx_tree.proofs.SupportLemmas.{supports_unnested}
 use Rattle.vx_column.specs.Built.{TypedRows, built, without_point, appended, values_in}
 use Rattle.vx_column.proofs.BuiltLemmas.{rows_built}
 use Rattle.vx_column.proofs.KeepsLemmas.{whole_clean, copies_clean}
+
+-- chunks have no nested type yet
+pub chunks_unnested : (t : Tree) → is_chunked (datum t) ≡ true → supports (datum t) (dtype t) ≡ true → is_nested (dtype t) ≡ false
+chunks_unnested t = by_data (datum t) (dtype t)
+  where
+    by_data : (d : Data) (ty : DataType) → is_chunked d ≡ true → supports d ty ≡ true → is_nested ty ≡ false
+    by_data chunked ty h k = supports_unnested chunked ty refl k
+    by_data _ ty h k = absurd (false≢true h)
 
 pub built_type : (b : TypedRows) → is_nested b.of_type ≡ false → dtype (built b) ≡ b.of_type
 built_type b = by_type b.of_type b.values

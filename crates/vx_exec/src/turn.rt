@@ -5,7 +5,7 @@ ghost use Rattle.std.specs.List.{list_all};
 ghost use Rattle.vx_value.specs.Errors.{OnlyOutOfMemory};
 ghost use Rattle.vx_value.specs.IsOf.{is_of};
 ghost use Rattle.vx_value.specs.Storage.{is_nested};
-ghost use Rattle.vx_tree.specs.Tree.{datum, is_canonical};
+ghost use Rattle.vx_tree.specs.Tree.{datum, is_canonical, is_chunked};
 ghost use Rattle.vx_tree.specs.Cells.{rows, HasNoFault};
 ghost use Rattle.vx_tree.specs.Slots.{put};
 ghost use Rattle.vx_tree.specs.Canonicals.{columnar_tree};
@@ -154,8 +154,10 @@ fn know_bound(len: usize)
     ensures { len < 2 ^ 64 }
 {}
 
-/// Returns `builder`, or a new one of the rows of `node` if there is none. Fails only with `OutOfMemory`.
+/// Returns `builder`, or a new one of the rows of `node`, which must be chunks, if there is none. Fails only with `OutOfMemory`.
+#[tactic(auto, using(crate::proofs::BuildersLemmas::chunks_unnested))]
 fn begin(alloc: Global, node: &Suspended, builder: Option<Builder>) -> VortexResult<Builder>
+    requires { is_chunked (datum node.now) ≡ true }
     ensures ok { IfOk result (λ b. b ≡ begun builder node.now) }
     ensures err { OnlyOutOfMemory result }
 {

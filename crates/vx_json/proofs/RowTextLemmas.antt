@@ -1,12 +1,24 @@
--- The text of a row of text.
-use Rattle.std.proofs.Common.{◌≡◌, ℕ, List, [], ◌∷◌, ◌++◌, Bool, true, false, refl, sym, ap, ◌∙◌}
+-- The text of a row of text, and of one of structs.
+use Rattle.std.proofs.Common.{◌≡◌, ℕ, ◌+◌, ◌<◌, List, [], ◌∷◌, ◌++◌, length, drop, Bool, true, false, Option, Some, None, option_copied, refl, sym, ap, ◌∙◌, append_assoc, arith, lt-ltb, Bor}
+use Rattle.std.proofs.Math.ListN.{get_or}
+use Rattle.std.proofs.lemmas.List.{drop_more}
 use Rattle.std.specs.Prelude.{◌||◌, ◌==◌, nat_lt}
 use Rattle.std.specs.List.{list_any}
 use Rattle.std.specs.Cmp.{unsigned_Decides}
 use Rattle.json.specs.Print.{escape_letter, escape_byte, escape}
 use Rattle.serde_json.specs.Data.{string}
 use Rattle.serde_json.specs.Written.{compact_text}
-use Rattle.vx_json.specs.RowText.{has_escape, in_quotes}
+use Rattle.vx_value.specs.Types as type
+use Rattle.vx_value.specs.Types.{DataType}
+use Rattle.vx_value.specs.Values.{Value}
+use Rattle.vx_value.specs.IsOf.{is_of}
+use Rattle.vx_value.specs.Storage.{is_nested}
+use Rattle.vx_value.specs.View.{type_of, fields_of, cell_of, cell_seen, values_of}
+use Rattle.vx_value.specs.declared.nested.Field.{Field}
+use Rattle.vx_value.specs.declared.scalar.ScalarValue.{ScalarValue}
+use Rattle.vx_value.proofs.ScalarPartsLemmas.{extension_typed}
+use Rattle.serde_json.specs.Written.{comma_if}
+use Rattle.vx_json.specs.RowText.{has_escape, in_quotes, plain_text, field_text, fields_text, row_text}
 
 none_first : (a b : Bool) → (a || b) ≡ false → a ≡ false
 none_first false b h = refl
@@ -50,5 +62,53 @@ kept_bytes (x ∷ bs) h =
     (λ i. kept_byte x first i ++ kept_bytes bs rest i)
 
 -- a text without an escape stands as it is between quotation marks
-pub plain_text : (bs : List ℕ) → list_any has_escape bs ≡ false → in_quotes bs ≡ compact_text (string bs)
-plain_text bs h = ap (λ l. 34 ∷ (l ++ 34 ∷ [])) (sym (kept_bytes bs h))
+pub plain_quoted : (bs : List ℕ) → list_any has_escape bs ≡ false → in_quotes bs ≡ compact_text (string bs)
+plain_quoted bs h = ap (λ l. 34 ∷ (l ++ 34 ∷ [])) (sym (kept_bytes bs h))
+
+-- ---- rows of structs and of extensions
+
+-- the text of a row of a type that isn't nested
+pub plain_row : (t : DataType) (v : Value) → is_nested t ≡ false → row_text t v ≡ plain_text t v
+plain_row (type.struct fs n) v h = absurd (cc)
+plain_row (type.extension id t) v h = absurd (cc)
+plain_row _ v h = refl
+
+-- a value of an extension is one of its storage
+pub storage_typed : (id : List ℕ) (t : DataType) (v : Value) → is_of (type.extension id t) v ≡ true → is_of t v ≡ true
+storage_typed id t v h = sym (extension_typed id t v) ∙ h
+
+-- what a borrowed value is
+pub seen_copied : (o : Option (Bor ScalarValue)) → cell_seen o ≡ cell_of (option_copied o)
+seen_copied None = refl
+seen_copied (Some v) = refl
+
+-- the text of a field ends with that of its value
+text_last : (later : Bool) (name text : List ℕ) → field_text later name text ≡ field_text later name [] ++ text
+text_last later name text =
+    ap (λ l. comma_if later ++ l) (sym (append_assoc (compact_text (string name)) (58 ∷ []) text))
+    ∙ sym (append_assoc (comma_if later) (compact_text (string name) ++ 58 ∷ []) text)
+
+-- the fields from a place on: the one there, and those behind it
+texts_at : (later : Bool) (fs : List Field) (vs : List (Option ScalarValue)) (i : ℕ) (f : Field) (v : Option ScalarValue) → i < length fs → i < length vs
+    → fields_text later (fields_of (drop i fs)) (values_of (drop i vs))
+    ≡ field_text later (get_or fs i f).name (row_text (type_of (get_or fs i f).dtype) (cell_of (get_or vs i v)))
+    ++ fields_text true (fields_of (drop (i + 1) fs)) (values_of (drop (i + 1) vs))
+texts_at later fs vs i f v p q =
+    ap (λ xs. fields_text later (fields_of xs) (values_of (drop i vs))) (drop_more fs i f p)
+    ∙ ap (λ ys. fields_text later (fields_of (get_or fs i f ∷ drop (i + 1) fs)) (values_of ys)) (drop_more vs i v q)
+
+-- one more field is appended
+pub texts_more : (later : Bool) (fs : List Field) (vs : List (Option ScalarValue)) (i : ℕ) (f : Field) (v : Option ScalarValue) (all text named longer : List ℕ)
+    → i < length fs → i < length vs → f ≡ get_or fs i f → v ≡ get_or vs i v
+    → all ≡ text ++ fields_text later (fields_of (drop i fs)) (values_of (drop i vs))
+    → named ≡ text ++ field_text later f.name [] → longer ≡ named ++ row_text (type_of f.dtype) (cell_of v)
+    → all ≡ longer ++ fields_text (nat_lt 0 (i + 1)) (fields_of (drop (i + 1) fs)) (values_of (drop (i + 1) vs))
+texts_more later fs vs i f v all text named longer p q isf isv h n l =
+    let rest = fields_text true (fields_of (drop (i + 1) fs)) (values_of (drop (i + 1) vs)) in
+    let row = row_text (type_of f.dtype) (cell_of v) in
+    let here : field_text later (get_or fs i f).name (row_text (type_of (get_or fs i f).dtype) (cell_of (get_or vs i v))) ≡ field_text later f.name [] ++ row =
+    (λ j. field_text later (sym isf j).name (row_text (type_of (sym isf j).dtype) (cell_of (sym isv j)))) ∙ text_last later f.name row in
+    let joined : longer ≡ text ++ (field_text later f.name [] ++ row) = l ∙ ap (λ t. t ++ row) n ∙ append_assoc text (field_text later f.name []) row in
+    h ∙ ap (λ t. text ++ t) (texts_at later fs vs i f v p q ∙ ap (λ t. t ++ rest) here)
+    ∙ sym (append_assoc text (field_text later f.name [] ++ row) rest) ∙ ap (λ t. t ++ rest) (sym joined)
+    ∙ ap (λ b. longer ++ fields_text b (fields_of (drop (i + 1) fs)) (values_of (drop (i + 1) vs))) (sym (lt-ltb 0 (i + 1) (omega arith)))

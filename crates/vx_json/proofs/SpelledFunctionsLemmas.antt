@@ -1,5 +1,5 @@
 -- The target of a cast, which isn't nested.
-use Rattle.std.proofs.Common.{◌≡◌, ℕ, Bool, true, false, Option, Some, sym, ap, ◌∙◌, refl}
+use Rattle.std.proofs.Common.{◌≡◌, ℕ, Bool, true, false, Option, Some, None, ap, ◌∙◌, refl}
 use Rattle.std.proofs.Math.Bridge.{le_prop}
 use Rattle.std.specs.Prelude.{option_map, option_and_then}
 use Rattle.vx_value.specs.Types.{DataType}
@@ -33,7 +33,19 @@ declared_again (dtype.Utf8 m) h = refl
 declared_again (dtype.Binary m) h = refl
 declared_again _ h = absurd (cc)
 
+-- a nested type isn't a target
+pub declared_nested : (t : DType) → is_nested (type_of t) ≡ true → declared (type_of t) ≡ None
+declared_nested dtype.Null h = absurd (cc)
+declared_nested (dtype.Bool m) h = absurd (cc)
+declared_nested (dtype.Primitive p m) h = absurd (cc)
+declared_nested (dtype.Decimal d m) h = absurd (cc)
+declared_nested (dtype.Utf8 m) h = absurd (cc)
+declared_nested (dtype.Binary m) h = absurd (cc)
+declared_nested _ h = refl
+
 -- a type is the one that its text names
-pub target_named : (t : DType) (o : Option DataType) → is_nested (type_of t) ≡ false → Some (type_of t) ≡ o
-    → option_and_then declared o ≡ Some t
-target_named t o unnested named = ap (option_and_then declared) (sym named) ∙ declared_again t unnested
+pub target_named : (t : DType) (o : Option DataType) → o ≡ Some (type_of t) → is_nested (type_of t) ≡ false → option_and_then declared o ≡ Some t
+target_named t o named unnested = ap (option_and_then declared) named ∙ declared_again t unnested
+
+pub no_target : (t : DType) (o : Option DataType) → o ≡ Some (type_of t) → is_nested (type_of t) ≡ true → option_and_then declared o ≡ None
+no_target t o named nested = ap (option_and_then declared) named ∙ declared_nested t nested

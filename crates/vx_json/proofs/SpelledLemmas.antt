@@ -1,5 +1,5 @@
 -- Looking into a value.
-use Rattle.std.proofs.Common.{◌≡◌, ℕ, ◌+◌, ◌<◌, ◌≤◌, max, List, [], ◌∷◌, length, refl, ap, sym, arith, Option, Some, None, option_and_then, codes, String, zero, suc, slice_index_or}
+use Rattle.std.proofs.Common.{◌≡◌, ℕ, ◌+◌, ◌<◌, ◌≤◌, max, List, [], ◌∷◌, length, refl, ap, sym, ◌∙◌, arith, Option, Some, None, option_and_then, codes, String, zero, suc, slice_index_or}
 use Rattle.std.specs.declared.alloc.Global.{Global}
 use Rattle.std.specs.declared.cmp.Ordering.{Ordering}
 use Rattle.std.specs.declared.cmp.Ordering.TheVariants.{Less, Equal, Greater}
@@ -13,6 +13,7 @@ use Rattle.vx_tree.specs.Tree.{Tree}
 use Rattle.vx_json.specs.Fields.{member_count, members_count, items_at, text_at}
 use Rattle.vx_json.specs.Spelled.{tree_spelled, trees_spelled, tree_first, trees_listed, tree_under, trees_under, tree_named, node_of}
 use Rattle.vx_json.specs.SpelledValues.{all_read}
+use Rattle.vx_json.proofs.UnderKeysLemmas.{under_by, listed_by}
 
 -- a map's length counts its members
 count_view : (es : List (String Global × Value)) → members_count (members_view es) ≡ length es
@@ -63,32 +64,23 @@ trees_read no_items = refl
 trees_read (item d ds) = ap (tree_first (tree_spelled d)) (trees_read ds)
 
 -- the tree under a key is the one that the value under it spells
-under_by : (o : Ordering) (d : Data) (t : Option Tree) (found : Option Data) → t ≡ option_and_then tree_spelled found
-    → match_ordering o t (tree_spelled d) t ≡ option_and_then tree_spelled (match_ordering o found (Some d) found)
-under_by Less d t found p = p
-under_by Equal d t found p = refl
-under_by Greater d t found p = p
-
 tree_under-get : (k : List ℕ) (ms : Members) → tree_under k ms ≡ option_and_then tree_spelled (get_member k ms)
 tree_under-get k no_members = refl
-tree_under-get k (member l d ms) = under_by (slice_cmp nat_cmp k l) d (tree_under k ms) (get_member k ms) (tree_under-get k ms)
+tree_under-get k (member l d ms) = under_by tree_spelled (slice_cmp nat_cmp k l) d (tree_under k ms) (get_member k ms) (tree_under-get k ms)
 
 -- the trees under a key are those that the list under it spells
-listed_by : (d : Data) → trees_listed d ≡ option_and_then trees_spelled (as_array d)
-listed_by (array ds) = refl
-listed_by _ = refl
+list_spelled : (d : Data) → trees_listed d ≡ option_and_then trees_spelled (as_array d)
+list_spelled (array ds) = refl
+list_spelled _ = refl
 
-trees_by : (o : Ordering) (d : Data) (ts : Option (List Tree)) (found : Option Data) → ts ≡ option_and_then trees_spelled (option_and_then as_array found)
-    → match_ordering o ts (trees_listed d) ts ≡ option_and_then trees_spelled (option_and_then as_array (match_ordering o found (Some d) found))
-trees_by Less d ts found p = p
-trees_by Equal d ts found p = listed_by d
-trees_by Greater d ts found p = p
-
-trees_under-get : (k : List ℕ) (ms : Members) → trees_under k ms ≡ option_and_then trees_spelled (option_and_then as_array (get_member k ms))
+trees_under-get : (k : List ℕ) (ms : Members) → trees_under k ms ≡ option_and_then trees_listed (get_member k ms)
 trees_under-get k no_members = refl
-trees_under-get k (member l d ms) = trees_by (slice_cmp nat_cmp k l) d (trees_under k ms) (get_member k ms) (trees_under-get k ms)
+trees_under-get k (member l d ms) = under_by trees_listed (slice_cmp nat_cmp k l) d (trees_under k ms) (get_member k ms) (trees_under-get k ms)
+
+trees_under-items : (k : List ℕ) (ms : Members) → trees_under k ms ≡ option_and_then trees_spelled (option_and_then as_array (get_member k ms))
+trees_under-items k ms = trees_under-get k ms ∙ listed_by trees_listed trees_spelled list_spelled (get_member k ms)
 
 -- what a value spells, by its encoding and what stands under its keys
 pub spelled_by : (d : Data) → tree_spelled d ≡ option_and_then (tree_named d) (text_at (codes "enc") d)
-spelled_by (object ms) = λ i. node_of (object ms) (λ k. tree_under-get k ms i) (λ k. trees_under-get k ms i)
+spelled_by (object ms) = λ i. node_of (object ms) (λ k. tree_under-get k ms i) (λ k. trees_under-items k ms i)
 spelled_by _ = refl

@@ -7,7 +7,7 @@ use Rattle.vx_column.specs.declared.rows.argument.Argument.{Argument}
 use Rattle.vx_column.specs.declared.rows.valid.ValidRows.{ValidRows}
 use Rattle.vx_value.specs.declared.dtype.Storage.{Storage}
 use Rattle.vx_tree.specs.ColumnTypes.{bytes_type}
-use Rattle.vx_json.specs.RowText.{row_text, bytes_text, in_quotes}
+use Rattle.vx_json.specs.RowText.{plain_text, bytes_text, in_quotes}
 use Rattle.vx_json.specs.Output.{line}
 
 -- the text of a row if it is valid, else `null`
@@ -32,9 +32,9 @@ decimal_lines valid zs = lines (is_valid valid) (λ i. in_quotes (signed_decimal
 abbrev pub bytes_lines : Storage → ValidRows → List (List ℕ) → ℕ → List ℕ
 bytes_lines st valid rs n = lines (is_valid valid) (λ i. bytes_text (bytes_type st) (slice_index_or rs i [])) n
 
--- the text of row i, as if it weren't null
+-- the text of row i, as if it weren't null; the type of an argument isn't nested
 abbrev pub row_text_at : Argument → ℕ → List ℕ
-row_text_at a i = row_text (type_of_argument a) (value_at a.rows i)
+row_text_at a i = plain_text (type_of_argument a) (value_at a.rows i)
 
 -- a line for each of n rows of the argument
 abbrev pub row_lines : Argument → ℕ → List ℕ

@@ -28,6 +28,12 @@ output ty id values = head_lines ty id ++ flat_map (λ v. line (row_text ty v)) 
 abbrev pub IsUnread : Tree → VortexError → Type 0
 IsUnread t e = (e ≡ OutOfMemory) ⊎ ((e ≡ Fault) × (¬ (HasNoFault (rows t))))
 
+-- the text gains a line for each of the cells, each of which is a value
+pub record AddsRows (ty : DataType) (cells : List Cell) (old new : List ℕ) : Type 0 where
+  pub values : List Value
+  pub own : cells ≡ map value values
+  pub printed : new ≡ old ++ flat_map (λ v. line (row_text ty v)) values
+
 -- the text shows the cells: each is a value, and has its line
 pub record Shows (ty : DataType) (id : Id) (cells : List Cell) (text : List ℕ) : Type 0 where
   pub values : List Value

@@ -12,6 +12,10 @@ IsRefused fact e = (e ≡ OutOfMemory) ⊎ ((e ≡ InvalidArgument BadValue) × 
 abbrev pub IsRead : {A : Type 0} → Option A → Result A VortexError → Type 0
 IsRead spelled result = MatchResult result (λ a. spelled ≡ Some a) (IsRefused (spelled ≡ None))
 
+-- the same of a result that stands for what is spelled
+abbrev pub IsReadAs : {A R : Type 0} → (R → A) → Option A → Result R VortexError → Type 0
+IsReadAs stands spelled result = MatchResult result (λ r. spelled ≡ Some (stands r)) (IsRefused (spelled ≡ None))
+
 -- the answer, if there is no refusal
 abbrev pub unless_refused : {A : Type 0} → Option VortexError → A → Option A
 unless_refused None answer = Some answer

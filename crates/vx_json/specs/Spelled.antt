@@ -28,6 +28,8 @@ named_nodes d child children =
     ∷ (codes "dict", option_and_then (λ c. option_and_then (nodes.Dict.dict_spelled d c) (child (codes "values"))) (child (codes "codes")))
     ∷ (codes "chunked", option_and_then (nodes.Chunked.chunked_spelled d) (children (codes "chunks")))
     ∷ (codes "interleave", option_and_then (λ a. option_and_then (λ r. option_and_then (nodes.Interleave.interleave_spelled d a r) (children (codes "values"))) (child (codes "rows"))) (child (codes "arrays")))
+    ∷ (codes "struct", option_and_then (λ ts. option_and_then (nodes.Struct.struct_spelled d ts) (nulls_at d (child (codes "validity")))) (children (codes "fields")))
+    ∷ (codes "ext", option_and_then (nodes.Extension.extension_spelled d) (child (codes "storage")))
     ∷ []
 
 abbrev pub node_named : Data → (List ℕ → Option Tree) → (List ℕ → Option (List Tree)) → List ℕ → Option Tree

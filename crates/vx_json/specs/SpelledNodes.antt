@@ -9,3 +9,5 @@ pub mod Call
 pub mod Dict
 pub mod Chunked
 pub mod Interleave
+pub mod Struct
+pub mod Extension

@@ -7,9 +7,11 @@ use Rattle.std.specs.Result.{result_ok}
 use Rattle.std.specs.Str.Parse.{signed_digits_value}
 use Rattle.hex.specs.Hex.{decode_of}
 use Rattle.serde_json.specs.Data.{Data, Items, no_items, item}
-use Rattle.serde_json.specs.Find.{as_null, as_bool, as_number, as_integer, as_str}
-use Rattle.vx_value.specs.Types.{DataType, nullability_of, is_nullable}
-use Rattle.vx_value.specs.Values.{Value, null, boolean, integer, decimal, bytes}
+use Rattle.serde_json.specs.Find.{get, as_null, as_bool, as_number, as_integer, as_str}
+use Rattle.vx_value.specs.Types.{DataType, struct, extension, Fields, no_fields, field, nullability_of, is_nullable}
+use Rattle.vx_value.specs.Nested.{fields_count}
+use Rattle.vx_value.specs.Values.{Value, null, boolean, integer, decimal, bytes, fields, Values, no_values, item as value_item}
+use Rattle.vx_value.specs.Typed.{Typed}
 use Rattle.vx_value.specs.Decimals.{has_digits}
 use Rattle.vx_value.specs.Storage.{storage_of}
 use Rattle.vx_value.specs.IsOf.{in_range}
@@ -18,6 +20,7 @@ use Rattle.vx_value.specs.declared.dtype.Storage.TheVariants.{Bits, Integers, De
 use Rattle.vx_value.specs.declared.dtype.PType.{PType}
 use Rattle.vx_value.specs.declared.dtype.Nullability.{Nullability}
 use Rattle.vx_tree.specs.Rows.{item_or}
+use Rattle.vx_json.specs.Fields.{object_of}
 
 -- the number, if it is in the range of the type
 abbrev pub within : PType → ℤ → Option ℤ
@@ -50,7 +53,7 @@ bytes_spelled Bytes d = option_and_then hex_bytes (as_str d)
 bytes_spelled _ d = None
 
 -- `true` or `false` for a boolean, a whole number for an integer, a string for a decimal, text and bytes: a line for each storage that has a spelling; type
--- null and nested types have none
+-- null has none
 abbrev pub value_stored : Storage → Data → Option Value
 value_stored Bits d = option_map boolean (as_bool d)
 value_stored (Integers p) d = option_map integer (integer_spelled p d)
@@ -66,9 +69,36 @@ is_null d = is_some (as_null d)
 abbrev pub or_null : {A : Type 0} → Nullability → (Data → Option A) → Data → Option (Option A)
 or_null m read d = if is_nullable m && is_null d then Some None else option_map Some (read d)
 
--- a value of the type, or null
-abbrev pub value_spelled : DataType → Data → Option Value
-value_spelled t d = option_map (item_or null) (or_null (nullability_of t) (value_stored (storage_of t)) d)
+-- a value of a type that isn't nested, or null
+abbrev pub plain_spelled : DataType → Data → Option Value
+plain_spelled t d = option_map (item_or null) (or_null (nullability_of t) (value_stored (storage_of t)) d)
+
+-- null, if the type is nullable; else the answer
+abbrev pub null_or : Nullability → Data → Option Value → Option Value
+null_or m d answer = if is_nullable m && is_null d then Some null else answer
+
+-- a value in front of others
+abbrev pub value_first : Option Value → Option Values → Option Values
+value_first value others = option_and_then (λ v. option_map (value_item v) others) value
+
+-- a value of the type, or null: of a struct an object of exactly its fields, and of an extension what it is stored as
+abbrev mutual
+  pub value_spelled : DataType → Data → Option Value
+  value_spelled (struct fs n) d = null_or n d (option_map fields (object_of (fields_count fs) d (fields_spelled fs d)))
+  value_spelled (extension id t) d = value_spelled t d
+  value_spelled t d = plain_spelled t d
+
+  pub fields_spelled : Fields → Data → Option Values
+  fields_spelled no_fields d = Some no_values
+  fields_spelled (field name t fs) d = value_first (option_and_then (λ e. value_spelled t e) (get name d)) (fields_spelled fs d)
+
+-- the value of this type under a name
+abbrev pub field_spelled : List ℕ → DataType → Data → Option Value
+field_spelled name t d = option_and_then (λ e. value_spelled t e) (get name d)
+
+-- a value with its type
+abbrev pub typed_as : DataType → Option Value → Option Typed
+typed_as t v = option_map (λ w. record { of_type = t; value = w }) v
 
 -- all items of a list, or None if one can't be read
 abbrev pub all_read : {A : Type 0} → (Data → Option A) → Items → Option (List A)

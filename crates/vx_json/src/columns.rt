@@ -30,9 +30,7 @@ pub(crate) fn col(alloc: Global, value: &Value) -> VortexResult<ArrayRef>
     ensures { IsRead (col_spelled (view value.now)) result }
 {
     check_keys(value, 3)?;
-    let Some(dtype) = type_at(value) else {
-        return Err(BAD_VALUE);
-    };
+    let dtype = type_at(alloc, value)?;
     let Some(list) = items(value, "rows") else {
         return Err(BAD_VALUE);
     };
@@ -94,9 +92,7 @@ pub(crate) fn flat(alloc: Global, value: &Value, nulls: &Nulls) -> VortexResult<
     ensures { IsRead (flat_spelled (view value.now) nulls.now) result }
 {
     check_keys(value, 3 + nulls.keys())?;
-    let Some(dtype) = type_at(value) else {
-        return Err(BAD_VALUE);
-    };
+    let dtype = type_at(alloc, value)?;
     let Some(list) = items(value, "values") else {
         return Err(BAD_VALUE);
     };

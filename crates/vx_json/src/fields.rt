@@ -2,7 +2,7 @@
 
 ghost use Rattle.std.specs.Prelude.{◌≡◌, ◌==◌, true, false, option_map, MatchResult};
 ghost use Rattle.serde_json.specs.View.{view, items_view};
-ghost use Rattle.vx_json.specs.Fields.{member_count, boolean_at, text_at, number_at, items_at};
+ghost use Rattle.vx_json.specs.Fields.{member_count, is_object_of, boolean_at, text_at, number_at, items_at};
 
 use crate::BAD_VALUE;
 use serde_json::Value;
@@ -25,6 +25,19 @@ pub(crate) fn check_keys(value: &Value, keys: usize) -> VortexResult<()>
         (λ e. (e ≡ VortexError.InvalidArgument ArgKind.BadValue) × ((member_count (view value.now) == keys) ≡ false)) }
 {
     if count(value) == keys {
+        Ok(())
+    } else {
+        Err(BAD_VALUE)
+    }
+}
+
+/// Checks that `value` is an object of exactly `members` members, also for 0. `InvalidArgument(BadValue)` if it isn't.
+pub(crate) fn check_object(value: &Value, members: usize) -> VortexResult<()>
+    ensures { MatchResult result
+        (λ _. is_object_of members (view value.now) ≡ true)
+        (λ e. (e ≡ VortexError.InvalidArgument ArgKind.BadValue) × (is_object_of members (view value.now) ≡ false)) }
+{
+    if value.is_object() && count(value) == members {
         Ok(())
     } else {
         Err(BAD_VALUE)

@@ -3,27 +3,29 @@
 ghost use Rattle.std.specs.Prelude.{◌≡◌, Some};
 ghost use Rattle.serde_json.specs.View.{view};
 ghost use Rattle.vx_json.specs.Fields.{keyed};
+ghost use Rattle.vx_json.specs.Refused.{IsRead};
 ghost use Rattle.vx_json.specs.SpelledFunctions.{without_options, operator_named, strictness_at, between_options, between, cast, other_named, function_at};
 
-use crate::fields::{boolean, count, text};
+use crate::BAD_VALUE;
+use crate::fields::{boolean, check_keys, text};
 use crate::types::type_at;
 use serde_json::Value;
+use std::alloc::Global;
 use vx_fn::{BetweenOptions, Operator, ScalarFnRef, StrictComparison};
+use vx_value::VortexResult;
 
-/// Returns `function`, if the object has exactly `keys` keys.
-fn with_keys(value: &Value, keys: usize, function: ScalarFnRef) -> Option<ScalarFnRef>
-    ensures { result ≡ keyed keys (view value.now) (Some function) }
+/// Returns `function`. `InvalidArgument(BadValue)` if the object doesn't have exactly `keys` keys.
+fn with_keys(value: &Value, keys: usize, function: ScalarFnRef) -> VortexResult<ScalarFnRef>
+    ensures { IsRead (keyed keys (view value.now) (Some function)) result }
 {
-    if count(value) == keys {
-        Some(function)
-    } else {
-        None
-    }
+    check_keys(value, keys)?;
+    Ok(function)
 }
 
-/// Returns `function`, which has no options, if the object has exactly the keys `enc`, `fn` and `args`.
-fn without_options(value: &Value, function: ScalarFnRef) -> Option<ScalarFnRef>
-    ensures { result ≡ without_options function (view value.now) }
+/// Returns `function`, which has no options. `InvalidArgument(BadValue)` if the object doesn't have exactly the keys `enc`, `fn` and
+/// `args`.
+fn without_options(value: &Value, function: ScalarFnRef) -> VortexResult<ScalarFnRef>
+    ensures { IsRead (without_options function (view value.now)) result }
 {
     with_keys(value, 3, function)
 }
@@ -70,23 +72,33 @@ fn between_options(value: &Value) -> Option<BetweenOptions>
     })
 }
 
-/// Returns `between`, if the object has exactly the keys `enc`, `fn`, `args` and its two options.
-fn between(value: &Value) -> Option<ScalarFnRef>
-    ensures { result ≡ between (view value.now) }
+/// Reads `between`. `InvalidArgument(BadValue)` if the object doesn't have exactly the keys `enc`, `fn`, `args` and its two options.
+fn between(value: &Value) -> VortexResult<ScalarFnRef>
+    ensures { IsRead (between (view value.now)) result }
 {
-    with_keys(value, 5, ScalarFnRef::Between(between_options(value)?))
+    let Some(options) = between_options(value) else {
+        return Err(BAD_VALUE);
+    };
+    with_keys(value, 5, ScalarFnRef::Between(options))
 }
 
-/// Returns the cast to the type under `type`, if the object has exactly the keys `enc`, `fn`, `args` and `type`.
-fn cast(value: &Value) -> Option<ScalarFnRef>
-    ensures { result ≡ cast (view value.now) }
+/// Reads the cast to the type under `type`, which isn't nested. `InvalidArgument(BadValue)` if the object doesn't have exactly the
+/// keys `enc`, `fn`, `args` and `type`.
+#[tactic(auto, using(crate::proofs::SpelledFunctionsLemmas::target_named, crate::proofs::SpelledFunctionsLemmas::no_target))]
+fn cast(alloc: Global, value: &Value) -> VortexResult<ScalarFnRef>
+    ensures { IsRead (cast (view value.now)) result }
 {
-    with_keys(value, 4, ScalarFnRef::Cast(type_at(value)?))
+    let target = type_at(alloc, value)?;
+    if target.is_nested() {
+        return Err(BAD_VALUE);
+    }
+    with_keys(value, 4, ScalarFnRef::Cast(target))
 }
 
-/// Returns the function named `name`, which isn't a binary operator, with the options that the object has for it.
-fn other_named(value: &Value, name: &str) -> Option<ScalarFnRef>
-    ensures { result ≡ other_named (view value.now) name.now }
+/// Reads the function named `name`, which isn't a binary operator, with the options that the object has for it.
+/// `InvalidArgument(BadValue)` if there is none.
+fn other_named(alloc: Global, value: &Value, name: &str) -> VortexResult<ScalarFnRef>
+    ensures { IsRead (other_named (view value.now) name.now) result }
 {
     match name {
         "between" => between(value),
@@ -96,18 +108,21 @@ fn other_named(value: &Value, name: &str) -> Option<ScalarFnRef>
         "fill_null" => without_options(value, ScalarFnRef::FillNull),
         "is_null" => without_options(value, ScalarFnRef::IsNull),
         "is_not_null" => without_options(value, ScalarFnRef::IsNotNull),
-        "cast" => cast(value),
-        _ => None,
+        "cast" => cast(alloc, value),
+        _ => Err(BAD_VALUE),
     }
 }
 
-/// Returns the function named under `fn`, with its options, if the object has exactly its keys.
-pub(crate) fn function_at(value: &Value) -> Option<ScalarFnRef>
-    ensures { result ≡ function_at (view value.now) }
+/// Reads the function named under `fn`, with its options. `InvalidArgument(BadValue)` if there is none, or if the object doesn't
+/// have exactly its keys.
+pub(crate) fn function_at(alloc: Global, value: &Value) -> VortexResult<ScalarFnRef>
+    ensures { IsRead (function_at (view value.now)) result }
 {
-    let name = text(value, "fn")?;
+    let Some(name) = text(value, "fn") else {
+        return Err(BAD_VALUE);
+    };
     match operator_named(name) {
         Some(operator) => without_options(value, ScalarFnRef::Binary(operator)),
-        None => other_named(value, name),
+        None => other_named(alloc, value, name),
     }
 }

@@ -14,6 +14,8 @@ pub(crate) enum Key {
     Chunks,
     Arrays,
     Rows,
+    Fields,
+    Storage,
 }
 
 impl Key {
@@ -30,6 +32,8 @@ impl Key {
             Key::Chunks => "chunks",
             Key::Arrays => "arrays",
             Key::Rows => "rows",
+            Key::Fields => "fields",
+            Key::Storage => "storage",
         }
     }
 }

@@ -6,14 +6,20 @@
 //! `{"enc":"slice","start":0,"stop":1,"child":{..}}`, `{"enc":"filter","mask":[true,false],"child":{..}}`,
 //! `{"enc":"masked","child":{..},"validity":{..}}`, of which `validity` may be absent, `{"enc":"is_valid","child":{..}}`,
 //! `{"enc":"fn","fn":"add","args":[{..},{..}]}`, `{"enc":"dict","codes":{..},"values":{..}}`,
-//! `{"enc":"chunked","type":"i32","chunks":[{..},{..}]}` and `{"enc":"interleave","arrays":{..},"rows":{..},"values":[{..},{..}]}`.
+//! `{"enc":"chunked","type":"i32","chunks":[{..},{..}]}`, `{"enc":"interleave","arrays":{..},"rows":{..},"values":[{..},{..}]}`,
+//! `{"enc":"struct","type":{..},"len":3,"fields":[{..},{..}],"validity":{..}}`, of which `validity` may be absent, and
+//! `{"enc":"ext","id":"year","storage":{..}}`.
 //!
-//! A type is a name, followed by `?` if the type is nullable; `null` is always nullable, and takes no `?`. A type of decimals
-//! is an object: `{"decimal":[4,2]}` has 4 digits, 2 of them behind the point, and `{"decimal":[4,2],"null":true}` is nullable.
+//! A type is a name, followed by `?` if the type is nullable; `null` is always nullable, and takes no `?`. Other types are objects:
+//! `{"decimal":[4,2]}` has 4 digits, 2 of them behind the point, `{"struct":[["x","i32"],["y","utf8?"]]}` has these fields, no two of
+//! one name, and `{"ext":["year","i32"]}` is the extension with the id `year`, which isn't empty, stored as `i32`. A type of decimals or
+//! structs is nullable with the further key `"null":true`; an extension is if its storage is.
 //!
 //! The only value of type `null` is `null`. A value of type `utf8` is a string, and one of type `binary` a string of two
 //! lower-case hexadecimal digits for each byte. A decimal is a string of its unscaled integer, without `+`, leading zeros or
-//! `-0`: `"4200"` for 42.00.
+//! `-0`: `"4200"` for 42.00. A struct is an object of exactly its fields, in any order, and an extension is spelled as its storage.
+//!
+//! Columns of structs and of extensions are spelled by `struct`, `ext` and `constant`, none by `col`, `flat` or `chunked`.
 
 ghost use Rattle.std.specs.Prelude.{◌≡◌, ◌⊎◌, Some, None, IfOk, IfErr};
 ghost use Rattle.serde_json.specs.View.{view, items_view};
@@ -111,6 +117,11 @@ fn node(alloc: Global, value: &Value, name: &str) -> VortexResult<ArrayRef>
             let values = children(alloc, value, Key::Values)?;
             nodes::interleave::read(alloc, value, arrays, rows, values)
         }
+        "struct" => {
+            let columns = children(alloc, value, Key::Fields)?;
+            nodes::structs::read(alloc, value, columns, &nulls(alloc, value)?)
+        }
+        "ext" => nodes::extension::read(alloc, value, child(alloc, value, Key::Storage)?),
         _ => Err(BAD_VALUE),
     }
 }

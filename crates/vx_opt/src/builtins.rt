@@ -12,7 +12,7 @@ use crate::optimizer::ArrayOptimizer;
 use std::alloc::Global;
 use vx_fn::{BetweenOptions, Operator, ScalarFnRef};
 use vx_tree::{ArrayRef, ConstantArray, InterleaveArray, IntoArray, ScalarFnArray};
-use vx_value::{ArgKind, DType, Scalar, VortexError, VortexResult};
+use vx_value::{ArgKind, DType, Scalar, VortexError, VortexResult, has_columns};
 
 /// The functions as methods. Each makes the node of its function over the array and optimizes it; only `zip` and
 /// `interleave` don't optimize.
@@ -98,7 +98,7 @@ impl ArrayBuiltins for ArrayRef {
             let target = fill_value.dtype().clone()?;
             return cast_to(alloc, self, target);
         }
-        if fill_value.dtype().is_nested() {
+        if !has_columns(fill_value.dtype()) {
             return Err(VortexError::InvalidArgument(ArgKind::NoRow));
         }
         let fill = ConstantArray::new_unchecked(alloc, fill_value, self.len())?;

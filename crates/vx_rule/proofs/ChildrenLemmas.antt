@@ -171,6 +171,7 @@ column_rows p (enc.bool bs) k s = plain_rows p (enc.bool bs) refl refl refl s
 column_rows p (enc.primitive q zs) k s = plain_rows p (enc.primitive q zs) refl refl refl s
 column_rows p (enc.decimals w zs) k s = plain_rows p (enc.decimals w zs) refl refl refl s
 column_rows p (enc.views rs) k s = plain_rows p (enc.views rs) refl refl refl s
+column_rows p (enc.composed l) k s = plain_rows p (enc.composed l) refl refl refl s
 column_rows p _ k s = absurd (cc (k))
 
 column_second : (p d : Data) → is_canonical d ≡ true → has_second_row p d ≡ false
@@ -179,6 +180,7 @@ column_second p (enc.bool bs) k = no_second p (enc.bool bs) refl refl
 column_second p (enc.primitive q zs) k = no_second p (enc.primitive q zs) refl refl
 column_second p (enc.decimals w zs) k = no_second p (enc.decimals w zs) refl refl
 column_second p (enc.views rs) k = no_second p (enc.views rs) refl refl
+column_second p (enc.composed l) k = no_second p (enc.composed l) refl refl
 column_second p _ k = absurd (cc (k))
 
 pub column_quiet : (i : ℕ) (c t : Tree) → is_canonical (datum c) ≡ true → HasSlot i c t → is_slice (datum t) ≡ false → IsQuiet (Some i) t

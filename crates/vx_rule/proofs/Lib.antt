@@ -13,6 +13,7 @@ pub mod PushLemmas
 mod AnswersLemmas
 mod StopsLemmas
 mod SlotsLemmas
+mod UnnestedLemmas
 mod CallsLemmas
 mod FitsLemmas
 mod QuietLemmas

@@ -1,19 +1,19 @@
 -- What each row does to the weight of its tree, and where it stands.
 use Rattle.std.proofs.Common.{◌≡◌, ℕ, zero, suc, ◌+◌, ◌-◌, ◌*◌, ◌<◌, ◌≤◌, List, [], ◌∷◌, Option, Some, None, Bool, true, false, refl, sym, subst, arith, zero-add}
-use Rattle.vx_value.specs.Types.{DataType, nullability_of}
+use Rattle.vx_value.specs.Types as type
+use Rattle.vx_value.specs.Types.{DataType, Fields, nullability_of}
 use Rattle.vx_value.specs.Values.{Value, null, boolean}
 use Rattle.vx_value.specs.declared.dtype.Nullability.{Nullability}
 use Rattle.vx_value.specs.declared.dtype.Nullability.TheVariants.{NonNullable, Nullable}
-use Rattle.vx_value.specs.Storage.{storage_of}
-use Rattle.vx_value.specs.declared.dtype.Storage.{Storage}
-use Rattle.vx_value.specs.declared.dtype.Storage.TheVariants.{Nulls}
 use Rattle.vx_tree.specs.Tree as enc
-use Rattle.vx_tree.specs.Tree.{Tree, Data, Slots, node, no_slots, absent, slot, slots_of, datum, constant_of, slice_of, filter_of, dict_of, is_canonical}
+use Rattle.vx_tree.specs.Tree.{Tree, Data, Slots, node, no_slots, absent, slot, slots_of, datum, constant_of, slice_of, filter_of, dict_of, is_canonical, last_tree}
 use Rattle.vx_tree.specs.Slots.{map_slots, present_from, present_in, count_slots, IsPresent, IsPresentAt}
 use Rattle.vx_tree.specs.Parts.{part_of, part_by, choice_of, choice_by, column_range}
-use Rattle.vx_tree.specs.Columns.{empty_of, empty_stored}
+use Rattle.vx_tree.specs.Columns.{empty_of, empty_fields}
 use Rattle.vx_tree.specs.Validities.{of_truth, of_data, validity_of}
 use Rattle.vx_tree.specs.NodeValidities.{slot_tree, on_array, constant_validity, joined, data_validity, if_nullable, node_validity, first_validity}
+use Rattle.vx_tree.specs.declared.array.layout.Layout.{Layout}
+use Rattle.vx_tree.specs.declared.array.layout.Layout.TheVariants as layout
 use Rattle.vx_tree.specs.declared.validity.Validity.{Validity}
 use Rattle.vx_tree.specs.declared.validity.Validity.TheVariants as validity
 use Rattle.vx_tree.specs.Weight.{weight, slots_weights, column_weight, total, excess}
@@ -23,12 +23,16 @@ use Rattle.vx_rule.proofs.PicksLemmas.{only_slot}
 
 -- ---- weights of what rows make
 
-empty_light : (s : Storage) (ty : DataType) → weight (empty_stored s ty) ≡ 3
-empty_light Nulls ty = refl
-empty_light _ ty = refl
+mutual
+  no_rows_light : (ty : DataType) → weight (empty_of ty) ≡ 3
+  no_rows_light (type.struct fs m) = omega (arith, fields_light fs)
+  no_rows_light (type.extension id t) = omega (arith, no_rows_light t)
+  no_rows_light type.null = refl
+  no_rows_light _ = refl
 
-no_rows_light : (ty : DataType) → weight (empty_of ty) ≡ 3
-no_rows_light ty = empty_light (storage_of ty) ty
+  fields_light : (fs : Fields) → excess (slots_weights (empty_fields fs)) ≡ 0
+  fields_light type.no_fields = refl
+  fields_light (type.field name t fs) = omega (arith, no_rows_light t, fields_light fs)
 
 part_light : (d : Data) (a b : ℕ) (t : Tree) → weight (part_by d a b t) ≤ 2 * weight t
 part_light (enc.constant v) a b t = omega (arith, weight_low t)
@@ -79,6 +83,7 @@ range_light a b k ty (enc.bool bs) ss h = omega (arith, column_light (b - a) (sl
 range_light a b k ty (enc.primitive p zs) ss h = omega (arith, column_light (b - a) (slots_weights (map_slots (part_of a b) ss)), parts_light a b ss)
 range_light a b k ty (enc.decimals w zs) ss h = omega (arith, column_light (b - a) (slots_weights (map_slots (part_of a b) ss)), parts_light a b ss)
 range_light a b k ty (enc.views rs) ss h = omega (arith, column_light (b - a) (slots_weights (map_slots (part_of a b) ss)), parts_light a b ss)
+range_light a b k ty (enc.composed l) ss h = omega (arith, column_light (b - a) (slots_weights (map_slots (part_of a b) ss)), parts_light a b ss)
 range_light a b k ty _ ss h = absurd (cc)
 
 canonical_heavy : (k : ℕ) (ty : DataType) (d : Data) (ss : Slots) → is_canonical d ≡ true → 0 < k → weight (node ty k d ss) ≡ 3 + total (slots_weights ss)
@@ -87,6 +92,7 @@ canonical_heavy k ty (enc.bool bs) ss h some = column_heavy k (slots_weights ss)
 canonical_heavy k ty (enc.primitive p zs) ss h some = column_heavy k (slots_weights ss) some
 canonical_heavy k ty (enc.decimals w zs) ss h some = column_heavy k (slots_weights ss) some
 canonical_heavy k ty (enc.views rs) ss h some = column_heavy k (slots_weights ss) some
+canonical_heavy k ty (enc.composed l) ss h some = column_heavy k (slots_weights ss) some
 canonical_heavy k ty _ ss h some = absurd (cc)
 
 -- ---- dictionaries
@@ -204,6 +210,32 @@ column_told_light (suc n) no_slots = omega arith
 column_told_light (suc n) (absent ss) = omega arith
 column_told_light (suc n) (slot t ss) = omega (arith, read_light (datum t) t)
 
+-- of a column of structs
+last_told_light : (ss : Slots) → array_weight (validity_of Nullable (last_tree ss)) ≤ 3 + excess (slots_weights ss)
+last_told_light no_slots = omega arith
+last_told_light (absent no_slots) = omega arith
+last_told_light (absent (absent ss)) = last_told_light (absent ss)
+last_told_light (absent (slot t ss)) = last_told_light (slot t ss)
+last_told_light (slot t no_slots) = omega (arith, read_light (datum t) t)
+last_told_light (slot t (absent ss)) = omega (arith, last_told_light (absent ss))
+last_told_light (slot t (slot u ss)) = omega (arith, last_told_light (slot u ss))
+
+column_excess : (n : ℕ) (ws : List ℕ) → 3 + excess ws ≤ column_weight n ws
+column_excess zero ws = omega arith
+column_excess (suc n) ws = omega (arith, excess_light ws)
+
+-- of a column that has its first slot's
+first_told_light : (n : ℕ) (ss : Slots) → FirstLight ss → IsLight (column_weight n (slots_weights ss)) (first_validity ss)
+first_told_light n no_slots f = omega (arith, column_excess n [])
+first_told_light n (absent ss) f = omega (arith, column_excess n (slots_weights ss))
+first_told_light n (slot t ss) f = omega (arith, f, column_excess n (slots_weights (slot t ss)))
+
+-- a line for each layout
+composed_light : (ty : DataType) (n : ℕ) (l : Layout) (ss : Slots) → FirstLight ss
+    → IsLight (weight (node ty n (enc.composed l) ss)) (data_validity ty n (enc.composed l) ss (first_validity ss))
+composed_light ty n layout.Struct ss f = omega (arith, last_told_light ss, column_excess n (slots_weights ss))
+composed_light ty n layout.Extension ss f = first_told_light n ss f
+
 constant_light : (w : ℕ) (x : Value) → 3 ≤ w → IsLight w (constant_validity x)
 constant_light w null l = omega (arith, l)
 constant_light w _ l = omega (arith, l)
@@ -223,6 +255,7 @@ data_light ty n (enc.bool bs) ss f = column_told_light n ss
 data_light ty n (enc.primitive p zs) ss f = column_told_light n ss
 data_light ty n (enc.decimals w zs) ss f = column_told_light n ss
 data_light ty n (enc.views rs) ss f = column_told_light n ss
+data_light ty n (enc.composed l) ss f = composed_light ty n l ss f
 
 mutual
   validity_light : (t : Tree) → IsLight (weight t) (node_validity t)

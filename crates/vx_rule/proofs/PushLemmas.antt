@@ -4,7 +4,7 @@ use Rattle.std.specs.Prelude.{option_map}
 use Rattle.std.specs.List.{AllZip}
 use Rattle.std.proofs.lemmas.List.{take_all}
 use Rattle.vx_value.specs.Types as type
-use Rattle.vx_value.specs.Types.{DataType, null}
+use Rattle.vx_value.specs.Types.{DataType}
 use Rattle.vx_value.specs.Nullabilities.{with_nullability}
 use Rattle.vx_value.specs.declared.dtype.Nullability.TheVariants.{NonNullable, Nullable}
 use Rattle.vx_fn.specs.Meanings.{widen}
@@ -36,8 +36,8 @@ use Rattle.vx_rule.proofs.RangesLemmas.{S_whole_keeps, S_empty_keeps, S1_keeps, 
 pub canonical_cost : (c : Tree) → is_canonical (datum c) ≡ true → cost c ≡ 1
 canonical_cost (node ty n d ss) h = column_cost ty n d ss h
 
-empty_canonical : (ty : DataType) → is_canonical (datum (empty_of ty)) ≡ true
-empty_canonical null = refl
+pub empty_canonical : (ty : DataType) → is_canonical (datum (empty_of ty)) ≡ true
+empty_canonical type.null = refl
 empty_canonical _ = refl
 
 -- a canonical column takes one turn, however it came about

@@ -9,7 +9,8 @@ use Rattle.std.specs.Prelude.{option_map}
 use Rattle.std.specs.List.{range_with_len}
 use Rattle.std.proofs.lemmas.List.{take-map, drop-map, take_all, length-take-le, length-drop}
 use Rattle.std.proofs.lemmas.List.FromFn.{length-range_with_len}
-use Rattle.vx_value.specs.Types.{DataType, null}
+use Rattle.vx_value.specs.Types as type
+use Rattle.vx_value.specs.Types.{DataType, Fields}
 use Rattle.vx_value.specs.Typed.{Typed}
 use Rattle.vx_value.specs.Cell.{Cell}
 use Rattle.vx_fn.specs.declared.function.ScalarFnRef.{ScalarFnRef}
@@ -20,13 +21,14 @@ use Rattle.vx_tree.specs.Tree.{is_canonical}
 use Rattle.vx_tree.specs.Tree.{is_flat}
 use Rattle.vx_tree.specs.Slots.{map_slots}
 use Rattle.vx_tree.specs.Parts.{part_of, column_range}
-use Rattle.vx_tree.specs.Columns.{empty_of}
-use Rattle.vx_tree.specs.Cells.{rows, slots_rows, cells_at, HasNoFault, IsClean}
+use Rattle.vx_tree.specs.Columns.{empty_of, empty_fields}
+use Rattle.vx_tree.specs.Cells.{rows, slots_rows, cells_at, HasNoFault, IsClean, AreClean}
 use Rattle.vx_tree.specs.Lookups.{taken}
 use Rattle.vx_tree.specs.Keeps.{KeepsExactly}
 use Rattle.vx_tree.specs.Well.{Shape, shape, shape_of, shapes, IsNode, IsNodeOf, IsWell}
 use Rattle.vx_tree.proofs.CellsLemmas.{rows_counted}
 use Rattle.vx_tree.proofs.ChoicesLemmas.{slice_twice}
+use Rattle.vx_tree.proofs.ComposedLemmas.{composed_part}
 use Rattle.vx_tree.proofs.FlatLemmas.{flat_range_kept}
 use Rattle.vx_tree.proofs.KindsLemmas.{type_in, len_in}
 use Rattle.vx_tree.proofs.NullsLemmas.{nulls_part, nulls_range}
@@ -38,9 +40,23 @@ use Rattle.vx_rule.proofs.PicksLemmas.{first_of, exactly_by, map_clean, function
 -- ---- what every row needs
 
 -- a column without rows
+empty_rows : (ty : DataType) → (dtype (empty_of ty) ≡ ty) × (len (empty_of ty) ≡ 0) × (rows (empty_of ty) ≡ [])
+empty_rows type.null = (refl, refl, refl)
+empty_rows _ = (refl, refl, refl)
+
+mutual
+  empty_clean : (ty : DataType) → IsClean (empty_of ty)
+  empty_clean (type.struct fs m) = (tt, fields_clean fs)
+  empty_clean (type.extension id t) = (tt, (empty_clean t, tt))
+  empty_clean type.null = (tt, tt)
+  empty_clean _ = (tt, tt)
+
+  fields_clean : (fs : Fields) → AreClean (empty_fields fs)
+  fields_clean type.no_fields = tt
+  fields_clean (type.field name t fs) = (empty_clean t, fields_clean fs)
+
 pub empty_known : (ty : DataType) → (dtype (empty_of ty) ≡ ty) × (len (empty_of ty) ≡ 0) × (rows (empty_of ty) ≡ []) × IsClean (empty_of ty)
-empty_known null = (refl, refl, refl, (tt, tt))
-empty_known _ = (refl, refl, refl, (tt, tt))
+empty_known ty = let known = empty_rows ty in (known.0, known.1, known.2, empty_clean ty)
 
 -- the one slot
 only : (ss : Slots) (s : Option Shape) → shapes ss ≡ s ∷ [] → (v : Option Tree) × (ss ≡ slots_of (v ∷ []))
@@ -123,6 +139,7 @@ canonical_kept cty k (enc.bool bs) ss a b w e h l = flat_kept cty k (enc.bool bs
 canonical_kept cty k (enc.primitive p zs) ss a b w e h l = flat_kept cty k (enc.primitive p zs) ss a b w refl h l
 canonical_kept cty k (enc.decimals d zs) ss a b w e h l = flat_kept cty k (enc.decimals d zs) ss a b w refl h l
 canonical_kept cty k (enc.views rs) ss a b w e h l = flat_kept cty k (enc.views rs) ss a b w refl h l
+canonical_kept cty k (enc.composed m) ss a b w e h l = (composed_part m cty k a b ss w h l).1
 canonical_kept cty k _ ss a b w e h l = absurd (cc (e))
 
 pub S3_keeps : (ty cty : DataType) (n a b k : ℕ) (d : Data) (ss : Slots) → IsWell (node ty n (enc.slice a b) (slot (node cty k d ss) no_slots))

@@ -1,19 +1,17 @@
 -- Where a slice that is pushed down stops: exactly where no row lets it pass.
 use Rattle.std.proofs.Common.{◌≡◌, ℕ, ◌+◌, ◌-◌, ◌<◌, ◌≤◌, max, List, Some, Bool, true, false, refl, sym, ap, ◌∙◌, inl, inr, arith}
-use Rattle.std.specs.Prelude.{if◌then◌else◌}
+use Rattle.std.specs.Prelude.{◌==◌, if◌then◌else◌}
 use Rattle.std.proofs.Math.Nat.{max-le, le-max_left, le-max_right}
-use Rattle.std.proofs.lemmas.Bool.{cases_Bool}
+use Rattle.std.proofs.lemmas.Bool.{cases_Bool, ne_eqb}
 use Rattle.vx_value.specs.Types.{DataType}
-use Rattle.vx_value.specs.Storage.{storage_of}
-use Rattle.vx_value.specs.declared.dtype.Storage.{Storage}
-use Rattle.vx_value.specs.declared.dtype.Storage.TheVariants.{Nulls}
 use Rattle.vx_tree.specs.Tree as enc
 use Rattle.vx_tree.specs.Tree.{Tree, Data, Slots, node, no_slots, absent, slot, height, slots_height, dtype, len, datum, constant_of, slice_of, is_canonical, is_columnar}
 use Rattle.vx_tree.specs.Slots.{map_slots}
 use Rattle.vx_tree.specs.Parts.{part_of, part_by, column_range}
-use Rattle.vx_tree.specs.Columns.{empty_of, empty_stored, data_range}
+use Rattle.vx_tree.specs.Columns.{empty_of, data_range}
 use Rattle.vx_rule.specs.Rules.{Row, IsQuiet, IsPart, S_whole, S_empty, S1, S2, S3, S4, S5, S6}
 use Rattle.vx_rule.specs.Pushes.{ranged, pushed, pushed_slots}
+use Rattle.vx_rule.proofs.PushLemmas.{empty_canonical}
 use Rattle.vx_rule.proofs.PushedLemmas.{chosen_else, ranged_part, whole_is, empty_is, function_is, masked_is, dict_is, column_is}
 
 -- ---- where no row fits
@@ -52,18 +50,16 @@ parts_low a b (slot t ss) =
     let rest = le-max_right (height t) (slots_height ss) in
     max-le (omega (arith, part_low (datum t) a b t)) (omega (arith, parts_low a b ss))
 
-empty_low : (s : Storage) (ty : DataType) → height (empty_stored s ty) ≤ 1
-empty_low Nulls ty = omega arith
-empty_low _ ty = omega arith
-
-either_low : (first second : Bool) (m : ℕ) (t u v : Tree) → height t ≤ m → height u ≤ m → height v ≤ m
+-- without the tree that stands for no rows
+either_low : (first second : Bool) (m : ℕ) (t u v : Tree) → second ≡ false → height t ≤ m → height v ≤ m
     → height (if first then t else (if second then u else v)) ≤ m
-either_low true second m t u v x y z = x
-either_low false true m t u v x y z = y
-either_low false false m t u v x y z = z
+either_low true second m t u v e x z = x
+either_low false true m t u v e x z = absurd (cc (e))
+either_low false false m t u v e x z = z
 
-ranged_low : (a b : ℕ) (t u : Tree) → height u ≤ height t + 1 → height (ranged a b t u) ≤ height t + 1
-ranged_low a b t u low = either_low _ _ (height t + 1) t (empty_of (dtype t)) u (omega arith) (omega (arith, empty_low (storage_of (dtype t)) (dtype t))) low
+ranged_low : (a b : ℕ) (t u : Tree) → a < b → height u ≤ height t + 1 → height (ranged a b t u) ≤ height t + 1
+ranged_low a b t u some low =
+    either_low _ (a == b) (height t + 1) t (empty_of (dtype t)) u (ne_eqb a b (λ e. omega (arith, some))) (omega arith) low
 
 cut_low : (test : Bool) (a b : ℕ) (ty : DataType) (n : ℕ) (d : Data) (ss : Slots)
     → height (if test then column_range a b (node ty n d ss) else slice_of a b (node ty n d ss)) ≤ height (node ty n d ss) + 1
@@ -71,36 +67,38 @@ cut_low true a b ty n d ss = omega (arith, parts_low a b ss)
 cut_low false a b ty n d ss = slice_low a b (node ty n d ss)
 
 mutual
-  pushed_low : (a b : ℕ) (t : Tree) → height (pushed a b t) ≤ height t + 1
-  pushed_low a b (node ty n (enc.constant v) no_slots) = ranged_low a b (node ty n (enc.constant v) no_slots) (constant_of v (b - a)) (omega arith)
-  pushed_low a b (node ty n (enc.slice s e) (slot c no_slots)) =
+  pushed_low : (a b : ℕ) (t : Tree) → a < b → height (pushed a b t) ≤ height t + 1
+  pushed_low a b (node ty n (enc.constant v) no_slots) some = ranged_low a b (node ty n (enc.constant v) no_slots) (constant_of v (b - a)) some (omega arith)
+  pushed_low a b (node ty n (enc.slice s e) (slot c no_slots)) some =
       let below = le-max_left (height c) 0 in
-      ranged_low a b (node ty n (enc.slice s e) (slot c no_slots)) (pushed (s + a) (s + b) c) (omega (arith, pushed_low (s + a) (s + b) c))
-  pushed_low a b (node ty n (enc.function f) ss) =
-      ranged_low a b (node ty n (enc.function f) ss) (node ty (b - a) (enc.function f) (pushed_slots a b ss)) (omega (arith, pushed_slots_low a b ss))
-  pushed_low a b (node ty n enc.masked (slot c vs)) =
+      let more : s + a < s + b = omega (arith, some) in
+      ranged_low a b (node ty n (enc.slice s e) (slot c no_slots)) (pushed (s + a) (s + b) c) some (omega (arith, pushed_low (s + a) (s + b) c more))
+  pushed_low a b (node ty n (enc.function f) ss) some =
+      ranged_low a b (node ty n (enc.function f) ss) (node ty (b - a) (enc.function f) (pushed_slots a b ss)) some (omega (arith, pushed_slots_low a b ss some))
+  pushed_low a b (node ty n enc.masked (slot c vs)) some =
       let first = le-max_left (height c) (slots_height vs) in
       let rest = le-max_right (height c) (slots_height vs) in
       let under : max (height (pushed a b c)) (slots_height (map_slots (part_of a b) vs)) ≤ max (height c) (slots_height vs) + 1 =
-      max-le (omega (arith, pushed_low a b c)) (omega (arith, parts_low a b vs)) in
-      ranged_low a b (node ty n enc.masked (slot c vs)) (node ty (b - a) enc.masked (slot (pushed a b c) (map_slots (part_of a b) vs))) (omega (arith, under))
-  pushed_low a b (node ty n enc.dict (slot c vs)) =
+      max-le (omega (arith, pushed_low a b c some)) (omega (arith, parts_low a b vs)) in
+      ranged_low a b (node ty n enc.masked (slot c vs)) (node ty (b - a) enc.masked (slot (pushed a b c) (map_slots (part_of a b) vs))) some
+      (omega (arith, under))
+  pushed_low a b (node ty n enc.dict (slot c vs)) some =
       let first = le-max_left (height c) (slots_height vs) in
       let rest = le-max_right (height c) (slots_height vs) in
       let under : max (height (pushed a b c)) (slots_height vs) ≤ max (height c) (slots_height vs) + 1 =
-      max-le (omega (arith, pushed_low a b c)) (omega (arith, rest)) in
-      ranged_low a b (node ty n enc.dict (slot c vs)) (node ty (b - a) enc.dict (slot (pushed a b c) vs)) (omega (arith, under))
-  pushed_low a b (node ty n d ss) =
-      ranged_low a b (node ty n d ss) (if is_canonical d then column_range a b (node ty n d ss) else slice_of a b (node ty n d ss))
+      max-le (omega (arith, pushed_low a b c some)) (omega (arith, rest)) in
+      ranged_low a b (node ty n enc.dict (slot c vs)) (node ty (b - a) enc.dict (slot (pushed a b c) vs)) some (omega (arith, under))
+  pushed_low a b (node ty n d ss) some =
+      ranged_low a b (node ty n d ss) (if is_canonical d then column_range a b (node ty n d ss) else slice_of a b (node ty n d ss)) some
       (cut_low (is_canonical d) a b ty n d ss)
 
-  pushed_slots_low : (a b : ℕ) (ss : Slots) → slots_height (pushed_slots a b ss) ≤ slots_height ss + 1
-  pushed_slots_low a b no_slots = omega arith
-  pushed_slots_low a b (absent ss) = pushed_slots_low a b ss
-  pushed_slots_low a b (slot t ss) =
+  pushed_slots_low : (a b : ℕ) (ss : Slots) → a < b → slots_height (pushed_slots a b ss) ≤ slots_height ss + 1
+  pushed_slots_low a b no_slots some = omega arith
+  pushed_slots_low a b (absent ss) some = pushed_slots_low a b ss some
+  pushed_slots_low a b (slot t ss) some =
       let first = le-max_left (height t) (slots_height ss) in
       let rest = le-max_right (height t) (slots_height ss) in
-      max-le (omega (arith, pushed_low a b t)) (omega (arith, pushed_slots_low a b ss))
+      max-le (omega (arith, pushed_low a b t some)) (omega (arith, pushed_slots_low a b ss some))
 
 -- ---- where one fits
 
@@ -111,10 +109,6 @@ range_canonical a b (enc.decimals w zs) = refl
 range_canonical a b (enc.views rs) = refl
 range_canonical a b _ = refl
 
-empty_canonical : (s : Storage) (ty : DataType) → is_canonical (datum (empty_stored s ty)) ≡ true
-empty_canonical Nulls ty = refl
-empty_canonical _ ty = cc
-
 -- a column is no slice
 column_passes : (a b : ℕ) (t u : Tree) → is_canonical (datum u) ≡ true → u ≡ slice_of a b t → ⊥
 column_passes a b t u h e = absurd (cc (h, ap (λ x. is_canonical (datum x)) e))
@@ -123,12 +117,12 @@ row_passes : (ty : DataType) (n a b : ℕ) (t u : Tree) (os : List ℕ) → Row 
     → pushed a b t ≡ slice_of a b t → ⊥
 row_passes ty n a b t u os (S_whole _ _ _ _ _ l z w) e = omega (arith, slice_high a b t, ap height (sym (whole_is a b t z w) ∙ e))
 row_passes ty n a b t u os (S_empty _ _ _ _ _ l z some) e =
-    column_passes a b t (empty_of (dtype t)) (empty_canonical (storage_of (dtype t)) (dtype t))
+    column_passes a b t (empty_of (dtype t)) (empty_canonical (dtype t))
     (sym (empty_is a b t z (λ first last. omega (arith, some))) ∙ e)
 row_passes ty n a b t u os (S1 _ sty _ _ _ k s x c part) e =
     let child = node sty k (enc.slice s x) (slot c no_slots) in
     let same = ap height (sym (ranged_part a b child (pushed (s + a) (s + b) c) part) ∙ e) in
-    omega (arith, slice_high a b child, le-max_left (height c) 0, pushed_low (s + a) (s + b) c, same)
+    omega (arith, slice_high a b child, le-max_left (height c) 0, pushed_low (s + a) (s + b) c (omega (arith, part.some_rows)), same)
 row_passes ty n a b t u os (S2 _ cty _ _ _ k v part) e =
     let child = node cty k (enc.constant v) no_slots in
     absurd (cc (ap datum (sym (ranged_part a b child (constant_of v (b - a)) part) ∙ e)))

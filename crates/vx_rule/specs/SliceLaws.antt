@@ -3,7 +3,7 @@ use Rattle.std.proofs.Common.{◌≡◌, true, refl}
 use Rattle.std.specs.Prelude.{◌||◌}
 use Rattle.std.proofs.lemmas.Bool.{or_right}
 use Rattle.vx_tree.specs.Tree as enc
-use Rattle.vx_tree.specs.Tree.{Data, is_slice, is_constant, is_function, is_masked, is_dict, is_nulls, is_bool, is_primitive, is_decimals, is_views, is_flat, is_canonical}
+use Rattle.vx_tree.specs.Tree.{Data, is_slice, is_constant, is_function, is_masked, is_dict, is_nulls, is_bool, is_primitive, is_decimals, is_views, is_flat, is_struct, is_extension, is_composed, is_canonical}
 use Rattle.vx_rule.specs.Rules.{lets_slice}
 
 pub slice_lets : (d : Data) → is_slice d ≡ true → lets_slice d ≡ true
@@ -32,10 +32,10 @@ column_lets d h = λ i. h i || is_slice d || is_constant d || is_function d || i
 -- ---- the canonical encodings
 
 pub nulls_canonical : (d : Data) → is_nulls d ≡ true → is_canonical d ≡ true
-nulls_canonical d h = λ i. h i || is_flat d
+nulls_canonical d h = λ i. h i || is_flat d || is_composed d
 
 flat_canonical : (d : Data) → is_flat d ≡ true → is_canonical d ≡ true
-flat_canonical d h = or_right (is_nulls d) (is_flat d) h
+flat_canonical d h = λ i. or_right (is_nulls d) (is_flat d) h i || is_composed d
 
 pub bool_canonical : (d : Data) → is_bool d ≡ true → is_canonical d ≡ true
 bool_canonical d h = flat_canonical d (λ i. h i || is_primitive d || is_decimals d || is_views d)
@@ -48,3 +48,14 @@ decimals_canonical d h = flat_canonical d (λ i. or_right (is_bool d || is_primi
 
 pub views_canonical : (d : Data) → is_views d ≡ true → is_canonical d ≡ true
 views_canonical d h = flat_canonical d (or_right (is_bool d || is_primitive d || is_decimals d) (is_views d) h)
+
+composed_canonical : (d : Data) → is_composed d ≡ true → is_canonical d ≡ true
+composed_canonical d h = or_right (is_nulls d || is_flat d) (is_composed d) h
+
+pub struct_canonical : (d : Data) → is_struct d ≡ true → is_canonical d ≡ true
+struct_canonical (enc.composed l) h = composed_canonical (enc.composed l) refl
+struct_canonical _ h = absurd (cc (h))
+
+pub extension_canonical : (d : Data) → is_extension d ≡ true → is_canonical d ≡ true
+extension_canonical (enc.composed l) h = composed_canonical (enc.composed l) refl
+extension_canonical _ h = absurd (cc (h))

@@ -264,6 +264,7 @@ module _ (i : ℕ) (t : Tree) (chunks : is_chunked (datum t) ≡ true) (opened :
 
   pub append_step : IsAppend i t
   append_step = record {
+    chunks = chunks;
     present = present_at t ready;
     column = each (λ c p t. is_columnar (datum c) ≡ true) (λ ty n c ss hole r opened. ready_column i c ss hole r);
     typed = each (λ c p t. dtype c ≡ dtype t) (λ ty n c ss hole r opened. open_typed ty n i c ss hole r opened);

@@ -29,8 +29,9 @@ pub record IsPart (b t : Tree) : Type 0 where
 abbrev pub IsWithout : ℕ → Tree → Tree → Tree → Type 0
 IsWithout i c p t = IsHole i p × (put i c p ≡ t)
 
--- slot i of t is a column whose rows come next
+-- slot i of the chunks t is a column whose rows come next
 pub record IsAppend (i : ℕ) (t : Tree) : Type 0 where
+  pub chunks : is_chunked (datum t) ≡ true
   pub present : IsPresent i t
   pub column : (c p : Tree) → IsWithout i c p t → is_columnar (datum c) ≡ true
   pub typed : (c p : Tree) → IsWithout i c p t → dtype c ≡ dtype t

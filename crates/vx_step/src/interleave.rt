@@ -30,6 +30,7 @@ pub(crate) fn interleave_or_wait(
     match first_waiting(slots) {
         Some(slot) => Ok(Answer::Wait(slot, SlotTarget::Columnar)),
         None => {
+            array.well_formed_tree();
             let columns = columns_of(alloc, slots)?;
             match interleave_columns(alloc, columns.as_slice()) {
                 Ok(column) => {

@@ -34,13 +34,14 @@ pub(crate) enum Answer {
 /// # Errors
 ///
 /// `Fault` only if a row of `array`, or of a node in it, has no value; `OutOfMemory`.
-#[tactic(auto, using(crate::proofs::StepsLemmas::constant_done))]
+#[tactic(auto, using(crate::proofs::StepsLemmas::constant_done, crate::proofs::DictLemmas::values_unnested))]
 pub(crate) fn step_of(alloc: Global, array: &ArrayRef) -> VortexResult<Answer>
     requires open { is_canonical (datum array.now) ≡ false }
     requires unchunked { is_chunked (datum array.now) ≡ false }
     ensures ok { IfOk result (IsAnswer array.now) }
     ensures err { IfErr result (IsFailed array.now) }
 {
+    array.well_formed_tree();
     match array.kind() {
         ArrayKind::Constant(_) => {
             let Some(constant) = array.as_opt::<Constant>() else {

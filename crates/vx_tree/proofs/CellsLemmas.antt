@@ -12,7 +12,7 @@ use Rattle.vx_value.specs.Values.{null, boolean, integer, bytes, decimal}
 use Rattle.vx_value.specs.Storage.{storage_of}
 use Rattle.vx_tree.specs.ColumnTypes.{bytes_type, scale_of, decimal_type}
 use Rattle.vx_tree.specs.Tree as enc
-use Rattle.vx_tree.specs.Tree.{Tree, Data, Slots, node, no_slots, absent, slot, len, types_in}
+use Rattle.vx_tree.specs.Tree.{Tree, Data, Slots, node, no_slots, absent, slot, len, types_in, laid_out}
 use Rattle.vx_value.specs.Cell.{Cell, value, fault}
 use Rattle.vx_mask.specs.Places.{true_count, chosen}
 use Rattle.vx_mask.proofs.PlacesLemmas.{length-chosen}
@@ -23,6 +23,7 @@ use Rattle.vx_tree.specs.Cells.{chained, row_at, rows, slots_rows, node_cells, c
 use Rattle.vx_tree.specs.Views.{bytes_at}
 use Rattle.vx_tree.specs.declared.views.view.View.{View}
 use Rattle.vx_tree.specs.Well.{Shape, shape, shapes, IsValidity, IsFlat, IsNode, IsWell, AreWell}
+use Rattle.vx_tree.proofs.LayoutsLemmas.{made_counted}
 
 -- of each slot that holds a tree, as many cells as it has rows; of one that doesn't, none
 abbrev AreCounted : List (List Cell) → List (Option Shape) → Type 0
@@ -134,6 +135,7 @@ node_counted ty n (enc.decimals w zs) css ss h k =
 node_counted ty n (enc.views rs) css ss h k =
     let cell : View → Cell = λ v. value (bytes (bytes_at rs.buffers v)) in
     flat_counted (bytes_type (storage_of ty)) _ ty n css ss (map cell rs.views) h.0 k (length-map rs.views cell)
+node_counted ty n (enc.composed l) css ss h k = made_counted (laid_out l).row n css
 
 mutual
   pub rows_counted : (t : Tree) → IsWell t → length (rows t) ≡ len t

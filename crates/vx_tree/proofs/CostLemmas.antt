@@ -42,6 +42,7 @@ column_cost ty n (enc.bool bs) ss h = omega (arith, unpaid put_back ss)
 column_cost ty n (enc.primitive p zs) ss h = omega (arith, unpaid put_back ss)
 column_cost ty n (enc.decimals w zs) ss h = omega (arith, unpaid put_back ss)
 column_cost ty n (enc.views rs) ss h = omega (arith, unpaid put_back ss)
+column_cost ty n (enc.composed l) ss h = omega (arith, unpaid put_back ss)
 column_cost ty n _ ss h = absurd (cc)
 
 pub column_reach : (ty : DataType) (n : ℕ) (d : Data) (ss : Slots) → is_canonical d ≡ true → reach (node ty n d ss) ≡ 1
@@ -50,6 +51,7 @@ column_reach ty n (enc.bool bs) ss h = refl
 column_reach ty n (enc.primitive p zs) ss h = refl
 column_reach ty n (enc.decimals w zs) ss h = refl
 column_reach ty n (enc.views rs) ss h = refl
+column_reach ty n (enc.composed l) ss h = refl
 column_reach ty n _ ss h = absurd (cc)
 
 -- of a masked node its child alone counts

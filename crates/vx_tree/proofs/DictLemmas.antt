@@ -1,9 +1,13 @@
 -- Dictionaries: their parts, and how they are opened.
 use Rattle.std.proofs.Common.{◌≡◌, ◌≢◌, ℕ, List, [], ◌∷◌, length, get_or, true, Option, Some, None, refl, sym, ap, subst, ◌∙◌, arith}
-use Rattle.std.specs.Prelude.{option_map}
+use Rattle.std.specs.Prelude.{option_map, Bool, false, not}
 use Rattle.std.specs.Cmp.{unsigned_Decides}
 use Rattle.vx_value.specs.Types.{DataType, same_type_Decides}
 use Rattle.vx_value.specs.View.{type_of}
+use Rattle.vx_value.specs.Storage.{is_nested}
+use Rattle.vx_value.proofs.NullabilitiesLemmas.{nested_kept}
+use Rattle.vx_tree.specs.Support.{supports}
+use Rattle.vx_tree.proofs.SupportLemmas.{unnested_supports}
 use Rattle.vx_value.specs.declared.error.VortexError.TheVariants.{InvalidArgument}
 use Rattle.vx_value.specs.declared.error.ArgKind.TheVariants.{SlotCount, SlotMissing}
 use Rattle.vx_fn.specs.Meanings.{widen}
@@ -94,3 +98,12 @@ kind_dict n well z w c v e g s i r =
     let typed : h.1 ≡ dtype v = sym (ap type_in o.4) ∙ ap dtype values_are in
     let counted : n.len ≡ len c = sym (ap len_in o.3) ∙ ap len codes_are in
     ((λ j. node ((h.5 ∙ (λ k. widen (coded k) (typed k))) j) (counted j) (e j) (slots_of (slots_are j))), well)
+
+-- ---- its type, which isn't nested if its values' isn't
+
+unset : (b : Bool) → not b ≡ true → b ≡ false
+unset true h = absurd (cc)
+unset false h = refl
+
+pub named_supported : (ty c s : DataType) → ty ≡ widen c s → not (is_nested s) ≡ true → supports enc.dict ty ≡ true
+named_supported ty c s typed h = unnested_supports enc.dict ty (ap is_nested typed ∙ nested_kept _ s ∙ unset (is_nested s) h)

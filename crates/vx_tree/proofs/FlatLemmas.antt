@@ -79,6 +79,11 @@ no_rows_node (type.utf8 m) h u = ((None, refl, refl, refl, tt), refl)
 no_rows_node (type.binary m) h u = ((None, refl, refl, refl, tt), refl)
 no_rows_node _ h u = absurd (false≢true (sym u))
 
-pub no_rows_column : (ty : DataType) → storage_of ty ≢ Nulls → column ty 0 (no_rows (storage_of ty)) None ≡ empty_of ty
-no_rows_column type.null h = absurd (h refl)
-no_rows_column _ h = refl
+pub no_rows_column : (ty : DataType) → storage_of ty ≢ Nulls → is_nested ty ≡ false → column ty 0 (no_rows (storage_of ty)) None ≡ empty_of ty
+no_rows_column type.null h u = absurd (h refl)
+no_rows_column (type.bool m) h u = refl
+no_rows_column (type.primitive p m) h u = refl
+no_rows_column (type.decimal p s m) h u = refl
+no_rows_column (type.utf8 m) h u = refl
+no_rows_column (type.binary m) h u = refl
+no_rows_column _ h u = absurd (false≢true (sym u))

@@ -2,9 +2,12 @@
 use Rattle.std.proofs.Common.{◌≡◌, ℕ, pos, zero, suc, ◌-◌, Bool, true, false, List, [], ◌∷◌, ◌++◌, take, drop, map, replicate, get_or, refl, ◌∙◌, ap, subst}
 use Rattle.std.specs.List.{range_with_len}
 use Rattle.vx_value.specs.Types.{DataType}
-use Rattle.vx_value.specs.Values.{Value, null, boolean, integer}
+use Rattle.vx_value.specs.Values.{Value, null, boolean, integer, fields}
 use Rattle.vx_tree.specs.Tree as enc
-use Rattle.vx_tree.specs.Tree.{Tree, Data, Slots, node, no_slots, absent, slot, dtype, len, types_in}
+use Rattle.vx_tree.specs.Tree.{Tree, Data, Slots, node, no_slots, absent, slot, dtype, len, types_in, laid_out, with_field, without_fields, struct_row, extension_row}
+use Rattle.vx_tree.specs.Layouts.{heads, tails, row_by_row}
+use Rattle.vx_tree.specs.declared.array.layout.Layout.{Layout}
+use Rattle.vx_tree.specs.declared.array.layout.Layout.TheVariants as layout
 use Rattle.vx_value.specs.Cell.{Cell, value, fault}
 use Rattle.vx_mask.specs.Places.{chosen}
 use Rattle.vx_fn.specs.Apply.{on_values, value_of}
@@ -190,6 +193,66 @@ drop_all_keep (suc k) [] (d ∷ ds) h = absurd h
 drop_all_keep (suc k) (c ∷ cs) [] h = absurd h
 drop_all_keep (suc k) (c ∷ cs) (d ∷ ds) h = drop_all_keep k cs ds h.1
 
+-- of rows that are made of the slots' rows
+heads_keep : (css dss : List (List Cell)) → AllKeep css dss → AllKeep (heads css) (heads dss)
+heads_keep [] [] h = tt
+heads_keep [] (d ∷ ds) h = absurd h
+heads_keep (c ∷ cs) [] h = absurd h
+heads_keep (c ∷ cs) (d ∷ ds) h = (take_keep 1 c d h.0, heads_keep cs ds h.1)
+
+tails_keep : (css dss : List (List Cell)) → AllKeep css dss → AllKeep (tails css) (tails dss)
+tails_keep [] [] h = tt
+tails_keep [] (d ∷ ds) h = absurd h
+tails_keep (c ∷ cs) [] h = absurd h
+tails_keep (c ∷ cs) (d ∷ ds) h = (drop_keep 1 c d h.0, tails_keep cs ds h.1)
+
+abbrev RowKeeps : (List (List Cell) → Cell) → Type 0
+RowKeeps made = (css dss : List (List Cell)) → AllKeep css dss → CellKeeps (made css) (made dss)
+
+made_keep : (made : List (List Cell) → Cell) → RowKeeps made → (n : ℕ) (css dss : List (List Cell)) → AllKeep css dss
+    → RowsKeep (row_by_row made n css) (row_by_row made n dss)
+made_keep made k zero css dss h = tt
+made_keep made k (suc n) css dss h =
+    (k (heads css) (heads dss) (heads_keep css dss h), made_keep made k n (tails css) (tails dss) (tails_keep css dss h))
+
+-- of fields and a validity
+one_kept : (v : Value) (ds : List Cell) → RowsKeep (value v ∷ []) ds → ds ≡ value v ∷ []
+one_kept v [] h = absurd h
+one_kept v (d ∷ []) h = ap (λ c. c ∷ []) h.0
+one_kept v (d ∷ e ∷ ds) h = absurd h.1
+
+with_field_keep : (cs ds : List Cell) (x y : Cell) → RowsKeep cs ds → CellKeeps x y → CellKeeps (with_field cs x) (with_field ds y)
+with_field_keep (value v ∷ []) ds (value (fields vs)) y h k = λ i. with_field (one_kept v ds h i) (k i)
+with_field_keep (value v ∷ []) ds (value null) y h k = λ i. with_field (one_kept v ds h i) (k i)
+with_field_keep _ ds _ y h k = tt
+
+without_fields_keep : (vs ws : List Cell) → RowsKeep vs ws → CellKeeps (without_fields vs) (without_fields ws)
+without_fields_keep [] [] h = refl
+without_fields_keep [] (w ∷ ws) h = absurd h
+without_fields_keep (v ∷ vs) [] h = absurd h
+without_fields_keep (v ∷ vs) (w ∷ ws) h = valid_cell_keep v w _ _ h.0 refl
+
+struct_row_keep : RowKeeps struct_row
+struct_row_keep [] dss h = tt
+struct_row_keep (c ∷ css) [] h = absurd h
+struct_row_keep (c ∷ []) (d ∷ []) h = without_fields_keep c d h.0
+struct_row_keep (c ∷ []) (d ∷ e ∷ dss) h = absurd h.1
+struct_row_keep (c ∷ b ∷ css) (d ∷ []) h = absurd h.1
+struct_row_keep (c ∷ b ∷ css) (d ∷ e ∷ dss) h = with_field_keep c d _ _ h.0 (struct_row_keep (b ∷ css) (e ∷ dss) h.1)
+
+-- of a storage
+extension_row_keep : RowKeeps extension_row
+extension_row_keep [] dss h = tt
+extension_row_keep ([] ∷ css) dss h = tt
+extension_row_keep ((c ∷ cs) ∷ css) [] h = absurd h
+extension_row_keep ((c ∷ cs) ∷ css) ([] ∷ dss) h = absurd h.0
+extension_row_keep ((c ∷ cs) ∷ css) ((d ∷ ds) ∷ dss) h = h.0.0
+
+-- a line for each layout
+layout_row_keep : (l : Layout) → RowKeeps (laid_out l).row
+layout_row_keep layout.Struct = struct_row_keep
+layout_row_keep layout.Extension = extension_row_keep
+
 -- a node keeps what its slots keep: a line for each encoding, and one for those that hold their rows themselves
 pub node_mono : (ty : DataType) (n : ℕ) (d : Data) (tys : List DataType) (css dss : List (List Cell)) → AllKeep css dss
     → RowsKeep (node_cells ty n d tys css) (node_cells ty n d tys dss)
@@ -205,6 +268,7 @@ node_mono ty n enc.chunked tys css dss h = chained_keep css dss h
 node_mono ty n enc.interleave tys css dss h =
     paired_keep _ _ _ _ _ _ (drop_all_keep 2 css dss h) (at_keep css dss 0 h) (at_keep css dss 1 h)
 node_mono ty n enc.nulls tys css dss h = rows_refl (replicate n (value null))
+node_mono ty n (enc.composed l) tys css dss h = made_keep (laid_out l).row (layout_row_keep l) n css dss h
 node_mono ty n _ tys css dss h = column_keep css dss _ h
 
 -- the laws, whatever the encodings

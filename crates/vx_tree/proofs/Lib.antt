@@ -2,6 +2,7 @@ pub mod SlotsLemmas
 pub mod SuspendedLemmas
 pub mod ColumnTypesLemmas
 pub mod KindsLemmas
+pub mod LayoutsLemmas
 pub mod CellsLemmas
 pub mod ChoicesLemmas
 pub mod KeepsLemmas
@@ -11,6 +12,11 @@ pub mod CostLemmas
 pub mod WeightLemmas
 pub mod TypedLemmas
 pub mod ReplacementsLemmas
+pub mod FieldNamesLemmas
+pub mod EmptyLemmas
+pub mod SupportLemmas
+pub mod StructSlotsLemmas
+pub mod StructToldLemmas
 pub mod NativesLemmas
 pub mod DecimalNumbersLemmas
 mod VecsLemmas
@@ -31,10 +37,14 @@ pub mod DictLemmas
 pub mod ChunkedLemmas
 pub mod InterleaveLemmas
 pub mod ScalarFnValidityLemmas
+pub mod StructLemmas
+pub mod ExtensionLemmas
 pub mod RefusedExactlyLemmas
 pub mod NodeValiditiesLemmas
 pub mod SliceRowsLemmas
 pub mod ColumnsLemmas
 pub mod FlatLemmas
 pub mod PartsLemmas
+pub mod ComposedLemmas
+pub mod ComposedSlicesLemmas
 pub mod NullsLemmas

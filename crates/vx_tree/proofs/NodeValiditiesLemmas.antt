@@ -14,13 +14,15 @@ use Rattle.vx_value.specs.declared.dtype.Nullability.TheVariants.{NonNullable, N
 use Rattle.vx_value.specs.Storage.{storage_of}
 use Rattle.vx_tree.specs.ColumnTypes.{bytes_type, scale_of, decimal_type}
 use Rattle.vx_tree.specs.Tree as enc
-use Rattle.vx_tree.specs.Tree.{Tree, Data, Slots, node, no_slots, absent, slot, slots_of, len, column, constant_of, types_in}
+use Rattle.vx_tree.specs.Tree.{Tree, Data, Slots, node, no_slots, absent, slot, slots_of, len, column, constant_of, types_in, laid_out}
 use Rattle.vx_tree.specs.Well.{shape_of, shapes, IsValidity, IsFlat, IsNode, IsWell, AreWell}
 use Rattle.vx_tree.specs.Cells.{rows, node_cells, cells_at, valid_cells, shown_cell}
 use Rattle.vx_tree.specs.Keeps.{RowsKeep}
 use Rattle.vx_tree.specs.Validities.{validity_of, HasRows}
 use Rattle.vx_tree.specs.Views.{ViewedRows, bytes_at}
 use Rattle.vx_tree.specs.declared.views.view.View.{View}
+use Rattle.vx_tree.specs.declared.array.layout.Layout.{Layout}
+use Rattle.vx_tree.specs.declared.array.layout.Layout.TheVariants as layout
 use Rattle.vx_tree.specs.NodeValidities.{slot_tree, constant_validity, data_validity, if_nullable, node_validity, first_validity, IsValidityFor}
 use Rattle.vx_tree.specs.declared.validity.Validity.{Validity}
 use Rattle.vx_tree.specs.declared.validity.Validity.TheVariants as validity
@@ -90,6 +92,13 @@ module _ (ty : DataType) (n : ℕ) (xs : List (Option Tree)) where
       column_node (bytes_type (storage_of ty)) ty (length rs.views) n (enc.views rs) (map (λ v. value (read v)) rs.views) xs (λ tys css. refl)
       (length-map rs.views (λ v. value (read v))) (stored_valid read (λ v. refl) rs.views) h.0
 
+-- a line for each layout
+layout_tells : (l : Layout) (ty : DataType) (n : ℕ) (xs : List (Option Tree)) → IsNode ty n (enc.composed l) (shapes (slots_of xs)) → AreWell (slots_of xs)
+    → nullability_of ty ≡ Nullable → FirstTells (slots_of xs)
+    → Tells (node ty n (enc.composed l) (slots_of xs)) ((laid_out l).validity (slots_of xs) (first_validity (slots_of xs)))
+layout_tells layout.Struct ty n xs h w e f = Rattle.vx_tree.proofs.StructLemmas.struct_node ty n (slots_of xs) h w e
+layout_tells layout.Extension ty n xs h w e f = Rattle.vx_tree.proofs.ExtensionLemmas.extension_node ty n xs h w f
+
 -- of a nullable node: a line for each encoding
 data_tells : (ty : DataType) (n : ℕ) (d : Data) (xs : List (Option Tree)) → IsNode ty n d (shapes (slots_of xs)) → AreWell (slots_of xs)
     → nullability_of ty ≡ Nullable → FirstTells (slots_of xs)
@@ -108,6 +117,7 @@ data_tells ty n (enc.bool bs) xs h w e f = bool_node ty n xs bs h w e
 data_tells ty n (enc.primitive p zs) xs h w e f = primitive_node ty n xs p zs h w e
 data_tells ty n (enc.decimals d zs) xs h w e f = decimals_node ty n xs d zs h w e
 data_tells ty n (enc.views rs) xs h w e f = views_node ty n xs rs h w e
+data_tells ty n (enc.composed l) xs h w e f = layout_tells l ty n xs h w e f
 
 node_tells : (ty : DataType) (n : ℕ) (d : Data) (ss : Slots) (m : Nullability) → nullability_of ty ≡ m → IsWell (node ty n d ss) → FirstTells ss
     → Tells (node ty n d ss) (if_nullable m (data_validity ty n d ss (first_validity ss)))

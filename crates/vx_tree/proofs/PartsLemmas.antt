@@ -1,17 +1,22 @@
 -- Rows of a tree as its parent's slot holds them, and the range of a canonical column.
-use Rattle.std.proofs.Common.{◌≡◌, ◌≤◌, ℕ, ◌-◌, [], ◌∷◌, Option, Some, None, true, refl, sym, ap, ◌∙◌, subst}
+use Rattle.std.proofs.Common.{◌≡◌, ◌≤◌, ℕ, zero, suc, ◌-◌, Bool, List, [], ◌∷◌, length, replicate, Option, Some, None, true, refl, sym, ap, ◌∙◌, subst}
 use Rattle.std.specs.Prelude.{option_map}
 use Rattle.vx_value.specs.Types.{DataType}
+use Rattle.vx_value.specs.Values.{Value}
+use Rattle.vx_value.specs.Cell.{value}
+use Rattle.vx_mask.specs.Places.{true_count}
+use Rattle.vx_mask.proofs.ChosenLemmas.{chosen-replicate}
 use Rattle.vx_tree.specs.Tree as enc
-use Rattle.vx_tree.specs.Tree.{Tree, Data, node, slots, slots_of, dtype, len, datum, column, slice_of, constant_of, is_flat}
+use Rattle.vx_tree.specs.Tree.{Tree, Data, node, slots, slots_of, dtype, len, datum, column, slice_of, filter_of, constant_of, is_flat}
+use Rattle.vx_tree.specs.Cells.{HasNoFault}
 use Rattle.vx_tree.specs.Slots.{map_slots}
 use Rattle.vx_tree.specs.Well.{IsWell, AreWell, IsNode, shapes}
 use Rattle.vx_tree.specs.Columns.{data_range}
 use Rattle.vx_tree.specs.Keeps.{KeepsExactly}
-use Rattle.vx_tree.specs.Parts.{part_of, column_range}
+use Rattle.vx_tree.specs.Parts.{part_of, choice_of, column_range}
 use Rattle.vx_tree.specs.Validities.{HasRange, IsValidityPart}
 use Rattle.vx_tree.proofs.SlotsLemmas.{no_shapes}
-use Rattle.vx_tree.proofs.KeepsLemmas.{exactly_refl}
+use Rattle.vx_tree.proofs.KeepsLemmas.{exactly_refl, column_exactly}
 use Rattle.vx_tree.proofs.ValiditiesLemmas.{constant_part}
 use Rattle.vx_tree.proofs.FlatLemmas.{flat_has_range, flat_range_kept}
 
@@ -21,6 +26,18 @@ part_exact a b (node ty n (enc.constant v) ss) w h k =
     subst (λ t. KeepsExactly (slice_of a b t) (constant_of v (b - a))) (λ i. node (sym w.0.0 i) n (enc.constant v) (sym (no_shapes ss w.0.2) i))
     (constant_part v n a b h k)
 part_exact a b (node ty n d ss) w h k = exactly_refl (slice_of a b (node ty n d ss))
+
+copies_whole : (n : ℕ) (v : Value) → HasNoFault (replicate n (value v))
+copies_whole zero v = tt
+copies_whole (suc n) v = copies_whole n v
+
+-- a choice has the rows of the filter
+pub choice_exact : (bits : List Bool) (t : Tree) → IsWell t → length bits ≡ len t → KeepsExactly (filter_of bits t) (choice_of bits t)
+choice_exact bits (node ty n (enc.constant v) ss) w h =
+    subst (λ t. KeepsExactly (filter_of bits t) (constant_of v (true_count bits))) (λ i. node (sym w.0.0 i) n (enc.constant v) (sym (no_shapes ss w.0.2) i))
+    (column_exactly (filter_of bits (constant_of v n)) (constant_of v (true_count bits)) refl refl (chosen-replicate bits n (value v.value) h)
+    (copies_whole (true_count bits) v.value, tt))
+choice_exact bits (node ty n d ss) w h = exactly_refl (filter_of bits (node ty n d ss))
 
 in_validity : (a b : ℕ) (v w : Option Tree) → AreWell (slots_of (v ∷ [])) → HasRange a b v → w ≡ option_map (part_of a b) v → IsValidityPart a b v w
 in_validity a b None w g h e = e

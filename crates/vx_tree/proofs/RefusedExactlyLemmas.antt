@@ -10,9 +10,11 @@ use Rattle.vx_value.specs.declared.id.Id.{Id}
 use Rattle.vx_value.proofs.NullabilitiesLemmas.{alike_but_nullability, same_but_set}
 use Rattle.vx_tree.specs.ColumnTypes.{bytes_type, decimal_type, are_decimals_of, are_views_of}
 use Rattle.vx_tree.specs.Tree as enc
-use Rattle.vx_tree.specs.Tree.{Data, column, id_of, constant_refusal, nulls_refusal}
+use Rattle.vx_tree.specs.Tree.{Data, column, id_of, constant_refusal, nulls_refusal, laid_out}
 use Rattle.vx_tree.specs.Well.{IsFlat, IsNode, Shape}
 use Rattle.vx_tree.specs.Refusals.{tested_refusal, refusal, column_refusal}
+use Rattle.vx_tree.specs.declared.array.layout.Layout.{Layout}
+use Rattle.vx_tree.specs.declared.array.layout.Layout.TheVariants as layout
 use Rattle.vx_tree.proofs.ConditionsLemmas.{none_refused, first_none, second_none, unless_none, none_unless}
 use Rattle.vx_tree.proofs.RefusalsLemmas.{validity_kept, validity_taken}
 
@@ -69,6 +71,15 @@ nulls_taken ty n ss h =
     let e : nulls_refusal ty [] ≡ None = none_unless _ _ ((same_type_Decides ty null).1 h.0) in
     subst (λ l. nulls_refusal ty l ≡ None) (sym h.1) e
 
+-- a line for each layout
+layout_kept : (l : Layout) (ty : DataType) (n : ℕ) (ss : List (Option Shape)) → (laid_out l).refusal ty n ss ≡ None → IsNode ty n (enc.composed l) ss
+layout_kept layout.Struct = Rattle.vx_tree.proofs.StructLemmas.kept
+layout_kept layout.Extension = Rattle.vx_tree.proofs.ExtensionLemmas.kept
+
+layout_taken : (l : Layout) (ty : DataType) (n : ℕ) (ss : List (Option Shape)) → IsNode ty n (enc.composed l) ss → (laid_out l).refusal ty n ss ≡ None
+layout_taken layout.Struct = Rattle.vx_tree.proofs.StructLemmas.taken
+layout_taken layout.Extension = Rattle.vx_tree.proofs.ExtensionLemmas.taken
+
 -- parts that aren't refused meet the conditions, and those that meet them aren't refused under their own id: a line for each encoding
 decided : (ty : DataType) (n : ℕ) (d : Data) (ss : List (Option Shape)) →
     ((i : Id) → refusal i ty n d ss ≡ None → IsNode ty n d ss) × (IsNode ty n d ss → refusal (id_of d) ty n d ss ≡ None)
@@ -86,6 +97,7 @@ decided ty n (enc.bool bs) ss = (λ i. column_kept ty n (bool NonNullable) _ ss,
 decided ty n (enc.primitive p zs) ss = (λ i. column_kept ty n (primitive p NonNullable) _ ss, column_taken ty n (primitive p NonNullable) _ ss)
 decided ty n (enc.decimals w zs) ss = tested_decided ty n (decimal_type (storage_of ty)) (length zs) (are_decimals_of (storage_of ty) w zs) ss
 decided ty n (enc.views rs) ss = tested_decided ty n (bytes_type (storage_of ty)) (length rs.views) (are_views_of (storage_of ty) rs) ss
+decided ty n (enc.composed l) ss = (λ i. layout_kept l ty n ss, layout_taken l ty n ss)
 
 pub node_unless_refused : (i : Id) (ty : DataType) (n : ℕ) (d : Data) (ss : List (Option Shape)) →
     refusal i ty n d ss ≡ None → IsNode ty n d ss

@@ -17,7 +17,7 @@ use Rattle.vx_tree.proofs.SlotsLemmas.{slot_filled, count_slots}
 
 -- ---- what isn't refused has the same shapes
 
-same_shape : (i : ℕ) (s r : Option Shape) →
+pub same_shape : (i : ℕ) (s r : Option Shape) →
     kept_refusal Presence i s r ≡ None → kept_refusal Dtype i s r ≡ None → kept_refusal Len i s r ≡ None → s ≡ r
 same_shape i None None p d l = refl
 same_shape i None (Some r) p d l = absurd (cc)

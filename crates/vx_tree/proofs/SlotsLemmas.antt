@@ -265,12 +265,12 @@ slots_counted (Some t ∷ xs) = omega (arith, slots_counted xs)
 
 pub name_past : (t : Tree) (xs : List (Option Tree)) (i : ℕ) → slots_of xs ≡ slots t → length xs ≤ i → None ≡ name_at i t
 name_past (node ty n d ss) xs i e h =
-    sym (ap (λ b. if b then (meaning d).name i else None) (le-ltb i (slots_in ss) (omega (arith, h, ap slots_in e, slots_counted xs))))
+    sym (ap (λ b. if b then (meaning d).name ty i else None) (le-ltb i (slots_in ss) (omega (arith, h, ap slots_in e, slots_counted xs))))
 
 pub name_within : (t : Tree) (xs : List (Option Tree)) (d : Data) (i : ℕ) (x : Option (List ℕ)) → slots_of xs ≡ slots t → d ≡ datum t → i < length xs
-    → x ≡ (meaning d).name i → x ≡ name_at i t
+    → x ≡ (meaning d).name (dtype t) i → x ≡ name_at i t
 name_within (node ty n e ss) xs d i x h k l m =
-    m ∙ ap (λ z. (meaning z).name i) k
-    ∙ sym (ap (λ b. if b then (meaning e).name i else None) (lt-ltb i (slots_in ss) (omega (arith, l, ap slots_in h, slots_counted xs))))
+    m ∙ ap (λ z. (meaning z).name ty i) k
+    ∙ sym (ap (λ b. if b then (meaning e).name ty i else None) (lt-ltb i (slots_in ss) (omega (arith, l, ap slots_in h, slots_counted xs))))
 
 pub ruleset names = (name_past, name_within)

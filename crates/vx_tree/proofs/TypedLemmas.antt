@@ -1,7 +1,7 @@
 -- What the cells of a well-formed tree are: null only if its type is nullable, and else values of the kind that the type stores.
-use Rattle.std.proofs.Common.{◌≡◌, ℕ, zero, suc, ℤ, pos, drop, List, [], ◌∷◌, length, map, get_or, Bool, true, false, Option, Some, None}
+use Rattle.std.proofs.Common.{◌≡◌, ℕ, zero, suc, ℤ, pos, take, drop, List, [], ◌∷◌, length, map, get_or, Bool, true, false, Option, Some, None}
 use Rattle.std.proofs.Common.{refl, sym, ap, subst, ◌∙◌, if◌then◌else◌}
-use Rattle.std.specs.Prelude.{◌==◌, ◌&&◌, ◌-◌, is_some, option_map}
+use Rattle.std.specs.Prelude.{◌==◌, ◌&&◌, ◌++◌, is_some, option_map}
 use Rattle.std.proofs.Math.Bool.{not}
 use Rattle.std.specs.Cmp.{unsigned_Decides, first_so, second_so}
 use Rattle.std.specs.Str.{bytes_eq}
@@ -61,7 +61,11 @@ use Rattle.vx_fn.proofs.LogicLemmas.{Knows, and_knows, or_knows}
 use Rattle.vx_fn.proofs.MeaningsLemmas.{nullable_by_argument}
 use Rattle.vx_tree.specs.ColumnTypes.{decimal_type, scale_of, bytes_type}
 use Rattle.vx_tree.specs.Tree as enc
-use Rattle.vx_tree.specs.Tree.{Tree, Data, Slots, node, no_slots, absent, slot, dtype, IsMasked, IsDict, types_in}
+use Rattle.vx_tree.specs.Tree.{Tree, Data, Slots, node, no_slots, absent, slot, dtype, IsMasked, IsDict, types_in, laid_out}
+use Rattle.vx_tree.specs.Tree.{fields_shapes, with_field, struct_row, extension_row}
+use Rattle.vx_tree.specs.Layouts.{heads, tails, row_by_row}
+use Rattle.vx_tree.specs.declared.array.layout.Layout.{Layout}
+use Rattle.vx_tree.specs.declared.array.layout.Layout.TheVariants as layout
 use Rattle.vx_tree.specs.Lookups.{taken, taken_cells, paired, paired_cells}
 use Rattle.vx_tree.specs.SlotTypes.{of_lengths}
 use Rattle.vx_tree.specs.Cells.{rows, slots_rows, node_cells, cells_at, chained, row_at, valid_cell, valid_cells, shown_cell}
@@ -671,7 +675,100 @@ third_fits [] s r more h = absurd h
 third_fits (cs ∷ []) s r more h = absurd h.1
 third_fits (cs ∷ ds ∷ css) s r more h = h.1.1
 
--- a line for each encoding
+-- ---- rows that are made of the slots' rows
+
+heads_fit : (css : List (List Cell)) (ss : List (Option Shape)) → AllZip SlotFits css ss → AllZip SlotFits (heads css) ss
+heads_fit [] [] h = tt
+heads_fit [] (s ∷ ss) h = absurd h
+heads_fit (cs ∷ css) [] h = absurd h
+heads_fit (cs ∷ css) (None ∷ ss) h = (ap (take 1) h.0, heads_fit css ss h.1)
+heads_fit (cs ∷ css) (Some (shape ty n) ∷ ss) h = (All-take (CellFits ty) 1 cs h.0, heads_fit css ss h.1)
+
+tails_fit : (css : List (List Cell)) (ss : List (Option Shape)) → AllZip SlotFits css ss → AllZip SlotFits (tails css) ss
+tails_fit [] [] h = tt
+tails_fit [] (s ∷ ss) h = absurd h
+tails_fit (cs ∷ css) [] h = absurd h
+tails_fit (cs ∷ css) (None ∷ ss) h = (ap (drop 1) h.0, tails_fit css ss h.1)
+tails_fit (cs ∷ css) (Some (shape ty n) ∷ ss) h = (All-drop (CellFits ty) 1 cs h.0, tails_fit css ss h.1)
+
+-- a row of slots like these is of the type
+abbrev RowFits : DataType → List (Option Shape) → (List (List Cell) → Cell) → Type 0
+RowFits ty ss made = (css : List (List Cell)) → AllZip SlotFits css ss → CellFits ty (made css)
+
+made_fit : (ty : DataType) (ss : List (Option Shape)) (made : List (List Cell) → Cell) → RowFits ty ss made → (n : ℕ) (css : List (List Cell))
+    → AllZip SlotFits css ss → All (CellFits ty) (row_by_row made n css)
+made_fit ty ss made k zero css h = All-nil (CellFits ty)
+made_fit ty ss made k (suc n) css h =
+    All-cons (CellFits ty) (made (heads css)) (row_by_row made n (tails css)) (k (heads css) (heads_fit css ss h))
+    (made_fit ty ss made k n (tails css) (tails_fit css ss h))
+
+-- of fields and a validity
+with_field_fits : (name : List ℕ) (t : DataType) (fs : Fields) (m : Nullability) (cs : List Cell) (x : Cell) → All (CellFits t) cs → CellFits (type.struct fs m) x
+    → CellFits (type.struct (type.field name t fs) m) (with_field cs x)
+with_field_fits name t fs m (value v ∷ []) (value (fields vs)) h k = both (All-head (CellFits t) (value v) [] h) k
+with_field_fits name t fs m (value v ∷ []) (value null) h k = k
+with_field_fits name t fs m _ _ h k = tt
+
+without_fields_fit : (m : Nullability) (n : ℕ) (v : Option Shape) → IsValidity m n v → RowFits (type.struct type.no_fields m) (v ∷ []) struct_row
+without_fields_fit m n v h [] k = absurd k
+without_fields_fit m n v h ([] ∷ []) k = refl
+without_fields_fit m n None h ((c ∷ cs) ∷ []) k = absurd (cc (k.0))
+without_fields_fit NonNullable n (Some s) h ((c ∷ cs) ∷ []) k = absurd h
+without_fields_fit Nullable n (Some s) h ((c ∷ cs) ∷ []) k = valid_cell_fits (type.struct type.no_fields Nullable) c _ refl refl
+without_fields_fit m n v h (cs ∷ ds ∷ css) k = absurd k.1
+
+struct_row_fits : (fs : Fields) (m : Nullability) (n : ℕ) (v : Option Shape) → IsValidity m n v
+    → RowFits (type.struct fs m) (fields_shapes n fs ++ v ∷ []) struct_row
+struct_row_fits type.no_fields m n v h css k = without_fields_fit m n v h css k
+struct_row_fits (type.field name t fs) m n v h [] k = absurd k
+struct_row_fits (type.field name t fs) m n v h (cs ∷ []) k = absurd (more fs k.1)
+  where
+    more : (fs : Fields) → AllZip SlotFits [] (fields_shapes n fs ++ v ∷ []) → ⊥
+    more type.no_fields k = k
+    more (type.field name t fs) k = k
+struct_row_fits (type.field name t fs) m n v h (cs ∷ ds ∷ css) k = with_field_fits name t fs m cs _ k.0 (struct_row_fits fs m n v h (ds ∷ css) k.1)
+
+-- of a storage: a value of its type is one of the extension
+kind_within : (parts : Bool) (v : Value) (st : Storage) → is_kind (is_kind parts v st) v st ≡ true → is_kind parts v st ≡ true
+kind_within parts null Nested h = h
+kind_within parts (boolean b) Nested h = h
+kind_within parts (integer z) Nested h = h
+kind_within parts (decimal z r) Nested h = h
+kind_within parts (bytes bs) Nested h = h
+kind_within parts (list vs) Nested h = h
+kind_within parts (fields vs) Nested h = h
+kind_within parts (tagged tag v) Nested h = h
+kind_within parts (variant t v) Nested h = h
+kind_within parts _ _ h = h
+
+kind_below : (parts : Bool) (v : Value) (t : DataType) → is_kind (is_kind parts v (storage_of (bare t))) v (storage_of t) ≡ true
+    → is_kind parts v (storage_of (bare t)) ≡ true
+kind_below parts v (type.extension id t) h = nested v h
+  where
+    nested : (v : Value) → is_kind (is_kind parts v (storage_of (bare t))) v Nested ≡ true → is_kind parts v (storage_of (bare t)) ≡ true
+    nested null h = h
+    nested _ h = h
+kind_below parts v _ h = kind_within parts v _ h
+
+extended_fits : (id : List ℕ) (t : DataType) (c : Cell) → CellFits t c → CellFits (type.extension id t) c
+extended_fits id t (value null) h = h
+extended_fits id t (value v) h = kind_below (parts_fit (bare t) v) v t h
+extended_fits id t fault h = tt
+
+extension_row_fits : (id : List ℕ) (t : DataType) (n : ℕ) → RowFits (type.extension id t) (Some (shape t n) ∷ []) extension_row
+extension_row_fits id t n [] k = absurd k
+extension_row_fits id t n ([] ∷ css) k = tt
+extension_row_fits id t n ((c ∷ cs) ∷ css) k = extended_fits id t c (All-head (CellFits t) c cs k.0)
+
+-- a line for each layout
+layout_row_fits : (l : Layout) (ty : DataType) (n : ℕ) (ss : List (Option Shape)) → IsNode ty n (enc.composed l) ss → RowFits ty ss (laid_out l).row
+layout_row_fits layout.Struct ty n ss h =
+    subst (λ x. x) (λ i. RowFits (sym h.3 i) (sym h.4 i) struct_row) (struct_row_fits h.0 h.1 n h.2 h.5)
+layout_row_fits layout.Extension ty n ss h =
+    subst (λ x. x) (λ i. RowFits (sym h.2 i) (sym h.3 i) extension_row) (extension_row_fits h.0 h.1 n)
+
+-- ---- a line for each encoding
+
 node_fits : (ty : DataType) (n : ℕ) (d : Data) (css : List (List Cell)) (ss : List (Option Shape)) → IsNode ty n d ss → AllZip SlotFits css ss
     → All (CellFits ty) (node_cells ty n d (types_in ss) css)
 node_fits ty n (enc.constant v) css ss h k = All-replicate (CellFits ty) n (value v.value) (typed_fits v.value ty h.1)
@@ -690,6 +787,7 @@ node_fits ty n (enc.primitive p zs) css ss h k = column_fits _ zs (type.primitiv
 node_fits ty n (enc.decimals w zs) css ss h k = column_fits _ zs (decimal_type (storage_of ty)) (length zs) ty n css ss (decimal_fits (storage_of ty)) h.0 k
 node_fits ty n (enc.views rs) css ss h k =
     column_fits _ rs.views (bytes_type (storage_of ty)) (length rs.views) ty n css ss (λ m v. bytes_fit (storage_of ty) m (bytes_at rs.buffers v)) h.0 k
+node_fits ty n (enc.composed l) css ss h k = made_fit ty ss (laid_out l).row (layout_row_fits l ty n ss h) n css k
 
 mutual
   tree_fits : (t : Tree) → IsWell t → All (CellFits (dtype t)) (rows t)

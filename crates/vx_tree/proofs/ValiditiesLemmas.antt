@@ -5,6 +5,8 @@ use Rattle.std.proofs.Common.{Some}
 use Rattle.std.proofs.Common.{None}
 use Rattle.std.proofs.Common.{refl}
 use Rattle.vx_value.specs.Storage.{is_nested}
+use Rattle.vx_value.specs.Supported.{has_columns}
+use Rattle.vx_tree.specs.Support.{supports}
 use Rattle.vx_value.proofs.NullabilitiesLemmas.{nested_kept}
 use Rattle.std.proofs.Common.{sym}
 use Rattle.std.proofs.Common.{ap}
@@ -321,6 +323,6 @@ pub rows_allowed : (n : ℕ) (v : Validity) → HasRows v n → array_refusal n 
 rows_allowed n (validity.Array t) h = tree_allowed t n h.1 h.2
 rows_allowed n _ h = refl
 
--- the type of a constant's value is nested only if the constant's is
-pub constant_unnested : (t : Tree) (v : Typed) (n : ℕ) → t ≡ constant_of v n → is_nested (dtype t) ≡ false → is_nested v.of_type ≡ false
-constant_unnested t v n shown h = ap (λ u. is_nested (dtype u)) (sym shown) ∙ h
+-- there are columns of the type of a constant's value
+pub constant_supported : (t : Tree) (v : Typed) (n : ℕ) → t ≡ constant_of v n → supports (datum t) (dtype t) ≡ true → has_columns v.of_type ≡ true
+constant_supported t v n shown h = subst (λ u. supports (datum u) (dtype u) ≡ true) shown h

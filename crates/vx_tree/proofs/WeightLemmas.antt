@@ -259,6 +259,7 @@ pays (enc.bool bs) = column_pays
 pays (enc.primitive p zs) = column_pays
 pays (enc.decimals w zs) = column_pays
 pays (enc.views rs) = column_pays
+pays (enc.composed l) = column_pays
 
 -- ---- the turns of a node
 

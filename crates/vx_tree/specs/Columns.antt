@@ -1,6 +1,7 @@
 -- What a column is.
 use Rattle.std.specs.Prelude.{◌≡◌, ◌⊎◌, ◌≤◌, ℕ, List, [], length, replicate, slice_range, None, true}
-use Rattle.vx_value.specs.Types.{DataType}
+use Rattle.vx_value.specs.Types as type
+use Rattle.vx_value.specs.Types.{DataType, Fields}
 use Rattle.vx_value.specs.Values.{Value}
 use Rattle.vx_value.specs.Cell.{Cell, value}
 use Rattle.vx_value.specs.Decimals.{smallest_width}
@@ -10,7 +11,8 @@ use Rattle.vx_value.specs.declared.dtype.Storage.TheVariants.{Nulls, Integers, D
 use Rattle.vx_value.specs.declared.id.Id.{Id}
 use Rattle.vx_value.specs.declared.id.Id.TheVariants as id
 use Rattle.vx_tree.specs.Tree as enc
-use Rattle.vx_tree.specs.Tree.{Tree, Data, column, nulls_of, dtype, datum, id_of, is_canonical}
+use Rattle.vx_tree.specs.Tree.{Tree, Data, node, Slots, no_slots, absent, slot, column, nulls_of, dtype, datum, id_of, is_canonical}
+use Rattle.vx_tree.specs.declared.array.layout.Layout.TheVariants as layout
 use Rattle.vx_tree.specs.Cells.{rows}
 use Rattle.vx_tree.specs.Cost.{cost}
 use Rattle.vx_tree.specs.Views.{packed, viewed_range}
@@ -25,6 +27,8 @@ stored_id Bytes = id.VarBinView
 stored_id _ = id.Bool
 
 abbrev pub canonical_id : DataType → Id
+canonical_id (type.struct fs m) = id.Struct
+canonical_id (type.extension i t) = id.Extension
 canonical_id ty = stored_id (storage_of ty)
 
 -- a column of these cells may have the encoding i: the type's canonical one, or constant if all rows are one value
@@ -49,8 +53,16 @@ abbrev pub empty_stored : Storage → DataType → Tree
 empty_stored Nulls ty = nulls_of 0
 empty_stored s ty = column ty 0 (no_rows s) None
 
-abbrev pub empty_of : DataType → Tree
-empty_of ty = empty_stored (storage_of ty) ty
+abbrev mutual
+  pub empty_of : DataType → Tree
+  empty_of (type.struct fs m) = node (type.struct fs m) 0 (enc.composed layout.Struct) (empty_fields fs)
+  empty_of (type.extension i t) = node (type.extension i t) 0 (enc.composed layout.Extension) (slot (empty_of t) no_slots)
+  empty_of ty = empty_stored (storage_of ty) ty
+
+  -- the slots of a struct without rows, whose validity is absent
+  pub empty_fields : Fields → Slots
+  empty_fields type.no_fields = absent no_slots
+  empty_fields (type.field name t fs) = slot (empty_of t) (empty_fields fs)
 
 -- ---- data that hold their rows themselves: a line for each such encoding
 

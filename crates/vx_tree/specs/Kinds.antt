@@ -28,3 +28,5 @@ IsKindOf (kind.Bool bs v) t = (t ≡ column (dtype t) (len t) (enc.bool bs.now) 
 IsKindOf (kind.Primitive vs v) t = (t ≡ column (dtype t) (len t) (enc.primitive (ptype_of vs.now) (values_of vs.now)) v.now) × IsNodeOf t
 IsKindOf (kind.Decimal ds v) t = (t ≡ column (dtype t) (len t) (enc.decimals (decimal_type_of ds.now) (numbers_of ds.now)) v.now) × IsNodeOf t
 IsKindOf (kind.VarBinView rs v) t = (t ≡ column (dtype t) (len t) (enc.views rs.now) v.now) × IsNodeOf t
+IsKindOf (kind.Composed l ss) t =
+    (t ≡ node (dtype t) (len t) (enc.composed l) (slots_of ss.now)) × IsNode (dtype t) (len t) (enc.composed l) (shapes (slots_of ss.now))

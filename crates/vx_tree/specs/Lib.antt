@@ -18,7 +18,10 @@ pub mod Names
 pub mod SlotValidities
 pub mod Charges
 pub mod Meanings
+pub mod Layouts
+pub mod SlotShapes
 pub mod Tree
+pub mod Support
 pub mod TreeView
 pub mod Falls
 pub mod Cells
@@ -35,6 +38,7 @@ pub mod Columns
 pub mod Parts
 pub mod Weight
 pub mod Validities
+pub mod Structs
 pub mod Rows
 pub mod NodeValidities
 pub mod Widths

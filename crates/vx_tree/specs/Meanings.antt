@@ -15,8 +15,8 @@ use Rattle.vx_tree.specs.declared.validity.Validity.{Validity}
 -- of a node, from its type and its n rows
 pub record Meaning : Type 1 where
   pub id : Id
-  -- what slot i is called
-  pub name : ℕ → Option (List ℕ)
+  -- what slot i is called, from the type
+  pub name : DataType → ℕ → Option (List ℕ)
   -- the conditions on the node, its slots' own apart
   pub IsNode : DataType → ℕ → List (Option Shape) → Type 0
   -- why no node is made under an id, None if one is
@@ -32,7 +32,7 @@ abbrev pub column_meaning : Id → (DataType → ℕ → List (Option Shape) →
     → (DataType → List Cell) → Meaning
 column_meaning i condition refused stored = record {
   id = i;
-  name = slice_get (codes "validity" ∷ []);
+  name = λ ty. slice_get (codes "validity" ∷ []);
   IsNode = condition;
   refusal = λ i. refused;
   cells = λ ty n tys css. valid_cells (cells_at css 0) (stored ty);

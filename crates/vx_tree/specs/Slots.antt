@@ -97,4 +97,4 @@ count_slots (slot t ss) = count_slots ss + 1
 
 -- what slot i of a tree's root is called, None if there is no such slot
 abbrev pub name_at : ℕ → Tree → Option (List ℕ)
-name_at i (node ty n d ss) = if nat_lt i (count_slots ss) then (meaning d).name i else None
+name_at i (node ty n d ss) = if nat_lt i (count_slots ss) then (meaning d).name ty i else None

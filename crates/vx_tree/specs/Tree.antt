@@ -14,6 +14,9 @@ pub mod Bool
 pub mod Primitive
 pub mod Decimal
 pub mod VarBinView
+pub mod Struct
+pub mod Extension
+pub mod Composed
 use Rattle.std.specs.Prelude as prelude
 use Rattle.std.specs.Prelude.{◌||◌}
 use Rattle.vx_value.specs.declared.id.Id.{Id}
@@ -37,6 +40,10 @@ pub use Rattle.vx_tree.specs.Tree.Bool.{bool, booleans, is_bool, bool_meaning}
 pub use Rattle.vx_tree.specs.Tree.Primitive.{primitive, integers, is_primitive, primitive_meaning}
 pub use Rattle.vx_tree.specs.Tree.Decimal.{decimals, is_decimals, decimals_meaning}
 pub use Rattle.vx_tree.specs.Tree.VarBinView.{views, is_views, views_meaning}
+pub use Rattle.vx_tree.specs.Tree.Struct.{is_struct, IsStruct, fields_shapes, after_fields, fields_refusal, struct_slots_refusal, struct_refusal, with_field, without_fields, struct_row}
+pub use Rattle.vx_tree.specs.Tree.Struct.{field_slot_name, struct_names, struct_name, last_tree, struct_layout}
+pub use Rattle.vx_tree.specs.Tree.Extension.{is_extension, IsExtension, extension_of, id_refusal, stored_refusal, extension_row, extension_layout}
+pub use Rattle.vx_tree.specs.Tree.Composed.{composed, is_composed, laid_out, composed_meaning}
 
 -- what node data mean: a line for each encoding
 abbrev pub meaning : Data → Meaning
@@ -54,6 +61,7 @@ meaning (bool bs) = bool_meaning bs
 meaning (primitive p zs) = primitive_meaning p zs
 meaning (decimals w zs) = decimals_meaning w zs
 meaning (views rs) = views_meaning rs
+meaning (composed l) = composed_meaning l
 
 -- the id of a node
 abbrev pub id_of : Data → Id
@@ -63,9 +71,9 @@ id_of d = (meaning d).id
 abbrev pub is_flat : Data → prelude.Bool
 is_flat d = is_bool d || is_primitive d || is_decimals d || is_views d
 
--- the canonical encodings: those, and that of nulls
+-- the canonical encodings: those, that of nulls, and those of nested types
 abbrev pub is_canonical : Data → prelude.Bool
-is_canonical d = is_nulls d || is_flat d
+is_canonical d = is_nulls d || is_flat d || is_composed d
 
 -- the canonical encodings, and those that repeat one value
 abbrev pub is_columnar : Data → prelude.Bool

@@ -8,6 +8,7 @@ use Rattle.vx_tree.specs.Tree.{Tree, node, Data, slots_of}
 use Rattle.vx_tree.specs.declared.array.node.Node.{Node}
 use Rattle.vx_tree.specs.declared.array.node.Encoding.{Encoding}
 use Rattle.vx_tree.specs.declared.array.node.Encoding.TheVariants as encoding
+use Rattle.vx_tree.specs.declared.array.layout.Layout.TheVariants as layout
 
 abbrev pub data_of : Encoding → Data
 data_of (encoding.Constant c) = enc.constant c.scalar
@@ -24,6 +25,8 @@ data_of (encoding.Bool b) = enc.bool b.bits
 data_of (encoding.Primitive p) = enc.primitive (ptype_of p.values) (values_of p.values)
 data_of (encoding.Decimal d) = enc.decimals (decimal_type_of d.values) (numbers_of d.values)
 data_of (encoding.VarBinView v) = enc.views v.rows
+data_of (encoding.Struct s) = enc.composed layout.Struct
+data_of (encoding.Extension e) = enc.composed layout.Extension
 
 abbrev pub tree_of : Node → Tree
 tree_of n = node (type_of n.dtype) n.len (data_of n.encoding) (slots_of n.slots.items)

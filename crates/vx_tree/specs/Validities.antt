@@ -1,5 +1,5 @@
 -- Which rows of a column are null, and the tree that stands for it.
-use Rattle.std.specs.Prelude.{◌≡◌, ◌≤◌, ℕ, ℤ, List, length, replicate, Bool, true, false, ◌==◌, if◌then◌else◌, Option, Some, None}
+use Rattle.std.specs.Prelude.{◌≡◌, ◌≤◌, ℕ, ℤ, List, [], ◌∷◌, length, replicate, Bool, true, false, ◌==◌, if◌then◌else◌, Option, Some, None}
 use Rattle.vx_value.specs.Types.{DataType, bool, same_type}
 use Rattle.vx_value.specs.Nullabilities.{with_nullability}
 use Rattle.vx_value.specs.Values.{boolean}
@@ -92,3 +92,8 @@ IsValidityPart a b (Some t) w = (u : Tree) × (w ≡ Some u) × KeepsExactly (sl
 abbrev pub HasRange : ℕ → ℕ → Option Tree → Type 0
 HasRange a b None = Unit {0}
 HasRange a b (Some t) = (a ≤ b) × (b ≤ len t)
+
+-- each slot's tree has them
+abbrev pub HaveRange : ℕ → ℕ → List (Option Tree) → Type 0
+HaveRange a b [] = Unit {0}
+HaveRange a b (t ∷ ts) = HasRange a b t × HaveRange a b ts

@@ -1,8 +1,8 @@
 -- Which trees are well formed: the invariant of an `ArrayRef`.
-use Rattle.std.specs.Prelude.{ℕ, List, Option, ◌≡◌, false}
+use Rattle.std.specs.Prelude.{ℕ, List, Option, ◌≡◌, true}
 use Rattle.vx_value.specs.Types.{DataType}
-use Rattle.vx_value.specs.Storage.{is_nested}
-use Rattle.vx_tree.specs.Tree.{Tree, dtype, Data, Slots, node, no_slots, absent, slot, meaning}
+use Rattle.vx_tree.specs.Tree.{Tree, dtype, datum, Data, Slots, node, no_slots, absent, slot, meaning}
+use Rattle.vx_tree.specs.Support.{supports}
 pub use Rattle.vx_tree.specs.Shapes.{Shape, shape, shape_of, shapes, IsValidity, IsFlat}
 
 -- the conditions on a node, its slots' own apart
@@ -22,6 +22,6 @@ abbrev mutual
   AreWell (absent ss) = AreWell ss
   AreWell (slot t ss) = IsWell t × AreWell ss
 
--- the invariant of an array: no column is nested yet
+-- the invariant of an array
 abbrev pub IsTree : Tree → Type 0
-IsTree t = IsWell t × is_nested (dtype t) ≡ false
+IsTree t = IsWell t × supports (datum t) (dtype t) ≡ true

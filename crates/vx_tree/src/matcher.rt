@@ -7,9 +7,11 @@ use crate::array::{ArrayRef, EncodingVariant};
 use crate::arrays::boolean::Bool;
 use crate::arrays::constant::Constant;
 use crate::arrays::decimal::Decimal;
+use crate::arrays::extension::Extension;
 use crate::arrays::null::Null;
 use crate::arrays::primitive::Primitive;
 use crate::arrays::scalar_fn::ScalarFn;
+use crate::arrays::structs::Struct;
 use crate::arrays::varbinview::VarBinView;
 
 /// Tests on the root of a tree.
@@ -46,6 +48,8 @@ impl Matcher for AnyCanonical {
             || Primitive::matches(array)
             || Decimal::matches(array)
             || VarBinView::matches(array)
+            || Struct::matches(array)
+            || Extension::matches(array)
     }
 }
 

@@ -8,11 +8,13 @@ ghost use Rattle.vx_tree.specs.Validities.{HasRows, validity_of};
 ghost use Rattle.vx_tree.specs.NodeValidities.{node_validity, constant_validity, on_array, both_of, joined};
 ghost use Rattle.vx_tree.specs.declared.validity.Validity.TheVariants.{Array as ValidityArray};
 
-use crate::array::{ArrayKind, ArrayRef, IntoArray};
+use crate::array::{ArrayKind, ArrayRef, IntoArray, Layout};
+use crate::arrays::extension::extension_storage;
 use crate::arrays::filter::FilterArray;
 use crate::arrays::scalar_fn::ScalarFnArray;
 use crate::arrays::scalar_fn_validity::ScalarFnValidityArray;
 use crate::arrays::slice::SliceArray;
+use crate::arrays::structs::struct_slots;
 use crate::validity::{Validity, child_to_validity};
 use std::alloc::Global;
 use std::ops::Range;
@@ -67,6 +69,10 @@ fn node_validity(alloc: Global, array: &ArrayRef) -> VortexResult<Validity>
         | ArrayKind::Primitive(_, own)
         | ArrayKind::Decimal(_, own)
         | ArrayKind::VarBinView(_, own) => slot_validity(own),
+        ArrayKind::Composed(Layout::Struct, slots) => slot_validity(struct_slots(slots).1),
+        ArrayKind::Composed(Layout::Extension, slots) => {
+            node_validity(alloc, extension_storage(slots))
+        }
     }
 }
 

@@ -3,7 +3,8 @@
 ghost use Rattle.std.specs.Prelude.{◌≡◌, ◌⊎◌, IfOk, IfErr, OnOk, None, Some, length, option_map};
 ghost use Rattle.vx_tree.specs.Tree.{slots_of};
 ghost use Rattle.vx_tree.specs.Conditions.{Checks};
-ghost use Rattle.vx_tree.specs.Well.{shape_of, shapes};
+ghost use Rattle.vx_value.specs.View.{type_of};
+ghost use Rattle.vx_tree.specs.Well.{shape, shape_of, shapes};
 ghost use Rattle.vx_tree.specs.Slots.{put};
 ghost use Rattle.vx_tree.specs.Replacements.{is_kept, wrong_in, kept_refusal, slot_refusal, first_refusal, each_refusal};
 ghost use Rattle.vx_tree.specs.Replacements.{with_slots, with_slot_refusal, with_slots_refusal};
@@ -12,11 +13,11 @@ use crate::array::ArrayRef;
 use crate::conditions::check_that;
 use crate::types::is_same_type;
 use std::alloc::Global;
-use vx_value::{ArgKind, VortexError, VortexResult};
+use vx_value::{ArgKind, DType, VortexError, VortexResult};
 
 /// What a slot keeps when its tree is replaced. (own)
 #[derive(Clone, Copy)]
-enum Kept {
+pub(crate) enum Kept {
     Presence,
     Dtype,
     Len,
@@ -38,8 +39,22 @@ impl Kept {
         }
     }
 
+    /// Returns whether `slot` has it of a tree of type `dtype` and `len` rows.
+    pub(crate) fn is_shape(self, dtype: &DType, len: usize, slot: &Option<ArrayRef>) -> bool
+        ensures { result ≡ is_kept self (Some (shape (type_of dtype.now) len)) (option_map shape_of slot.now) }
+    {
+        let Some(child) = slot else {
+            return !matches!(self, Kept::Presence);
+        };
+        match self {
+            Kept::Presence => true,
+            Kept::Dtype => is_same_type(dtype, child.dtype()),
+            Kept::Len => len == child.len(),
+        }
+    }
+
     /// Returns the error if `slot` doesn't keep it.
-    fn wrong_in(self, slot: usize) -> ArgKind
+    pub(crate) fn wrong_in(self, slot: usize) -> ArgKind
         ensures { result ≡ wrong_in self slot }
     {
         match self {

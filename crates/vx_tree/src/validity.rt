@@ -1,8 +1,8 @@
 //! Which rows of a column are null, and the slots of validities.
 
-ghost use Rattle.std.specs.Prelude.{◌≡◌, ℕ, IfOk, length, option_map, Some, false};
+ghost use Rattle.std.specs.Prelude.{◌≡◌, ℕ, IfOk, length, option_map, Some, true};
 ghost use Rattle.vx_value.specs.Errors.{OnlyOutOfMemory};
-ghost use Rattle.vx_value.specs.Storage.{is_nested};
+ghost use Rattle.vx_value.specs.Supported.{has_columns};
 ghost use Rattle.vx_tree.specs.Validities.{nullability_by, without_nulls, child_of, child_by, validity_by, count_children, validity_of, array_refusal, HasRange};
 ghost use Rattle.vx_mask.specs.Masks.{bits_in};
 ghost use Rattle.vx_tree.specs.Tree.{constant_of};
@@ -151,7 +151,7 @@ pub(crate) fn check_validity(validity: &Validity, len: usize) -> VortexResult<()
 
 /// Returns the slot of a validity that is `scalar` for each of `len` rows. Fails only with `OutOfMemory`.
 fn repeated(alloc: Global, scalar: &Scalar, len: usize) -> VortexResult<Option<ArrayRef>>
-    requires { is_nested scalar.now.of_type ≡ false }
+    requires { has_columns scalar.now.of_type ≡ true }
     ensures ok { IfOk result (λ w. w ≡ Some (constant_of scalar.now len)) }
     ensures err { OnlyOutOfMemory result }
 {
@@ -160,7 +160,7 @@ fn repeated(alloc: Global, scalar: &Scalar, len: usize) -> VortexResult<Option<A
 
 /// Returns the validity of the rows in `range`, which must be in order and in bounds, given the slot of the whole column's. A
 /// constant stays one. Fails only with `OutOfMemory`. (own)
-#[tactic(auto, using(crate::proofs::ValiditiesLemmas::constant_unnested))]
+#[tactic(auto, using(crate::proofs::ValiditiesLemmas::constant_supported))]
 pub fn slice_validity(
     alloc: Global,
     validity: &Option<ArrayRef>,
@@ -182,7 +182,7 @@ pub fn slice_validity(
 
 /// Returns the validity of the rows that `mask` chooses, given the slot of the whole column's, which must have as many rows as
 /// `mask`. A constant stays one. Fails only with `OutOfMemory`. (own)
-#[tactic(auto, using(crate::proofs::ValiditiesLemmas::constant_unnested))]
+#[tactic(auto, using(crate::proofs::ValiditiesLemmas::constant_supported))]
 pub fn choose_validity(
     alloc: Global,
     validity: &Option<ArrayRef>,

@@ -11,3 +11,5 @@ pub mod CastPartsLemmas
 pub mod FitsLemmas
 pub mod ValuesLemmas
 pub mod NestedLemmas
+pub mod SupportedLemmas
+pub mod ScalarPartsLemmas

@@ -34,6 +34,13 @@ id_text id.Bool = codes "vortex.bool"
 id_text id.Primitive = codes "vortex.primitive"
 id_text id.Decimal = codes "vortex.decimal"
 id_text id.VarBinView = codes "vortex.varbinview"
+id_text id.ListView = codes "vortex.listview"
+id_text id.Map = codes "vortex.map"
+id_text id.FixedSizeList = codes "vortex.fixed_size_list"
+id_text id.Struct = codes "vortex.struct"
+id_text id.Union = codes "vortex.union"
+id_text id.Extension = codes "vortex.ext"
+id_text id.Variant = codes "vortex.variant"
 
 -- no id has this text
 abbrev pub IsNoId : List ℕ → Type 0

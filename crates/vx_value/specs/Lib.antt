@@ -12,6 +12,7 @@ pub mod Sames
 pub mod Storage
 pub mod Nested
 pub mod Fits
+pub mod Supported
 pub mod Falls
 pub mod ValueFalls
 pub mod IsOf
@@ -26,3 +27,4 @@ pub mod OrderLaws
 pub mod Text
 pub mod Ids
 pub mod ScalarKinds
+pub mod ScalarParts

@@ -32,6 +32,13 @@ pub enum Id {
     Primitive,
     Decimal,
     VarBinView,
+    ListView,
+    Map,
+    FixedSizeList,
+    Struct,
+    Union,
+    Extension,
+    Variant,
 }
 
 /// Evaluates `$by` on `$value` and the text of each id: one line an id, in the order of the enum.
@@ -65,6 +72,13 @@ macro_rules! by_texts {
             Primitive = "vortex.primitive",
             Decimal = "vortex.decimal",
             VarBinView = "vortex.varbinview",
+            ListView = "vortex.listview",
+            Map = "vortex.map",
+            FixedSizeList = "vortex.fixed_size_list",
+            Struct = "vortex.struct",
+            Union = "vortex.union",
+            Extension = "vortex.ext",
+            Variant = "vortex.variant",
         )
     };
 }

@@ -16,8 +16,10 @@ mod id;
 mod laws;
 mod names;
 mod nested;
+mod parts;
 mod rescaling;
 mod scalar;
+mod supported;
 mod text;
 mod typed;
 mod values;
@@ -38,5 +40,6 @@ pub use nested::{
 };
 pub use rescaling::Rescaling;
 pub use scalar::{Scalar, ScalarKind, ScalarValue};
+pub use supported::has_columns;
 pub use text::type_text;
 pub use values::{ScalarValues, ValueRef};

@@ -223,6 +223,15 @@ impl Scalar {
         &self.value
     }
 
+    /// Returns the value, or `None` if it is null, without copying it.
+    pub(crate) fn into_value(self) -> Option<ScalarValue>
+        ensures value { cell_of result ≡ self.value }
+        ensures typed { is_of self.of_type self.value ≡ true }
+        ensures fits { ListsFit self.of_type self.value }
+    {
+        self.value
+    }
+
     /// Returns the value, or `None` if it is null.
     pub fn value(&self) -> Option<&ScalarValue>
         ensures value { cell_seen result ≡ self.now.value }

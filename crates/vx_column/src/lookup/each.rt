@@ -1,8 +1,9 @@
 //! Rows of a tree that are read one by one.
 
-ghost use Rattle.std.specs.Prelude.{◌≡◌, ◌<◌, length, IfOk, IfErr, IfSome, IfNone};
+ghost use Rattle.std.specs.Prelude.{◌≡◌, ◌<◌, false, length, IfOk, IfErr, IfSome, IfNone};
 ghost use Rattle.vx_value.specs.declared.dtype.Nullability.TheVariants.{Nullable};
-ghost use Rattle.vx_tree.specs.Tree.{len};
+ghost use Rattle.vx_value.specs.Storage.{is_nested};
+ghost use Rattle.vx_tree.specs.Tree.{dtype, len};
 ghost use Rattle.vx_tree.specs.Cells.{rows};
 ghost use Rattle.vx_tree.specs.Canonicals.{canonical_tree};
 ghost use Rattle.vx_column.specs.LookedUp.{named_cells, place_if, AreWithin, IsNamed, IsNotNamed, AreNamedRows, IsNotLookedUp};
@@ -26,6 +27,7 @@ pub(crate) fn take_each(
     requires places { length places.now ≡ len }
     requires valid { HasValidity valid.now len }
     requires within { AreWithin valid.now places.now values.now len }
+    requires unnested { is_nested (dtype values.now) ≡ false }
     ensures ok { IfOk result (λ c. AreNamedRows valid.now places.now values.now len (canonical_tree c)) }
     ensures err { IfErr result (IsNotLookedUp (named_cells valid.now places.now (rows values.now) len)) }
 {

@@ -20,7 +20,7 @@ use vx_value::{Scalar, VortexResult};
 
 /// Returns the column of which row i is row `row_indices[i]`, counted from 0, of column `array_indices[i]` of `values`. The
 /// indices must be non-nullable integers, as many of the one as of the other; there must be a column, and all must be of one
-/// type, which is the result's. The result is a constant if there is a row and both columns of indices are constants, else
+/// type, which must not be nested and is the result's. The result is a constant if there is a row and both columns of indices are constants, else
 /// canonical. Rows that no pair names aren't read. (own)
 ///
 /// # Errors
@@ -79,6 +79,7 @@ fn interleave_constant(
     requires array { IsIndexType array.now.of_type }
     requires row { IsIndexType row.now.of_type }
     requires typed { AreOfType (first_type (map columnar_tree values.now)) (map columnar_tree values.now) }
+    requires unnested { is_nested (first_type (map columnar_tree values.now)) ≡ false }
     requires some { 0 < len }
     ensures ok { IfOk result (λ u. IsLookedUp (first_type (map columnar_tree values.now)) len (paired_cells (map rows (map columnar_tree values.now))
         (replicate len (value array.now.value)) (replicate len (value row.now.value))) true (columnar_tree u)) }
@@ -147,7 +148,6 @@ fn row_paired(
     requires row { IsIndexType row.now.of_type }
     requires typed { AreOfType (first_type (map columnar_tree values.now)) (map columnar_tree values.now) }
     ensures ok { IfOk result (IsPaired (map columnar_tree values.now) array.now row.now) }
-    ensures unnested { IfOk result (λ s. is_nested s.of_type ≡ false) }
     ensures err { IfErr result (IsNotPaired (map columnar_tree values.now) array.now row.now) }
 {
     let Some(place) = place_of_code(array, values.len())? else {

@@ -3,6 +3,7 @@
 ghost use Rattle.std.specs.Prelude.{◌≡◌, ◌<◌, ℕ, false, true, length, replicate, IfOk, IfErr, MatchOption};
 ghost use Rattle.vx_value.specs.Errors.{OnlyOutOfMemory};
 ghost use Rattle.vx_value.specs.Cell.{value};
+ghost use Rattle.vx_value.specs.Storage.{is_nested};
 ghost use Rattle.vx_fn.specs.Meanings.{widen};
 ghost use Rattle.vx_tree.specs.Tree.{dtype, len, datum, is_constant};
 ghost use Rattle.vx_tree.specs.Cells.{rows};
@@ -24,16 +25,17 @@ use vx_tree::{ArrayKind, Canonical, Columnar};
 use vx_value::{Scalar, VortexError, VortexResult};
 
 /// Returns the rows of a dictionary: for each of `codes`, which must be integers, the row of `values` that it names, counted
-/// from 0; null if the code is null. The type is that of `values`, nullable if the codes' type is. The result is a constant if
-/// there is a row and `codes` is a constant, else canonical. Nothing is looked up under a null, and rows that no code names
-/// aren't read; the bytes of text are shared. (own)
+/// from 0; null if the code is null. The type is that of `values`, which must not be nested, nullable if the codes' type is.
+/// The result is a constant if there is a row and `codes` is a constant, else canonical. Nothing is looked up under a null, and
+/// rows that no code names aren't read; the bytes of text are shared. (own)
 ///
 /// # Errors
 ///
 /// `Fault` exactly if a row has no value: its code has none, is negative or names no row, or the row that it names has none;
 /// `OutOfMemory`.
 pub fn take_rows(alloc: Global, codes: &Columnar, values: &Columnar) -> VortexResult<Columnar>
-    requires { IsIntegerType (dtype (columnar_tree codes.now)) }
+    requires integers { IsIntegerType (dtype (columnar_tree codes.now)) }
+    requires unnested { is_nested (dtype (columnar_tree values.now)) ≡ false }
     ensures ok { IfOk result (λ u. AreTaken (columnar_tree codes.now) (columnar_tree values.now) (columnar_tree u)) }
     ensures err { IfErr result (AreNotTaken (columnar_tree codes.now) (columnar_tree values.now)) }
 {
@@ -58,7 +60,8 @@ pub(crate) fn code_of(codes: &Columnar) -> Option<&Scalar>
 
 /// Makes the empty column of the rows that `codes`, which must have none, names among `values`. Fails only with `OutOfMemory`.
 fn take_none(alloc: Global, codes: &Columnar, values: &Columnar) -> VortexResult<Columnar>
-    requires { len (columnar_tree codes.now) ≡ 0 }
+    requires none { len (columnar_tree codes.now) ≡ 0 }
+    requires unnested { is_nested (dtype (columnar_tree values.now)) ≡ false }
     ensures ok { IfOk result (λ u. AreTaken (columnar_tree codes.now) (columnar_tree values.now) (columnar_tree u)) }
     ensures err { OnlyOutOfMemory result }
 {
@@ -79,6 +82,7 @@ fn take_constant(
 ) -> VortexResult<Columnar>
     requires code { IsIntegerType code.now.of_type }
     requires some { 0 < len }
+    requires unnested { is_nested (dtype (columnar_tree values.now)) ≡ false }
     ensures ok { IfOk result (λ u. IsLookedUp (widen code.now.of_type (dtype (columnar_tree values.now))) len
         (taken_cells (replicate len (value code.now.value)) (rows (columnar_tree values.now))) true (columnar_tree u)) }
     ensures err { IfErr result (IsNotLookedUp (taken_cells (replicate len (value code.now.value)) (rows (columnar_tree values.now)))) }
@@ -113,6 +117,7 @@ pub(crate) fn place_of_code(code: &Scalar, bound: usize) -> VortexResult<Option<
 fn take_column(alloc: Global, codes: &Columnar, values: &Columnar) -> VortexResult<Columnar>
     requires integers { IsIntegerType (dtype (columnar_tree codes.now)) }
     requires stored { is_constant (datum (columnar_tree codes.now)) ≡ false }
+    requires unnested { is_nested (dtype (columnar_tree values.now)) ≡ false }
     ensures ok { IfOk result (λ u. AreTaken (columnar_tree codes.now) (columnar_tree values.now) (columnar_tree u)) }
     ensures err { IfErr result (AreNotTaken (columnar_tree codes.now) (columnar_tree values.now)) }
 {
@@ -138,6 +143,7 @@ fn take_places(
     requires places { length places.now ≡ len }
     requires valid { HasValidity valid.now len }
     requires within { AreWithin valid.now places.now (columnar_tree values.now) len }
+    requires unnested { is_nested (dtype (columnar_tree values.now)) ≡ false }
     ensures ok { IfOk result (λ c. AreNamedRows valid.now places.now (columnar_tree values.now) len (canonical_tree c)) }
     ensures err { IfErr result (IsNotLookedUp (named_cells valid.now places.now (rows (columnar_tree values.now)) len)) }
 {

@@ -1,13 +1,13 @@
 //! Columns as the arguments of a function.
 
-ghost use Rattle.std.specs.Prelude.{◌≡◌, ◌<◌, ℕ, IfOk, IfErr, false, replicate};
+ghost use Rattle.std.specs.Prelude.{◌≡◌, ◌<◌, ℕ, map, IfOk, IfErr, false, replicate};
 ghost use Rattle.std.specs.List.{AllZip};
 ghost use Rattle.vx_value.specs.Errors.{OnlyOutOfMemory};
 ghost use Rattle.vx_value.specs.Types.{nullability_of};
 ghost use Rattle.vx_value.specs.Storage.{is_nested};
 ghost use Rattle.vx_tree.specs.Canonicals.{columnar_tree};
 ghost use Rattle.vx_tree.specs.Tree.{dtype, len};
-ghost use Rattle.vx_column.specs.Arguments.{IsArgument, IsTold, IsUnread, IsRepeated, AreUnread, AnyUnread, AreBytes, ptype_in, bytes_in, unscaled_of};
+ghost use Rattle.vx_column.specs.Arguments.{IsArgument, IsTold, IsUnread, IsRepeated, any_nested, AreUnread, AnyUnread, AreBytes, ptype_in, bytes_in, unscaled_of};
 ghost use Rattle.vx_column.specs.ValidRows.{TellsRows, IsRepeatedValidity};
 ghost use Rattle.vx_column.specs.declared.rows.argument.ArgumentRows.TheVariants.{Integers, Decimals, Bytes};
 ghost use Rattle.vx_column.specs.declared.rows.valid.ValidRows.TheVariants.{Bits};
@@ -110,8 +110,9 @@ impl IntegerOperand<'_> {
     }
 }
 
-/// Returns the rows of `column`. `Fault` if a row has no value.
+/// Returns the rows of `column`, whose type must not be nested. `Fault` if a row has no value.
 pub fn argument_of(alloc: Global, column: &Columnar) -> VortexResult<Argument<'_>>
+    requires { is_nested (dtype (columnar_tree column.now)) ≡ false }
     ensures ok { IfOk result (IsArgument column.now) }
     ensures err { IfErr result (IsUnread (columnar_tree column.now)) }
 {
@@ -263,8 +264,9 @@ fn null_argument(alloc: Global, rows: ArgumentRows<'_>, len: usize) -> VortexRes
     Ok(Argument { rows, valid })
 }
 
-/// Returns the rows of each of `columns`. `Fault` if a row of one has no value.
+/// Returns the rows of each of `columns`, whose types must not be nested. `Fault` if a row of one has no value.
 pub(crate) fn arguments_of(alloc: Global, columns: &[Columnar]) -> VortexResult<Vec<Argument<'_>>>
+    requires { any_nested (map columnar_tree columns.now) ≡ false }
     ensures ok { IfOk result (λ v. AllZip IsArgument columns.now v.items) }
     ensures err { IfErr result (AnyUnread columns.now) }
 {

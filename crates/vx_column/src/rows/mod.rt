@@ -2,7 +2,9 @@
 //! columns of stored values.
 
 mod argument;
+mod children;
 mod column;
+mod nested;
 mod probe;
 mod reader;
 mod valid;

@@ -26,10 +26,11 @@ ghost use Rattle.vx_column.specs.Read.{IsRow, IsUnreadRow};
 ghost use Rattle.vx_column.specs.ValidRows.{null_unless};
 ghost use Rattle.vx_tree.specs.Views.{rows_of, bytes_at};
 
+use crate::rows::children::{chunk_at, function_at, named_at, pair_at};
+use crate::rows::nested::{extension_at, struct_at};
 use std::alloc::{AllocError, Global};
-use vx_fn::{ScalarFnRef, apply_row};
 use vx_mask::{BitBuffer, BitBuilder, Mask};
-use vx_tree::{ArrayKind, ArrayRef, BinaryViews, DecimalValues, PrimitiveValues};
+use vx_tree::{ArrayKind, ArrayRef, BinaryViews, DecimalValues, Layout, PrimitiveValues};
 use vx_value::{
     ByteBuffer, DType, Nullability, Scalar, ScalarKind, ScalarValue, VortexError, VortexResult,
 };
@@ -111,7 +112,7 @@ fn stored_validity(dtype: &DType, validity: &Option<ArrayRef>, index: usize) -> 
 /// Returns the value of row `index`, which must exist, of any tree.
 #[tactic(auto, using(crate::proofs::CellsLemmas::constant_rows, crate::proofs::SliceLemmas::slice_rows, crate::proofs::FilterLemmas::filter_rows, crate::proofs::MaskedRowsLemmas::masked_fault, crate::proofs::ScalarFnValidityLemmas::validity_rows))]
 #[cycle(scalar_at)]
-fn scalar_at(alloc: Global, array: &ArrayRef, index: usize) -> VortexResult<Scalar>
+pub(super) fn scalar_at(alloc: Global, array: &ArrayRef, index: usize) -> VortexResult<Scalar>
     requires { index < len array.now }
     ensures ok { IfOk result (IsRow array.now index) }
     ensures err { IfErr result (IsUnreadRow array.now index) }
@@ -152,6 +153,8 @@ fn scalar_at(alloc: Global, array: &ArrayRef, index: usize) -> VortexResult<Scal
         ArrayKind::Dict(codes, values) => named_at(alloc, array, codes, values, index),
         ArrayKind::Chunked(slots) => chunk_at(alloc, array, slots, index),
         ArrayKind::Interleave(slots) => pair_at(alloc, array, slots, index),
+        ArrayKind::Composed(Layout::Struct, slots) => struct_at(alloc, array, slots, index),
+        ArrayKind::Composed(Layout::Extension, slots) => extension_at(alloc, array, slots, index),
     }
 }
 
@@ -171,7 +174,7 @@ fn place_in(mask: &Mask, k: usize) -> usize
 /// `stored`.
 #[inline]
 #[cycle(scalar_at)]
-fn unless_null(
+pub(super) fn unless_null(
     alloc: Global,
     validity: &Option<ArrayRef>,
     index: usize,
@@ -213,7 +216,7 @@ fn kept_or_null(stored: Scalar, valid: bool) -> VortexResult<Scalar>
 
 /// Returns null of type `dtype`, which must be nullable. Fails only with `OutOfMemory`.
 #[inline]
-fn null_of(dtype: &DType) -> VortexResult<Scalar>
+pub(super) fn null_of(dtype: &DType) -> VortexResult<Scalar>
     requires { nullability_of (type_of dtype.now) ≡ Nullability.Nullable }
     ensures ok { IfOk result (λ s. s ≡ record { of_type = type_of dtype.now; value = null }) }
     ensures err { OnlyOutOfMemory result }
@@ -239,179 +242,6 @@ fn into_truth(scalar: Scalar) -> bool
     ensures { scalar.value ≡ boolean result }
 {
     is_true(&scalar)
-}
-
-/// Returns the value of row `index` of `array`, which applies `scalar_fn` to `slots`.
-#[cycle(scalar_at)]
-fn function_at(
-    alloc: Global,
-    array: &ArrayRef,
-    scalar_fn: &ScalarFnRef,
-    slots: &[Option<ArrayRef>],
-    index: usize,
-) -> VortexResult<Scalar>
-    requires index { index < len array.now }
-    requires shape { array.now ≡ node (dtype array.now) (len array.now) (function scalar_fn.now) (slots_of slots.now) }
-    requires well { IsNode (dtype array.now) (len array.now) (function scalar_fn.now) (shapes (slots_of slots.now)) }
-    ensures ok { IfOk result (IsRow array.now index) }
-    ensures err { IfErr result (IsUnreadRow array.now index) }
-{
-    let mut scalars = Vec::with_capacity(alloc, slots.len())?;
-    for slot in slots {
-        let Some(child) = slot else { unreachable!() };
-        match scalar_at(alloc, child, index) {
-            Ok(scalar) => scalars.push(scalar)?,
-            Err(e) => return Err(e),
-        }
-    }
-    apply_row(alloc, scalar_fn, scalars.as_slice())
-}
-
-/// Returns the value of row `index` of `array`, whose rows are those of `values` that `codes` name.
-#[cycle(scalar_at)]
-fn named_at(
-    alloc: Global,
-    array: &ArrayRef,
-    codes: &ArrayRef,
-    values: &ArrayRef,
-    index: usize,
-) -> VortexResult<Scalar>
-    requires index { index < len array.now }
-    requires shape { array.now ≡ dict_of codes.now values.now }
-    requires well { IsNodeOf array.now }
-    ensures ok { IfOk result (IsRow array.now index) }
-    ensures err { IfErr result (IsUnreadRow array.now index) }
-{
-    let code = match scalar_at(alloc, codes, index) {
-        Ok(scalar) => into_integer(scalar),
-        Err(e) => return Err(e),
-    };
-    let Some(_) = code else {
-        return null_of(array.dtype());
-    };
-    values.well_formed_tree();
-    let Some(place) = number_below(code, values.len()) else {
-        return Err(VortexError::Fault);
-    };
-    match scalar_at(alloc, values, place) {
-        Ok(scalar) => widened(alloc, scalar, codes.dtype()),
-        Err(e) => Err(e),
-    }
-}
-
-/// Returns the value of row `index` of `array`, whose rows are those of the trees in `slots`, one tree after the other.
-#[cycle(scalar_at)]
-fn chunk_at(
-    alloc: Global,
-    array: &ArrayRef,
-    slots: &[Option<ArrayRef>],
-    index: usize,
-) -> VortexResult<Scalar>
-    requires index { index < len array.now }
-    requires shape { array.now ≡ node (dtype array.now) (len array.now) chunked (slots_of slots.now) }
-    requires well { IsNode (dtype array.now) (len array.now) chunked (shapes (slots_of slots.now)) }
-    ensures ok { IfOk result (IsRow array.now index) }
-    ensures err { IfErr result (IsUnreadRow array.now index) }
-{
-    let mut left = index;
-    for slot in slots {
-        let Some(chunk) = slot else { unreachable!() };
-        chunk.well_formed_tree();
-        if left < chunk.len() {
-            return scalar_at(alloc, chunk, left);
-        }
-        left -= chunk.len();
-    }
-    unreachable!()
-}
-
-/// Returns the value of row `index` of `array`, whose first two `slots` say for each row which of the other slots' trees it is
-/// of, and which row of it.
-#[cycle(scalar_at)]
-fn pair_at(
-    alloc: Global,
-    array: &ArrayRef,
-    slots: &[Option<ArrayRef>],
-    index: usize,
-) -> VortexResult<Scalar>
-    requires index { index < len array.now }
-    requires shape { array.now ≡ node (dtype array.now) (len array.now) interleave (slots_of slots.now) }
-    requires well { IsNode (dtype array.now) (len array.now) interleave (shapes (slots_of slots.now)) }
-    ensures ok { IfOk result (IsRow array.now index) }
-    ensures err { IfErr result (IsUnreadRow array.now index) }
-{
-    array.well_formed_tree();
-    let (arrays, rows, values) = interleaved(slots);
-    let array_index = match scalar_at(alloc, arrays, index) {
-        Ok(scalar) => into_integer(scalar),
-        Err(e) => return Err(e),
-    };
-    let row_index = match scalar_at(alloc, rows, index) {
-        Ok(scalar) => into_integer(scalar),
-        Err(e) => return Err(e),
-    };
-    let Some(tree) = number_below(array_index, values.len()) else {
-        return Err(VortexError::Fault);
-    };
-    let Some(child) = &values[tree] else {
-        unreachable!()
-    };
-    child.well_formed_tree();
-    let Some(place) = number_below(row_index, child.len()) else {
-        return Err(VortexError::Fault);
-    };
-    scalar_at(alloc, child, place)
-}
-
-/// Returns the array indices, the row indices and the other slots of the two or more `slots` of an interleaved array.
-#[tactic(auto, using(crate::proofs::InterleaveRowsLemmas::slots_listed))]
-fn interleaved(slots: &[Option<ArrayRef>]) -> (&ArrayRef, &ArrayRef, &[Option<ArrayRef>])
-    requires many { 2 ≤ length slots.now }
-    requires all { missing_refusal 0 (shapes (slots_of slots.now)) ≡ None }
-    ensures { slots.now ≡ Some result.0.now ∷ Some result.1.now ∷ result.2.now }
-{
-    let (Some(arrays), Some(rows)) = (&slots[0], &slots[1]) else {
-        unreachable!()
-    };
-    (arrays, rows, &slots[2..])
-}
-
-/// Returns the integer that `scalar` is, `None` if it is null or another value, and drops it.
-#[inline]
-fn into_integer(scalar: Scalar) -> Option<i128>
-    ensures value { result ≡ integer_in scalar.value }
-    ensures typed { is_of scalar.of_type scalar.value ≡ true }
-{
-    let _dtype = scalar.dtype();
-    scalar.as_integer()
-}
-
-/// Returns `number` if it is at least 0 and below `bound`, else `None`.
-#[inline]
-fn number_below(number: Option<i128>, bound: usize) -> Option<usize>
-    ensures some { IfSome result (λ k. (number ≡ Some (pos k)) × (k < bound)) }
-    ensures none { result ≡ None → (k : ℕ) → number ≡ Some (pos k) → bound ≤ k }
-{
-    match number {
-        Some(z) => if 0 <= z && z < bound as i128 {
-            Some(z as usize)
-        } else {
-            None
-        },
-        None => None,
-    }
-}
-
-/// Returns `scalar`, nullable if `dtype` is. Fails only with `OutOfMemory`.
-#[inline]
-fn widened(alloc: Global, scalar: Scalar, dtype: &DType) -> VortexResult<Scalar>
-    ensures ok { IfOk result (λ s. (s.value ≡ scalar.value) × (s.of_type ≡ widen (type_of dtype.now) scalar.of_type)) }
-    ensures err { OnlyOutOfMemory result }
-{
-    match dtype.nullability() {
-        Nullability::Nullable => scalar.into_nullable(alloc),
-        Nullability::NonNullable => Ok(scalar),
-    }
 }
 
 /// Returns the boolean that a column of type `dtype` stores in row `index`.

@@ -7,11 +7,11 @@ use Rattle.vx_value.specs.Typed.{Typed}
 use Rattle.vx_tree.specs.Tree.{Tree, constant_of}
 use Rattle.vx_json.specs.Fields.{keyed, number_at}
 use Rattle.vx_json.specs.SpelledTypes.{type_at}
-use Rattle.vx_json.specs.SpelledValues.{value_spelled}
+use Rattle.vx_json.specs.SpelledValues.{value_spelled, typed_as}
 
 -- `{"enc":"constant","type":T,"value":v,"len":n}`: n rows of the value v
 abbrev pub scalar_of : Data → DataType → Option Typed
-scalar_of d ty = option_map (λ v. record { of_type = ty; value = v }) (value_spelled ty d)
+scalar_of d ty = typed_as ty (value_spelled ty d)
 
 abbrev pub scalar_spelled : Data → Option Typed
 scalar_spelled d = option_and_then (λ v. option_and_then (scalar_of v) (type_at d)) (get (codes "value") d)

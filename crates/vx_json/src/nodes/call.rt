@@ -15,9 +15,7 @@ use vx_value::{VortexError, VortexResult};
 pub(crate) fn read(alloc: Global, value: &Value, children: Vec<ArrayRef>) -> VortexResult<ArrayRef>
     ensures { IsRead (call_spelled (view value.now) children.items) result }
 {
-    let Some(function) = function_at(value) else {
-        return Err(BAD_VALUE);
-    };
+    let function = function_at(alloc, value)?;
     match ScalarFnArray::try_new(alloc, function, children) {
         Ok(node) => Ok(node.into_array()),
         Err(VortexError::OutOfMemory) => Err(VortexError::OutOfMemory),

@@ -12,14 +12,12 @@ use std::alloc::Global;
 use vx_tree::{ArrayRef, ChunkedArray, IntoArray};
 use vx_value::{VortexError, VortexResult};
 
-/// Reads the array of the rows of `chunks`, one chunk after the other, if each is of the array's type.
+/// Reads the array of the rows of `chunks`, one chunk after the other, if each is of the array's type, which isn't nested.
 pub(crate) fn read(alloc: Global, value: &Value, chunks: Vec<ArrayRef>) -> VortexResult<ArrayRef>
     ensures { IsRead (chunked_spelled (view value.now) chunks.items) result }
 {
     check_keys(value, 3)?;
-    let Some(dtype) = type_at(value) else {
-        return Err(BAD_VALUE);
-    };
+    let dtype = type_at(alloc, value)?;
     match ChunkedArray::try_new(alloc, chunks, dtype) {
         Ok(node) => Ok(node.into_array()),
         Err(VortexError::OutOfMemory) => Err(VortexError::OutOfMemory),

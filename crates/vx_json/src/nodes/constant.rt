@@ -1,8 +1,8 @@
 //! A constant.
 
-ghost use Rattle.std.specs.Prelude.{◌≡◌, false, IfOk};
+ghost use Rattle.std.specs.Prelude.{◌≡◌, true, IfOk};
 ghost use Rattle.serde_json.specs.View.{view};
-ghost use Rattle.vx_value.specs.Storage.{is_nested};
+ghost use Rattle.vx_value.specs.Supported.{has_columns};
 ghost use Rattle.vx_json.specs.Refused.{IsRead};
 ghost use Rattle.vx_json.specs.SpelledNodes.Constant.{scalar_spelled, constant_spelled};
 
@@ -18,15 +18,13 @@ use vx_value::{Scalar, VortexResult};
 /// Reads the value of a constant, which is of its type.
 fn constant_value(alloc: Global, value: &Value) -> VortexResult<Scalar>
     ensures read { IsRead (scalar_spelled (view value.now)) result }
-    ensures unnested { IfOk result (λ s. is_nested s.of_type ≡ false) }
+    ensures columns { IfOk result (λ s. has_columns s.of_type ≡ true) }
 {
     let Some(spelled) = value.get("value") else {
         return Err(BAD_VALUE);
     };
-    let Some(dtype) = type_at(value) else {
-        return Err(BAD_VALUE);
-    };
-    scalar(alloc, dtype, spelled)
+    let dtype = type_at(alloc, value)?;
+    scalar(alloc, &dtype, spelled)
 }
 
 /// Reads a constant: `len` rows of one value.

@@ -4,7 +4,7 @@ ghost use Rattle.std.specs.Prelude.{◌≡◌, Some, None, true};
 ghost use Rattle.vx_tree.specs.Tree.{Data, datum, slice_of, is_canonical};
 ghost use Rattle.vx_rule.specs.Rules.{IsPartOf};
 ghost use Rattle.vx_rule.specs.Answers.{Answers};
-ghost use Rattle.vx_rule.specs.SliceLaws.{column_lets, nulls_canonical, bool_canonical, primitive_canonical, decimals_canonical, views_canonical};
+ghost use Rattle.vx_rule.specs.SliceLaws.{column_lets, nulls_canonical, bool_canonical, primitive_canonical, decimals_canonical, views_canonical, struct_canonical, extension_canonical};
 
 use crate::adaptors::{SliceReduce, SliceReduceAdaptor};
 use crate::encodings::parent_rules;
@@ -14,7 +14,9 @@ use crate::rule::DynArrayParentReduceRule;
 use crate::rule_set::ReduceVTable;
 use std::alloc::Global;
 use std::ops::Range;
-use vx_tree::{ArrayRef, ArrayView, Bool, Decimal, Null, Primitive, VTable, VarBinView};
+use vx_tree::{
+    ArrayRef, ArrayView, Bool, Decimal, Extension, Null, Primitive, Struct, VTable, VarBinView,
+};
 use vx_value::VortexResult;
 
 /// Canonical encodings. (own)
@@ -41,6 +43,14 @@ impl CanonicalEncoding for Decimal {
 
 impl CanonicalEncoding for VarBinView {
     ghost canonical = { views_canonical };
+}
+
+impl CanonicalEncoding for Struct {
+    ghost canonical = { struct_canonical };
+}
+
+impl CanonicalEncoding for Extension {
+    ghost canonical = { extension_canonical };
 }
 
 impl<V: CanonicalEncoding> ReduceVTable for V {

@@ -45,7 +45,7 @@ IsChunked ty n ss = (ms : List ℕ) × (ss ≡ of_lengths ty ms) × (n ≡ sum m
 abbrev pub chunked_meaning : Meaning
 chunked_meaning = record {
   id = id.Chunked;
-  name = λ i. Some (codes "chunk" ++ decimal i);
+  name = λ ty i. Some (codes "chunk" ++ decimal i);
   IsNode = IsChunked;
   refusal = λ i ty n ss. chunked_refusal ty n ss;
   cells = λ ty n tys css. chained css;

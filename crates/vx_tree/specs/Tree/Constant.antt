@@ -39,7 +39,7 @@ constant_validity v = validity.AllValid
 abbrev pub constant_meaning : Typed → Meaning
 constant_meaning v = record {
   id = id.Constant;
-  name = λ i. None;
+  name = λ ty i. None;
   IsNode = λ ty n ss. (ty ≡ v.of_type) × (is_of ty v.value ≡ true) × (ss ≡ []);
   refusal = λ i ty n ss. constant_refusal ty v ss;
   cells = λ ty n tys css. replicate n (value v.value);

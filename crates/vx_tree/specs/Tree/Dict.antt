@@ -52,7 +52,7 @@ IsDict ty n ss = (c : DataType) × (s : DataType) × (k : ℕ) × (ss ≡ Some (
 abbrev pub dict_meaning : Meaning
 dict_meaning = record {
   id = id.Dict;
-  name = slice_get (codes "codes" ∷ codes "values" ∷ []);
+  name = λ ty. slice_get (codes "codes" ∷ codes "values" ∷ []);
   IsNode = IsDict;
   refusal = λ i ty n ss. dict_refusal ty n ss;
   cells = λ ty n tys css. taken_cells (cells_at css 0) (cells_at css 1);

@@ -32,7 +32,7 @@ filter_refusal ty n bits s m =
 abbrev pub filter_meaning : List Bool → Meaning
 filter_meaning bits = record {
   id = id.Filter;
-  name = slice_get (codes "child" ∷ []);
+  name = λ ty. slice_get (codes "child" ∷ []);
   IsNode = λ ty n ss. (ss ≡ Some (shape ty (length bits)) ∷ []) × (n ≡ true_count bits);
   refusal = λ i ty n ss. of_child (filter_refusal ty n bits) ss;
   cells = λ ty n tys css. chosen bits (cells_at css 0);

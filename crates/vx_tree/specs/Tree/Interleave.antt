@@ -71,7 +71,7 @@ interleave_name (suc (suc i)) = Some (codes "value" ++ decimal i)
 abbrev pub interleave_meaning : Meaning
 interleave_meaning = record {
   id = id.Interleave;
-  name = interleave_name;
+  name = λ ty. interleave_name;
   IsNode = IsInterleave;
   refusal = λ i ty n ss. interleave_refusal ty n ss;
   cells = λ ty n tys css. paired_cells (drop 2 css) (cells_at css 0) (cells_at css 1);

@@ -62,7 +62,7 @@ joined n v w = validity.AllValid
 abbrev pub masked_meaning : Meaning
 masked_meaning = record {
   id = id.Masked;
-  name = slice_get (codes "child" ∷ codes "validity" ∷ []);
+  name = λ ty. slice_get (codes "child" ∷ codes "validity" ∷ []);
   IsNode = IsMasked;
   refusal = λ i ty n ss. masked_refusal ty n ss;
   cells = λ ty n tys css. valid_cells (cells_at css 1) (cells_at css 0);

@@ -2,6 +2,8 @@
 use Rattle.std.specs.Prelude.{◌≡◌, ℕ, ℤ, ◌+◌, List, [], ◌∷◌, max, Option, Some, None, Bool, refl}
 use Rattle.std.specs.Coded.{Coded, coded_ℕ, coded_ℤ, coded_bool, coded_list, coded×}
 use Rattle.std.proofs.Common.{ap, inl, inr}
+use denote.Enum.Bare.{tag_one}
+use denote.Enum.Declared.{tag_of}
 use base.Stored.{Gv, gnil, gnum, gcons, coded_unit}
 use Rattle.vx_value.specs.Codes.{Part, part, ◌or◌, no_part, coded_by}
 use Rattle.vx_value.specs.Types.{DataType, coded_type, coded_ptype}
@@ -12,6 +14,8 @@ use Rattle.vx_value.specs.declared.dtype.PType.{PType}
 use Rattle.vx_fn.specs.Functions.{coded_function}
 use Rattle.vx_fn.specs.declared.function.ScalarFnRef.{ScalarFnRef}
 use Rattle.vx_tree.specs.Views.{ViewedRows, coded_viewed}
+use Rattle.vx_tree.specs.declared.array.layout.Layout.{Layout}
+use Rattle.vx_tree.specs.contracts.array.layout.Layout.{the_type as the_layout}
 
 -- the data of a node: its buffers as lists, and its numbers
 pub data Data : Type 0 where
@@ -31,6 +35,8 @@ pub data Data : Type 0 where
   decimals : DecimalType → List ℤ → Data
   -- rows of text or bytes, as views into data buffers
   views : ViewedRows → Data
+  -- rows of a nested type, made of the rows of the slots
+  composed : Layout → Data
 
 mutual
   pub data Tree : Type 0 where
@@ -80,6 +86,10 @@ column ty n d validity = node ty n d (slots_of (validity ∷ []))
 
 -- ---- the code of a tree: for node data, a line per encoding in each of two tables
 
+abbrev pub coded_layout : Coded Layout
+coded_layout =
+    record { code = λ l. coded_ℕ.code (tag_of the_layout l); inj = λ k l e. tag_one the_layout tt k l (coded_ℕ.inj _ _ e) }
+
 abbrev pub data_parts : Part Data
 data_parts =
     part coded_typed constant
@@ -96,6 +106,7 @@ data_parts =
     or part coded_unit (λ u. dict)
     or part coded_unit (λ u. chunked)
     or part coded_unit (λ u. interleave)
+    or part coded_layout composed
     or no_part
 
 abbrev pub data_split : Data → data_parts.holds
@@ -113,6 +124,7 @@ data_split nulls = inr (inr (inr (inr (inr (inr (inr (inr (inr (inr (inl tt)))))
 data_split dict = inr (inr (inr (inr (inr (inr (inr (inr (inr (inr (inr (inl tt)))))))))))
 data_split chunked = inr (inr (inr (inr (inr (inr (inr (inr (inr (inr (inr (inr (inl tt))))))))))))
 data_split interleave = inr (inr (inr (inr (inr (inr (inr (inr (inr (inr (inr (inr (inr (inl tt)))))))))))))
+data_split (composed l) = inr (inr (inr (inr (inr (inr (inr (inr (inr (inr (inr (inr (inr (inr (inl l))))))))))))))
 
 pub data_back : (d : Data) → data_parts.make (data_split d) ≡ d
 data_back (constant v) = refl

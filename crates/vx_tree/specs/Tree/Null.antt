@@ -31,7 +31,7 @@ nulls_refusal ty ss = without_slots (unless (same_type ty type.null) (InvalidArg
 abbrev pub nulls_meaning : Meaning
 nulls_meaning = record {
   id = id.Null;
-  name = λ i. None;
+  name = λ ty i. None;
   IsNode = λ ty n ss. (ty ≡ type.null) × (ss ≡ []);
   refusal = λ i ty n ss. nulls_refusal ty ss;
   cells = λ ty n tys css. replicate n (value null);

@@ -68,7 +68,7 @@ function_refusal i ty n f ss =
 abbrev pub function_meaning : ScalarFnRef → Meaning
 function_meaning f = record {
   id = function_id f;
-  name = slice_get (argument_names f);
+  name = λ ty. slice_get (argument_names f);
   IsNode = λ ty n ss. (tys : List DataType) × (ss ≡ map (λ s. Some (shape s n)) tys) × (return_type f tys ≡ Some ty);
   refusal = λ i ty n ss. function_refusal i ty n f ss;
   cells = λ ty n tys css. map (λ i. apply f tys ty (row_at css i)) (range_with_len 0 n);

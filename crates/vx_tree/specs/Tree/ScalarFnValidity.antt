@@ -32,7 +32,7 @@ validity_refusal ty n s m =
 abbrev pub validity_meaning : Meaning
 validity_meaning = record {
   id = id.ScalarFnValidity;
-  name = slice_get (codes "child" ∷ []);
+  name = λ ty. slice_get (codes "child" ∷ []);
   IsNode = λ ty n ss. (s : DataType) × (ss ≡ Some (shape s n) ∷ []) × (ty ≡ type.bool NonNullable);
   refusal = λ i ty n ss. of_child (validity_refusal ty n) ss;
   cells = λ ty n tys css. map shown_cell (cells_at css 0);

@@ -31,7 +31,7 @@ slice_refusal ty n a b s m =
 abbrev pub slice_meaning : ℕ → ℕ → Meaning
 slice_meaning a b = record {
   id = id.Slice;
-  name = slice_get (codes "child" ∷ []);
+  name = λ ty. slice_get (codes "child" ∷ []);
   IsNode = λ ty n ss. (m : ℕ) × (ss ≡ Some (shape ty m) ∷ []) × (a ≤ b) × (b ≤ m) × (n ≡ b - a);
   refusal = λ i ty n ss. of_child (slice_refusal ty n a b) ss;
   cells = λ ty n tys css. take (b - a) (drop a (cells_at css 0));

@@ -5,6 +5,7 @@ ghost use Rattle.vx_tree.specs.Tree.{Data};
 ghost use Rattle.vx_tree.specs.TreeView.{data_of, tree_of};
 ghost use Rattle.vx_tree.specs.Well.{IsNodeOf};
 ghost use Rattle.vx_tree.specs.Kinds.{IsKindOf};
+ghost use Rattle.vx_tree.specs.Support.{takes_nested};
 
 use crate::array::{ArrayKind, Encoding, Node};
 use vx_value::Id;
@@ -23,6 +24,10 @@ pub trait EncodingVariant: Encoded {
     ghost stands_for: { Self.TypedArrayData → Data };
 
     ghost is_kind: { Data → Bool };
+
+    /// Returns whether nodes with this data may have rows of a nested type. (own)
+    fn takes_nested(payload: &Self::TypedArrayData) -> bool
+        ensures { result ≡ takes_nested (stands_for payload.now) };
 
     /// Returns `payload` as the data of a node. (own)
     fn wrap(payload: Self::TypedArrayData) -> Encoding
@@ -72,6 +77,8 @@ macro_rules! by_encoding {
             $crate::Encoding::Primitive(data) => $function::<$crate::Primitive>($($argument,)* data),
             $crate::Encoding::Decimal(data) => $function::<$crate::Decimal>($($argument,)* data),
             $crate::Encoding::VarBinView(data) => $function::<$crate::VarBinView>($($argument,)* data),
+            $crate::Encoding::Struct(data) => $function::<$crate::Struct>($($argument,)* data),
+            $crate::Encoding::Extension(data) => $function::<$crate::Extension>($($argument,)* data),
         }
     };
 }

@@ -1,18 +1,19 @@
 //! The readers of an untyped reference.
 
-ghost use Rattle.std.specs.Prelude.{◌≡◌, ◌==◌, is_some, IfSome, length, map, option_map, slice_get, Some, false};
-ghost use Rattle.vx_value.specs.View.{type_of};
-ghost use Rattle.vx_value.specs.Storage.{is_nested};
-ghost use Rattle.vx_tree.specs.Tree.{dtype, len, datum, slots, slots_of, id_of, meaning, interleave_name};
+ghost use Rattle.std.specs.Prelude.{◌≡◌, ◌==◌, is_some, IfSome, length, map, option_map, slice_get, Some, true};
+ghost use Rattle.vx_value.specs.View.{type_of, fields_of};
+ghost use Rattle.vx_value.specs.Supported.{has_columns};
+ghost use Rattle.vx_tree.specs.Tree.{dtype, len, datum, slots, slots_of, id_of, meaning, interleave_name, field_slot_name, struct_names, struct_name};
 ghost use Rattle.vx_tree.specs.Slots.{name_at};
 ghost use Rattle.vx_tree.specs.Names.{name_text};
 ghost use Rattle.vx_tree.specs.TreeView.{data_of};
 ghost use Rattle.vx_tree.specs.Cells.{rows};
 ghost use Rattle.vx_tree.specs.Well.{IsWell};
+ghost use Rattle.vx_tree.specs.Support.{supports};
 
 use crate::array::{ArrayRef, ArrayView, Encoding, EncodingVariant, SlotName};
 use crate::matcher::Matcher;
-use vx_value::{DType, Id};
+use vx_value::{DType, Field, Id};
 
 /// Returns name `index` of `names`.
 fn named(names: &[&'static str], index: usize) -> Option<SlotName<'static>>
@@ -42,9 +43,43 @@ fn interleaved(index: usize) -> SlotName<'static>
     }
 }
 
-/// Returns the name of slot `index` of a node of this encoding: a line for each encoding.
-fn name_of(encoding: &Encoding, index: usize) -> Option<SlotName<'_>>
-    ensures { option_map name_text result ≡ (meaning (data_of encoding.now)).name index }
+/// Returns the name of the slot of the field named `name`. That of a field named `validity` isn't the validity's.
+fn field_slot(name: &str) -> SlotName<'_>
+    ensures { name_text result ≡ field_slot_name name.now }
+{
+    if name == "validity" {
+        SlotName::Named("field:validity")
+    } else {
+        SlotName::Named(name)
+    }
+}
+
+/// Returns the name of slot `index` of a column of structs with these fields.
+fn field_slot_at(fields: &[Field], index: usize) -> Option<SlotName<'_>>
+    ensures { option_map name_text result ≡ slice_get (struct_names (fields_of fields.now)) index }
+{
+    if index == fields.len() {
+        return Some(SlotName::Named("validity"));
+    }
+    match fields.get(index) {
+        Some(field) => Some(field_slot(field.name.as_str())),
+        None => None,
+    }
+}
+
+/// Returns the name of slot `index` of a column of type `dtype`, a struct.
+fn field_or_validity(dtype: &DType, index: usize) -> Option<SlotName<'_>>
+    ensures { option_map name_text result ≡ struct_name (type_of dtype.now) index }
+{
+    match dtype {
+        DType::Struct(fields, _) => field_slot_at(fields.as_slice(), index),
+        _ => None,
+    }
+}
+
+/// Returns the name of slot `index` of a node of this encoding and of type `dtype`: a line for each encoding.
+fn name_of<'a>(encoding: &'a Encoding, dtype: &'a DType, index: usize) -> Option<SlotName<'a>>
+    ensures { option_map name_text result ≡ (meaning (data_of encoding.now)).name (type_of dtype.now) index }
 {
     match encoding {
         Encoding::Constant(_) => None,
@@ -61,6 +96,8 @@ fn name_of(encoding: &Encoding, index: usize) -> Option<SlotName<'_>>
         Encoding::Primitive(_) => named(&["validity"], index),
         Encoding::Decimal(_) => named(&["validity"], index),
         Encoding::VarBinView(_) => named(&["validity"], index),
+        Encoding::Struct(_) => field_or_validity(dtype, index),
+        Encoding::Extension(_) => named(&["storage"], index),
     }
 }
 
@@ -82,7 +119,7 @@ impl ArrayRef {
     /// Returns the type of the rows.
     pub fn dtype(&self) -> &DType
         ensures dtype { type_of result.now ≡ dtype self.now }
-        ensures unnested { is_nested (dtype self.now) ≡ false }
+        ensures columns { has_columns (dtype self.now) ≡ true }
     {
         &self.node.dtype
     }
@@ -113,6 +150,8 @@ impl ArrayRef {
             Encoding::Primitive(_) => Id::Primitive,
             Encoding::Decimal(_) => Id::Decimal,
             Encoding::VarBinView(_) => Id::VarBinView,
+            Encoding::Struct(_) => Id::Struct,
+            Encoding::Extension(_) => Id::Extension,
         }
     }
 
@@ -132,18 +171,19 @@ impl ArrayRef {
         ensures { option_map name_text result ≡ name_at index self.now }
     {
         if index < self.slots().len() {
-            name_of(self.encoding(), index)
+            name_of(self.encoding(), self.dtype(), index)
         } else {
             None
         }
     }
 
-    /// States what holds of every tree: it is well formed, its meaning has one cell per row, and its type isn't nested. (own)
+    /// States what holds of every tree: it is well formed, its meaning has one cell per row, and its encoding supports its
+    /// type. (own)
     #[tactic(auto, using(crate::proofs::CellsLemmas::rows_counted))]
     pub fn well_formed_tree(&self)
         ensures formed { IsWell self.now }
         ensures counted { length (rows self.now) ≡ len self.now }
-        ensures unnested { is_nested (dtype self.now) ≡ false }
+        ensures supported { supports (datum self.now) (dtype self.now) ≡ true }
     {
         let _well = &self.node;
     }

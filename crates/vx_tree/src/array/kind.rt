@@ -6,7 +6,7 @@ ghost use Rattle.vx_tree.specs.Well.{IsNodeOf};
 ghost use Rattle.vx_tree.specs.Kinds.{IsKindOf};
 ghost use Rattle.vx_tree.specs.Refusals.{is_present};
 
-use crate::array::{ArrayRef, EncodingKind, Node};
+use crate::array::{ArrayRef, EncodingKind, Layout, Node};
 use crate::by_encoding;
 use crate::native::{DecimalValues, PrimitiveValues};
 use crate::views::BinaryViews;
@@ -45,6 +45,8 @@ pub enum ArrayKind<'a> {
     Decimal(&'a DecimalValues, &'a Option<ArrayRef>),
     /// The rows of a column of text or bytes, and the slot of its validity.
     VarBinView(&'a BinaryViews, &'a Option<ArrayRef>),
+    /// How a column of a nested type is laid out, and its slots.
+    Composed(Layout, &'a [Option<ArrayRef>]),
 }
 
 impl ArrayRef {

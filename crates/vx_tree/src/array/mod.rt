@@ -4,6 +4,7 @@
 mod encoded;
 mod erased;
 mod kind;
+mod layout;
 mod name;
 mod node;
 mod typed;
@@ -13,6 +14,7 @@ mod vtable;
 pub use encoded::{ArrayId, Encoded, EncodingKind, EncodingVariant};
 pub use kind::ArrayKind;
 pub(crate) use kind::present;
+pub use layout::Layout;
 pub use name::SlotName;
 pub(crate) use node::know_well;
 pub use node::{ArrayRef, ArraySlots, Encoding, Node};

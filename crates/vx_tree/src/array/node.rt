@@ -1,12 +1,12 @@
 //! The nodes that all handles share.
 
-ghost use Rattle.std.specs.Prelude.{◌≡◌, IfOk, IfErr, IfSome, false};
+ghost use Rattle.std.specs.Prelude.{◌≡◌, IfOk, IfErr, IfSome, true};
 ghost use Rattle.vx_value.specs.View.{type_of};
-ghost use Rattle.vx_value.specs.Storage.{is_nested};
 ghost use Rattle.vx_value.specs.Errors.{OnlyOutOfMemory};
 ghost use Rattle.vx_tree.specs.Tree.{Tree, slots_of};
 ghost use Rattle.vx_tree.specs.TreeView.{data_of, tree_of};
 ghost use Rattle.vx_tree.specs.Well.{IsNodeOf, IsWell, AreWell};
+ghost use Rattle.vx_tree.specs.Support.{supports};
 
 use crate::arrays::boolean::BoolData;
 use crate::arrays::constant::ConstantData;
@@ -43,6 +43,8 @@ pub enum Encoding {
     Primitive(PrimitiveData),
     Decimal(DecimalData),
     VarBinView(VarBinViewData),
+    Struct(EmptyArrayData),
+    Extension(EmptyArrayData),
 }
 
 /// The parts of a node, which needn't make a well-formed tree. (own)
@@ -122,6 +124,8 @@ impl Clone for Encoding {
             Encoding::Primitive(data) => Ok(Encoding::Primitive(data.clone()?)),
             Encoding::Decimal(data) => Ok(Encoding::Decimal(data.clone()?)),
             Encoding::VarBinView(data) => Ok(Encoding::VarBinView(data.clone()?)),
+            Encoding::Struct(data) => Ok(Encoding::Struct(*data)),
+            Encoding::Extension(data) => Ok(Encoding::Extension(*data)),
         }
     }
 }
@@ -161,11 +165,11 @@ pub(crate) fn know_well(slots: &[Option<ArrayRef>])
 }
 
 impl Node {
-    /// Makes the tree of these parts. They must meet the conditions of the encoding, and the type must not be nested. Fails only
-    /// with `OutOfMemory`.
+    /// Makes the tree of these parts. They must meet the conditions of the encoding, which must support the type. Fails only with
+    /// `OutOfMemory`.
     pub fn into_array(self, alloc: Global) -> VortexResult<ArrayRef>
         requires node { IsNodeOf (tree_of self) }
-        requires unnested { is_nested (type_of self.dtype) ≡ false }
+        requires supported { supports (data_of self.encoding) (type_of self.dtype) ≡ true }
         ensures ok { IfOk result (λ t. t ≡ tree_of self) }
         ensures err { OnlyOutOfMemory result }
     {

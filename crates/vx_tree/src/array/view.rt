@@ -1,10 +1,10 @@
 //! Borrowed nodes, with the data of their encoding.
 
-ghost use Rattle.std.specs.Prelude.{◌≡◌, ◌==◌, IfOk, true, false};
+ghost use Rattle.std.specs.Prelude.{◌≡◌, ◌==◌, IfOk, true};
 ghost use Rattle.std.specs.Coded.{Coded-set};
 ghost use Rattle.vx_value.specs.Errors.{OnlyOutOfMemory};
 ghost use Rattle.vx_value.specs.View.{type_of};
-ghost use Rattle.vx_value.specs.Storage.{is_nested};
+ghost use Rattle.vx_value.specs.Supported.{has_columns};
 ghost use Rattle.vx_tree.specs.Tree.{dtype, len, datum, slots, slots_of, id_of, coded_data};
 
 use crate::array::{Array, ArrayRef, EncodingVariant, VTable};
@@ -64,7 +64,7 @@ impl<'a, V: EncodingVariant> ArrayView<'a, V> {
     /// Returns the type of the rows.
     pub fn dtype(&self) -> &'a DType
         ensures dtype { type_of result.now ≡ dtype self.now.array.now }
-        ensures unnested { is_nested (dtype self.now.array.now) ≡ false }
+        ensures columns { has_columns (dtype self.now.array.now) ≡ true }
     {
         self.array.dtype()
     }

@@ -34,6 +34,10 @@ impl Encoded for Chunked {
 }
 
 impl EncodingVariant for Chunked {
+    fn takes_nested(_payload: &EmptyArrayData) -> bool {
+        false
+    }
+
     fn wrap(payload: EmptyArrayData) -> Encoding {
         Encoding::Chunked(payload)
     }

@@ -2,7 +2,7 @@
 
 ghost use Rattle.std.specs.Prelude.{◌≡◌, ◌⊎◌, refl, IfOk, IfErr, OnOk, true, false};
 ghost use Rattle.vx_value.specs.Errors.{OnlyOutOfMemory};
-ghost use Rattle.vx_value.specs.Storage.{is_nested};
+ghost use Rattle.vx_value.specs.Supported.{has_columns};
 ghost use Rattle.vx_tree.specs.Tree.{constant, is_constant, constant_of};
 ghost use Rattle.vx_value.specs.declared.id.Id.TheVariants as id;
 
@@ -15,7 +15,7 @@ use crate::arrays::{into_payload, payload};
 use crate::conditions::check_that;
 use crate::types::is_same_type;
 use std::alloc::Global;
-use vx_value::{ArgKind, Id, Scalar, VortexError, VortexResult};
+use vx_value::{ArgKind, Id, Scalar, VortexError, VortexResult, has_columns};
 
 /// The tag of the constant encoding.
 #[derive(Clone, Copy, Debug)]
@@ -55,6 +55,10 @@ impl Encoded for Constant {
 }
 
 impl EncodingVariant for Constant {
+    fn takes_nested(_payload: &ConstantData) -> bool {
+        true
+    }
+
     fn wrap(payload: ConstantData) -> Encoding {
         Encoding::Constant(payload)
     }
@@ -100,23 +104,23 @@ impl VTable for Constant {
 impl ConstantArray {
     /// Makes the constant of `len` rows, each `scalar`.
     ///
-    /// Returns `InvalidArgument` with `BadType` exactly if the scalar's type is nested.
+    /// Returns `InvalidArgument` with `BadType` exactly if there are no columns of the scalar's type.
     pub fn new(alloc: Global, scalar: Scalar, len: usize) -> VortexResult<ConstantArray>
         ensures ok { IfOk result (λ a. a ≡ constant_of scalar len) }
-        ensures valid { OnOk result (is_nested scalar.of_type ≡ false) }
+        ensures valid { OnOk result (has_columns scalar.of_type ≡ true) }
         ensures refused { IfErr result (λ e. (e ≡ VortexError.OutOfMemory)
-            ⊎ ((e ≡ VortexError.InvalidArgument ArgKind.BadType) × (is_nested scalar.of_type ≡ true))) }
+            ⊎ ((e ≡ VortexError.InvalidArgument ArgKind.BadType) × (has_columns scalar.of_type ≡ false))) }
     {
-        if scalar.dtype().is_nested() {
+        if !has_columns(scalar.dtype()) {
             return Err(VortexError::InvalidArgument(ArgKind::BadType));
         }
         ConstantArray::new_unchecked(alloc, scalar, len)
     }
 
-    /// Makes the constant of `len` rows, each `scalar`, whose type must not be nested, without checking it. Fails only with
-    /// `OutOfMemory`. (own)
+    /// Makes the constant of `len` rows, each `scalar`, of a type with columns, which isn't checked. Fails only with `OutOfMemory`.
+    /// (own)
     pub fn new_unchecked(alloc: Global, scalar: Scalar, len: usize) -> VortexResult<ConstantArray>
-        requires { is_nested scalar.of_type ≡ false }
+        requires { has_columns scalar.of_type ≡ true }
         ensures ok { IfOk result (λ a. a ≡ constant_of scalar len) }
         ensures err { OnlyOutOfMemory result }
     {

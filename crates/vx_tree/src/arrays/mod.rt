@@ -7,6 +7,7 @@ pub(crate) mod column;
 pub mod constant;
 pub mod decimal;
 pub mod dict;
+pub mod extension;
 pub mod filter;
 pub mod interleave;
 pub mod masked;
@@ -16,6 +17,7 @@ pub mod scalar_fn;
 pub mod scalar_fn_validity;
 pub mod slice;
 mod slots;
+pub mod structs;
 pub mod varbinview;
 
 /// Evaluates to `Some(data)`, the data of a borrowed `Encoding` of this variant, or to `None` if it is another variant.

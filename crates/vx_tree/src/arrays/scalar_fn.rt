@@ -61,6 +61,10 @@ impl Encoded for ScalarFn {
 }
 
 impl EncodingVariant for ScalarFn {
+    fn takes_nested(_payload: &ScalarFnData) -> bool {
+        false
+    }
+
     fn wrap(payload: ScalarFnData) -> Encoding {
         Encoding::ScalarFn(payload)
     }

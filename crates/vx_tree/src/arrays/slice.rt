@@ -86,6 +86,10 @@ impl Encoded for Slice {
 }
 
 impl EncodingVariant for Slice {
+    fn takes_nested(_payload: &SliceData) -> bool {
+        true
+    }
+
     fn wrap(payload: SliceData) -> Encoding {
         Encoding::Slice(payload)
     }

@@ -44,6 +44,10 @@ impl Encoded for VarBinView {
 }
 
 impl EncodingVariant for VarBinView {
+    fn takes_nested(_payload: &VarBinViewData) -> bool {
+        false
+    }
+
     fn wrap(payload: VarBinViewData) -> Encoding {
         Encoding::VarBinView(payload)
     }

@@ -10,8 +10,10 @@ use crate::array::{ArrayRef, ArrayView, Encoding};
 use crate::arrays::boolean::Bool;
 use crate::arrays::constant::Constant;
 use crate::arrays::decimal::Decimal;
+use crate::arrays::extension::Extension;
 use crate::arrays::null::Null;
 use crate::arrays::primitive::Primitive;
+use crate::arrays::structs::Struct;
 use crate::arrays::varbinview::VarBinView;
 use crate::canonical::canonical::Canonical;
 use crate::canonical::columnar::Columnar;
@@ -25,6 +27,8 @@ pub enum CanonicalView<'a> {
     Primitive(ArrayView<'a, Primitive>),
     Decimal(ArrayView<'a, Decimal>),
     VarBinView(ArrayView<'a, VarBinView>),
+    Struct(ArrayView<'a, Struct>),
+    Extension(ArrayView<'a, Extension>),
 }
 
 impl<'a> CanonicalView<'a> {
@@ -38,6 +42,8 @@ impl<'a> CanonicalView<'a> {
             CanonicalView::Primitive(column) => column.array(),
             CanonicalView::Decimal(column) => column.array(),
             CanonicalView::VarBinView(column) => column.array(),
+            CanonicalView::Struct(column) => column.array(),
+            CanonicalView::Extension(column) => column.array(),
         }
     }
 
@@ -60,6 +66,8 @@ impl<'a> From<&'a Canonical> for CanonicalView<'a> {
             Canonical::Primitive(column) => CanonicalView::Primitive(column.as_view()),
             Canonical::Decimal(column) => CanonicalView::Decimal(column.as_view()),
             Canonical::VarBinView(column) => CanonicalView::VarBinView(column.as_view()),
+            Canonical::Struct(column) => CanonicalView::Struct(column.as_view()),
+            Canonical::Extension(column) => CanonicalView::Extension(column.as_view()),
         }
     }
 }
@@ -76,6 +84,8 @@ impl<'a> TryFrom<CanonicalView<'a>> for Canonical {
             CanonicalView::Primitive(column) => Ok(Canonical::Primitive(column.into_owned()?)),
             CanonicalView::Decimal(column) => Ok(Canonical::Decimal(column.into_owned()?)),
             CanonicalView::VarBinView(column) => Ok(Canonical::VarBinView(column.into_owned()?)),
+            CanonicalView::Struct(column) => Ok(Canonical::Struct(column.into_owned()?)),
+            CanonicalView::Extension(column) => Ok(Canonical::Extension(column.into_owned()?)),
         }
     }
 }
@@ -147,6 +157,8 @@ impl ArrayRef {
             Encoding::VarBinView(data) => Some(CanonicalView::VarBinView(ArrayView::new(
                 self, data,
             ))),
+            Encoding::Struct(data) => Some(CanonicalView::Struct(ArrayView::new(self, data))),
+            Encoding::Extension(data) => Some(CanonicalView::Extension(ArrayView::new(self, data))),
             _ => None,
         }
     }

@@ -1,20 +1,22 @@
 //! Columns in the canonical encoding of their type.
 
-ghost use Rattle.std.specs.Prelude.{◌≡◌, ◌==◌, true, is_ok, IfOk, IfErr, option_map, false};
+ghost use Rattle.std.specs.Prelude.{◌≡◌, ◌==◌, true, is_ok, IfOk, IfErr, option_map};
 ghost use Rattle.vx_value.specs.Errors.{OnlyOutOfMemory};
 ghost use Rattle.vx_value.specs.View.{type_of};
-ghost use Rattle.vx_value.specs.Storage.{is_nested};
+ghost use Rattle.vx_value.specs.Supported.{has_columns};
 ghost use Rattle.vx_tree.specs.Tree.{dtype, len, datum, is_canonical};
 ghost use Rattle.vx_tree.specs.Columns.{empty_of};
-ghost use Rattle.vx_tree.specs.Canonicals.{canonical_tree, null_column, bool_column, primitive_column, decimal_column, varbinview_column};
+ghost use Rattle.vx_tree.specs.Canonicals.{canonical_tree, null_column, bool_column, primitive_column, decimal_column, varbinview_column, struct_column, extension_column};
 
 use crate::array::{Array, ArrayRef, Encoding, IntoArray};
 use crate::arrays::boolean::BoolArray;
 use crate::arrays::decimal::DecimalArray;
+use crate::arrays::extension::ExtensionArray;
 use crate::arrays::null::NullArray;
 use crate::arrays::primitive::PrimitiveArray;
+use crate::arrays::structs::StructArray;
 use crate::arrays::varbinview::VarBinViewArray;
-use crate::canonical::flat::flat_empty;
+use crate::canonical::empty::empty_column;
 use std::alloc::Global;
 use vx_value::{DType, VortexResult};
 
@@ -50,25 +52,18 @@ pub enum Canonical {
     Primitive(PrimitiveArray),
     Decimal(DecimalArray),
     VarBinView(VarBinViewArray),
+    Struct(StructArray),
+    Extension(ExtensionArray),
 }
 
 impl Canonical {
-    /// Makes the column of type `dtype`, which must not be nested, without rows. Fails only with `OutOfMemory`.
+    /// Makes the column of type `dtype`, which must be one with columns, without rows. Fails only with `OutOfMemory`.
     pub fn empty(alloc: Global, dtype: &DType) -> VortexResult<Canonical>
-        requires { is_nested (type_of dtype.now) ≡ false }
+        requires { has_columns (type_of dtype.now) ≡ true }
         ensures ok { IfOk result (λ c. canonical_tree c ≡ empty_of (type_of dtype.now)) }
         ensures err { OnlyOutOfMemory result }
     {
-        match dtype {
-            DType::Null => Ok(Canonical::Null(NullArray::new(alloc, 0)?)),
-            DType::Bool(_) => Ok(Canonical::Bool(flat_empty(alloc, dtype)?)),
-            DType::Primitive(_, _) => Ok(Canonical::Primitive(flat_empty(alloc, dtype)?)),
-            DType::Decimal(_, _) => Ok(Canonical::Decimal(flat_empty(alloc, dtype)?)),
-            DType::Utf8(_) | DType::Binary(_) => {
-                Ok(Canonical::VarBinView(flat_empty(alloc, dtype)?))
-            }
-            _ => unreachable!(),
-        }
+        empty_column(alloc, dtype)
     }
 
     /// Returns `array` as a column. Hands it back if it isn't canonical. (own)
@@ -83,6 +78,8 @@ impl Canonical {
             Encoding::Primitive(_) => Ok(Canonical::Primitive(Array::try_from_array_ref(array)?)),
             Encoding::Decimal(_) => Ok(Canonical::Decimal(Array::try_from_array_ref(array)?)),
             Encoding::VarBinView(_) => Ok(Canonical::VarBinView(Array::try_from_array_ref(array)?)),
+            Encoding::Struct(_) => Ok(Canonical::Struct(Array::try_from_array_ref(array)?)),
+            Encoding::Extension(_) => Ok(Canonical::Extension(Array::try_from_array_ref(array)?)),
             _ => Err(array),
         }
     }
@@ -99,6 +96,8 @@ impl Canonical {
             Canonical::Primitive(column) => column.as_array(),
             Canonical::Decimal(column) => column.as_array(),
             Canonical::VarBinView(column) => column.as_array(),
+            Canonical::Struct(column) => column.as_array(),
+            Canonical::Extension(column) => column.as_array(),
         }
     }
 
@@ -119,7 +118,7 @@ impl Canonical {
     /// Returns the type of the rows.
     pub fn dtype(&self) -> &DType
         ensures dtype { type_of result.now ≡ dtype (canonical_tree self.now) }
-        ensures unnested { is_nested (dtype (canonical_tree self.now)) ≡ false }
+        ensures columns { has_columns (dtype (canonical_tree self.now)) ≡ true }
     {
         self.as_array().dtype()
     }
@@ -159,6 +158,20 @@ impl Canonical {
         variant!(self, VarBinView)
     }
 
+    /// Returns the column if it is a column of structs, else `None`.
+    pub fn as_struct(&self) -> Option<&StructArray>
+        ensures { option_map (λ c. c.now) result ≡ struct_column self.now }
+    {
+        variant!(self, Struct)
+    }
+
+    /// Returns the column if it is a column of an extension type, else `None`.
+    pub fn as_extension(&self) -> Option<&ExtensionArray>
+        ensures { option_map (λ c. c.now) result ≡ extension_column self.now }
+    {
+        variant!(self, Extension)
+    }
+
     /// Returns the column by value if it is a column of nulls, else `None`.
     pub fn into_null(self) -> Option<NullArray>
         ensures { result ≡ null_column self }
@@ -193,6 +206,20 @@ impl Canonical {
     {
         into_variant!(self, VarBinView)
     }
+
+    /// Returns the column by value if it is a column of structs, else `None`.
+    pub fn into_struct(self) -> Option<StructArray>
+        ensures { result ≡ struct_column self }
+    {
+        into_variant!(self, Struct)
+    }
+
+    /// Returns the column by value if it is a column of an extension type, else `None`.
+    pub fn into_extension(self) -> Option<ExtensionArray>
+        ensures { result ≡ extension_column self }
+    {
+        into_variant!(self, Extension)
+    }
 }
 
 impl IntoArray for Canonical {
@@ -205,6 +232,8 @@ impl IntoArray for Canonical {
             Canonical::Primitive(column) => column.into_array(),
             Canonical::Decimal(column) => column.into_array(),
             Canonical::VarBinView(column) => column.into_array(),
+            Canonical::Struct(column) => column.into_array(),
+            Canonical::Extension(column) => column.into_array(),
         }
     }
 }

@@ -2,7 +2,7 @@
 
 ghost use Rattle.std.specs.Prelude.{◌≡◌, ◌==◌, ◌⊎◌, true, is_ok, IfOk, IfErr, OnOk, false};
 ghost use Rattle.vx_value.specs.View.{type_of};
-ghost use Rattle.vx_value.specs.Storage.{is_nested};
+ghost use Rattle.vx_value.specs.Supported.{has_columns};
 ghost use Rattle.vx_tree.specs.Tree.{dtype, len, datum, is_columnar, constant_of};
 ghost use Rattle.vx_tree.specs.Canonicals.{columnar_tree};
 
@@ -22,12 +22,12 @@ pub enum Columnar {
 impl Columnar {
     /// Makes the constant of `len` rows, each `scalar`.
     ///
-    /// Returns `InvalidArgument` with `BadType` exactly if the scalar's type is nested.
+    /// Returns `InvalidArgument` with `BadType` exactly if there are no columns of the scalar's type.
     pub fn constant(alloc: Global, scalar: Scalar, len: usize) -> VortexResult<Columnar>
         ensures ok { IfOk result (λ c. columnar_tree c ≡ constant_of scalar len) }
-        ensures valid { OnOk result (is_nested scalar.of_type ≡ false) }
+        ensures valid { OnOk result (has_columns scalar.of_type ≡ true) }
         ensures refused { IfErr result (λ e. (e ≡ VortexError.OutOfMemory)
-            ⊎ ((e ≡ VortexError.InvalidArgument ArgKind.BadType) × (is_nested scalar.of_type ≡ true))) }
+            ⊎ ((e ≡ VortexError.InvalidArgument ArgKind.BadType) × (has_columns scalar.of_type ≡ false))) }
     {
         Ok(Columnar::Constant(ConstantArray::new(alloc, scalar, len)?))
     }
@@ -76,7 +76,7 @@ impl Columnar {
     /// Returns the type of the rows.
     pub fn dtype(&self) -> &DType
         ensures dtype { type_of result.now ≡ dtype (columnar_tree self.now) }
-        ensures unnested { is_nested (dtype (columnar_tree self.now)) ≡ false }
+        ensures columns { has_columns (dtype (columnar_tree self.now)) ≡ true }
     {
         self.as_array().dtype()
     }

@@ -3,6 +3,8 @@
 mod borrowed;
 mod canonical;
 mod columnar;
+mod composed;
+mod empty;
 mod flat;
 mod slicing;
 mod values;

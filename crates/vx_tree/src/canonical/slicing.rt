@@ -9,6 +9,7 @@ ghost use Rattle.vx_tree.specs.Canonicals.{canonical_tree};
 
 use crate::arrays::null::NullArray;
 use crate::canonical::canonical::Canonical;
+use crate::canonical::composed::slice_composed;
 use crate::canonical::flat::flat_slice;
 use std::alloc::Global;
 use std::ops::Range;
@@ -32,6 +33,8 @@ pub fn slice_canonical(
         Canonical::Primitive(column) => Canonical::Primitive(flat_slice(alloc, column, range)?),
         Canonical::Decimal(column) => Canonical::Decimal(flat_slice(alloc, column, range)?),
         Canonical::VarBinView(column) => Canonical::VarBinView(flat_slice(alloc, column, range)?),
+        Canonical::Struct(column) => Canonical::Struct(slice_composed(alloc, column, range)?),
+        Canonical::Extension(column) => Canonical::Extension(slice_composed(alloc, column, range)?),
     })
 }
 

@@ -2,5 +2,6 @@
 
 mod apply;
 mod constant;
+mod each;
 
 pub use apply::apply_fn;

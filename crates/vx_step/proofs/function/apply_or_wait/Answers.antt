@@ -25,7 +25,7 @@ apply_fn-requires-clause-unnested c =
     let f = c.args.scalar_fn.now in
     let ts = map columnar_tree c.in_ok-columns-in-None.columns.items in
     let unnested = call_unnested f c.args.array.now (slots_of c.args.slots.now) ts c.requires.shape c.requires.well c.in_ok-columns-in-None.ensures
-    c.well_formed_tree.ensures.unnested in
+    c.well_formed_tree.ensures.supported in
     subst (λ (xs : List Columnar). (ty : DataType) → return_type f (map dtype (map columnar_tree xs)) ≡ Some ty → is_nested ty ≡ false) (sym c.as_slice.ensures.value)
     unnested
 

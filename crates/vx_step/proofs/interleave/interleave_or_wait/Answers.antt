@@ -15,13 +15,13 @@ pub interleave_columns-requires : goal.interleave_columns-requires
 interleave_columns-requires c =
     let ts = map columnar_tree c.in_ok-columns-in-None.columns.items in
     subst (λ (xs : List Columnar). ArePairs (map columnar_tree xs)) (sym c.as_slice.ensures.value)
-    (may_pair c.args.array.now (slots_of c.args.slots.now) c.requires.shape c.requires.well ts c.in_ok-columns-in-None.ensures)
+    (may_pair c.args.array.now (slots_of c.args.slots.now) c.requires.shape c.requires.well ts c.in_ok-columns-in-None.ensures c.well_formed_tree.ensures.supported)
 
 pub returns-in-Ok-clause-ok : goal.returns-in-Ok-clause-ok
 returns-in-Ok-clause-ok c =
     let ts = map columnar_tree c.in_ok-columns-in-None.columns.items in
     let u = columnar_tree c.in-Ok.column in
-    let well : IsWell u = subst IsWell c.as_array.ensures.of c.well_formed_tree.ensures.formed in
+    let well : IsWell u = subst IsWell c.as_array.ensures.of c.well_formed_tree-in-Ok.ensures.formed in
     let paired = subst (λ (xs : List Columnar). IsPaired (map columnar_tree xs) u) c.as_slice.ensures.value c.in-Ok.ensures.ok in
     subst (λ x. IsDone c.args.array.now x) (sym c.into_array.ensures)
     (pairs_done c.args.array.now (slots_of c.args.slots.now) c.requires.shape c.requires.well ts c.in_ok-columns-in-None.ensures c.in-None.ensures u paired well

@@ -1,12 +1,18 @@
-use Rattle.std.proofs.Common.{rules, arith, ◌≡◌, true, ◌∙◌, sym, Result, IfOk}
+use Rattle.std.proofs.Common.{rules, arith, ◌≡◌, true, ◌∙◌, ap, sym, subst, Result, IfOk}
 use Rattle.std.proofs.lemmas.Result.{IfOk-weaker}
 use Rattle.vx_value.specs.Types.{nullability_of, is_nullable}
 use Rattle.vx_value.specs.declared.error.VortexError.{VortexError}
-use Rattle.vx_tree.specs.Tree.{dtype, len, slots_of, validity_in}
+use Rattle.vx_tree.specs.Tree as enc
+use Rattle.vx_tree.specs.Tree.{node, dtype, len, slots_of, validity_in}
+use Rattle.vx_tree.specs.Validities.{validity_of}
+use Rattle.vx_value.specs.declared.dtype.Nullability.TheVariants.{Nullable}
+use Rattle.vx_tree.specs.declared.array.layout.Layout.TheVariants as layout
+use Rattle.vx_tree.specs.Well.{IsNode, shapes}
 use Rattle.vx_tree.specs.NodeValidities.{node_validity}
 use Rattle.vx_tree.specs.declared.validity.Validity.{Validity}
 use Rattle.vx_tree.specs.declared.validity.Validity.TheVariants as validity
 use Rattle.vx_tree.proofs.ScalarFnLemmas.{function_told}
+use Rattle.vx_tree.proofs.StructToldLemmas.{struct_told}
 use Rattle.vx_tree.proofs.MaskedLemmas.{own_rows, masked_told}
 use Rattle.vx_tree.proofs.NodeValiditiesLemmas.{first_counted, first_rows}
 use Rattle.vx_tree.proofs.node_validity.+node_validity.Goals as goal
@@ -33,3 +39,21 @@ returns-in-ScalarFn-clause-ok t c =
     let nullable : is_nullable (nullability_of (dtype tree)) ≡ true = search rules in
     let told = function_told tree (dtype tree) (len tree) c.in-ScalarFn.field-0.now (slots_of c.in-ScalarFn.field-1.now) c.in-ScalarFn.ensures.0 nullable in
     told_as c.test_lazily.result (validity.Array (validity_in tree)) (node_validity tree) told c.test_lazily.ensures.ok
+
+pub struct_slots-requires : goal.struct_slots-requires
+struct_slots-requires t c =
+    let a = c.args.array.now in
+    let shaped = subst (λ l. IsNode (dtype a) (len a) (enc.composed l) (shapes (slots_of c.in-Composed-Struct-default.slots.now))) c.in-Composed-Struct-default.field-0-is
+    c.in-Composed-Struct-default.ensures.1 in
+    (dtype a, len a, shaped)
+
+pub returns-in-Composed-Struct-default-clause-ok : goal.returns-in-Composed-Struct-default-clause-ok
+returns-in-Composed-Struct-default-clause-ok t c =
+    let a = c.args.array.now in
+    let xs = c.in-Composed-Struct-default.slots.now in
+    let made : node (dtype a) (len a) (enc.composed c.in-Composed-Struct-default.field-0) (slots_of xs) ≡ node (dtype a) (len a) (enc.composed layout.Struct) (slots_of xs) =
+    ap (λ l. node (dtype a) (len a) (enc.composed l) (slots_of xs)) c.in-Composed-Struct-default.field-0-is in
+    let nullable : is_nullable (nullability_of (dtype a)) ≡ true = search rules in
+    let told = struct_told a (dtype a) (len a) xs c.struct_slots.result.0.now c.struct_slots.result.1.now (c.in-Composed-Struct-default.ensures.0 ∙ made) c.struct_slots.ensures nullable in
+    told_as c.slot_validity-in-Composed-Struct-default.result (validity_of Nullable c.struct_slots.result.1.now) (node_validity a) told
+    c.slot_validity-in-Composed-Struct-default.ensures.ok

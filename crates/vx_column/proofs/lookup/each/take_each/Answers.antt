@@ -82,4 +82,4 @@ pub with_capacity-requires : goal.with_capacity-requires
 with_capacity-requires c =
     let ty = dtype c.args.values.now in
     let made = c.in_ok-dtype.ensures.ok ∙ ap (with_nullability c.union.result) c.dtype.ensures.dtype in
-    ap is_nested made ∙ nested_kept c.union.result ty ∙ c.dtype.ensures.unnested
+    ap is_nested made ∙ nested_kept c.union.result ty ∙ c.requires.unnested

@@ -1,4 +1,5 @@
-use Rattle.std.proofs.Common.{map}
+use Rattle.std.proofs.Common.{map, ap, ◌∙◌}
+use Rattle.vx_value.specs.Storage.{is_nested}
 use Rattle.std.proofs.lemmas.Result.{IfOk-weaker}
 use Rattle.vx_tree.specs.Canonicals.{columnar_tree}
 use Rattle.vx_tree.specs.Cells.{rows}
@@ -14,3 +15,6 @@ returns-clause-ok c =
     (λ u. pair_found (first_type ts) c.args.len (map rows ts) c.args.array.now.value c.args.row.now.value made.scalar (columnar_tree u) c.requires.some
     made.ensures.ok.0 made.ensures.ok.1)
     c.constant.ensures.ok
+
+pub constant-requires : goal.constant-requires
+constant-requires c = ap is_nested c.in_ok-scalar.ensures.ok.1 ∙ c.requires.unnested

@@ -77,7 +77,3 @@ returns-clause-err c =
       | inr missed ↦ inr (missed.0, cell ∙ missed.1)
     ])
     c.execute_scalar.ensures.err
-
-pub returns-clause-unnested : goal.returns-clause-unnested
-returns-clause-unnested c =
-    IfOk-weaker c.execute_scalar.result _ _ (λ s row. ap is_nested row.1 ∙ c.well_formed_tree.ensures.unnested) c.execute_scalar.ensures.ok

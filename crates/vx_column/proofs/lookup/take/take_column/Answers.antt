@@ -45,6 +45,6 @@ returns-clause-ok c =
     let well = subst IsWell c.as_array.ensures.of c.well_formed_tree.ensures.formed in
     let whole = subst IsWell c.as_array-3.ensures.of c.well_formed_tree-3.ensures.formed in
     column_found codes values c.in_ok-codes.codes c.len.result c.len-len.result well c.in_ok-codes.ensures.ok c.len-len.ensures c.in_ok-places.places.items
-    (canonical_tree c.in_ok-column.column) whole c.in_ok-places.ensures.ok c.requires.stored
+    (canonical_tree c.in_ok-column.column) c.requires.unnested whole c.in_ok-places.ensures.ok c.requires.stored
     (subst (λ x. AreNamedRows c.in_ok-codes.codes.valid x (columnar_tree values) c.len-len.result (canonical_tree c.in_ok-column.column)) c.as_slice.ensures.value
     c.in_ok-column.ensures.ok)

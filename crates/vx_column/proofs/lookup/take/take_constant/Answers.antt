@@ -64,4 +64,5 @@ pub constant-requires : goal.constant-requires
 constant-requires c =
     let ty = dtype c.as_array-array.result.now in
     ap is_nested c.in_ok-scalar.ensures.ok.1 ∙ nested_kept (union c.nullability-nullability.result (nullability_of ty)) ty
-    ∙ c.well_formed_tree.ensures.unnested
+    ∙ ap (λ t. is_nested (dtype t)) c.as_array-array.ensures.of
+    ∙ c.requires.unnested

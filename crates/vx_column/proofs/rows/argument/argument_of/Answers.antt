@@ -116,4 +116,4 @@ returns-in-VarBinView-clause-err c =
 
 pub constant_argument-requires : goal.constant_argument-requires
 constant_argument-requires c =
-    ap (λ u. is_nested (dtype u)) (sym c.in-Constant.ensures.0 ∙ c.as_array.ensures.of) ∙ c.dtype-dtype.ensures.unnested
+    ap (λ u. is_nested (dtype u)) (sym c.in-Constant.ensures.0 ∙ c.as_array.ensures.of) ∙ c.requires

@@ -1,10 +1,10 @@
-use Rattle.std.proofs.Common.{◌≡◌, ◌∷◌, [], true, sym, ap, subst, ◌∙◌}
-use Rattle.vx_value.specs.Storage.{is_nested}
+use Rattle.std.proofs.Common.{◌≡◌, ◌∷◌, [], false, sym, ap, subst, ◌∙◌}
+use Rattle.vx_value.specs.Supported.{has_columns}
 use Rattle.vx_value.specs.View.{type_of}
 use Rattle.vx_fn.specs.declared.function.ScalarFnRef.TheVariants as fn_of
 use Rattle.vx_tree.specs.Tree.{len, constant_of}
 use Rattle.vx_opt.specs.Builtins.{Calls}
-use Rattle.vx_opt.proofs.BuiltinsLemmas.{nested_fill}
+use Rattle.vx_opt.proofs.BuiltinsLemmas.{no_columns_fill}
 use Rattle.vx_opt.proofs.builtins.ArrayRefArrayBuiltins.fill_null.Goals as goal
 
 pub returns-then-not-is_nullable-clause-filled : goal.returns-then-not-is_nullable-clause-filled
@@ -22,11 +22,11 @@ returns-then-not-is_nullable-clause-same c =
     ap type_of c.in_ok-target.ensures.cases ∙ c.dtype-then-not-is_nullable.ensures.dtype in
     λ _ own. c.cast_to.ensures.same (typed ∙ own)
 
-pub returns-then-is_nested-clause-filled : goal.returns-then-is_nested-clause-filled
-returns-then-is_nested-clause-filled c =
-    let nested : is_nested c.args.fill_value.of_type ≡ true =
-    sym (ap is_nested c.dtype-2.ensures.dtype) ∙ sym c.is_nested.ensures ∙ c.if-is_nested.true in
-    λ _. nested_fill c.args.self.now c.args.fill_value c.dtype.ensures.unnested nested
+pub returns-then-not-has_columns-clause-filled : goal.returns-then-not-has_columns-clause-filled
+returns-then-not-has_columns-clause-filled c =
+    let none : has_columns c.args.fill_value.of_type ≡ false =
+    sym (ap has_columns c.dtype-2.ensures.dtype) ∙ sym c.has_columns.ensures ∙ c.if-not-has_columns.true in
+    λ _. no_columns_fill c.args.self.now c.args.fill_value c.dtype.ensures.columns none
 
 pub returns-clause-filled : goal.returns-clause-filled
 returns-clause-filled c =

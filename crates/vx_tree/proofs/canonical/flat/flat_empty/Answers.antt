@@ -14,4 +14,4 @@ over-requires-clause-node g c =
 pub returns-clause-ok : goal.returns-clause-ok
 returns-clause-ok g c =
     IfOk-weaker c.over.result _ _ (λ u made. made ∙ (λ i. column (type_of (c.in_ok-clone.ensures.cases i)) 0 (c.in_ok-payload.ensures.ok i) None)
-    ∙ no_rows_column (type_of c.args.dtype.now) c.requires.stored) c.over.ensures.ok
+    ∙ no_rows_column (type_of c.args.dtype.now) c.requires.stored c.requires.unnested) c.over.ensures.ok

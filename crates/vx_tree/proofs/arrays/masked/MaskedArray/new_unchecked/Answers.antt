@@ -1,5 +1,7 @@
 use Rattle.std.proofs.Common.{◌≡◌, ◌∷◌, [], Some, ap, ◌∙◌, rules}
+use Rattle.vx_value.specs.Supported.{has_columns}
 use Rattle.vx_value.specs.View.{type_of}
+use Rattle.vx_value.proofs.SupportedLemmas.{columns_kept}
 use Rattle.vx_value.specs.Nullabilities.{with_nullability}
 use Rattle.vx_value.specs.declared.dtype.Nullability.TheVariants.{Nullable}
 use Rattle.vx_tree.specs.Tree.{dtype, len}
@@ -15,3 +17,7 @@ of-requires-clause-node c =
     c.in_ok-slots.ensures.items ∙ ap (λ w. Some t ∷ w ∷ []) (c.in_ok-validity.ensures.ok ∙ ap (child_of v) c.len-len.ensures) in
     let typed : type_of c.in_ok-dtype.dtype ≡ with_nullability Nullable (dtype t) = search rules in
     rw (slots_are, typed, c.len-len.ensures) (masked_is_node t v c.requires.rows)
+
+pub of-requires-clause-supported : goal.of-requires-clause-supported
+of-requires-clause-supported c =
+    ap has_columns c.in_ok-dtype.ensures.ok ∙ columns_kept _ (type_of c.dtype.result.now) ∙ ap has_columns c.dtype.ensures.dtype ∙ c.dtype.ensures.columns
