@@ -13,10 +13,11 @@ use Rattle.std.proofs.Common.{ap₂}
 use Rattle.std.proofs.lemmas.Simd.{map-map}
 use Rattle.std.proofs.Common.{◌∙◌}
 use Rattle.std.proofs.Common.{arith}
-use Rattle.std.specs.Prelude.{is_some, ◌==◌, if◌then◌else◌}
+use Rattle.std.specs.Prelude.{is_some, option_map, unwrap_or, not, ◌==◌, if◌then◌else◌}
+use Rattle.std.specs.Str.{is_utf8}
 use Rattle.std.specs.Cmp.{unsigned_Decides, first_so, second_so}
 use Rattle.std.specs.List.{list_all}
-use Rattle.std.proofs.lemmas.Bool.{and_parts, and_from}
+use Rattle.std.proofs.lemmas.Bool.{and_parts, and_from, false≢true}
 use Rattle.std.proofs.lemmas.List.{length-map, length-replicate}
 use Rattle.std.proofs.lemmas.List.Folds.{list_all-map}
 use Rattle.std.proofs.lemmas.Option.{same_Some}
@@ -25,29 +26,31 @@ use Rattle.vx_value.specs.Types.{DataType, nullability_of}
 use Rattle.vx_value.specs.Values as of
 use Rattle.vx_value.specs.Values.{Value, null}
 use Rattle.vx_value.specs.Cell.{Cell, value}
-use Rattle.vx_value.specs.IsOf.{is_of, is_stored}
+use Rattle.vx_value.specs.IsOf.{is_of, is_null, is_stored}
 use Rattle.vx_value.specs.Nullabilities.{with_nullability}
 use Rattle.vx_value.specs.Parts.{boolean_in, integer_in, bytes_in}
 use Rattle.vx_value.specs.Storage.{storage_of, is_nested}
-use Rattle.vx_column.proofs.StoredLemmas.{parts_in}
+use Rattle.vx_column.proofs.StoredLemmas.{parts_in, decimal_kept, bytes_kept}
 use Rattle.vx_value.specs.declared.dtype.Nullability.{Nullability}
-use Rattle.vx_value.specs.declared.dtype.Nullability.TheVariants.{Nullable}
+use Rattle.vx_value.specs.declared.dtype.Nullability.TheVariants.{NonNullable, Nullable}
 use Rattle.vx_value.specs.declared.dtype.PType.{PType}
 use Rattle.vx_value.specs.declared.dtype.Storage.TheVariants as storage
 use Rattle.vx_mask.specs.Masks.{is_all_true, is_all_false}
 use Rattle.vx_tree.specs.Numbers.{Numbers}
-use Rattle.vx_value.specs.Decimals.{has_digits, smallest_width}
+use Rattle.vx_value.specs.Decimals.{has_digits, smallest_width, same_width_Decides}
 use Rattle.vx_value.specs.declared.decimal.DecimalDType.{DecimalDType}
 use Rattle.vx_value.specs.declared.decimal.DecimalType.{DecimalType}
 use Rattle.vx_value.specs.declared.dtype.Storage.{Storage}
-use Rattle.vx_column.specs.Arguments.{stored_decimals}
+use Rattle.vx_column.specs.Arguments.{stored_decimals, unscaled_of}
 use Rattle.vx_tree.specs.Tree as enc
 use Rattle.vx_tree.specs.Tree.{Tree, Data, column, nulls_of, booleans, slots_of}
 use Rattle.vx_tree.specs.Cells.{rows, slots_rows, cells_at, valid_cell, valid_cells}
 use Rattle.vx_tree.specs.Rows.{item_or, bytes_rows}
-use Rattle.vx_tree.specs.ColumnTypes.{width_in, bytes_type, are_bytes_of}
+use Rattle.vx_tree.specs.ColumnTypes.{width_in, bytes_type, are_bytes_of, are_views_of}
 use Rattle.vx_tree.specs.Validities.{nullability_by, child_of, child_by, truths}
 use Rattle.vx_tree.specs.declared.validity.Validity.{Validity}
+use Rattle.vx_tree.specs.declared.validity.Validity.TheVariants.{Array}
+use Rattle.vx_tree.specs.Well.{shape, shape_of, shapes, IsValidity, IsFlat, IsWell, AreWell}
 use Rattle.vx_column.specs.Stored.{decimal_column}
 use Rattle.vx_column.specs.ValidRows.{child_in, nullability_in}
 use Rattle.std.specs.Prelude.{slice_get, slice_index_or}
@@ -56,25 +59,26 @@ use Rattle.std.proofs.Common.{get_or}
 use Rattle.std.proofs.Common.{subst}
 use Rattle.vx_value.specs.Cell.{fault}
 use Rattle.vx_value.specs.Types.{is_nullable}
-use Rattle.vx_value.specs.declared.error.VortexError.{VortexError}
 use Rattle.vx_mask.proofs.Lists.{same_below}
 use Rattle.vx_tree.specs.Tree.{dtype, len, constant_of}
 use Rattle.vx_tree.specs.Cells.{HasNoFault}
 use Rattle.vx_tree.proofs.NativesLemmas.{map_copies}
-use Rattle.vx_column.specs.Arguments.{value_at, cell_at, IsUnread}
+use Rattle.vx_column.specs.Arguments.{value_at, cell_at}
 use Rattle.vx_column.specs.ValidRows.{is_valid, null_unless}
 use Rattle.vx_column.specs.declared.rows.argument.Argument.{Argument}
 use Rattle.vx_column.proofs.KeepsLemmas.{copies_clean}
 use Rattle.vx_column.proofs.ValidRowsLemmas.{by_rows}
 use Rattle.vx_column.proofs.StoredLemmas.{column_of_bytes}
-use Rattle.vx_column.proofs.ValidRowsLemmas.{child_told, one_slot}
-use Rattle.vx_column.specs.Built.{TypedRows, without_point, built_stored, built, value_in, values_in, column_refusal, IsUnappended}
+use Rattle.vx_column.proofs.ValidRowsLemmas.{child_told, one_slot, bits_rows}
+use Rattle.vx_column.proofs.ComposedLemmas.{slots_shaped}
+use Rattle.vx_column.specs.ValueColumns.{present}
+use Rattle.vx_column.specs.Built.{without_point, built_stored, built, value_in, values_in}
 use Rattle.vx_column.specs.declared.builder.values.Values.{Values}
 use Rattle.vx_column.specs.declared.builder.values.Values.TheVariants.{Nulls, Bits, Integers, Decimals, Bytes}
 use Rattle.vx_column.specs.Growing.{HaveStorage, padded, masked_by, rows_kept, IsKept, IsNullConstant, told_rows, values_or, IsColumnOf}
 use Rattle.vx_column.proofs.GrowingLemmas.{length-masked_by, stored_as, rows_counted}
 use Rattle.vx_tree.specs.Views.{packed, bytes_at}
-use Rattle.vx_tree.proofs.ViewsLemmas.{length-views_from, rows_packed}
+use Rattle.vx_tree.proofs.ViewsLemmas.{length-views_from, rows_packed, packed_lie, lie_tested}
 
 -- ---- the validity
 
@@ -83,7 +87,7 @@ all_trues zero = refl
 all_trues (suc k) = all_trues k
 
 -- rows without bits are all valid
-told_child : (m : Nullability) (n : ℕ) (bits : List Bool) → child_in (told_rows m n bits) ≡ child_by (padded n bits)
+pub told_child : (m : Nullability) (n : ℕ) (bits : List Bool) → child_in (told_rows m n bits) ≡ child_by (padded n bits)
 told_child m n [] =
     let bits = padded n [] in
     sym (ap (λ b. if b then None else (if is_all_false bits then Some (truths false (length bits)) else Some (booleans bits))) (all_trues (n - 0)))
@@ -287,6 +291,116 @@ rows_built (type.binary m) vs plain all =
     bytes_read (is_of (type.binary m)) vs (λ v. null_or_bytes m (parts_in (type.binary m) v) v) all (type.binary m)
 rows_built _ vs plain all = absurd (cc)
 
+-- ---- its conditions
+
+-- the validity of values is absent, or their type is nullable
+pub all_shown : (ty : DataType) (vs : List Value) → list_all (is_of ty) vs ≡ true → (nullability_of ty ≡ Nullable) ⊎ (is_all_true (present vs) ≡ true)
+all_shown ty vs all = by_type (nullability_of ty) refl
+  where
+    no_null : nullability_of ty ≡ NonNullable → (ws : List Value) → list_all (is_of ty) ws ≡ true → is_all_true (present ws) ≡ true
+    no_null e [] h = refl
+    no_null e (null ∷ ws) h = absurd (false≢true (sym (ap is_nullable e) ∙ (and_parts (is_of ty null) (list_all (is_of ty) ws) h).0))
+    no_null e (w ∷ ws) h = no_null e ws (and_parts (is_of ty w) (list_all (is_of ty) ws) h).1
+
+    by_type : (m : Nullability) → nullability_of ty ≡ m → (nullability_of ty ≡ Nullable) ⊎ (is_all_true (present vs) ≡ true)
+    by_type Nullable e = inl e
+    by_type NonNullable e = inr (no_null e vs all)
+
+pub child_fits : (m : Nullability) (bits : List Bool) (w : Option Tree) → w ≡ child_by bits → (m ≡ Nullable) ⊎ (is_all_true bits ≡ true)
+    → IsValidity m (length bits) (option_map shape_of w) × AreWell (slots_of (w ∷ []))
+child_fits m bits None e h = (tt, tt)
+child_fits m bits (Some t) e (inl n) =
+    let has = bits_rows bits (length bits) (Array t) refl e in
+    (subst (λ k. IsValidity k (length bits) (Some (shape_of t))) (sym n) (λ i. shape (has.1 i) (has.2 i)), (has.0, tt))
+child_fits m bits (Some t) e (inr h) =
+    let none : Some t ≡ None = e ∙ ap (λ b. if b then None else (if is_all_false bits then Some (truths false (length bits)) else Some (booleans bits))) h in
+    absurd (cc (none))
+
+module _ {A : Type 0} (read : Value → Option A) (make : A → Value) (d : A) (made : (x : A) → read (make x) ≡ Some x) (no : read null ≡ None)
+    (some : (x : A) → is_null (make x) ≡ false) where
+  item_shown : (v : Value) → IsNullOr make v → is_some (read v) ≡ not (is_null v)
+  item_shown v (inl e) = ap (λ w. is_some (read w)) e ∙ ap is_some no ∙ sym (ap (λ w. not (is_null w)) e)
+  item_shown v (inr w) = ap (λ u. is_some (read u)) w.1 ∙ ap is_some (made w.0) ∙ sym (ap not (ap is_null w.1 ∙ some w.0))
+
+  items_shown : (p : Value → Bool) (vs : List Value) → ((v : Value) → p v ≡ true → IsNullOr make v) → list_all p vs ≡ true
+      → map is_some (map read vs) ≡ present vs
+  items_shown p [] known all = refl
+  items_shown p (v ∷ vs) known all =
+      let parts = and_parts (p v) (list_all p vs) all in
+      ap₂ (λ b l. b ∷ l) (item_shown v (known v parts.0)) (items_shown p vs known parts.1)
+
+  -- k values of the type of_type, as a column of the type ty
+  items_fit : (ty of_type : DataType) (vs : List Value) (k : ℕ) → ty ≡ with_nullability (nullability_of ty) of_type → length vs ≡ k
+      → ((v : Value) → is_of ty v ≡ true → IsNullOr make v) → list_all (is_of ty) vs ≡ true
+      → IsFlat of_type k ty (length (map read vs)) (shapes (slots_of (child_by (map is_some (map read vs)) ∷ [])))
+      × AreWell (slots_of (child_by (map is_some (map read vs)) ∷ []))
+  items_fit ty of_type vs k typed long known all =
+      let bits = map is_some (map read vs) in
+      let told = items_shown (is_of ty) vs known all in
+      let shown = subst (λ bs. (nullability_of ty ≡ Nullable) ⊎ (is_all_true bs ≡ true)) (sym told) (all_shown ty vs all) in
+      let fits = child_fits (nullability_of ty) bits (child_by bits) refl shown in
+      let valid = subst (λ n. IsValidity (nullability_of ty) n (option_map shape_of (child_by bits))) (length-map (map read vs) is_some) fits.0 in
+      ((option_map shape_of (child_by bits), typed, length-map vs read ∙ long, slots_shaped (child_by bits ∷ []), valid), fits.1)
+
+-- numbers have few enough digits, and text is text; also what stands under a null
+digits_read : (p s : ℕ) (m : Nullability) (vs : List Value) → list_all (is_of (type.decimal p s m)) vs ≡ true
+    → list_all (has_digits p) (map (item_or (pos 0)) (map without_point vs)) ≡ true
+digits_read p s m [] all = refl
+digits_read p s m (v ∷ vs) all =
+    let parts = and_parts (is_of (type.decimal p s m) v) (list_all (is_of (type.decimal p s m)) vs) all in
+    and_from _ _ (one v (decimal_kept p s m (parts_in (type.decimal p s m) v) v parts.0)) (digits_read p s m vs parts.1)
+  where
+    one : (w : Value) → has_digits p (unscaled_of w) ≡ true → has_digits p (item_or (pos 0) (without_point w)) ≡ true
+    one (of.decimal z r) h = h
+    one _ h = h
+
+text_read : (m : Nullability) (vs : List Value) → list_all (is_of (type.utf8 m)) vs ≡ true → list_all is_utf8 (map (item_or []) (map bytes_in vs)) ≡ true
+text_read m [] all = refl
+text_read m (v ∷ vs) all =
+    let parts = and_parts (is_of (type.utf8 m) v) (list_all (is_of (type.utf8 m)) vs) all in
+    let kept = bytes_kept m storage.Text (parts_in (type.utf8 m) v) v (inl refl) parts.0 in
+    and_from _ _ (one v (first_so (is_utf8 (unwrap_or (bytes_in v) [])) true kept)) (text_read m vs parts.1)
+  where
+    one : (w : Value) → is_utf8 (unwrap_or (bytes_in w) []) ≡ true → is_utf8 (item_or [] (bytes_in w)) ≡ true
+    one (of.bytes bs) h = h
+    one _ h = h
+
+packed_fit : (st : Storage) (rs : List (List ℕ)) → are_bytes_of st rs ≡ true → are_views_of st (packed rs) ≡ true
+packed_fit st rs h = and_from _ _ (lie_tested (packed rs) (packed_lie rs)) (ap (are_bytes_of st) (rows_packed rs) ∙ h)
+
+-- as many views as rows
+views_long : (vs : List Value) → length vs ≡ length (packed (map (item_or []) (map bytes_in vs))).views
+views_long vs = sym (length-views_from 0 (map (item_or []) (map bytes_in vs)) ∙ length-map (map bytes_in vs) (item_or []) ∙ length-map vs bytes_in)
+
+items_long : {A : Type 0} (read : Value → Option A) (d : A) (vs : List Value) → length vs ≡ length (map (item_or d) (map read vs))
+items_long read d vs = sym (length-map (map read vs) (item_or d) ∙ length-map vs read)
+
+-- a line for each type that isn't nested
+pub built_well : (ty : DataType) (vs : List Value) → is_nested ty ≡ false → list_all (is_of ty) vs ≡ true → IsWell (built_stored (storage_of ty) ty vs)
+built_well type.null vs plain all = ((refl, refl), tt)
+built_well (type.bool m) vs plain all =
+    items_fit boolean_in of.boolean false (λ x. refl) refl (λ x. refl) (type.bool m) (type.bool NonNullable) vs _ refl (items_long boolean_in false vs)
+    (λ v. null_or_boolean m (parts_in (type.bool m) v) v) all
+built_well (type.primitive p m) vs plain all =
+    items_fit integer_in of.integer (pos 0) (λ x. refl) refl (λ x. refl) (type.primitive p m) (type.primitive p NonNullable) vs _ refl
+    (items_long integer_in (pos 0) vs) (λ v. null_or_integer m (parts_in (type.primitive p m) v) p v) all
+built_well (type.decimal p s m) vs plain all =
+    let fit =
+    items_fit without_point (λ z. of.decimal z s) (pos 0) (λ x. refl) refl (λ x. refl) (type.decimal p s m) (type.decimal p s NonNullable) vs _ refl
+    (items_long without_point (pos 0) vs) (λ v. null_or_decimal m (parts_in (type.decimal p s m) v) p s v) all in
+    ((fit.0, and_from _ _ ((same_width_Decides (smallest_width p) (smallest_width p)).1 refl) (digits_read p s m vs all)), fit.1)
+built_well (type.utf8 m) vs plain all =
+    let fit =
+    items_fit bytes_in of.bytes [] (λ x. refl) refl (λ x. refl) (type.utf8 m) (type.utf8 NonNullable) vs _ refl (views_long vs)
+    (λ v. null_or_text m (parts_in (type.utf8 m) v) v) all in
+    ((fit.0, packed_fit storage.Text (map (item_or []) (map bytes_in vs)) (text_read m vs all)), fit.1)
+built_well (type.binary m) vs plain all =
+    let fit =
+    items_fit bytes_in of.bytes [] (λ x. refl) refl (λ x. refl) (type.binary m) (type.binary NonNullable) vs _ refl (views_long vs)
+    (λ v. null_or_bytes m (parts_in (type.binary m) v) v) all in
+    ((fit.0, packed_fit storage.Bytes (map (item_or []) (map bytes_in vs)) refl), fit.1)
+built_well _ vs plain all = absurd (false≢true (sym plain))
+
 -- ---- the rows of a column, as values
 
 clean_row : (b : Bool) (v : Value) (cs : List Cell) → HasNoFault cs → HasNoFault (null_unless b (value v) ∷ cs)
@@ -306,7 +420,7 @@ values_back [] h = refl
 values_back (value v ∷ cs) h = ap (λ l. value v ∷ l) (values_back cs h)
 values_back (fault ∷ cs) h = absurd h
 
-fault_found : (cs : List Cell) (i : ℕ) → slice_get cs i ≡ Some fault → HasNoFault cs → ⊥
+pub fault_found : (cs : List Cell) (i : ℕ) → slice_get cs i ≡ Some fault → HasNoFault cs → ⊥
 fault_found [] i e h = absurd (cc)
 fault_found (value v ∷ cs) zero e h = absurd (cc)
 fault_found (value v ∷ cs) (suc i) e h = fault_found cs i e h
@@ -324,11 +438,6 @@ module _ (t : Tree) (a : Argument) (counted : length (rows t) ≡ len t)
 
   pub clean_shown : HasNoFault (rows t)
   clean_shown = subst HasNoFault (sym rows_read_of) (clean_from (is_valid a.valid) (value_at a.rows) 0 (len t))
-
--- why they can't be appended
-pub unread_unappended : (r : TypedRows) (t : Tree) (e : VortexError) → column_refusal r t ≡ None → IsUnread t e → IsUnappended r t e
-unread_unappended r t e none (inl m) = inl m
-unread_unappended r t e none (inr h) = inr (inr (none, h.0, fault_found (rows t) h.1 h.3))
 
 -- of nulls
 pub values_null : (t : Tree) → IsNullConstant t → replicate (len t) null ≡ values_in (rows t)

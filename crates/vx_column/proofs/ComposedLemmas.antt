@@ -65,7 +65,7 @@ clean_last [] v w f h = f h
 clean_last (None ∷ xs) v w f h = clean_last xs v w f h
 clean_last (Some t ∷ xs) v w f h = (h.0, clean_last xs v w f h.1)
 
-slots_clean : (t : Tree) → IsClean t → AreClean (enc.slots t)
+pub slots_clean : (t : Tree) → IsClean t → AreClean (enc.slots t)
 slots_clean (node ty n d ss) h = h.1
 
 -- the last slot holds the validity of n rows
@@ -74,7 +74,7 @@ told_of m n None h k = tt
 told_of NonNullable n (Some t) h k = absurd h
 told_of Nullable n (Some t) h k = (k.0, ap type_in h, ap len_in h)
 
-validity_of_told : (n : ℕ) (w : Option Tree) → TellsAll n w → IsValidity Nullable n (option_map shape_of w)
+pub validity_of_told : (n : ℕ) (w : Option Tree) → TellsAll n w → IsValidity Nullable n (option_map shape_of w)
 validity_of_told n None h = tt
 validity_of_told n (Some t) h = λ i. shape (h.1 i) (h.2 i)
 

@@ -1,6 +1,6 @@
 -- Rows that are read one by one, and the column that is built of them.
 use Rattle.std.proofs.Common.{◌≡◌, ◌⊎◌, ◌<◌, ◌+◌, inl, inr, ℕ, zero, suc, Bool, true, false, List, [], ◌∷◌, length, map, replicate}
-use Rattle.std.proofs.Common.{Option, Some, None, refl, sym, ap, ap₂, ◌∙◌, subst, arith}
+use Rattle.std.proofs.Common.{sum, Option, Some, None, refl, sym, ap, ap₂, ◌∙◌, subst, arith}
 use Rattle.std.specs.Prelude.{is_some, nat_lt, ◌&&◌}
 use Rattle.std.specs.List.{list_all}
 use Rattle.std.proofs.lemmas.Bool.{and_parts, false≢true}
@@ -15,7 +15,8 @@ use Rattle.vx_value.specs.Values as of
 use Rattle.vx_value.specs.Values.{Value, null, integer}
 use Rattle.vx_value.specs.Cell.{Cell, value, fault}
 use Rattle.vx_value.specs.IsOf.{is_of}
-use Rattle.vx_value.specs.Storage.{is_nested}
+use Rattle.vx_value.specs.Storage.{is_nested, storage_of}
+use Rattle.vx_value.specs.Supported.{has_columns}
 use Rattle.vx_value.specs.Parts.{boolean_in, integer_in, bytes_in}
 use Rattle.vx_value.specs.declared.dtype.Nullability.{Nullability}
 use Rattle.vx_value.specs.declared.dtype.Nullability.TheVariants.{NonNullable, Nullable}
@@ -34,7 +35,7 @@ use Rattle.vx_value.specs.Types.{same_type, same_type_Decides}
 use Rattle.vx_value.specs.declared.error.VortexError.TheVariants.{InvalidArgument, TooLong}
 use Rattle.vx_value.specs.declared.error.ArgKind.TheVariants.{BadType}
 use Rattle.vx_tree.specs.Conditions.{first_of_both, unless}
-use Rattle.vx_tree.specs.Tree.{is_canonical}
+use Rattle.vx_tree.specs.Tree.{is_canonical, is_composed, is_flat, is_bool}
 use Rattle.vx_tree.specs.Cells.{AreClean}
 use Rattle.vx_column.specs.LookedUp.{IsCanonicalOf, named_cells, place_if, place_at}
 use Rattle.vx_column.specs.ValidRows.{is_valid}
@@ -42,10 +43,16 @@ use Rattle.vx_column.specs.declared.rows.valid.ValidRows.{ValidRows}
 use Rattle.vx_column.specs.declared.rows.valid.ValidRows.TheVariants as rows_valid
 use Rattle.vx_column.proofs.ComputedLemmas.{fault_among}
 use Rattle.vx_column.proofs.ValidRowsLemmas.{filled_clean}
-use Rattle.vx_column.specs.Built.{without_point, built, TypedRows, scalar_refusal}
+use Rattle.vx_column.specs.Built.{without_point, built_stored, values_in}
+use Rattle.vx_column.specs.Grown.{GrownRows, IsGrown, grown, count, scalar_refusal}
+use Rattle.vx_column.specs.ValueColumns.{column_of}
 use Rattle.vx_column.specs.Formed.{IsFormed, is_shown, is_true}
 use Rattle.vx_column.specs.LookedUp.{IsNamed, IsNotNamed, cell_named, named_type, IsLookedUp, IsNotLookedUp}
 use Rattle.vx_column.proofs.BuiltLemmas.{rows_built}
+use Rattle.vx_column.proofs.ComposedLemmas.{slots_clean}
+use Rattle.vx_column.proofs.GrownLemmas.{plain_grown}
+use Rattle.vx_column.proofs.ValueColumnsLemmas.{flat_column, column_typed, column_long, column_rows, column_composed, column_clean}
+use Rattle.vx_column.proofs.WholeLemmas.{values_whole}
 use Rattle.vx_column.proofs.FormedLemmas.{not_flat_formed, constant_formed}
 use Rattle.vx_column.proofs.KeepsLemmas.{copies_clean}
 
@@ -95,89 +102,115 @@ module _ (ty : DataType) (vs : List Value) (all : list_all (is_of ty) vs ≡ tru
   told read same =
       ap (λ bs. slots_of (child_by bs ∷ [])) (read_each read is_some is_shown (is_of ty) vs same all ∙ ap (map is_shown) (sym shown))
 
-pub built_formed : (ty : DataType) (vs : List Value) → list_all (is_of ty) vs ≡ true → IsFormed (built (record { of_type = ty; values = vs }))
-built_formed type.null vs all = not_flat_formed (nulls_of (length vs)) refl
-built_formed (type.bool m) vs all =
+-- a column that isn't nested
+flat_formed : (ty : DataType) (vs : List Value) → is_nested ty ≡ false → list_all (is_of ty) vs ≡ true → IsFormed (built_stored (storage_of ty) ty vs)
+flat_formed type.null vs plain all = not_flat_formed (nulls_of (length vs)) refl refl
+flat_formed (type.bool m) vs plain all =
     let ty = type.bool m in
-    let u = built (record { of_type = ty; values = vs }) in
+    let u = built_stored (storage_of ty) ty vs in
     let shown = rows_built ty vs refl all in
     record {
       validity_told = λ k. told ty vs all u shown boolean_in (boolean_shown m);
       bits_cleared = λ k. ap enc.bool (read_each boolean_in (item_or false) is_true (is_of ty) vs (boolean_true m) all ∙ ap (map is_true) (sym shown));
+      parts_built = λ k. absurd (false≢true k);
     }
-built_formed (type.primitive p m) vs all =
+flat_formed (type.primitive p m) vs plain all =
     let ty = type.primitive p m in
     record {
-      validity_told = λ k. told ty vs all (built (record { of_type = ty; values = vs })) (rows_built ty vs refl all) integer_in (integer_shown p m);
+      validity_told = λ k. told ty vs all (built_stored (storage_of ty) ty vs) (rows_built ty vs refl all) integer_in (integer_shown p m);
       bits_cleared = λ k. absurd (false≢true k);
+      parts_built = λ k. absurd (false≢true k);
     }
-built_formed (type.decimal p s m) vs all =
+flat_formed (type.decimal p s m) vs plain all =
     let ty = type.decimal p s m in
     record {
-      validity_told = λ k. told ty vs all (built (record { of_type = ty; values = vs })) (rows_built ty vs refl all) without_point (decimal_shown p s m);
+      validity_told = λ k. told ty vs all (built_stored (storage_of ty) ty vs) (rows_built ty vs refl all) without_point (decimal_shown p s m);
       bits_cleared = λ k. absurd (false≢true k);
+      parts_built = λ k. absurd (false≢true k);
     }
-built_formed (type.utf8 m) vs all =
+flat_formed (type.utf8 m) vs plain all =
     let ty = type.utf8 m in
     record {
-      validity_told = λ k. told ty vs all (built (record { of_type = ty; values = vs })) (rows_built ty vs refl all) bytes_in (text_shown m);
+      validity_told = λ k. told ty vs all (built_stored (storage_of ty) ty vs) (rows_built ty vs refl all) bytes_in (text_shown m);
       bits_cleared = λ k. absurd (false≢true k);
+      parts_built = λ k. absurd (false≢true k);
     }
-built_formed (type.binary m) vs all =
+flat_formed (type.binary m) vs plain all =
     let ty = type.binary m in
     record {
-      validity_told = λ k. told ty vs all (built (record { of_type = ty; values = vs })) (rows_built ty vs refl all) bytes_in (bytes_shown m);
+      validity_told = λ k. told ty vs all (built_stored (storage_of ty) ty vs) (rows_built ty vs refl all) bytes_in (bytes_shown m);
       bits_cleared = λ k. absurd (false≢true k);
+      parts_built = λ k. absurd (false≢true k);
     }
-built_formed _ vs all = not_flat_formed (nulls_of (length vs)) refl
+flat_formed _ vs plain all = absurd (cc)
 
--- the column that is built: its type, its length, and its layout
-pub record IsBuilt (ty : DataType) (n : ℕ) (u : Tree) : Type 0 where
-  pub typed : dtype u ≡ ty
-  pub counted : len u ≡ n
-  pub canonical : is_canonical (datum u) ≡ true
-  pub clean : AreClean (slots u)
+values_again : (vs : List Value) → vs ≡ values_in (map (λ v. value v) vs)
+values_again [] = refl
+values_again (v ∷ vs) = ap (λ l. v ∷ l) (values_again vs)
 
-is_built : {A : Type 0} (read : Value → Option A) (vs : List Value) (ty : DataType) (d : enc.Data) → is_canonical d ≡ true
-    → IsBuilt ty (length vs) (enc.column ty (length (map read vs)) d (child_by (map is_some (map read vs))))
-is_built read vs ty d h = record {
-  typed = refl;
-  counted = length-map vs read;
-  canonical = h;
-  clean = filled_clean (rows_valid.Bits (map is_some (map read vs)));
+composed_only : (d : enc.Data) → is_composed d ≡ true → (is_flat d ≡ false) × (is_bool d ≡ false) × (is_canonical d ≡ true)
+composed_only (enc.composed l) h = (refl, refl, refl)
+composed_only _ h = absurd (false≢true h)
+
+-- a column of values has the one form
+pub column_formed : (ty : DataType) (vs : List Value) → has_columns ty ≡ true → list_all (is_of ty) vs ≡ true → IsFormed (column_of ty vs)
+column_formed ty vs columns all = by_nesting (is_nested ty) refl
+  where
+    by_nesting : (b : Bool) → is_nested ty ≡ b → IsFormed (column_of ty vs)
+    by_nesting false plain = subst IsFormed (sym (flat_column ty vs plain)) (flat_formed ty vs plain all)
+    by_nesting true nested =
+        let d = composed_only (datum (column_of ty vs)) (column_composed ty vs nested columns) in
+        record {
+          validity_told = λ k. absurd (false≢true (sym d.0 ∙ k));
+          bits_cleared = λ k. absurd (false≢true (sym d.1 ∙ k));
+          parts_built = λ k i. column_of (sym (column_typed ty vs columns) i) ((values_again vs ∙ ap values_in (sym (column_rows ty vs columns all))) i);
+        }
+
+flat_canonical : (ty : DataType) (vs : List Value) → is_nested ty ≡ false → is_canonical (datum (built_stored (storage_of ty) ty vs)) ≡ true
+flat_canonical type.null vs plain = refl
+flat_canonical (type.bool m) vs plain = refl
+flat_canonical (type.primitive p m) vs plain = refl
+flat_canonical (type.decimal p s m) vs plain = refl
+flat_canonical (type.utf8 m) vs plain = refl
+flat_canonical (type.binary m) vs plain = refl
+flat_canonical _ vs plain = absurd (cc)
+
+column_canonical : (ty : DataType) (vs : List Value) → has_columns ty ≡ true → is_canonical (datum (column_of ty vs)) ≡ true
+column_canonical ty vs columns = by_nesting (is_nested ty) refl
+  where
+    by_nesting : (b : Bool) → is_nested ty ≡ b → is_canonical (datum (column_of ty vs)) ≡ true
+    by_nesting false plain = ap (λ t. is_canonical (datum t)) (flat_column ty vs plain) ∙ flat_canonical ty vs plain
+    by_nesting true nested = (composed_only (datum (column_of ty vs)) (column_composed ty vs nested columns)).2
+
+-- the column of values whose cells these are
+pub column_found : (ty : DataType) (vs : List Value) (n : ℕ) (cells : List Cell) → has_columns ty ≡ true → list_all (is_of ty) vs ≡ true
+    → map (λ v. value v) vs ≡ cells → length cells ≡ n → IsCanonicalOf ty n cells (column_of ty vs)
+column_found ty vs n cells columns all are long = record {
+  typed = column_typed ty vs columns;
+  counted = column_long ty vs ∙ sym (length-map vs (λ v. value v)) ∙ ap length are ∙ long;
+  shown = column_rows ty vs columns all ∙ are;
+  clean = slots_clean (column_of ty vs) (column_clean ty vs columns all);
+  canonical = column_canonical ty vs columns;
+  told = λ _. subst HasNoFault are (values_whole (λ v. v) vs);
+  formed = column_formed ty vs columns all;
 }
 
-pub built_known : (ty : DataType) (vs : List Value) → is_nested ty ≡ false → IsBuilt ty (length vs) (built (record { of_type = ty; values = vs }))
-built_known type.null vs plain = record { typed = refl; counted = refl; canonical = refl; clean = tt }
-built_known (type.bool m) vs plain = is_built boolean_in vs _ _ refl
-built_known (type.primitive p m) vs plain = is_built integer_in vs _ _ refl
-built_known (type.decimal p s m) vs plain = is_built without_point vs _ _ refl
-built_known (type.utf8 m) vs plain = is_built bytes_in vs _ _ refl
-built_known (type.binary m) vs plain = is_built bytes_in vs _ _ refl
-built_known _ vs plain = absurd (cc)
-
--- a builder's column of the cells
-pub built_found : (r : TypedRows) (ty : DataType) (n : ℕ) (cells : List Cell) (u : Tree) → u ≡ built r → rows u ≡ map (λ v. value v) r.values
-    → is_nested r.of_type ≡ false → list_all (is_of r.of_type) r.values ≡ true → r.of_type ≡ ty → map (λ v. value v) r.values ≡ cells → length cells ≡ n
-    → IsCanonicalOf ty n cells u
-built_found r ty n cells u new shown plain all typed are long =
-    let known = subst (IsBuilt r.of_type (length r.values)) (sym new) (built_known r.of_type r.values plain) in
-    record {
-      typed = known.typed ∙ typed;
-      counted = known.counted ∙ sym (length-map r.values (λ v. value v)) ∙ ap length are ∙ long;
-      shown = shown ∙ are;
-      clean = known.clean;
-      canonical = known.canonical;
-      formed = subst IsFormed (sym new) (built_formed r.of_type r.values all);
-    }
+-- a builder's column of the cells, if no column was appended to it
+pub built_found : (r : GrownRows) (ty : DataType) (n : ℕ) (cells : List Cell) (u : Tree) → r.pieces ≡ [] → IsGrown r → u ≡ grown r → r.of_type ≡ ty
+    → map (λ v. value v) r.values ≡ cells → length cells ≡ n → IsCanonicalOf ty n cells u
+built_found r ty n cells u alone made new typed are long =
+    subst (IsCanonicalOf ty n cells) (sym (new ∙ plain_grown r alone))
+    (subst (λ t. IsCanonicalOf t n cells (column_of r.of_type r.values)) typed (column_found r.of_type r.values n cells made.columns made.typed are long))
 
 -- nothing refuses a row of the builder's type
-pub never_refused : (r : TypedRows) (s : Typed) (e : VortexError) → s.of_type ≡ r.of_type → length r.values + 1 < 2 ^ 64 → scalar_refusal r s ≡ Some e → ⊥
-never_refused r s e typed fits h =
+pub never_refused : (r : GrownRows) (s : Typed) (e : VortexError) → r.pieces ≡ [] → s.of_type ≡ r.of_type → length r.values + 1 < 2 ^ 64
+    → scalar_refusal r s ≡ Some e → ⊥
+never_refused r s e alone typed fits h =
     let same : same_type s.of_type r.of_type ≡ true = (same_type_Decides s.of_type r.of_type).1 typed in
-    let short : nat_lt (length r.values + 1) (2 ^ 64) ≡ true = grind (arith, nat_tests) in
+    let rows_only : count r ≡ length r.values = omega (arith, ap (λ ps. sum (map len ps)) alone) in
+    let short : nat_lt (count r + 1) (2 ^ 64) ≡ true = grind (arith, nat_tests, rows_only) in
     let none : scalar_refusal r s ≡ None =
-    (λ j. first_of_both (unless (same j) (InvalidArgument BadType)) (unless (short j) (TooLong (length r.values) 1))) in
+    (λ j. first_of_both (unless (same j) (InvalidArgument BadType)) (unless (short j) (TooLong (count r) 1))) in
     let both : None ≡ Some e = sym none ∙ h in absurd (cc (both))
 
 -- a row that can't be read

@@ -1,12 +1,16 @@
 -- Columns of nested types, expanded from a constant.
-use Rattle.std.proofs.Common.{◌≡◌, ℕ, zero, suc, ◌+◌, ◌≤◌, ◌==◌, List, [], ◌∷◌, ◌++◌, length, map, replicate, true, false, Option, Some, refl, sym, ap, subst, ◌∙◌, arith}
-use Rattle.std.specs.Prelude.{option_map}
+use Rattle.std.proofs.Common.{◌≡◌, ◌⊎◌, inl, inr, ℕ, zero, suc, pos, ◌+◌, ◌≤◌, ◌==◌, List, [], ◌∷◌, ◌++◌, length, map, replicate, true, false, Option, Some, refl, sym, ap, subst, ◌∙◌, arith}
+use Rattle.std.specs.Prelude.{option_map, unwrap_or}
 use Rattle.std.specs.List.{All}
 use Rattle.std.specs.Cmp.{first_so, second_so, unsigned_Decides}
-use Rattle.std.proofs.lemmas.List.{map-append, length-replicate}
+use Rattle.std.proofs.lemmas.Bool.{false≢true}
+use Rattle.std.proofs.lemmas.List.{map-append, length-replicate, take_all}
 use Rattle.vx_value.specs.Types as type
 use Rattle.vx_value.specs.Types.{DataType, Fields, nullability_of, height}
-use Rattle.vx_value.specs.IsOf.{is_of, are_of, is_null}
+use Rattle.vx_value.specs.Decimals.{smallest_width}
+use Rattle.vx_value.specs.IsOf.{is_of, is_stored, are_of, is_null}
+use Rattle.vx_value.specs.Nullabilities.{with_nullability}
+use Rattle.vx_value.specs.Parts.{boolean_in, integer_in, bytes_in}
 use Rattle.vx_value.specs.ScalarParts.{values_in, fields_by, fields_in, storage_type, IsStruct, IsExtension}
 use Rattle.vx_value.specs.Storage.{storage_of, is_nested}
 use Rattle.vx_value.specs.Supported.{has_columns, have_columns}
@@ -16,30 +20,39 @@ use Rattle.vx_value.specs.Values.{Value, Values}
 use Rattle.vx_value.specs.Cell.{Cell, value}
 use Rattle.vx_value.specs.declared.dtype.Nullability.{Nullability}
 use Rattle.vx_value.specs.declared.dtype.Nullability.TheVariants.{NonNullable}
+use Rattle.vx_value.specs.declared.dtype.Storage.{Storage}
+use Rattle.vx_value.specs.declared.dtype.Storage.TheVariants as storage
+use Rattle.vx_value.specs.declared.dtype.Storage.TheVariants.{Text, Bytes}
+use Rattle.vx_value.proofs.NullabilitiesLemmas.{nested_kept}
+use Rattle.vx_value.proofs.ScalarPartsLemmas.{extension_typed}
 use Rattle.vx_tree.specs.Tree as enc
-use Rattle.vx_tree.specs.Tree.{Tree, node, slot, no_slots, slots_of, dtype, len, datum, constant, constant_of, fields_shapes, struct_row}
+use Rattle.vx_tree.specs.ColumnTypes.{decimal_type, bytes_type}
+use Rattle.vx_tree.specs.Tree.{Tree, node, column, slot, no_slots, slots_of, dtype, len, datum, constant, constant_of, is_columnar, is_composed, fields_shapes, struct_row}
 use Rattle.vx_tree.specs.Layouts.{heads, tails, row_by_row}
 use Rattle.vx_tree.specs.Columns.{empty_of, empty_fields}
-use Rattle.vx_tree.specs.Support.{supports}
-use Rattle.vx_tree.specs.Well.{Shape, shape, shape_of, shapes, IsValidity, IsNode, IsWell}
+use Rattle.vx_tree.specs.Views.{viewed, view_at, bytes_at, repeated}
+use Rattle.vx_tree.specs.Well.{Shape, shape, shape_of, shapes, IsValidity, IsFlat, IsNode, IsWell}
 use Rattle.vx_tree.specs.Cells.{rows, cells_at, valid_cells, AreClean, IsClean}
 use Rattle.vx_tree.specs.Keeps.{KeepsExactly}
-use Rattle.vx_tree.specs.Validities.{child_of}
+use Rattle.vx_tree.specs.Validities.{nullability_by, child_of}
 use Rattle.vx_tree.specs.declared.array.layout.Layout.TheVariants.{Struct, Extension}
 use Rattle.vx_tree.specs.declared.validity.Validity.{Validity}
 use Rattle.vx_tree.proofs.ExtensionLemmas.{stored_rows}
 use Rattle.vx_tree.proofs.CellsLemmas.{rows_counted}
-use Rattle.vx_tree.proofs.KeepsLemmas.{rows_equal}
+use Rattle.vx_tree.proofs.KeepsLemmas.{rows_equal, exactly_refl}
 use Rattle.vx_tree.proofs.NativesLemmas.{map_copies}
-use Rattle.vx_tree.proofs.SupportLemmas.{supports_columns}
 use Rattle.vx_tree.proofs.ValiditiesLemmas.{no_child}
-use Rattle.vx_column.specs.Expanded.{repeated_validity, struct_expanded, expanded_stored, expanded_value}
+use Rattle.vx_column.specs.Arguments.{unscaled_of}
+use Rattle.vx_column.specs.Expanded.{repeated_validity, struct_expanded, expanded_stored, expanded_value, expanded, expansion}
 use Rattle.vx_column.specs.Masked.{TellsAll}
 use Rattle.vx_column.specs.Nulls.{validity_cells}
+use Rattle.vx_column.specs.Stored.{bytes_column}
 use Rattle.vx_column.proofs.ComposedLemmas.{slots_shaped, struct_rows}
 use Rattle.vx_column.proofs.KeepsLemmas.{same_exactly, copies_clean}
 use Rattle.vx_column.proofs.MaskedLemmas.{tells_child}
-use Rattle.vx_column.proofs.RepeatedLemmas.{validity_by, nullable_null, repeated_rows, repeated_cells, validity_clean}
+use Rattle.vx_column.proofs.NullsLemmas.{nulls_repeated}
+use Rattle.vx_column.proofs.RepeatedLemmas.{validity_by, nullable_null, nullability_back, repeated_rows, repeated_cells, repeated_exactly, validity_clean}
+use Rattle.vx_column.proofs.StoredLemmas.{parts_in, stored_boolean, stored_number, stored_decimal, stored_as_bytes}
 use Rattle.vx_column.proofs.ValidRowsLemmas.{one_slot}
 
 -- ---- the fields of a struct
@@ -316,7 +329,123 @@ none_repeated t u well none made =
     nothing (c ∷ cs) h = absurd (omega arith)
 
 -- a constant's type has columns
-pub constant_columns : (t : Tree) (s : Typed) → constant s ≡ datum t → IsWell t → supports (datum t) (dtype t) ≡ true → has_columns s.of_type ≡ true
+pub constant_columns : (t : Tree) (s : Typed) → constant s ≡ datum t → IsWell t → has_columns (dtype t) ≡ true → has_columns s.of_type ≡ true
 constant_columns (node ty n d ss) s is well h =
     let known : IsNode ty n (constant s) (shapes ss) = subst (λ x. IsNode ty n x (shapes ss)) (sym is) well.0 in
-    ap has_columns (sym known.0) ∙ supports_columns d ty h
+    ap has_columns (sym known.0) ∙ h
+
+-- ---- any constant
+
+-- text or bytes
+bytes_exactly : (ty : DataType) (v : Value) (n : ℕ) (st : Storage) → (st ≡ Text) ⊎ (st ≡ Bytes) → storage_of ty ≡ st
+    → with_nullability (nullability_by (validity_by ty v)) (bytes_type st) ≡ ty → is_of ty v ≡ true
+    → KeepsExactly (constant_of (scalar ty v) n) (bytes_column st (repeated n (unwrap_or (bytes_in v) [])) (repeated_validity (scalar ty v)))
+bytes_exactly ty v n st known stored same typed =
+    let s = scalar ty v in
+    let x = unwrap_or (bytes_in v) [] in
+    let all = view_at 0 (length x) in
+    let there = ap (λ k. is_stored (nullability_of ty) k (parts_in ty v) v) (sym stored) ∙ typed in
+    let whole : bytes_at (x ∷ []) all ≡ x = take_all (length x) x (omega arith) in
+    repeated_exactly (λ y. of.bytes (bytes_at (x ∷ []) y)) (λ vs. enc.views (viewed vs (x ∷ []))) s (λ k xs tys css. refl) all n _
+    (λ k. ap of.bytes whole ∙ stored_as_bytes (nullability_of ty) st (parts_in ty v) v known there k)
+    (λ i. column (same i) (length-replicate n all i) (enc.views (repeated n x)) (child_of (repeated_validity s) (length-replicate n all i)))
+
+-- a line for each type that has columns
+value_exactly : (ty : DataType) (v : Value) (n : ℕ) → has_columns ty ≡ true → is_of ty v ≡ true
+    → KeepsExactly (constant_of (scalar ty v) n) (expanded_value ty v n)
+value_exactly (type.struct fs m) v n h typed =
+    subst (KeepsExactly (constant_of (scalar (type.struct fs m) v) n)) (made_expanded fs m v n typed) (struct_exactly fs m v n typed)
+value_exactly (type.extension id t) v n h typed =
+    (expanded_extension (type.extension id t) v n (expanded_value t v n) tt (value_exactly t v n h (sym (extension_typed id t v) ∙ typed)) refl).1
+value_exactly type.null v n h typed = nulls_repeated (scalar type.null v) n _ refl typed refl
+value_exactly (type.bool m) v n h typed =
+    let s = scalar (type.bool m) v in
+    let x = unwrap_or (boolean_in v) false in
+    let is : expanded_value (type.bool m) v n ≡ column (type.bool m) n (enc.bool (replicate n x)) (child_of (repeated_validity s) n) =
+    λ i. column (type.bool (nullability_back (type.bool m) v typed i)) (length-replicate n x i) (enc.bool (replicate n x))
+    (child_of (repeated_validity s) (length-replicate n x i)) in
+    repeated_exactly of.boolean enc.bool s (λ k xs tys css. refl) x n _ (stored_boolean m storage.Bits (parts_in (type.bool m) v) v refl typed) is
+value_exactly (type.primitive p m) v n h typed =
+    let s = scalar (type.primitive p m) v in
+    let x = unwrap_or (integer_in v) (pos 0) in
+    let is : expanded_value (type.primitive p m) v n ≡ column (type.primitive p m) n (enc.primitive p (replicate n x)) (child_of (repeated_validity s) n) =
+    λ i. column (type.primitive p (nullability_back (type.primitive p m) v typed i)) (length-replicate n x i) (enc.primitive p (replicate n x))
+    (child_of (repeated_validity s) (length-replicate n x i)) in
+    repeated_exactly of.integer (enc.primitive p) s (λ k xs tys css. refl) x n _
+    (stored_number p m (storage.Integers p) (parts_in (type.primitive p m) v) v refl typed) is
+value_exactly (type.decimal p k m) v n h typed =
+    let s = scalar (type.decimal p k m) v in
+    let x = unscaled_of v in
+    let w = smallest_width p in
+    let is : expanded_value (type.decimal p k m) v n ≡ column (type.decimal p k m) n (enc.decimals w (replicate n x)) (child_of (repeated_validity s) n) =
+    λ i. column (type.decimal p k (nullability_back (type.decimal p k m) v typed i)) (length-replicate n x i) (enc.decimals w (replicate n x))
+    (child_of (repeated_validity s) (length-replicate n x i)) in
+    repeated_exactly (λ z. of.decimal z k) (enc.decimals w) s (λ l xs tys css. refl) x n _ (stored_decimal p k m (parts_in (type.decimal p k m) v) v typed) is
+value_exactly (type.utf8 m) v n h typed =
+    bytes_exactly (type.utf8 m) v n Text (inl refl) refl (ap type.utf8 (nullability_back (type.utf8 m) v typed)) typed
+value_exactly (type.binary m) v n h typed =
+    bytes_exactly (type.binary m) v n Bytes (inr refl) refl (ap type.binary (nullability_back (type.binary m) v typed)) typed
+value_exactly _ v n h typed = absurd (false≢true h)
+
+-- the canonical column of a tree stands for it exactly
+pub expansion_exactly : (t : Tree) → IsWell t → has_columns (dtype t) ≡ true → KeepsExactly t (expansion t)
+expansion_exactly (node ty n (constant s) no_slots) w h =
+    subst (λ x. KeepsExactly (node x n (constant s) no_slots) (expanded s n)) (sym w.0.0) (by_count n)
+  where
+    has : has_columns s.of_type ≡ true
+    has = ap has_columns (sym w.0.0) ∙ h
+
+    typed : is_of s.of_type s.value ≡ true
+    typed = ap (λ x. is_of x s.value) (sym w.0.0) ∙ w.0.1
+
+    by_count : (k : ℕ) → KeepsExactly (constant_of s k) (expanded s k)
+    by_count zero = none_repeated (constant_of s 0) (expanded s 0) ((refl, typed, refl), tt) refl refl
+    by_count (suc k) = value_exactly s.of_type s.value (suc k) has typed
+expansion_exactly (node ty n (constant s) _) w h = let none = w.0.2 in absurd (cc)
+expansion_exactly t w h = exactly_refl t
+
+-- ---- which is composed, if the type is nested
+
+value_composed : (ty : DataType) (v : Value) (n : ℕ) → is_nested ty ≡ true → has_columns ty ≡ true
+    → (is_composed (datum (empty_of ty)) ≡ true) × (is_composed (datum (expanded_value ty v n)) ≡ true)
+value_composed (type.struct fs m) v n nested h = (refl, refl)
+value_composed (type.extension id t) v n nested h = (refl, refl)
+value_composed type.null v n nested h = absurd (false≢true nested)
+value_composed (type.bool m) v n nested h = absurd (false≢true nested)
+value_composed (type.primitive p m) v n nested h = absurd (false≢true nested)
+value_composed (type.decimal p k m) v n nested h = absurd (false≢true nested)
+value_composed (type.utf8 m) v n nested h = absurd (false≢true nested)
+value_composed (type.binary m) v n nested h = absurd (false≢true nested)
+value_composed _ v n nested h = absurd (false≢true h)
+
+constant_composed : (s : Typed) (n : ℕ) → is_nested s.of_type ≡ true → has_columns s.of_type ≡ true → is_composed (datum (expanded s n)) ≡ true
+constant_composed s zero nested h = (value_composed s.of_type s.value 0 nested h).0
+constant_composed s (suc n) nested h = (value_composed s.of_type s.value (suc n) nested h).1
+
+-- columns that hold their rows themselves have no such type
+flat_unnested : (of_type : DataType) (k : ℕ) (ty : DataType) (n : ℕ) (ss : List (Option Shape)) → IsFlat of_type k ty n ss → is_nested of_type ≡ false
+    → is_nested ty ≡ true → ⊥
+flat_unnested of_type k ty n ss h plain nested =
+    false≢true (sym (ap is_nested h.1 ∙ nested_kept (nullability_of ty) of_type ∙ plain) ∙ nested)
+
+decimals_unnested : (st : Storage) → is_nested (decimal_type st) ≡ false
+decimals_unnested (storage.Decimals p k) = refl
+decimals_unnested _ = refl
+
+bytes_unnested : (st : Storage) → is_nested (bytes_type st) ≡ false
+bytes_unnested Text = refl
+bytes_unnested _ = refl
+
+pub expansion_composed : (t : Tree) → IsWell t → is_columnar (datum t) ≡ true → is_nested (dtype t) ≡ true → has_columns (dtype t) ≡ true
+    → is_composed (datum (expansion t)) ≡ true
+expansion_composed (node ty n (enc.composed l) ss) w c nested h = refl
+expansion_composed (node ty n (constant s) ss) w c nested h = constant_composed s n (ap is_nested (sym w.0.0) ∙ nested) (ap has_columns (sym w.0.0) ∙ h)
+expansion_composed (node ty n enc.nulls ss) w c nested h = absurd (false≢true (ap is_nested (sym w.0.0) ∙ nested))
+expansion_composed (node ty n (enc.bool bs) ss) w c nested h = absurd (flat_unnested (type.bool NonNullable) (length bs) ty n (shapes ss) w.0 refl nested)
+expansion_composed (node ty n (enc.primitive p zs) ss) w c nested h =
+    absurd (flat_unnested (type.primitive p NonNullable) (length zs) ty n (shapes ss) w.0 refl nested)
+expansion_composed (node ty n (enc.decimals k zs) ss) w c nested h =
+    absurd (flat_unnested (decimal_type (storage_of ty)) (length zs) ty n (shapes ss) w.0.0 (decimals_unnested (storage_of ty)) nested)
+expansion_composed (node ty n (enc.views rs) ss) w c nested h =
+    absurd (flat_unnested (bytes_type (storage_of ty)) (length rs.views) ty n (shapes ss) w.0.0 (bytes_unnested (storage_of ty)) nested)
+expansion_composed (node ty n _ ss) w c nested h = absurd (false≢true c)

@@ -10,7 +10,7 @@ use Rattle.vx_value.specs.Cell.{Cell, value}
 use Rattle.vx_mask.specs.Masks.{is_all_true, is_all_false}
 use Rattle.vx_mask.proofs.Lists.{same_below}
 use Rattle.vx_tree.specs.Tree as enc
-use Rattle.vx_tree.specs.Tree.{Tree, Data, datum, booleans, is_flat, is_bool, is_constant}
+use Rattle.vx_tree.specs.Tree.{Tree, Data, datum, booleans, is_flat, is_bool, is_composed, is_constant}
 use Rattle.vx_tree.specs.Validities.{child_by, truths}
 use Rattle.vx_column.specs.Formed.{IsFormed, is_shown, is_true}
 use Rattle.vx_column.specs.ValidRows.{is_valid, HasValidity, child_in, null_unless}
@@ -24,18 +24,19 @@ not_bool : (d : Data) → is_flat d ≡ false → is_bool d ≡ false
 not_bool (enc.bool bs) h = h
 not_bool _ h = refl
 
-pub not_flat_formed : (u : Tree) → is_flat (datum u) ≡ false → IsFormed u
-not_flat_formed u h = record {
+pub not_flat_formed : (u : Tree) → is_flat (datum u) ≡ false → is_composed (datum u) ≡ false → IsFormed u
+not_flat_formed u h plain = record {
   validity_told = λ k. absurd (false≢true (sym h ∙ k));
   bits_cleared = λ k. absurd (false≢true (sym (not_bool (datum u) h) ∙ k));
+  parts_built = λ k. absurd (false≢true (sym plain ∙ k));
 }
 
-constant_holds_none : (d : Data) → is_constant d ≡ true → is_flat d ≡ false
-constant_holds_none (enc.constant v) h = refl
+constant_holds_none : (d : Data) → is_constant d ≡ true → (is_flat d ≡ false) × (is_composed d ≡ false)
+constant_holds_none (enc.constant v) h = (refl, refl)
 constant_holds_none _ h = absurd (false≢true h)
 
 pub constant_formed : (u : Tree) → is_constant (datum u) ≡ true → IsFormed u
-constant_formed u h = not_flat_formed u (constant_holds_none (datum u) h)
+constant_formed u h = let none = constant_holds_none (datum u) h in not_flat_formed u none.0 none.1
 
 -- ---- columns of stored values
 

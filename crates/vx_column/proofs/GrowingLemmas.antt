@@ -1,5 +1,5 @@
 -- The rows that a builder keeps: more of them at the end, also those of a column, and their types.
-use Rattle.std.proofs.Common.{◌≡◌, inl, inr, ◌<◌, ◌≤◌, ◌+◌, ◌-◌, ℕ, zero, suc, Bool, true, false, Some, None, List, [], ◌∷◌, ◌++◌, length}
+use Rattle.std.proofs.Common.{◌≡◌, inl, inr, ◌<◌, ◌≤◌, ◌+◌, ◌-◌, ℕ, zero, suc, Bool, true, false, List, [], ◌∷◌, ◌++◌, length}
 use Rattle.std.proofs.Common.{map}
 use Rattle.std.proofs.Common.{take}
 use Rattle.std.proofs.Common.{replicate}
@@ -10,15 +10,11 @@ use Rattle.std.proofs.Common.{ap₂}
 use Rattle.std.proofs.Common.{subst}
 use Rattle.std.proofs.Common.{◌∙◌}
 use Rattle.std.proofs.Common.{arith}
-use Rattle.std.proofs.Common.{lt-ltb}
-use Rattle.std.proofs.Common.{ltb-true}
-use Rattle.std.proofs.Common.{◌^◌}
-use Rattle.std.proofs.Common.{nat_lt}
-use Rattle.std.proofs.lemmas.Bool.{and_parts, and_from, le-ltb}
+use Rattle.std.proofs.lemmas.Bool.{and_parts, and_from}
 use Rattle.std.proofs.lemmas.List.{map-append, replicate-append-replicate, append-nil, append_assoc, length-append, length-replicate, take-append-le, take_all}
 use Rattle.std.proofs.lemmas.List.Folds.{list_all-append}
 use Rattle.std.specs.List.{list_all}
-use Rattle.vx_value.specs.Types.{DataType, nullability_of, is_nullable, same_type, same_type_Decides}
+use Rattle.vx_value.specs.Types.{DataType, nullability_of, is_nullable}
 use Rattle.vx_value.specs.Values.{Value, null}
 use Rattle.vx_value.specs.IsOf.{is_of, is_stored, in_range}
 use Rattle.vx_value.specs.Decimals.{smallest_width}
@@ -44,10 +40,6 @@ use Rattle.vx_column.proofs.StoredLemmas.{parts_in}
 use Rattle.vx_column.specs.declared.builder.values.Values.{Values}
 use Rattle.vx_column.specs.declared.builder.values.Values.TheVariants.{Nulls, Bits, Integers, Decimals, Bytes}
 use Rattle.vx_tree.proofs.NativesLemmas.{map_copies}
-use Rattle.vx_value.specs.declared.error.VortexError.TheVariants.{InvalidArgument, TooLong}
-use Rattle.vx_value.specs.declared.error.ArgKind.TheVariants.{BadType}
-use Rattle.vx_tree.specs.Conditions.{unless}
-use Rattle.vx_tree.proofs.ConditionsLemmas.{none_unless, unless_none}
 use Rattle.std.specs.Prelude.{if◌then◌else◌}
 use Rattle.std.specs.List.{range_with_len}
 use Rattle.std.specs.Str.{is_utf8}
@@ -81,7 +73,7 @@ use Rattle.vx_column.proofs.KernelArgumentsLemmas.{argument_nullability}
 use Rattle.vx_column.proofs.ValidRowsLemmas.{by_rows, counted, row_made, bit_made}
 use Rattle.vx_column.proofs.UnscaledLemmas.{row_digits}
 use Rattle.vx_column.proofs.ViewsLemmas.{row_stored}
-use Rattle.vx_column.specs.Built.{TypedRows, appended, type_refusal, length_refusal}
+use Rattle.vx_column.specs.Built.{TypedRows, appended}
 use Rattle.vx_column.specs.Growing.{stored_values, zero_in, HaveStorage, Accepts, AcceptRows, AreRanged, rows_or, values_or, padded, told_more, masked_by}
 use Rattle.vx_column.specs.Growing.{rows_kept, IsKept}
 
@@ -230,7 +222,7 @@ zero_of_type ty values kind =
     let plain : is_nested ty ≡ false = kept_unnested (storage_of ty) values kind in
     ap (is_of ty) (zero_is (storage_of ty) values kind ∙ zero_known ty plain) ∙ zero_typed ty plain
 
-null_of_type : (ty : DataType) → nullability_of ty ≡ Nullable → is_of ty null ≡ true
+pub null_of_type : (ty : DataType) → nullability_of ty ≡ Nullable → is_of ty null ≡ true
 null_of_type ty e = ap is_nullable e
 
 all_masked : (p : Value → Bool) (d : Value) (bits : List Bool) (vs : List Value) → (0 < length bits → p d ≡ true) → list_all p vs ≡ true
@@ -308,27 +300,10 @@ more_null_rows old k n rows told is none =
     either true = refl
     either false = refl
 
--- ---- how many rows there may be
-
-pub too_long : (n m k : ℕ) → n ≡ m → 2 ^ 64 ≤ m + k → length_refusal n k ≡ Some (TooLong m k)
-too_long n m k e long = ap (λ x. unless (nat_lt (x + k) (2 ^ 64)) (TooLong x k)) e ∙ ap (λ b. unless b (TooLong m k)) (le-ltb (m + k) (2 ^ 64) long)
-
-pub not_too_long : (n m k : ℕ) → n ≡ m → m + k < 2 ^ 64 → length_refusal n k ≡ None
-not_too_long n m k e short = none_unless _ _ (ap (λ x. nat_lt (x + k) (2 ^ 64)) e ∙ lt-ltb (m + k) (2 ^ 64) short)
-
-pub counted_on : (n k : ℕ) → length_refusal n k ≡ None → n + k < 2 ^ 64
-counted_on n k h = ltb-true (n + k) (2 ^ 64) (unless_none (nat_lt (n + k) (2 ^ 64)) (TooLong n k) h)
-
 -- ---- a value of the same type
 
-pub same_as : (r : TypedRows) (ty : DataType) → type_refusal r ty ≡ None → ty ≡ r.of_type
-same_as r ty h = (same_type_Decides ty r.of_type).0 (unless_none (same_type ty r.of_type) (InvalidArgument BadType) h)
-
-pub typed_so : (r : TypedRows) (ty of_value : DataType) (v w : Value) → type_refusal r of_value ≡ None → ty ≡ r.of_type → v ≡ w
-    → is_of of_value w ≡ true → is_of ty v ≡ true
-typed_so r ty of_value v w h seen same typed =
-    let one : of_value ≡ r.of_type = (same_type_Decides of_value r.of_type).0 (unless_none (same_type of_value r.of_type) (InvalidArgument BadType) h) in
-    (λ i. is_of ((seen ∙ sym one) i) (same i)) ∙ typed
+pub typed_so : (ty of_value : DataType) (v w : Value) → ty ≡ of_value → v ≡ w → is_of of_value w ≡ true → is_of ty v ≡ true
+typed_so ty of_value v w seen same typed = (λ i. is_of (seen i) (same i)) ∙ typed
 
 -- ---- rows of a column
 

@@ -7,7 +7,7 @@ use Rattle.std.proofs.lemmas.Bool.Decides.{nat_tests}
 use Rattle.std.proofs.lemmas.List.{length-map}
 use Rattle.std.proofs.lemmas.Option.{get_or_from_slice_get}
 use Rattle.std.proofs.Math.ListN.{get_or-map as get_or_mapped}
-use Rattle.vx_value.specs.Storage.{is_nested}
+use Rattle.vx_value.specs.Supported.{has_columns}
 use Rattle.vx_value.specs.Types.{DataType, primitive, nullability_of}
 use Rattle.vx_value.specs.Typed.{Typed}
 use Rattle.vx_value.specs.Values.{Value, integer}
@@ -131,13 +131,13 @@ pair_missed arrays places values n i e lt (inr h) = inr (h.0, fault_among (pair_
 
 -- ---- whole columns
 
-pub pairs_found : (arrays places : Tree) (values : List Tree) (u : Tree) → is_nested (first_type values) ≡ false → IsWell arrays → IsWell places → IsWell u → len places ≡ len arrays
+pub pairs_found : (arrays places : Tree) (values : List Tree) (u : Tree) → IsWell arrays → IsWell places → IsWell u → len places ≡ len arrays
     → (is_constant (datum arrays) && is_constant (datum places)) ≡ false
     → IsCanonicalOf (first_type values) (len arrays) (pair_cells arrays places values (len arrays)) u → IsInterleaving arrays places values u
-pairs_found arrays places values u plain well wells whole long other h =
+pairs_found arrays places values u well wells whole long other h =
     subst (λ cs. IsLookedUp (first_type values) (len arrays) cs (is_constant (datum arrays) && is_constant (datum places)) u)
     (all_pairs arrays places values well wells long)
-    (canonical_found (first_type values) (len arrays) _ (is_constant (datum arrays) && is_constant (datum places)) u plain whole
+    (canonical_found (first_type values) (len arrays) _ (is_constant (datum arrays) && is_constant (datum places)) u whole
     (neither (nat_lt 0 (len arrays)) _ other) h)
   where
     neither : (b d : Bool) → d ≡ false → (b && d) ≡ false
@@ -152,15 +152,21 @@ no_cells : {X : Type 0} (xs : List X) → length xs ≡ 0 → xs ≡ []
 no_cells [] h = refl
 no_cells (x ∷ xs) h = absurd (omega arith)
 
-pub no_pairs : (arrays places : Tree) (values : List Tree) (u : Tree) → is_nested (first_type values) ≡ false → IsWell arrays → len arrays ≡ 0 → u ≡ empty_of (first_type values)
+-- the first column's type
+pub first_typed : (xs : List Columnar) (x : Columnar) → 0 < length (map columnar_tree xs) → x ≡ get_or xs 0 x
+    → dtype (columnar_tree x) ≡ first_type (map columnar_tree xs)
+first_typed [] x h e = absurd (omega arith)
+first_typed (y ∷ ys) x h e = ap (λ z. dtype (columnar_tree z)) e
+
+pub no_pairs : (arrays places : Tree) (values : List Tree) (u : Tree) → has_columns (first_type values) ≡ true → IsWell arrays → len arrays ≡ 0 → u ≡ empty_of (first_type values)
     → IsInterleaving arrays places values u
-no_pairs arrays places values u plain well none new =
+no_pairs arrays places values u columns well none new =
     let constant = is_constant (datum arrays) && is_constant (datum places) in
     let cells : cells_interleaved arrays places values ≡ [] =
     ap (λ is. paired_cells (map rows values) is (rows places)) (no_cells (rows arrays) (rows_counted arrays well ∙ none)) in
     subst (λ n. IsLookedUp (first_type values) n (cells_interleaved arrays places values) constant u) (sym none)
     (subst (λ cs. IsLookedUp (first_type values) 0 cs constant u) (sym cells)
-    (subst (IsLookedUp (first_type values) 0 [] constant) (sym new) (empty_found (first_type values) constant plain)))
+    (subst (IsLookedUp (first_type values) 0 [] constant) (sym new) (empty_found (first_type values) constant columns)))
 
 -- ---- one pair for every row
 

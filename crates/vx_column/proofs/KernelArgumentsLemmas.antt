@@ -1,7 +1,8 @@
 -- What arguments store: the types of their values.
-use Rattle.std.proofs.Common.{◌≡◌, ℕ, true, refl, sym, ap, ◌∙◌}
+use Rattle.std.proofs.Common.{◌≡◌, ℕ, true, false, refl, sym, ap, ◌∙◌}
 use Rattle.vx_value.specs.Types.{primitive, nullability_of}
 use Rattle.vx_value.specs.Nullabilities.{with_nullability, same_but_nullability, same_but_nullability_Decides}
+use Rattle.vx_value.specs.Storage.{is_nested}
 use Rattle.vx_value.specs.View.{type_of}
 use Rattle.vx_value.specs.Casts.{sized}
 use Rattle.vx_value.specs.declared.dtype.Nullability.{Nullability}
@@ -77,3 +78,16 @@ plain_same n a b first second same =
     ∙ (same_but_nullability_Decides (type_of_argument a) (type_of_argument b)).0 same
     ∙ ap (with_nullability NonNullable) (argument_type n b second)
     ∙ plain_again (nullability_in b.valid) b.rows
+
+-- ---- no rows of an argument are of a nested type
+
+bytes_unnested : (st : Storage) → is_nested (bytes_type st) ≡ false
+bytes_unnested Text = refl
+bytes_unnested _ = refl
+
+pub rows_unnested : (r : ArgumentRows) → is_nested (plain_type r) ≡ false
+rows_unnested stored.Nulls = refl
+rows_unnested (stored.Bits bs) = refl
+rows_unnested (stored.Integers zs) = refl
+rows_unnested (stored.Decimals ds) = refl
+rows_unnested (stored.Bytes bs) = bytes_unnested bs.storage

@@ -1,8 +1,17 @@
 pub mod BuiltLemmas
+pub mod BuiltColumnsLemmas
+pub mod ValueColumnsLemmas
+pub mod FieldColumnsLemmas
+pub mod GrownLemmas
+pub mod KeptPiecesLemmas
+pub mod KeptLemmas
 pub mod ComposedLemmas
 pub mod ExpandedLemmas
 pub mod FilteredLemmas
 pub mod GrowingLemmas
+pub mod LayoutsLemmas
+pub mod JoinedLemmas
+pub mod PiecesLemmas
 pub mod MaskedLemmas
 pub mod NullsLemmas
 pub mod RepeatedLemmas

@@ -1,5 +1,5 @@
 -- Rows that codes name: the places that they tell, and the cells at these.
-use Rattle.std.proofs.Common.{◌≡◌, ◌<◌, inl, inr, ℕ, zero, suc, ℤ, pos, Bool, true, false, if◌then◌else◌, List, [], ◌∷◌, length, map, get_or, replicate, Some}
+use Rattle.std.proofs.Common.{◌≡◌, ◌<◌, inl, inr, ℕ, zero, suc, ℤ, pos, Bool, true, false, if◌then◌else◌, List, [], ◌∷◌, ◌++◌, length, map, get_or, replicate, Some}
 use Rattle.std.proofs.Common.{◌≤◌, None, refl, sym, ap, ◌∙◌, subst, arith}
 use Rattle.std.specs.Prelude.{◌&&◌, nat_lt, slice_get}
 use Rattle.std.specs.List.{range_with_len}
@@ -9,8 +9,9 @@ use Rattle.std.proofs.lemmas.List.{length-map}
 use Rattle.std.proofs.lemmas.Simd.{map-map}
 use Rattle.std.proofs.Math.ListN.{get_or-map as get_or_mapped}
 use Rattle.vx_value.specs.Storage.{is_nested}
+use Rattle.vx_value.specs.Supported.{has_columns, have_columns}
 use Rattle.vx_value.specs.Types as type
-use Rattle.vx_value.specs.Types.{DataType, primitive, nullability_of}
+use Rattle.vx_value.specs.Types.{DataType, Fields, primitive, nullability_of}
 use Rattle.vx_value.specs.IsOf.{is_of}
 use Rattle.vx_value.specs.Parts.{integer_in as integer_value}
 use Rattle.vx_value.specs.Typed.{Typed}
@@ -18,6 +19,7 @@ use Rattle.vx_value.specs.Values.{Value, null, integer}
 use Rattle.vx_value.specs.Cell.{Cell, value, fault}
 use Rattle.vx_value.specs.Nullabilities.{with_nullability, union}
 use Rattle.vx_value.proofs.NullabilitiesLemmas.{nested_kept}
+use Rattle.vx_value.proofs.SupportedLemmas.{first_columns, other_columns}
 use Rattle.vx_value.specs.declared.dtype.Nullability.{Nullability}
 use Rattle.vx_value.specs.declared.dtype.Nullability.TheVariants.{NonNullable, Nullable}
 use Rattle.vx_value.specs.declared.dtype.PType.{PType}
@@ -26,9 +28,10 @@ use Rattle.vx_fn.specs.Meanings.{widen}
 use Rattle.vx_mask.proofs.Lists.{same_below}
 use Rattle.vx_tree.specs.Canonicals.{columnar_tree}
 use Rattle.vx_tree.specs.Cells.{rows, HasNoFault}
-use Rattle.vx_tree.specs.Columns.{empty_of}
+use Rattle.vx_tree.specs.Columns.{empty_of, empty_fields}
 use Rattle.vx_tree.specs.Lookups.{taken, taken_cells}
-use Rattle.vx_tree.specs.Tree.{Tree, dtype, len, datum, is_constant, nulls_of}
+use Rattle.vx_tree.specs.Tree.{Tree, node, composed, slot, no_slots, slots_of, dtype, len, datum, is_constant}
+use Rattle.vx_tree.specs.declared.array.layout.Layout.TheVariants.{Struct, Extension}
 use Rattle.vx_tree.specs.Well.{IsWell}
 use Rattle.vx_tree.specs.declared.canonical.columnar.Columnar.{Columnar}
 use Rattle.vx_tree.proofs.CellsLemmas.{rows_counted}
@@ -43,17 +46,18 @@ use Rattle.vx_column.specs.LookedUp.{place_cell, place_at, place_if, AreNamed, c
 use Rattle.vx_column.specs.LookedUp.{IsCanonicalOf, IsLookedUp, IsNotLookedUp, AreTaken, AreNotTaken}
 use Rattle.vx_column.specs.Operands.{calculated_rows, zero_unless, IsFaultyRow}
 use Rattle.vx_column.specs.ValidRows.{is_valid, nullability_in, null_unless}
+use Rattle.vx_column.specs.ValueColumns.{column_of, field_columns}
 use Rattle.vx_column.specs.declared.rows.argument.Argument.{Argument}
 use Rattle.vx_column.specs.declared.rows.argument.ArgumentRows.{ArgumentRows}
 use Rattle.vx_column.specs.declared.rows.argument.ArgumentRows.TheVariants as stored
 use Rattle.vx_column.specs.declared.rows.argument.IntegerOperand.{IntegerOperand}
 use Rattle.vx_column.specs.declared.rows.valid.ValidRows.{ValidRows}
 use Rattle.vx_column.proofs.ComputedLemmas.{calculated_long, calculated_at, fault_among}
-use Rattle.vx_column.proofs.FormedLemmas.{not_flat_formed}
+use Rattle.vx_column.proofs.EachLemmas.{column_found}
 use Rattle.vx_column.proofs.KeepsLemmas.{whole_clean}
-use Rattle.vx_column.proofs.KernelArgumentsLemmas.{argument_type, argument_nullability, set_again}
+use Rattle.vx_column.proofs.KernelArgumentsLemmas.{argument_type, argument_nullability, set_again, rows_unnested}
 use Rattle.vx_column.proofs.ValidRowsLemmas.{by_rows}
-use Rattle.vx_column.proofs.WholeLemmas.{canonical_whole}
+use Rattle.vx_column.proofs.WholeLemmas.{canonical_told}
 
 -- ---- places
 
@@ -182,6 +186,10 @@ valid_twice : (v c w : Bool) (x : Cell) → v ≡ (c && w) → null_unless v x �
 valid_twice v true w x e = ap (λ b. null_unless b x) e
 valid_twice v false w x e = ap (λ b. null_unless b x) e
 
+-- an argument's rows aren't of a nested type
+rows_plain : (m : Nullability) (r : ArgumentRows) → is_nested (with_nullability m (plain_type r)) ≡ false
+rows_plain m r = nested_kept m (plain_type r) ∙ rows_unnested r
+
 pub argument_gathered : (codes valid : ValidRows) (a : Argument) (places : List ℕ) (n : ℕ) (u : Tree)
     → ((i : ℕ) → i < n → is_valid valid i ≡ (is_valid codes i && is_valid a.valid (place_at places i)))
     → nullability_in valid ≡ union (nullability_in codes) (nullability_in a.valid) → IsGathered a.rows places valid n u
@@ -193,6 +201,7 @@ argument_gathered codes valid a places n u both nullability h = record {
       (λ i lt. valid_twice (is_valid valid i) (is_valid codes i) (is_valid a.valid (place_at places i)) (value (value_at a.rows (place_at places i))) (both i lt));
   clean = h.1.clean;
   canonical = h.1.canonical;
+  told = λ k. absurd (false≢true (sym (rows_plain (union (nullability_in codes) (nullability_in a.valid)) a.rows) ∙ k));
   formed = h.1.formed;
 }
 
@@ -218,87 +227,68 @@ rows_named c a codes places n u shown lies h = record {
   shown = h.shown ∙ same_below n _ _ (λ i lt. cell_shown c a (is_valid codes i) (place_at places i) shown (lies i lt));
   clean = h.clean;
   canonical = h.canonical;
+  told = λ k. absurd (false≢true (sym (rows_plain (union (nullability_in codes) (nullability_in a.valid)) a.rows)
+      ∙ ap is_nested (argument_widened (len (columnar_tree c)) a (nullability_in codes) shown.sized ∙ ap (named_type (nullability_in codes)) (sym shown.typed)) ∙ k));
   formed = h.formed;
 }
 
 -- ---- whole columns
 
 -- a canonical column of the cells
-pub canonical_found : (ty : DataType) (n : ℕ) (cells : List Cell) (constant : Bool) (u : Tree) → is_nested ty ≡ false → IsWell u → (nat_lt 0 n && constant) ≡ false → IsCanonicalOf ty n cells u
+pub canonical_found : (ty : DataType) (n : ℕ) (cells : List Cell) (constant : Bool) (u : Tree) → IsWell u → (nat_lt 0 n && constant) ≡ false → IsCanonicalOf ty n cells u
     → IsLookedUp ty n cells constant u
-canonical_found ty n cells constant u plain well other h = record {
+canonical_found ty n cells constant u well other h = record {
   typed = h.typed;
   counted = h.counted;
   shown = h.shown;
-  clean = whole_clean u h.clean (canonical_whole u (ap is_nested h.typed ∙ plain) well h.canonical h.clean);
+  clean = whole_clean u h.clean (canonical_told u well h.canonical h.clean
+      (λ nested. subst HasNoFault (sym h.shown) (h.told (ap is_nested (sym h.typed) ∙ nested))));
   constant_kept = canonical_open (datum u) h.canonical ∙ sym other;
   formed = h.formed;
 }
 
 -- ---- no rows
 
-pub empty_found : (ty : DataType) (constant : Bool) → is_nested ty ≡ false → IsLookedUp ty 0 [] constant (empty_of ty)
-empty_found type.null constant plain = record {
-  typed = refl;
-  counted = refl;
-  shown = refl;
-  clean = (tt, tt);
-  constant_kept = refl;
-  formed = not_flat_formed (nulls_of 0) refl;
-}
-empty_found (type.bool m) constant plain = record {
-  typed = refl;
-  counted = refl;
-  shown = refl;
-  clean = (tt, tt);
-  constant_kept = refl;
-  formed = record { validity_told = λ k. refl; bits_cleared = λ k. refl };
-}
-empty_found (type.primitive p m) constant plain = record {
-  typed = refl;
-  counted = refl;
-  shown = refl;
-  clean = (tt, tt);
-  constant_kept = refl;
-  formed = record { validity_told = λ k. refl; bits_cleared = λ k. absurd (false≢true k) };
-}
-empty_found (type.decimal p s m) constant plain = record {
-  typed = refl;
-  counted = refl;
-  shown = refl;
-  clean = (tt, tt);
-  constant_kept = refl;
-  formed = record { validity_told = λ k. refl; bits_cleared = λ k. absurd (false≢true k) };
-}
-empty_found (type.utf8 m) constant plain = record {
-  typed = refl;
-  counted = refl;
-  shown = refl;
-  clean = (tt, tt);
-  constant_kept = refl;
-  formed = record { validity_told = λ k. refl; bits_cleared = λ k. absurd (false≢true k) };
-}
-empty_found (type.binary m) constant plain = record {
-  typed = refl;
-  counted = refl;
-  shown = refl;
-  clean = (tt, tt);
-  constant_kept = refl;
-  formed = record { validity_told = λ k. refl; bits_cleared = λ k. absurd (false≢true k) };
-}
-empty_found _ constant plain = absurd (cc)
+mutual
+  empty_column : (ty : DataType) → has_columns ty ≡ true → empty_of ty ≡ column_of ty []
+  empty_column type.null h = refl
+  empty_column (type.bool m) h = refl
+  empty_column (type.primitive p m) h = refl
+  empty_column (type.decimal p s m) h = refl
+  empty_column (type.utf8 m) h = refl
+  empty_column (type.binary m) h = refl
+  empty_column (type.struct fs m) h = λ i. node (type.struct fs m) 0 (composed Struct) (empty_parts fs h i)
+  empty_column (type.extension id t) h = λ i. node (type.extension id t) 0 (composed Extension) (slot (empty_column t h i) no_slots)
+  empty_column _ h = absurd (false≢true h)
+
+  empty_parts : (fs : Fields) → have_columns fs ≡ true → empty_fields fs ≡ slots_of (map Some (field_columns fs []) ++ None ∷ [])
+  empty_parts type.no_fields h = refl
+  empty_parts (type.field name t fs) h =
+      λ i. slot (empty_column t (first_columns name t fs h) i) (empty_parts fs (other_columns name t fs h) i)
+
+pub empty_found : (ty : DataType) (constant : Bool) → has_columns ty ≡ true → IsLookedUp ty 0 [] constant (empty_of ty)
+empty_found ty constant columns =
+    let h = column_found ty [] 0 [] columns refl refl refl in
+    subst (IsLookedUp ty 0 [] constant) (sym (empty_column ty columns)) (record {
+      typed = h.typed;
+      counted = h.counted;
+      shown = h.shown;
+      clean = whole_clean (column_of ty []) h.clean (subst HasNoFault (sym h.shown) tt);
+      constant_kept = canonical_open (datum (column_of ty [])) h.canonical;
+      formed = h.formed;
+    })
 
 no_cells : {X : Type 0} (xs : List X) → length xs ≡ 0 → xs ≡ []
 no_cells [] h = refl
 no_cells (x ∷ xs) h = absurd (omega arith)
 
-pub none_found : (ty : DataType) (t : Tree) (vs : List Cell) (u : Tree) → is_nested ty ≡ false → IsWell t → len t ≡ 0 → u ≡ empty_of ty
+pub none_found : (ty : DataType) (t : Tree) (vs : List Cell) (u : Tree) → has_columns ty ≡ true → IsWell t → len t ≡ 0 → u ≡ empty_of ty
     → IsLookedUp ty (len t) (taken_cells (rows t) vs) (is_constant (datum t)) u
-none_found ty t vs u plain well none new =
+none_found ty t vs u columns well none new =
     let cells : rows t ≡ [] = no_cells (rows t) (rows_counted t well ∙ none) in
     subst (λ n. IsLookedUp ty n (taken_cells (rows t) vs) (is_constant (datum t)) u) (sym none)
     (subst (λ cs. IsLookedUp ty 0 (taken_cells cs vs) (is_constant (datum t)) u) (sym cells)
-    (subst (IsLookedUp ty 0 [] (is_constant (datum t))) (sym new) (empty_found ty (is_constant (datum t)) plain)))
+    (subst (IsLookedUp ty 0 [] (is_constant (datum t))) (sym new) (empty_found ty (is_constant (datum t)) columns)))
 
 -- ---- a code that is a constant
 
@@ -341,16 +331,15 @@ module _ (c v : Columnar) (a : Argument) (bound n : ℕ) (well : IsWell (columna
       ap (λ m. named_type m (dtype (columnar_tree v)))
       (sym (argument_nullability (len (columnar_tree c)) a shown.sized) ∙ ap nullability_of (sym shown.typed))
 
-  pub column_found : (places : List ℕ) (u : Tree) → is_nested (dtype (columnar_tree v)) ≡ false → IsWell u → AreNamed a.rows a.valid bound n places → is_constant (datum (columnar_tree c)) ≡ false
+  pub named_found : (places : List ℕ) (u : Tree) → IsWell u → AreNamed a.rows a.valid bound n places → is_constant (datum (columnar_tree c)) ≡ false
       → AreNamedRows a.valid places (columnar_tree v) n u → AreTaken (columnar_tree c) (columnar_tree v) u
-  column_found places u plain whole h other k =
+  named_found places u whole h other k =
       let ty = widen (dtype (columnar_tree c)) (dtype (columnar_tree v)) in
       let same : IsCanonicalOf ty n (taken_cells (rows (columnar_tree c)) vs) u =
       subst (λ t. IsCanonicalOf t n (taken_cells (rows (columnar_tree c)) vs) u) type_same
       (subst (λ cs. IsCanonicalOf (named_type (nullability_in a.valid) (dtype (columnar_tree v))) n cs u) (cells_same places h) k) in
-      let flat = ap is_nested (sym type_same) ∙ nested_kept (union (nullability_in a.valid) (nullability_of (dtype (columnar_tree v)))) (dtype (columnar_tree v)) ∙ plain in
       subst (λ m. IsLookedUp ty m (taken_cells (rows (columnar_tree c)) vs) (is_constant (datum (columnar_tree c))) u) counted
-      (canonical_found ty n _ (is_constant (datum (columnar_tree c))) u flat whole (neither (nat_lt 0 n) _ other) same)
+      (canonical_found ty n _ (is_constant (datum (columnar_tree c))) u whole (neither (nat_lt 0 n) _ other) same)
     where
       neither : (b d : Bool) → d ≡ false → (b && d) ≡ false
       neither true d h = h

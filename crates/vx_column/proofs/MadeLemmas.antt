@@ -25,7 +25,7 @@ use Rattle.vx_fn.specs.ReturnTypes.{return_type}
 use Rattle.vx_fn.specs.declared.function.ScalarFnRef.{ScalarFnRef}
 use Rattle.vx_tree.specs.ColumnTypes.{bytes_type}
 use Rattle.vx_tree.specs.Tree as enc
-use Rattle.vx_tree.specs.Tree.{Tree, Data, dtype, slots_of, column, nulls_of, is_canonical, is_bool}
+use Rattle.vx_tree.specs.Tree.{Tree, Data, dtype, slots_of, column, nulls_of, is_canonical, is_composed, is_bool}
 use Rattle.vx_tree.specs.Canonicals.{canonical_tree}
 use Rattle.vx_tree.specs.declared.canonical.canonical.Canonical.{Canonical}
 use Rattle.vx_tree.specs.Cells.{rows, slots_rows, node_cells, cells_at, valid_cells}
@@ -99,7 +99,7 @@ nulls_made f valid n none = record {
       (λ i lt. ap (λ v. null_unless (is_valid valid i) (value v)) (none i) ∙ null_always (is_valid valid i)));
   clean = tt;
   canonical = refl;
-  formed = not_flat_formed (nulls_of n) refl;
+  formed = not_flat_formed (nulls_of n) refl refl;
 }
 
 -- the column of a function, by what it stores
@@ -120,7 +120,7 @@ module _ (valid : ValidRows) (n : ℕ) (sized : HasValidity valid n) (v : Validi
   -- a column that stores the values of `f`
   made_of : (d : Data) (k : ℕ) (f : ℕ → Value) (ty : Nullability → DataType) → k ≡ n
       → ((m : Nullability) (tys : List DataType) (css : List (List Cell)) → node_cells (ty m) k d tys css ≡ valid_cells (cells_at css 0) (map (λ i. value (f i)) (range_with_len 0 n)))
-      → is_canonical d ≡ true → ((i : ℕ) → is_null (f i) ≡ false) → (is_bool d ≡ true → d ≡ enc.bool (map is_true (cells_made f))) → (u : Tree)
+      → (is_canonical d ≡ true) × (is_composed d ≡ false) → ((i : ℕ) → is_null (f i) ≡ false) → (is_bool d ≡ true → d ≡ enc.bool (map is_true (cells_made f))) → (u : Tree)
       → u ≡ column (ty (nullability_by v)) k d (child_of v k)
       → (dtype u ≡ ty (nullability_in valid)) × IsColumnOfCells valid (λ i. value (f i)) n u
   made_of d k f ty long cells canonical held cleared u new =
@@ -134,10 +134,11 @@ module _ (valid : ValidRows) (n : ℕ) (sized : HasValidity valid n) (v : Validi
         counted = long;
         shown = shown;
         clean = filled_clean valid;
-        canonical = canonical;
+        canonical = canonical.0;
         formed = record {
           validity_told = λ k. ap (λ t. slots_of (t ∷ [])) (child_shown valid n sized f held ∙ ap (λ cs. child_by (map is_shown cs)) (sym shown));
           bits_cleared = λ k. cleared k ∙ ap (λ cs. enc.bool (map is_true cs)) (sym shown);
+          parts_built = λ k. absurd (false≢true (sym canonical.1 ∙ k));
         };
       } in (
         ap dtype new ∙ ap ty told.0,
@@ -149,7 +150,7 @@ module _ (valid : ValidRows) (n : ℕ) (sized : HasValidity valid n) (v : Validi
       (ty : Nullability → DataType)
       → ((m : Nullability) (k : ℕ) (xs : List X) (tys : List DataType) (css : List (List Cell))
       → node_cells (ty m) k (of_items xs) tys css ≡ valid_cells (cells_at css 0) (map (λ x. value (read x)) xs))
-      → ((xs : List X) → is_canonical (of_items xs) ≡ true) → ((x : X) → is_null (read x) ≡ false) → (xs : List X) (g : ℕ → X)
+      → ((xs : List X) → (is_canonical (of_items xs) ≡ true) × (is_composed (of_items xs) ≡ false)) → ((x : X) → is_null (read x) ≡ false) → (xs : List X) (g : ℕ → X)
       → (is_bool (of_items xs) ≡ true → of_items xs ≡ enc.bool (map is_true (cells_made (λ i. read (g i)))))
       → (u : Tree) → xs ≡ map g (range_with_len 0 n)
       → u ≡ column (ty (nullability_by v)) (length xs) (of_items xs) (child_of v (length xs))
@@ -166,7 +167,7 @@ module _ (valid : ValidRows) (n : ℕ) (sized : HasValidity valid n) (v : Validi
   bools_made bits test u are new =
       let kept : ℕ → Bool = λ i. is_valid valid i && test i in
       let both : (dtype u ≡ bool (nullability_in valid)) × IsColumnOfCells valid (λ i. value (boolean (kept i))) n u =
-      made boolean enc.bool bool (λ m k xs tys css. refl) (λ xs. refl) (λ b. refl) bits kept
+      made boolean enc.bool bool (λ m k xs tys css. refl) (λ xs. (refl, refl)) (λ b. refl) bits kept
       (λ k. ap enc.bool (are ∙ same_below n _ _ (λ i lt. sym (kept_again (is_valid valid i) (test i))) ∙ bits_true valid n kept)) u are new in (
         both.0,
         made_by valid _ _ n u (λ i lt here. ap (λ b. value (boolean (b && test i))) here) both.1,
@@ -175,12 +176,12 @@ module _ (valid : ValidRows) (n : ℕ) (sized : HasValidity valid n) (v : Validi
   pub integers_made : (p : PType) (zs : List ℤ) (g : ℕ → ℤ) (u : Tree) → zs ≡ map g (range_with_len 0 n) → u ≡ integer_column p zs v
       → (dtype u ≡ primitive p (nullability_in valid)) × IsColumnOfCells valid (λ i. value (integer (g i))) n u
   integers_made p zs g =
-      made integer (enc.primitive p) (primitive p) (λ m k xs tys css. refl) (λ xs. refl) (λ z. refl) zs g (λ k. absurd (false≢true k))
+      made integer (enc.primitive p) (primitive p) (λ m k xs tys css. refl) (λ xs. (refl, refl)) (λ z. refl) zs g (λ k. absurd (false≢true k))
 
   pub decimals_made : (d : DecimalDType) (w : DecimalType) (zs : List ℤ) (g : ℕ → ℤ) (u : Tree) → zs ≡ map g (range_with_len 0 n) → u ≡ decimal_column d w zs v
       → (dtype u ≡ decimal d.precision d.scale (nullability_in valid)) × IsColumnOfCells valid (λ i. value (of.decimal (g i) d.scale)) n u
   decimals_made d w zs g =
-      made (λ z. of.decimal z d.scale) (enc.decimals w) (decimal d.precision d.scale) (λ m k xs tys css. refl) (λ xs. refl) (λ z. refl) zs g
+      made (λ z. of.decimal z d.scale) (enc.decimals w) (decimal d.precision d.scale) (λ m k xs tys css. refl) (λ xs. (refl, refl)) (λ z. refl) zs g
       (λ k. absurd (false≢true k))
 
   pub bytes_made : (st : Storage) (rs : ViewedRows) (g : ℕ → List ℕ) (u : Tree) → rows_of rs ≡ map g (range_with_len 0 n) → u ≡ bytes_column st rs v
@@ -191,4 +192,4 @@ module _ (valid : ValidRows) (n : ℕ) (sized : HasValidity valid n) (v : Validi
       sym (map-map read (bytes_at rs.buffers) rs.views) ∙ ap (map read) are ∙ map-map read g (range_with_len 0 n) in
       let long = sym (length-map rs.views (bytes_at rs.buffers)) ∙ ap length are ∙ length-map-range_with_len g 0 n in
       made_of (enc.views rs) (length rs.views) (λ i. bytes (g i)) (λ m. with_nullability m (bytes_type st)) long
-      (λ m tys css. ap (valid_cells (cells_at css 0)) stored) refl (λ i. refl) (λ k. absurd (false≢true k)) u
+      (λ m tys css. ap (valid_cells (cells_at css 0)) stored) (refl, refl) (λ i. refl) (λ k. absurd (false≢true k)) u

@@ -51,7 +51,7 @@ nullable_null NonNullable h = absurd (cc)
 abbrev pub validity_by : DataType → Value → Validity
 validity_by ty v = if is_null v then AllInvalid else without_nulls (nullability_of ty)
 
-nullability_back : (ty : DataType) (v : Value) → is_of ty v ≡ true → nullability_by (validity_by ty v) ≡ nullability_of ty
+pub nullability_back : (ty : DataType) (v : Value) → is_of ty v ≡ true → nullability_by (validity_by ty v) ≡ nullability_of ty
 nullability_back ty of.null h = sym (nullable_null (nullability_of ty) h)
 nullability_back ty _ h = same_nullability (nullability_of ty)
 
@@ -85,7 +85,7 @@ repeated_cells read x ty v n h =
     ∙ map_copies (λ y. value (read y)) n x
     ∙ ap (λ u. replicate n (value u)) (h refl)
 
-repeated_exactly : {X : Type 0} (read : X → Value) (of_items : List X → Data) (s : Typed) →
+pub repeated_exactly : {X : Type 0} (read : X → Value) (of_items : List X → Data) (s : Typed) →
     ((n : ℕ) (xs : List X) (tys : List DataType) (css : List (List Cell)) → node_cells s.of_type n (of_items xs) tys css ≡ valid_cells (cells_at css 0) (map (λ x. value (read x)) xs)) →
     (x : X) (n : ℕ) (u : Tree) → (is_null s.value ≡ false → read x ≡ s.value) →
     u ≡ column s.of_type n (of_items (replicate n x)) (child_of (repeated_validity s) n) → KeepsExactly (constant_of s n) u

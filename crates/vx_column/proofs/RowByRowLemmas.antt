@@ -5,6 +5,7 @@ use Rattle.std.specs.List.{AllZip}
 use Rattle.std.specs.Cmp.{unsigned_Decides, first_so, second_so}
 use Rattle.std.proofs.lemmas.Option.{get_or_from_slice_get}
 use Rattle.vx_value.specs.Types.{DataType}
+use Rattle.vx_value.specs.Storage.{is_nested}
 use Rattle.vx_value.specs.Typed.{Typed}
 use Rattle.vx_value.specs.Values.{Value}
 use Rattle.vx_value.specs.Cell.{Cell, value, fault}
@@ -14,7 +15,7 @@ use Rattle.vx_fn.specs.Apply.{apply, on_values, value_of}
 use Rattle.vx_fn.specs.ReturnTypes.{return_type}
 use Rattle.vx_fn.specs.declared.function.ScalarFnRef.{ScalarFnRef}
 use Rattle.vx_tree.specs.Tree.{Tree, dtype, len}
-use Rattle.vx_tree.specs.Cells.{rows}
+use Rattle.vx_tree.specs.Cells.{rows, HasNoFault}
 use Rattle.vx_tree.specs.Canonicals.{columnar_tree}
 use Rattle.vx_tree.specs.Calls.{all_of_len}
 use Rattle.vx_tree.specs.declared.canonical.columnar.Columnar.{Columnar}
@@ -55,6 +56,7 @@ each_built f ts n ty u typed h = record {
     clean = h.clean;
   };
   canonical = h.canonical;
+  told = λ nested. subst HasNoFault (sym h.shown) (h.told (ap is_nested (sym h.typed) ∙ nested));
   formed = h.formed;
 }
 

@@ -33,21 +33,10 @@ use Rattle.vx_column.specs.ValidRows.{nullability_in}
 use Rattle.vx_column.specs.declared.rows.argument.Argument.{Argument}
 use Rattle.vx_column.specs.declared.rows.argument.ArgumentRows.{ArgumentRows}
 use Rattle.vx_column.specs.declared.rows.argument.ArgumentRows.TheVariants as stored
-use Rattle.vx_column.proofs.KernelArgumentsLemmas.{argument_type}
+use Rattle.vx_column.proofs.KernelArgumentsLemmas.{argument_type, rows_unnested}
 use Rattle.vx_column.proofs.CastsLemmas.{target_unnested}
 
 -- ---- no argument is nested
-
-bytes_unnested : (st : Storage) → is_nested (bytes_type st) ≡ false
-bytes_unnested Text = refl
-bytes_unnested _ = refl
-
-rows_unnested : (r : ArgumentRows) → is_nested (plain_type r) ≡ false
-rows_unnested stored.Nulls = refl
-rows_unnested (stored.Bits bs) = refl
-rows_unnested (stored.Integers zs) = refl
-rows_unnested (stored.Decimals ds) = refl
-rows_unnested (stored.Bytes bs) = bytes_unnested bs.storage
 
 argument_unnested : (n : ℕ) (a : Argument) → IsSized n a → is_nested (type_of_argument a) ≡ false
 argument_unnested n a sized =

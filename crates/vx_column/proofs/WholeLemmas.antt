@@ -1,5 +1,5 @@
 -- A column whose validity has no fault has none itself.
-use Rattle.std.proofs.Common.{◌≡◌, ℕ, List, [], ◌∷◌, length, map, true, false, Option, Some, sym, subst, ap}
+use Rattle.std.proofs.Common.{◌≡◌, ℕ, List, [], ◌∷◌, length, map, Bool, true, false, refl, Option, Some, sym, subst, ap}
 use Rattle.std.proofs.lemmas.Bool.{false≢true}
 use Rattle.vx_value.specs.Types as type
 use Rattle.vx_value.specs.Types.{DataType, nullability_of}
@@ -21,7 +21,7 @@ use Rattle.vx_column.proofs.NestedLemmas.{not_composed}
 use Rattle.vx_tree.specs.Views.{bytes_at}
 use Rattle.vx_tree.specs.declared.views.view.View.{View}
 
-values_whole : {A : Type 0} (f : A → Value) (xs : List A) → HasNoFault (map (λ x. value (f x)) xs)
+pub values_whole : {A : Type 0} (f : A → Value) (xs : List A) → HasNoFault (map (λ x. value (f x)) xs)
 values_whole f [] = tt
 values_whole f (x ∷ xs) = values_whole f xs
 
@@ -73,3 +73,11 @@ column_whole ty n _ ss plain w h clean = absurd (false≢true h)
 -- no row of a canonical column with clean slots is a fault, if its type isn't nested
 pub canonical_whole : (u : Tree) → is_nested (dtype u) ≡ false → IsWell u → is_canonical (datum u) ≡ true → AreClean (slots u) → HasNoFault (rows u)
 canonical_whole (node ty n d ss) plain w h clean = column_whole ty n d ss plain w h clean
+
+-- nor of any other, if none is told of where the type is nested
+pub canonical_told : (u : Tree) → IsWell u → is_canonical (datum u) ≡ true → AreClean (slots u) → (is_nested (dtype u) ≡ true → HasNoFault (rows u)) → HasNoFault (rows u)
+canonical_told u w h clean told = by_nesting (is_nested (dtype u)) refl
+  where
+    by_nesting : (b : Bool) → is_nested (dtype u) ≡ b → HasNoFault (rows u)
+    by_nesting false plain = canonical_whole u plain w h clean
+    by_nesting true nested = told nested

@@ -1,6 +1,7 @@
 -- A function applied to whole columns.
 use Rattle.std.specs.Prelude.{◌≡◌, ◌⊎◌, ℕ, List, [], ◌∷◌, map, Bool, true, ◌&&◌, nat_lt, Some}
 use Rattle.vx_value.specs.Types.{DataType}
+use Rattle.vx_value.specs.Storage.{is_nested}
 use Rattle.vx_value.specs.Typed.{Typed}
 use Rattle.vx_value.specs.Cell.{Cell, value, fault}
 use Rattle.vx_value.specs.declared.error.VortexError.{VortexError}
@@ -55,10 +56,11 @@ abbrev pub IsUnappliedRow : ScalarFnRef → List Tree → ℕ → VortexError �
 IsUnappliedRow f ts i e =
     (e ≡ OutOfMemory) ⊎ ((e ≡ Fault) × ((ty : DataType) → return_type f (map dtype ts) ≡ Some ty → apply f (map dtype ts) ty (row_in ts i) ≡ fault))
 
--- u is the canonical column of f applied to each of n rows
+-- u is the canonical column of f applied to each of n rows; none is a fault if the type is nested
 pub record IsAppliedEach (f : ScalarFnRef) (ts : List Tree) (n : ℕ) (u : Tree) : Type 0 where
   pub result : IsResult f (map dtype ts) (row_in ts) n u
   pub canonical : is_canonical (datum u) ≡ true
+  pub told : is_nested (dtype u) ≡ true → HasNoFault (rows u)
   pub formed : IsFormed u
 
 -- why f can't be applied: out of memory, or a fault in one of the node's rows

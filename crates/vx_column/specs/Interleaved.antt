@@ -3,7 +3,6 @@ use Rattle.std.specs.Prelude.{◌≡◌, ◌⊎◌, ◌<◌, ◌&&◌, false, �
 use Rattle.std.specs.List.{range_with_len}
 use Rattle.vx_value.specs.Types as type
 use Rattle.vx_value.specs.Types.{DataType, primitive}
-use Rattle.vx_value.specs.Storage.{is_nested}
 use Rattle.vx_value.specs.Typed.{Typed}
 use Rattle.vx_value.specs.Cell.{Cell, value, fault}
 use Rattle.vx_value.specs.declared.dtype.PType.{PType}
@@ -29,14 +28,13 @@ abbrev pub AreOfType : DataType → List Tree → Type 0
 AreOfType ty [] = Unit {0}
 AreOfType ty (t ∷ ts) = (dtype t ≡ ty) × AreOfType ty ts
 
--- two columns of indices, of one length, and columns of one type that isn't nested, of which there is one
+-- two columns of indices, of one length, and columns of one type, of which there is one
 pub record AreInterleaved (arrays places : Tree) (values : List Tree) : Type 0 where
   pub arrays_typed : IsIndexType (dtype arrays)
   pub places_typed : IsIndexType (dtype places)
   pub long : len places ≡ len arrays
   pub some : 0 < length values
   pub typed : AreOfType (first_type values) values
-  pub unnested : is_nested (first_type values) ≡ false
 
 -- the cells that the pairs name
 abbrev pub cells_interleaved : Tree → Tree → List Tree → List Cell

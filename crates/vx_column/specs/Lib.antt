@@ -15,6 +15,12 @@ pub mod Filtered
 pub mod Masked
 pub mod Built
 pub mod Growing
+pub mod ValueColumns
+pub mod Joined
+pub mod Grown
+pub mod Kept
+pub mod KeptPieces
+pub mod Pieces
 pub mod Arguments
 pub mod Nulls
 pub mod Read

@@ -2,6 +2,7 @@
 use Rattle.std.specs.Prelude.{◌≡◌, ◌⊎◌, ◌<◌, ℕ, ℤ, pos, List, [], map, length, Option, Some, None, IfSome, IfNone, slice_index_or, Bool, true, false, ◌&&◌, nat_lt, if◌then◌else◌}
 use Rattle.std.specs.List.{range_with_len}
 use Rattle.vx_value.specs.Types.{DataType, nullability_of}
+use Rattle.vx_value.specs.Storage.{is_nested}
 use Rattle.vx_value.specs.Decimals.{has_digits}
 use Rattle.vx_value.specs.declared.decimal.DecimalDType.{DecimalDType}
 use Rattle.vx_value.specs.Typed.{Typed}
@@ -114,13 +115,14 @@ IsNotNamed values place e = (e ≡ OutOfMemory) ⊎ ((e ≡ Fault) × (cell_name
 abbrev pub AreWithin : ValidRows → List ℕ → Tree → ℕ → Type 0
 AreWithin valid places values n = (i : ℕ) → i < n → is_valid valid i ≡ true → place_at places i < len values
 
--- u is the canonical column of n cells of a type
+-- u is the canonical column of n cells of a type; none is a fault if the type is nested
 pub record IsCanonicalOf (ty : DataType) (n : ℕ) (cells : List Cell) (u : Tree) : Type 0 where
   pub typed : dtype u ≡ ty
   pub counted : len u ≡ n
   pub shown : rows u ≡ cells
   pub clean : AreClean (slots u)
   pub canonical : is_canonical (datum u) ≡ true
+  pub told : is_nested ty ≡ true → HasNoFault cells
   pub formed : IsFormed u
 
 -- u is the canonical column of the rows of the values that the valid places name

@@ -10,12 +10,12 @@ use Rattle.vx_tree.specs.Firm.{KeepsFirmly}
 use Rattle.vx_tree.specs.Canonicals.{columnar_tree}
 use Rattle.vx_tree.specs.declared.canonical.columnar.Columnar.{Columnar}
 use Rattle.vx_tree.proofs.ConditionsLemmas.{none_refused}
-use Rattle.vx_tree.proofs.ValiditiesLemmas.{whole}
-use Rattle.vx_column.specs.Built.{TypedRows, appended, values_in, type_refusal, length_refusal, column_refusal}
+use Rattle.vx_column.specs.Built.{length_refusal}
+use Rattle.vx_column.specs.Grown.{GrownRows, count, with_column, type_refusal, column_refusal}
 use Rattle.vx_step.specs.Steps.{IsStopped}
 use Rattle.vx_exec.specs.Budgets.{Budget}
 use Rattle.vx_exec.specs.Executions.{IsExecution, IsAppending}
-use Rattle.vx_exec.specs.Moves.{IsUnread}
+use Rattle.vx_exec.specs.Moves.{IsUnread, read_cells}
 
 -- what a refusal is
 refusal_by : (a b : Bool) (n k : ℕ) (e : VortexError) → first_of_both (unless a (InvalidArgument BadType)) (unless b (TooLong n k)) ≡ Some e
@@ -32,23 +32,23 @@ none_some o e h k = cc (sym h ∙ k)
 
 -- ---- the checks
 
-pub both_taken : (b : TypedRows) (t : Tree) → type_refusal b (dtype t) ≡ None → length_refusal (length b.values) (len t) ≡ None → column_refusal b t ≡ None
+pub both_taken : (b : GrownRows) (t : Tree) → type_refusal b (dtype t) ≡ None → length_refusal (count b) (len t) ≡ None → column_refusal b t ≡ None
 both_taken b t h k = none_refused _ _ h k
 
-pub type_refused : (b : TypedRows) (t : Tree) (e : VortexError) → type_refusal b (dtype t) ≡ Some e → column_refusal b t ≡ Some e
-type_refused b t e h = ap (λ o. first_of_both o (length_refusal (length b.values) (len t))) h
+pub type_refused : (b : GrownRows) (t : Tree) (e : VortexError) → type_refusal b (dtype t) ≡ Some e → column_refusal b t ≡ Some e
+type_refused b t e h = ap (λ o. first_of_both o (length_refusal (count b) (len t))) h
 
-pub length_refused : (b : TypedRows) (t : Tree) (e : VortexError) → type_refusal b (dtype t) ≡ None → length_refusal (length b.values) (len t) ≡ Some e
+pub length_refused : (b : GrownRows) (t : Tree) (e : VortexError) → type_refusal b (dtype t) ≡ None → length_refusal (count b) (len t) ≡ Some e
     → column_refusal b t ≡ Some e
-length_refused b t e h k = ap (λ o. first_of_both o (length_refusal (length b.values) (len t))) h ∙ k
+length_refused b t e h k = ap (λ o. first_of_both o (length_refusal (count b) (len t))) h ∙ k
 
 -- a column of the tree's type and length is refused if the tree is
-pub column_taken : (b : TypedRows) (t u : Tree) → KeepsFirmly t u → column_refusal b t ≡ None → column_refusal b u ≡ None
+pub column_taken : (b : GrownRows) (t u : Tree) → KeepsFirmly t u → column_refusal b t ≡ None → column_refusal b u ≡ None
 column_taken b t u same h =
-    subst (λ ty. first_of_both (type_refusal b ty) (length_refusal (length b.values) (len u)) ≡ None) same.keeps.same_type
-    (subst (λ n. first_of_both (type_refusal b (dtype t)) (length_refusal (length b.values) n) ≡ None) same.keeps.same_len h)
+    subst (λ ty. first_of_both (type_refusal b ty) (length_refusal (count b) (len u)) ≡ None) same.keeps.same_type
+    (subst (λ n. first_of_both (type_refusal b (dtype t)) (length_refusal (count b) n) ≡ None) same.keeps.same_len h)
 
-module _ (t : Tree) (b : TypedRows) (old new : Budget) where
+module _ (t : Tree) (b : GrownRows) (old new : Budget) where
   pub refused_at_once : (e : VortexError) → column_refusal b t ≡ Some e → new ≡ record { limit = old.limit; turns = 0 } → IsAppending t b old new (Err e)
   refused_at_once e h at =
       let kind = refusal_by _ _ _ _ e h in
@@ -101,14 +101,14 @@ module _ (t : Tree) (b : TypedRows) (old new : Budget) where
 
         stopped : IsUnread (columnar_tree c) e → (e ≡ OutOfMemory) ⊎ ((e ≡ Fault) × (¬ (IsClean t)))
         stopped (inl m) = inl m
-        stopped (inr m) = inr (m.0, λ clean. m.1 (whole (columnar_tree c) (h.ok.keeps.still_clean clean)))
+        stopped (inr m) = inr (m.0, λ clean. m.2 (h.ok.keeps.still_clean clean))
 
-        faulty : IsUnread (columnar_tree c) e → e ≡ Fault → ¬ (HasNoFault (rows (columnar_tree c)))
+        faulty : IsUnread (columnar_tree c) e → e ≡ Fault → ¬ (HasNoFault (read_cells (columnar_tree c)))
         faulty (inl m) k = absurd (cc (sym m ∙ k))
         faulty (inr m) k = m.1
 
-    pub all_appended : (c : Columnar) (d : TypedRows) → IsExecution (λ x. is_columnar (datum x)) columnar_tree t from new (Ok c)
-        → d ≡ appended b (values_in (rows (columnar_tree c))) → HasNoFault (rows (columnar_tree c)) → IsAppending t b old new (Ok d)
+    pub all_appended : (c : Columnar) (d : GrownRows) → IsExecution (λ x. is_columnar (datum x)) columnar_tree t from new (Ok c)
+        → d ≡ with_column b (columnar_tree c) → HasNoFault (read_cells (columnar_tree c)) → IsAppending t b old new (Ok d)
     all_appended c d h is clean = record {
       ok = (columnar_tree c, h.executed, h.ok, clean, is);
       valid = takes;

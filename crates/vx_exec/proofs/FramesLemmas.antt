@@ -4,12 +4,11 @@ use Rattle.vx_value.specs.declared.error.VortexError.{VortexError}
 use Rattle.vx_value.specs.declared.error.VortexError.TheVariants.{OutOfMemory, Fault}
 use Rattle.vx_tree.specs.Tree.{Tree, Slots, node, no_slots, absent, slot}
 use Rattle.vx_tree.specs.Well.{IsNode, shape_of, shapes}
-use Rattle.vx_tree.specs.Cells.{rows, IsClean, AreClean, HasNoFault}
+use Rattle.vx_tree.specs.Cells.{IsClean, AreClean}
 use Rattle.vx_tree.specs.Slots.{set_slot, put, IsAbsentAt, IsHole}
 use Rattle.vx_tree.specs.Firm.{KeepsFirmly}
 use Rattle.vx_tree.proofs.FirmLemmas.{put_firmly}
-use Rattle.vx_tree.proofs.ValiditiesLemmas.{whole}
-use Rattle.vx_column.specs.Built.{TypedRows, built}
+use Rattle.vx_column.specs.Grown.{GrownRows, grown}
 use Rattle.vx_step.specs.Turns.{parent_potential}
 use Rattle.vx_step.specs.Contents.{IsWithout}
 use Rattle.vx_step.specs.Steps.{IsStopped, IsDue, IsFailed}
@@ -39,9 +38,9 @@ frames_push (g ∷ fs) f t h k =
     (subst (λ x. IsFrame g x) (sym (filled_append fs f t)) h.0, frames_push fs f t h.1 k)
 
 -- a builder's rows are one more slot in front
-active_firmly : (b : Option TypedRows) (i : ℕ) (t u p : Tree) → KeepsFirmly t u → KeepsFirmly (active b (put i t p)) (active b (put i u p))
+active_firmly : (b : Option GrownRows) (i : ℕ) (t u p : Tree) → KeepsFirmly t u → KeepsFirmly (active b (put i t p)) (active b (put i u p))
 active_firmly None i t u p h = put_firmly i t u p h
-active_firmly (Some b) i t u (node ty n d ss) h = put_firmly (suc i) t u (node ty n d (slot (built b) ss)) h
+active_firmly (Some b) i t u (node ty n d ss) h = put_firmly (suc i) t u (node ty n d (slot (grown b) ss)) h
 
 pub filled_firmly : (fs : List Frame) (t u : Tree) → KeepsFirmly t u → KeepsFirmly (filled fs t) (filled fs u)
 filled_firmly [] t u h = h
@@ -49,7 +48,7 @@ filled_firmly (f ∷ fs) t u h = active_firmly f.builder f.slot _ _ f.parent (fi
 
 -- a node of the same type and length may take a node's place
 
-put_shape : (b : Option TypedRows) (i : ℕ) (t u p : Tree) → shape_of (active b (put i t p)) ≡ shape_of (active b (put i u p))
+put_shape : (b : Option GrownRows) (i : ℕ) (t u p : Tree) → shape_of (active b (put i t p)) ≡ shape_of (active b (put i u p))
 put_shape None i t u (node ty n d ss) = refl
 put_shape (Some b) i t u (node ty n d ss) = refl
 
@@ -64,9 +63,9 @@ put_shapes zero t u (slot s ss) h = ap (λ s. Some s ∷ shapes ss) h
 put_shapes (suc i) t u (absent ss) h = ap (λ l. None ∷ l) (put_shapes i t u ss h)
 put_shapes (suc i) t u (slot s ss) h = ap (λ l. Some (shape_of s) ∷ l) (put_shapes i t u ss h)
 
-put_fits : (b : Option TypedRows) (i : ℕ) (t u p : Tree) → shape_of t ≡ shape_of u → Fits b (put i t p) → Fits b (put i u p)
+put_fits : (b : Option GrownRows) (i : ℕ) (t u p : Tree) → shape_of t ≡ shape_of u → Fits b (put i t p) → Fits b (put i u p)
 put_fits None i t u (node ty n d ss) h w = subst (λ l. IsNode ty n d l) (put_shapes i t u ss h) w
-put_fits (Some b) i t u (node ty n d ss) h w = (w.0, w.1, part_replaced i (built b) t u (node ty n d ss) h w.2, w.3)
+put_fits (Some b) i t u (node ty n d ss) h w = (w.0, w.1, part_replaced i (grown b) t u (node ty n d ss) h w.2)
 
 pub frames_replace : (fs : List Frame) (t u : Tree) → shape_of t ≡ shape_of u → AreFrames fs t → AreFrames fs u
 frames_replace [] t u h w = tt
@@ -88,13 +87,13 @@ clean_slot zero c (slot s ss) h k = absurd h
 clean_slot (suc i) c (absent ss) h k = clean_slot i c ss h k
 clean_slot (suc i) c (slot s ss) h k = clean_slot i c ss h k.1
 
-clean_hole : (b : Option TypedRows) (i : ℕ) (c p : Tree) → IsHole i p → IsClean (active b (put i c p)) → IsClean c
+clean_hole : (b : Option GrownRows) (i : ℕ) (c p : Tree) → IsHole i p → IsClean (active b (put i c p)) → IsClean c
 clean_hole None i c (node ty n d ss) h k = clean_slot i c ss h k.1
 clean_hole (Some b) i c (node ty n d ss) h k = clean_slot i c ss h k.1.1
 
 -- nor has a slot of the node that is under way
-pub clean_without : (b : Option TypedRows) (i : ℕ) (c p t : Tree) → IsWithout i c p t → IsClean (active b t) → HasNoFault (rows c)
-clean_without b i c p t w k = whole c (clean_hole b i c p w.0 (subst (λ x. IsClean (active b x)) (sym w.1) k))
+pub clean_without : (b : Option GrownRows) (i : ℕ) (c p t : Tree) → IsWithout i c p t → IsClean (active b t) → IsClean c
+clean_without b i c p t w k = clean_hole b i c p w.0 (subst (λ x. IsClean (active b x)) (sym w.1) k)
 
 clean_inside : (fs : List Frame) (t : Tree) → AreFrames fs t → IsClean (filled fs t) → IsClean t
 clean_inside [] t h k = k

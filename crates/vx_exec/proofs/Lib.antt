@@ -1,4 +1,4 @@
-pub mod BuildersLemmas
+pub mod ReadLemmas
 pub mod FramesLemmas
 pub mod MovesLemmas
 pub mod AppendingLemmas

@@ -1,12 +1,8 @@
 -- One turn, and the loop of turns.
-use Rattle.std.proofs.Common.{◌≡◌, ◌⊎◌, inl, inr, ℕ, zero, suc, add-one, ◌+◌, ◌-◌, ◌^◌, ◌<◌, ◌≤◌, List, [], ◌∷◌, ◌++◌, length, length-append, map, slice_get, Option, Some, None, Result, Ok, Err, IfOk, IfErr, Bool, true, false, ◌||◌, refl, sym, ◌∙◌, ap, subst, arith}
-use Rattle.std.specs.List.{list_all}
+use Rattle.std.proofs.Common.{◌≡◌, ◌⊎◌, inl, inr, ℕ, zero, suc, add-one, ◌+◌, ◌-◌, ◌^◌, ◌<◌, ◌≤◌, List, [], ◌∷◌, ◌++◌, length, slice_get, Option, Some, None, Result, Ok, Err, IfOk, IfErr, Bool, true, false, ◌||◌, refl, sym, ◌∙◌, ap, subst, arith}
 use Rattle.std.proofs.lemmas.Bool.{lt-ltb}
-use Rattle.std.proofs.lemmas.List.{length-map}
 use Rattle.std.proofs.lemmas.Option.{slice_get_within}
-use Rattle.vx_value.specs.IsOf.{is_of}
-use Rattle.vx_value.specs.Storage.{is_nested}
-use Rattle.vx_value.specs.Cell.{value}
+use Rattle.vx_value.specs.Supported.{has_columns}
 use Rattle.vx_value.specs.Types.{DataType, same_type, same_type_Decides}
 use Rattle.vx_value.specs.declared.error.VortexError.{VortexError}
 use Rattle.vx_value.specs.declared.error.VortexError.TheVariants.{OutOfMemory, Fault}
@@ -19,7 +15,10 @@ use Rattle.vx_tree.specs.Cost.{cost}
 use Rattle.vx_tree.proofs.FirmLemmas.{firmly_refl, firmly_trans}
 use Rattle.vx_tree.proofs.ColumnsLemmas.{canonical_columnar}
 use Rattle.vx_tree.proofs.ConditionsLemmas.{none_refused, none_unless}
-use Rattle.vx_column.specs.Built.{TypedRows, built, appended, value_in, values_in, column_refusal}
+use Rattle.vx_column.specs.Expanded.{expansion}
+use Rattle.vx_column.specs.Grown.{GrownRows, IsGrown, grown, count, none_of, with_column, cells_read, column_refusal}
+use Rattle.vx_column.proofs.GrownLemmas.{grown_typed, grown_long, grown_rows, grown_cost, with_column_type, with_column_cells, with_column_count, with_column_clean, none_grown}
+use Rattle.vx_column.proofs.ValueColumnsLemmas.{column_clean}
 use Rattle.vx_step.specs.Turns.{data_meets, meets, slot_target, target_of, node_potential, parent_potential}
 use Rattle.vx_step.specs.Contents.{with_content, IsUsed, IsPart, IsWithout, IsAppend, IsUsedUp}
 use Rattle.vx_step.specs.Steps.{HasNoShortcut, Awaits, AwaitsAt, IsDone, IsDue, IsFailed, IsStopped, IsOpen, IsStepTo}
@@ -28,14 +27,13 @@ use Rattle.vx_step.specs.declared.steps.ExecutionStep.TheVariants.{Done}
 use Rattle.vx_step.proofs.ContentsLemmas.{used_not_whole, append_long, chunks_open}
 use Rattle.vx_step.proofs.TurnsLemmas.{take_falls, put_falls, top_paid, top_positive}
 use Rattle.vx_exec.specs.Frames.{active, wrapped, filled, Fits, IsFrame, AreFrames, frames_top, node_in, builder_in, focus_on, focus_tree, IsFocus, focus_top}
-use Rattle.vx_exec.specs.Moves.{IsFaulty, FaultsIn, IsOneMove, IsMove, IsTurned, is_awaited, is_reached, is_over, Reaches, GoesOn, IsExecuted, IsGoing, IsAppendedTo, IsNotAppended, IsUnappendable, begun, ended, MayEnd}
+use Rattle.vx_exec.specs.Moves.{IsFaulty, FaultsIn, IsOneMove, IsMove, IsTurned, is_awaited, is_reached, is_over, Reaches, GoesOn, IsExecuted, IsGoing, IsAppendedTo, IsNotAppended, IsUnappendable, read_cells, begun, ended, MayEnd}
 use Rattle.vx_exec.specs.declared.turn.Frame.{Frame}
 use Rattle.vx_exec.specs.declared.turn.Turn.{Turn}
 use Rattle.vx_exec.specs.declared.turn.Turn.TheVariants.{Go}
 use Rattle.vx_exec.specs.declared.turn.Focus.{Focus}
 use Rattle.vx_exec.specs.declared.turn.Focus.TheVariants.{Whole, Partial}
 use Rattle.vx_exec.proofs.FramesLemmas.{filled_append, frames_top_append, frames_pop, frames_push, filled_firmly, frames_replace, clean_without, stopped_inside, failed_stopped, failed_fault}
-use Rattle.vx_exec.proofs.BuildersLemmas.{built_type, built_long, built_rows, built_clean, built_cost, appended_rows}
 
 type_same : (s t : DataType) → s ≡ t → same_type s t ≡ true
 type_same s t e = (same_type_Decides s t).1 e
@@ -60,12 +58,12 @@ well_node (node ty n d ss) h = h.0
 pub whole_going : (fits : Tree → Bool) (fs : List Frame) (t : Tree) → AreFrames fs t → IsWell t → is_reached fits fs t ≡ false → IsGoing fits fs None t
 whole_going fits fs t h well going = record { frames = h; formed = well_node t well; going = going }
 
-pub partial_going : (fits : Tree → Bool) (fs : List Frame) (t : Tree) (r : TypedRows) → AreFrames fs (focus_tree (Partial t r)) → IsFocus (Partial t r)
+pub partial_going : (fits : Tree → Bool) (fs : List Frame) (t : Tree) (r : GrownRows) → AreFrames fs (focus_tree (Partial t r)) → IsFocus (Partial t r)
     → IsGoing fits fs (Some r) t
 partial_going fits fs t r h formed = record { frames = h; formed = formed; going = refl }
 
 -- chunks that are used up in part aren't a column
-pub partial_open : (t : Tree) (r : TypedRows) → IsFocus (Partial t r) → is_canonical (datum t) ≡ false
+pub partial_open : (t : Tree) (r : GrownRows) → IsFocus (Partial t r) → is_canonical (datum t) ≡ false
 partial_open t r h = chunks_open t h.2.used
 
 -- what holds of a result
@@ -128,7 +126,7 @@ enter_by fits fs gs e i p c g going h formed without child direct w aim join =
       falls = omega (arith, frames_top_append fs f, falls, ap node_potential same);
     })
 
-pub move_enter : (fits : Tree → Bool) (fs gs : List Frame) (b : Option TypedRows) (t : Tree) (i : ℕ) (p c : Tree) (g : SlotTarget) → IsGoing fits fs b t
+pub move_enter : (fits : Tree → Bool) (fs gs : List Frame) (b : Option GrownRows) (t : Tree) (i : ℕ) (p c : Tree) (g : SlotTarget) → IsGoing fits fs b t
     → IsWithout i c p t → IsNodeOf c → HasNoShortcut t → Awaits i t → g ≡ target_of t
     → gs ≡ fs ++ record { parent = p; slot = i; target = g; builder = b } ∷ [] → IsMove fits fs (focus_on b t) gs (Whole c)
 move_enter fits fs gs None t i p c g h without child direct w aim join =
@@ -138,45 +136,45 @@ move_enter fits fs gs (Some r) t i p c g h without child direct w aim join =
 
 -- ---- the rows of a slot, appended
 
-taken_by : (r : TypedRows) (c : Tree) → dtype c ≡ r.of_type → length r.values + len c < 2 ^ 64 → column_refusal r c ≡ None
+taken_by : (r : GrownRows) (c : Tree) → dtype c ≡ r.of_type → count r + len c < 2 ^ 64 → column_refusal r c ≡ None
 taken_by r c typed fit =
-    none_refused _ _ (none_unless _ _ (type_same (dtype c) r.of_type typed)) (none_unless _ _ (lt-ltb (length r.values + len c) (2 ^ 64) fit))
+    none_refused _ _ (none_unless _ _ (type_same (dtype c) r.of_type typed)) (none_unless _ _ (lt-ltb (count r + len c) (2 ^ 64) fit))
 
 -- a builder that has rows, or a new one, takes them
-pub never_refused : (b : Option TypedRows) (i : ℕ) (t c p : Tree) → Fits b t → IsAppend i t → IsWithout i c p t → len c < 2 ^ 64 → len t < 2 ^ 64
+pub never_refused : (b : Option GrownRows) (i : ℕ) (t c p : Tree) → Fits b t → IsAppend i t → IsWithout i c p t → len c < 2 ^ 64 → len t < 2 ^ 64
     → column_refusal (begun b t) c ≡ None
-never_refused None i t c p h next w short long =
-    let r : TypedRows = record { of_type = dtype t; values = [] } in
-    taken_by r c (next.typed c p w) (omega (arith, short))
+never_refused None i t c p h next w short long = taken_by (none_of (dtype t)) c (next.typed c p w) (omega (arith, short))
 never_refused (Some r) i t c p h next w short long =
-    taken_by r c (next.typed c p w ∙ sym h.1) (omega (arith, append_long i (built r) c p t next w h.2, built_long r, long))
+    taken_by r c (next.typed c p w ∙ sym h.1) (omega (arith, append_long i (grown r) c p t next w h.2, grown_long r h.0, long))
 
-module _ (fits : Tree → Bool) (fs : List Frame) (t : Tree) (i : ℕ) (next : IsAppend i t) (c p : Tree) (w : IsWithout i c p t) (clean : HasNoFault (rows c))
-    (counted : length (rows c) ≡ len c) where
+module _ (fits : Tree → Bool) (fs : List Frame) (t : Tree) (i : ℕ) (next : IsAppend i t) (c p : Tree) (w : IsWithout i c p t) (told : HasNoFault (read_cells c))
+    (well : IsWell c) where
   -- with these rows before
-  module _ (r : TypedRows) (plain : is_nested r.of_type ≡ false) (all : list_all (is_of r.of_type) (r.values ++ values_in (rows c)) ≡ true)
-      (typed : r.of_type ≡ dtype t) where
-    more_rows : rows (built (appended r (values_in (rows c)))) ≡ map (λ v. value v) r.values ++ rows c
-    more_rows = appended_rows r (rows c) plain clean all
+  module _ (r : GrownRows) (before : IsGrown r) (after : IsGrown (with_column r c)) (typed : r.of_type ≡ dtype t) where
+    of_type : dtype c ≡ r.of_type
+    of_type = next.typed c p w ∙ sym typed
 
-    more_clean : IsClean (built (appended r (values_in (rows c))))
-    more_clean = built_clean (appended r (values_in (rows c))) plain all
+    told_by : HasNoFault (cells_read r.of_type (expansion c))
+    told_by = subst (λ ty. HasNoFault (cells_read ty (expansion c))) of_type told
 
-    more_long : len (built (appended r (values_in (rows c)))) ≡ length r.values + len c
-    more_long =
-        built_long (appended r (values_in (rows c))) ∙ length-append r.values (values_in (rows c))
-        ∙ ap (λ n. length r.values + n) (length-map (rows c) value_in ∙ counted)
+    more_rows : rows (grown (with_column r c)) ≡ rows (grown r) ++ rows c
+    more_rows = grown_rows (with_column r c) after ∙ with_column_cells r c before well of_type told_by ∙ ap (λ l. l ++ rows c) (sym (grown_rows r before))
 
-    more_typed : dtype (built (appended r (values_in (rows c)))) ≡ dtype t
-    more_typed = built_type (appended r (values_in (rows c))) plain ∙ typed
+    more_long : len (grown (with_column r c)) ≡ len (grown r) + len c
+    more_long = grown_long (with_column r c) after ∙ with_column_count r c before well of_type told_by ∙ ap (λ n. n + len c) (sym (grown_long r before))
+
+    more_typed : dtype (grown (with_column r c)) ≡ dtype t
+    more_typed = grown_typed (with_column r c) after ∙ with_column_type r c ∙ typed
+
+    more_clean : IsClean (grown r) → IsClean c → IsClean (grown (with_column r c))
+    more_clean = with_column_clean r c before well of_type told_by after
 
   -- a step that leads to the node p with these rows in front
-  append_by : (e : Focus) (r : TypedRows) → node_in e ≡ t → begun (builder_in e) t ≡ r → is_over fits fs e ≡ false → AreFrames fs (focus_tree e)
-      → list_all (is_of r.of_type) (r.values ++ values_in (rows c)) ≡ true → r.of_type ≡ dtype t → is_nested r.of_type ≡ false
-      → KeepsFirmly (focus_tree e) (with_content (built (appended r (values_in (rows c)))) p) → IsPart (built (appended r (values_in (rows c)))) p
-      → IsMove fits fs e fs (Partial p (appended r (values_in (rows c))))
-  append_by e r here first going h all typed plain firm part =
-      let d : Focus = Partial p (appended r (values_in (rows c))) in
+  append_by : (e : Focus) (r : GrownRows) → node_in e ≡ t → begun (builder_in e) t ≡ r → is_over fits fs e ≡ false → AreFrames fs (focus_tree e)
+      → IsGrown r → IsGrown (with_column r c) → r.of_type ≡ dtype t → KeepsFirmly (focus_tree e) (with_content (grown (with_column r c)) p)
+      → IsPart (grown (with_column r c)) p → IsMove fits fs e fs (Partial p (with_column r c))
+  append_by e r here first going h before after typed firm part =
+      let d : Focus = Partial p (with_column r c) in
       record {
         one = inr (inr (inr (inl (record {
           slot = i;
@@ -185,56 +183,61 @@ module _ (fits : Tree → Bool) (fs : List Frame) (t : Tree) (i : ℕ) (next : I
           same = refl;
           next = subst (IsAppend i) (sym here) next;
           taken = subst (IsWithout i c p) (sym here) w;
-          grown = ap (λ x. Some (appended x (values_in (rows c)))) (sym first ∙ ap (begun (builder_in e)) (sym here));
+          grown = ap (λ x. Some (with_column x c)) (sym first ∙ ap (begun (builder_in e)) (sym here));
         }))));
         kept = filled_firmly fs (focus_tree e) (focus_tree d) firm;
         frames = frames_replace fs (focus_tree e) (focus_tree d) (firmly_shape _ _ firm) h;
-        focus = (all, typed ∙ sym (put_parts i c p t w.1).0, part, plain);
+        focus = (after, with_column_type r c ∙ typed ∙ sym (put_parts i c p t w.1).0, part);
         falls = omega (arith, next.falls c p w, ap node_potential here);
       }
 
-  append_on : (b : Option TypedRows) → IsGoing fits fs b t → list_all (is_of (begun b t).of_type) ((begun b t).values ++ values_in (rows c)) ≡ true
-      → is_nested (begun b t).of_type ≡ false → IsMove fits fs (focus_on b t) fs (Partial p (appended (begun b t) (values_in (rows c))))
-  append_on None h all plain =
-      let r : TypedRows = record { of_type = dtype t; values = [] } in
-      let long : len (built (appended r (values_in (rows c)))) ≡ len c = omega (arith, more_long r plain all refl) in
-      append_by (Whole t) r refl refl h.going h.frames all refl plain (next.begins (built (appended r (values_in (rows c)))) c p w (more_clean r plain all refl) (more_rows r plain all refl))
-      (next.begun (built (appended r (values_in (rows c)))) c p w h.formed (λ j. shape ((more_typed r plain all refl ∙ sym (next.typed c p w)) j) (long j)))
-  append_on (Some r) h all plain =
+  append_on : (b : Option GrownRows) → IsGoing fits fs b t → IsGrown (with_column (begun b t) c) → IsMove fits fs (focus_on b t) fs (Partial p (with_column (begun b t) c))
+  append_on None h after =
+      let r = none_of (dtype t) in
+      let columns : has_columns (dtype t) ≡ true = ap has_columns (sym (with_column_type r c)) ∙ after.columns in
+      let before = none_grown (dtype t) columns in
+      let none : count r ≡ 0 = refl in
+      let long : len (grown (with_column r c)) ≡ len c = omega (arith, more_long r before after refl, grown_long r before, none) in
+      let shown : rows (grown (with_column r c)) ≡ rows c = more_rows r before after refl ∙ ap (λ l. l ++ rows c) (grown_rows r before) in
+      let b = grown (with_column r c) in
+      append_by (Whole t) r refl refl h.going h.frames before after refl
+      (next.begins b c p w (more_clean r before after refl (column_clean (dtype t) [] columns refl)) shown)
+      (next.begun b c p w h.formed (λ j. shape ((more_typed r before after refl ∙ sym (next.typed c p w)) j) (long j)))
+  append_on (Some r) h after =
       let typed = h.formed.1 in
-      append_by (Partial t r) r refl refl h.going h.frames all typed plain
-      (next.continues (built r) (built (appended r (values_in (rows c)))) c p w (more_clean r plain all typed)
-      (more_rows r plain all typed ∙ ap (λ l. l ++ rows c) (sym (built_rows r plain h.formed.0))))
-      (next.continued (built r) (built (appended r (values_in (rows c)))) c p w h.formed.2 (more_typed r plain all typed)
-      (more_long r plain all typed ∙ ap (λ n. n + len c) (sym (built_long r))))
+      let before = h.formed.0 in
+      let b = grown (with_column r c) in
+      append_by (Partial t r) r refl refl h.going h.frames before after typed
+      (next.continues (grown r) b c p w (more_clean r before after typed) (more_rows r before after typed))
+      (next.continued (grown r) b c p w h.formed.2 (more_typed r before after typed) (more_long r before after typed))
 
-pub move_append : (fits : Tree → Bool) (fs : List Frame) (b : Option TypedRows) (t : Tree) (i : ℕ) (d : Focus) → IsGoing fits fs b t → IsAppend i t
+pub move_append : (fits : Tree → Bool) (fs : List Frame) (b : Option GrownRows) (t : Tree) (i : ℕ) (d : Focus) → IsGoing fits fs b t → IsAppend i t
     → IsAppendedTo i b t d → IsMove fits fs (focus_on b t) fs d
 move_append fits fs b t i d h next m =
-    subst (IsMove fits fs (focus_on b t) fs) (sym m.3) (append_on fits fs t i next m.0 m.1 m.2 m.4 m.5 b h m.6 m.7)
+    subst (IsMove fits fs (focus_on b t) fs) (sym m.3) (append_on fits fs t i next m.0 m.1 m.2 m.4 m.5 b h m.6)
 
 -- ---- a step that is over
 
 -- the column of a builder takes its node's place
-move_finish : (fits : Tree → Bool) (fs : List Frame) (t : Tree) (r : TypedRows) → IsGoing fits fs (Some r) t → IsUsedUp t → IsNodeOf (built r)
-    → IsMove fits fs (Partial t r) fs (Whole (built r))
+move_finish : (fits : Tree → Bool) (fs : List Frame) (t : Tree) (r : GrownRows) → IsGoing fits fs (Some r) t → IsUsedUp t → IsNodeOf (grown r)
+    → IsMove fits fs (Partial t r) fs (Whole (grown r))
 move_finish fits fs t r h used formed =
-    let firm : KeepsFirmly (with_content (built r) t) (built r) = used.kept (built r) h.formed.2 (built_clean r h.formed.3 h.formed.0) in
+    let firm : KeepsFirmly (with_content (grown r) t) (grown r) = used.kept (grown r) h.formed.2 in
     record {
       one = inr (inr (inr (inr (record { content = r; going = h.going; same = refl; builder = refl; used = used; finished = refl }))));
       kept = filled_firmly fs _ _ firm;
       frames = frames_replace fs _ _ (firmly_shape _ _ firm) h.frames;
       focus = formed;
-      falls = omega (arith, used.falls, top_paid (built r), built_cost r);
+      falls = omega (arith, used.falls, top_paid (grown r), grown_cost r);
     }
 
 -- it may end: without a builder, the node has all of its slots
-pub may_end : (fits : Tree → Bool) (fs : List Frame) (b : Option TypedRows) (t u : Tree) → IsGoing fits fs b t → IsStepTo t u Done → MayEnd b u
+pub may_end : (fits : Tree → Bool) (fs : List Frame) (b : Option GrownRows) (t u : Tree) → IsGoing fits fs b t → IsStepTo t u Done → MayEnd b u
 may_end fits fs None t u h (inl m) = m.1
 may_end fits fs None t u h (inr m) = absurd (used_not_whole t m.1.used h.formed)
 may_end fits fs (Some r) t u h m = tt
 
-pub move_end : (fits : Tree → Bool) (fs : List Frame) (b : Option TypedRows) (t u : Tree) (d : Focus) → IsGoing fits fs b t → IsStepTo t u Done → d ≡ ended b u
+pub move_end : (fits : Tree → Bool) (fs : List Frame) (b : Option GrownRows) (t u : Tree) (d : Focus) → IsGoing fits fs b t → IsStepTo t u Done → d ≡ ended b u
     → IsFocus d → IsMove fits fs (focus_on b t) fs d
 move_end fits fs None t u d h (inl m) e formed = subst (IsMove fits fs (Whole t) fs) (sym e) (move_done fits fs t u h m.1 m.2)
 move_end fits fs None t u d h (inr m) e formed = absurd (used_not_whole t m.1.used h.formed)
@@ -254,33 +257,33 @@ awaited_present i (node ty n d ss) h = at_slot _ i ss h.1
     at_slot g (suc i) (slot s ss) h = at_slot g i ss h.1
 
 -- a node that takes a step can be stepped
-pub going_open : (b : Option TypedRows) (t : Tree) → Fits b t → IsOpen t
+pub going_open : (b : Option GrownRows) (t : Tree) → Fits b t → IsOpen t
 going_open None t h = inl h
 going_open (Some r) t h = inr h.2.used
 
 -- ---- why a step fails
 
-pub step_stopped : (fits : Tree → Bool) (fs : List Frame) (b : Option TypedRows) (t : Tree) (e : VortexError) → IsGoing fits fs b t → IsFailed t e
+pub step_stopped : (fits : Tree → Bool) (fs : List Frame) (b : Option GrownRows) (t : Tree) (e : VortexError) → IsGoing fits fs b t → IsFailed t e
     → (IsUsed t → e ≡ OutOfMemory) → IsStopped (filled fs (active b t)) e
 step_stopped fits fs None t e h failed used = stopped_inside fs t e h.frames (failed_stopped t e failed)
 step_stopped fits fs (Some r) t e h failed used = inl (used h.formed.2.used)
 
-pub append_stopped : (fits : Tree → Bool) (fs : List Frame) (b : Option TypedRows) (t : Tree) (i : ℕ) (e : VortexError) → IsGoing fits fs b t
+pub append_stopped : (fits : Tree → Bool) (fs : List Frame) (b : Option GrownRows) (t : Tree) (i : ℕ) (e : VortexError) → IsGoing fits fs b t
     → IsNotAppended i t e → IsStopped (filled fs (active b t)) e
 append_stopped fits fs b t i e h (inl m) = inl m
 append_stopped fits fs b t i e h (inr m) =
-    stopped_inside fs (active b t) e h.frames (inr (m.0, λ clean. m.4 (clean_without b i m.1 m.2 t m.3 clean)))
+    stopped_inside fs (active b t) e h.frames (inr (m.0, λ clean. m.5 (clean_without b i m.1 m.2 t m.3 clean)))
 
-on_node : (b : Option TypedRows) (t : Tree) → node_in (focus_on b t) ≡ t
+on_node : (b : Option GrownRows) (t : Tree) → node_in (focus_on b t) ≡ t
 on_node None t = refl
 on_node (Some r) t = refl
 
-pub step_faulty : (fits : Tree → Bool) (fs : List Frame) (b : Option TypedRows) (t : Tree) (e : VortexError) → IsGoing fits fs b t → e ≡ Fault → IsFailed t e
+pub step_faulty : (fits : Tree → Bool) (fs : List Frame) (b : Option GrownRows) (t : Tree) (e : VortexError) → IsGoing fits fs b t → e ≡ Fault → IsFailed t e
     → IsFaulty fits fs (focus_on b t)
 step_faulty fits fs b t e h same failed =
     (h.going, inl (subst (λ x. IsDue x × (¬ (IsClean x))) (sym (on_node b t)) (failed_fault t e same failed)))
 
-pub append_faulty : (fits : Tree → Bool) (fs : List Frame) (b : Option TypedRows) (t : Tree) (i : ℕ) (e : VortexError) → IsGoing fits fs b t → IsAppend i t
+pub append_faulty : (fits : Tree → Bool) (fs : List Frame) (b : Option GrownRows) (t : Tree) (i : ℕ) (e : VortexError) → IsGoing fits fs b t → IsAppend i t
     → e ≡ Fault → IsNotAppended i t e → IsFaulty fits fs (focus_on b t)
 append_faulty fits fs b t i e h next same (inl m) = absurd (cc (sym m ∙ same))
 append_faulty fits fs b t i e h next same (inr m) =
@@ -342,7 +345,7 @@ module _ (fits : Tree → Bool) (fs gs : List Frame) (f : Frame) (t : Tree) (rea
         falls = omega (arith, ap frames_top split, frames_top_append gs f, falls, ap node_potential same);
       }
 
-on_builder : (b : Option TypedRows) (t : Tree) → builder_in (focus_on b t) ≡ b
+on_builder : (b : Option GrownRows) (t : Tree) → builder_in (focus_on b t) ≡ b
 on_builder None t = refl
 on_builder (Some r) t = refl
 

@@ -1,12 +1,9 @@
 -- The stack of suspended parents, the outermost first, and the current node. Where a builder is under way, its rows stand in front of the slots that are left.
-use Rattle.std.specs.Prelude.{◌≡◌, ℕ, ◌+◌, List, [], ◌∷◌, Option, Some, None, true, false}
-use Rattle.std.specs.List.{list_all}
-use Rattle.vx_value.specs.IsOf.{is_of}
-use Rattle.vx_value.specs.Storage.{is_nested}
+use Rattle.std.specs.Prelude.{◌≡◌, ℕ, ◌+◌, List, [], ◌∷◌, Option, Some, None}
 use Rattle.vx_tree.specs.Tree.{Tree, dtype}
 use Rattle.vx_tree.specs.Well.{IsNodeOf}
 use Rattle.vx_tree.specs.Slots.{put, IsHole}
-use Rattle.vx_column.specs.Built.{TypedRows, built}
+use Rattle.vx_column.specs.Grown.{GrownRows, grown, IsGrown}
 use Rattle.vx_step.specs.Contents.{with_content, IsPart}
 use Rattle.vx_step.specs.Turns.{target_of, node_potential, parent_potential}
 use Rattle.vx_exec.specs.declared.turn.Frame.{Frame}
@@ -14,9 +11,9 @@ use Rattle.vx_exec.specs.declared.turn.Focus.{Focus}
 use Rattle.vx_exec.specs.declared.turn.Focus.TheVariants.{Whole, Partial}
 
 -- a node with its builder's rows in front, if it has one
-abbrev pub active : Option TypedRows → Tree → Tree
+abbrev pub active : Option GrownRows → Tree → Tree
 active None t = t
-active (Some b) t = with_content (built b) t
+active (Some b) t = with_content (grown b) t
 
 -- a parent with t in its slot
 abbrev pub wrapped : Frame → Tree → Tree
@@ -28,9 +25,9 @@ filled [] t = t
 filled (f ∷ fs) t = wrapped f (filled fs t)
 
 -- without a builder t has all of its slots; the rows of one and the slots that are left have t's type and together its length
-abbrev pub Fits : Option TypedRows → Tree → Type 0
+abbrev pub Fits : Option GrownRows → Tree → Type 0
 Fits None t = IsNodeOf t
-Fits (Some b) t = (list_all (is_of b.of_type) b.values ≡ true) × (b.of_type ≡ dtype t) × IsPart (built b) t × (is_nested b.of_type ≡ false)
+Fits (Some b) t = IsGrown b × (b.of_type ≡ dtype t) × IsPart (grown b) t
 
 -- t fits the open slot of the frame
 pub record IsFrame (f : Frame) (t : Tree) : Type 0 where
@@ -53,12 +50,12 @@ abbrev pub node_in : Focus → Tree
 node_in (Whole t) = t
 node_in (Partial t b) = t
 
-abbrev pub builder_in : Focus → Option TypedRows
+abbrev pub builder_in : Focus → Option GrownRows
 builder_in (Whole t) = None
 builder_in (Partial t b) = Some b
 
 -- the current node with its builder
-abbrev pub focus_on : Option TypedRows → Tree → Focus
+abbrev pub focus_on : Option GrownRows → Tree → Focus
 focus_on None t = Whole t
 focus_on (Some b) t = Partial t b
 

@@ -1,19 +1,18 @@
 -- One move of the executor, and an execution by moves.
-use Rattle.std.specs.Prelude.{◌≡◌, ◌⊎◌, ℕ, zero, suc, ◌+◌, ◌<◌, List, [], ◌∷◌, ◌++◌, Bool, true, false, ◌||◌, Option, Some, None, length}
+use Rattle.std.specs.Prelude.{◌≡◌, ◌⊎◌, ℕ, zero, suc, ◌+◌, ◌<◌, List, [], ◌∷◌, ◌++◌, Bool, true, false, ◌||◌, Option, Some, None}
 use Rattle.vx_tree.specs.Tree.{Tree, dtype, len, datum, is_canonical}
-use Rattle.vx_tree.specs.Cells.{rows, IsClean, HasNoFault}
+use Rattle.vx_tree.specs.Cells.{IsClean, HasNoFault}
 use Rattle.vx_tree.specs.Firm.{KeepsFirmly}
 use Rattle.vx_tree.specs.Slots.{put, IsHole}
-use Rattle.vx_column.specs.Built.{TypedRows, built, appended, values_in}
+use Rattle.vx_value.specs.Cell.{Cell}
+use Rattle.vx_column.specs.Expanded.{expansion}
+use Rattle.vx_column.specs.Grown.{GrownRows, IsGrown, grown, none_of, with_column, cells_read}
 use Rattle.vx_step.specs.Turns.{meets, target_of}
 use Rattle.vx_step.specs.Contents.{IsWithout, IsAppend, IsUsedUp}
 use Rattle.vx_step.specs.Steps.{HasNoShortcut, Awaits, IsDone, IsDue}
-use Rattle.std.specs.List.{list_all}
-use Rattle.vx_value.specs.IsOf.{is_of}
-use Rattle.vx_value.specs.Storage.{is_nested}
 use Rattle.vx_value.specs.declared.error.VortexError.{VortexError}
 use Rattle.vx_value.specs.declared.error.VortexError.TheVariants.{OutOfMemory, Fault}
-use Rattle.vx_tree.specs.Well.{IsNodeOf}
+use Rattle.vx_tree.specs.Well.{IsNodeOf, IsWell}
 use Rattle.vx_exec.specs.Frames.{active, Fits, filled, AreFrames, frames_top, node_in, builder_in, focus_on, focus_tree, focus_top, IsFocus}
 use Rattle.vx_exec.specs.declared.turn.Frame.{Frame}
 use Rattle.vx_exec.specs.declared.turn.Focus.{Focus}
@@ -65,8 +64,8 @@ pub record IsStepped (fits : Tree → Bool) (fs : List Frame) (c : Focus) (gs : 
   pub done : IsDone (node_in c) (node_in d)
 
 -- the rows of a builder, or none of this type
-abbrev pub begun : Option TypedRows → Tree → TypedRows
-begun None t = record { of_type = dtype t; values = [] }
+abbrev pub begun : Option GrownRows → Tree → GrownRows
+begun None t = none_of (dtype t)
 begun (Some b) t = b
 
 -- the rows of the current node's first slot that is left, a column, are appended to its builder, a new one if it has none
@@ -77,46 +76,49 @@ pub record IsAppended (fits : Tree → Bool) (fs : List Frame) (c : Focus) (gs :
   pub same : gs ≡ fs
   pub next : IsAppend slot (node_in c)
   pub taken : IsWithout slot child (node_in d) (node_in c)
-  pub grown : builder_in d ≡ Some (appended (begun (builder_in c) (node_in c)) (values_in (rows child)))
+  pub grown : builder_in d ≡ Some (with_column (begun (builder_in c) (node_in c)) child)
 
 -- the current node is used up, and the column of its builder takes its place
 pub record IsFinished (fits : Tree → Bool) (fs : List Frame) (c : Focus) (gs : List Frame) (d : Focus) : Type 0 where
-  pub content : TypedRows
+  pub content : GrownRows
   pub going : is_over fits fs c ≡ false
   pub same : gs ≡ fs
   pub builder : builder_in c ≡ Some content
   pub used : IsUsedUp (node_in c)
-  pub finished : d ≡ Whole (built content)
+  pub finished : d ≡ Whole (grown content)
 
 -- ---- the parts of a step
 
 -- the node t, with the builder b if one is under way, is to take a step
-pub record IsGoing (fits : Tree → Bool) (fs : List Frame) (b : Option TypedRows) (t : Tree) : Type 0 where
+pub record IsGoing (fits : Tree → Bool) (fs : List Frame) (b : Option GrownRows) (t : Tree) : Type 0 where
   pub frames : AreFrames fs (active b t)
   pub formed : Fits b t
   pub going : is_over fits fs (focus_on b t) ≡ false
 
--- d is t without slot i, whose rows, all of them values, are appended to the builder
-abbrev pub IsAppendedTo : ℕ → Option TypedRows → Tree → Focus → Type 0
+-- the cells of a column that are read when it is appended to a builder of its type
+abbrev pub read_cells : Tree → List Cell
+read_cells c = cells_read (dtype c) (expansion c)
+
+-- d is t without slot i, whose column is appended to the builder; none of the cells that are read is a fault
+abbrev pub IsAppendedTo : ℕ → Option GrownRows → Tree → Focus → Type 0
 IsAppendedTo i b t d =
-    (c : Tree) × (p : Tree) × IsWithout i c p t × (d ≡ Partial p (appended (begun b t) (values_in (rows c)))) × HasNoFault (rows c) × (length (rows c) ≡ len c)
-    × (list_all (is_of (begun b t).of_type) ((begun b t).values ++ values_in (rows c)) ≡ true) × (is_nested (begun b t).of_type ≡ false)
+    (c : Tree) × (p : Tree) × IsWithout i c p t × (d ≡ Partial p (with_column (begun b t) c)) × HasNoFault (read_cells c) × IsWell c × IsGrown (with_column (begun b t) c)
 
--- why they aren't: out of memory, or one of them is a fault
+-- why it isn't: out of memory, or one of those cells is a fault
 abbrev pub IsNotAppended : ℕ → Tree → VortexError → Type 0
-IsNotAppended i t e = (e ≡ OutOfMemory) ⊎ ((e ≡ Fault) × (c : Tree) × (p : Tree) × IsWithout i c p t × (¬ (HasNoFault (rows c))))
+IsNotAppended i t e = (e ≡ OutOfMemory) ⊎ ((e ≡ Fault) × (c : Tree) × (p : Tree) × IsWithout i c p t × (¬ (HasNoFault (read_cells c))) × (¬ (IsClean c)))
 
--- why rows that a builder takes aren't appended: out of memory, or one of them is a fault
+-- why a column that a builder takes isn't appended: out of memory, or one of the cells that are read is a fault
 abbrev pub IsUnread : Tree → VortexError → Type 0
-IsUnread c e = (e ≡ OutOfMemory) ⊎ ((e ≡ Fault) × (¬ (HasNoFault (rows c))))
+IsUnread c e = (e ≡ OutOfMemory) ⊎ ((e ≡ Fault) × (¬ (HasNoFault (read_cells c))) × (¬ (IsClean c)))
 
 -- a step that is over: the node, or the column of its builder
-abbrev pub ended : Option TypedRows → Tree → Focus
+abbrev pub ended : Option GrownRows → Tree → Focus
 ended None t = Whole t
-ended (Some b) t = Whole (built b)
+ended (Some b) t = Whole (grown b)
 
 -- without a builder, the node has all of its slots
-abbrev pub MayEnd : Option TypedRows → Tree → Type 0
+abbrev pub MayEnd : Option GrownRows → Tree → Type 0
 MayEnd None t = IsNodeOf t
 MayEnd (Some b) t = Unit {0}
 
@@ -152,9 +154,9 @@ unfoldable pub IsExecuted : (Tree → Bool) → Tree → ℕ → Tree → Type 0
 IsExecuted fits t zero u = ⊥
 IsExecuted fits t (suc n) u = Reaches fits t n [] (Whole u) × (is_reached fits [] u ≡ true)
 
--- slot i of t comes next, and a row of the column in it has no value
+-- slot i of t comes next, and a cell that is read of the column in it has no value
 abbrev pub IsUnappendable : Tree → Type 0
-IsUnappendable t = (i : ℕ) × (c : Tree) × (p : Tree) × IsAppend i t × IsWithout i c p t × (¬ (HasNoFault (rows c)))
+IsUnappendable t = (i : ℕ) × (c : Tree) × (p : Tree) × IsAppend i t × IsWithout i c p t × (¬ (HasNoFault (read_cells c)))
 
 -- the current node hasn't reached its target, and a fault stops it: its step is due and one of its nodes has a fault, or the column whose rows come next does
 abbrev pub IsFaulty : (Tree → Bool) → List Frame → Focus → Type 0

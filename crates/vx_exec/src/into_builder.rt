@@ -1,8 +1,9 @@
 //! Trees executed and appended to builders.
 
-ghost use Rattle.std.specs.Prelude.{◌≡◌, None, Some, length, MatchResult};
+ghost use Rattle.std.specs.Prelude.{◌≡◌, None, Some, MatchResult};
 ghost use Rattle.vx_tree.specs.Tree.{dtype, len};
-ghost use Rattle.vx_column.specs.Built.{column_refusal, type_refusal, length_refusal};
+ghost use Rattle.vx_column.specs.Built.{length_refusal};
+ghost use Rattle.vx_column.specs.Grown.{count, column_refusal, type_refusal};
 ghost use Rattle.vx_exec.specs.Executions.{IsAppending};
 
 use crate::context::ExecutionCtx;
@@ -18,7 +19,8 @@ use vx_value::{ArgKind, VortexError, VortexResult};
 ///
 /// The first condition that fails gives the error, before anything is executed: `InvalidArgument` with `BadType` exactly if `array`
 /// isn't of the builder's type, nullability included, then `TooLong` exactly if there would be more than `usize::MAX` rows.
-/// Otherwise as `Executable::execute`, and `Fault` if a row of the column has no value.
+/// Otherwise as `Executable::execute`, and `Fault` if a row of the column that is read has no value: of a nested type, one of its
+/// validity alone.
 pub fn execute_into_builder(
     array: ArrayRef,
     builder: Builder,
@@ -60,8 +62,8 @@ fn check_type(array: &ArrayRef, builder: &Builder) -> VortexResult<()>
 
 /// Checks that the rows of `array` don't overflow the number of rows of `builder`.
 fn check_len(array: &ArrayRef, builder: &Builder) -> VortexResult<()>
-    ensures { MatchResult result (λ _. length_refusal (length builder.now.values) (len array.now) ≡ None)
-        (λ e. length_refusal (length builder.now.values) (len array.now) ≡ Some e) }
+    ensures { MatchResult result (λ _. length_refusal (count builder.now) (len array.now) ≡ None)
+        (λ e. length_refusal (count builder.now) (len array.now) ≡ Some e) }
 {
     if array.len() > usize::MAX - builder.len() {
         return Err(VortexError::TooLong {

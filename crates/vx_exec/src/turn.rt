@@ -1,20 +1,17 @@
 //! One turn of the executor.
 
 ghost use Rattle.std.specs.Prelude.{◌≡◌, ◌<◌, ◌^◌, [], None, IsOk, IfOk, IfErr, Ok, Err, true, false};
-ghost use Rattle.std.specs.List.{list_all};
 ghost use Rattle.vx_value.specs.Errors.{OnlyOutOfMemory};
-ghost use Rattle.vx_value.specs.IsOf.{is_of};
-ghost use Rattle.vx_value.specs.Storage.{is_nested};
-ghost use Rattle.vx_tree.specs.Tree.{datum, is_canonical, is_chunked};
-ghost use Rattle.vx_tree.specs.Cells.{rows, HasNoFault};
+ghost use Rattle.vx_tree.specs.Tree.{datum, is_canonical};
+ghost use Rattle.vx_tree.specs.Cells.{HasNoFault};
 ghost use Rattle.vx_tree.specs.Slots.{put};
 ghost use Rattle.vx_tree.specs.Canonicals.{columnar_tree};
-ghost use Rattle.vx_column.specs.Built.{appended, values_in, column_refusal};
+ghost use Rattle.vx_column.specs.Grown.{with_column, column_refusal, IsGrown};
 ghost use Rattle.vx_step.specs.Contents.{IsAppend};
 ghost use Rattle.vx_step.specs.Turns.{target_of};
 ghost use Rattle.vx_step.specs.Steps.{IsStopped, HasNoShortcut, Awaits};
 ghost use Rattle.vx_exec.specs.Frames.{filled, AreFrames, active, Fits, focus_on, focus_tree, IsFocus, IsFrame};
-ghost use Rattle.vx_exec.specs.Moves.{is_reached, is_over, IsMove, IsTurned, IsFaulty, IsGoing, IsAppendedTo, IsNotAppended, IsUnread, begun, ended, MayEnd};
+ghost use Rattle.vx_exec.specs.Moves.{is_reached, is_over, IsMove, IsTurned, IsFaulty, IsGoing, IsAppendedTo, IsNotAppended, IsUnread, read_cells, begun, ended, MayEnd};
 
 use std::alloc::Global;
 use vx_column::Builder;
@@ -121,7 +118,7 @@ fn enter<M: Matcher>(
     Ok(Focus::Whole(child))
 }
 
-/// Takes the column out of `slot`, and appends its rows to `builder`, or to a new one if there is none.
+/// Takes the column out of `slot`, and appends it to `builder`, or to a new one if there is none.
 fn append(
     alloc: Global,
     node: Suspended,
@@ -154,10 +151,8 @@ fn know_bound(len: usize)
     ensures { len < 2 ^ 64 }
 {}
 
-/// Returns `builder`, or a new one of the rows of `node`, which must be chunks, if there is none. Fails only with `OutOfMemory`.
-#[tactic(auto, using(crate::proofs::BuildersLemmas::chunks_unnested))]
+/// Returns `builder`, or a new one of the rows of `node` if there is none. Fails only with `OutOfMemory`.
 fn begin(alloc: Global, node: &Suspended, builder: Option<Builder>) -> VortexResult<Builder>
-    requires { is_chunked (datum node.now) ≡ true }
     ensures ok { IfOk result (λ b. b ≡ begun builder node.now) }
     ensures err { OnlyOutOfMemory result }
 {
@@ -170,23 +165,24 @@ fn begin(alloc: Global, node: &Suspended, builder: Option<Builder>) -> VortexRes
     }
 }
 
-/// Appends the rows of `column` to `builder`, which must take them.
+/// Appends `column` to `builder`, which must take it.
+#[tactic(auto, using(crate::proofs::ReadLemmas::read_told, crate::proofs::ReadLemmas::unread))]
 pub(crate) fn append_rows(
     alloc: Global,
     builder: Builder,
     column: &Columnar,
 ) -> VortexResult<Builder>
     requires { column_refusal builder (columnar_tree column.now) ≡ None }
-    ensures ok { IfOk result (λ b. b ≡ appended builder (values_in (rows (columnar_tree column.now)))) }
-    ensures typed { IfOk result (λ b. list_all (is_of b.of_type) b.values ≡ true) }
-    ensures unnested { IfOk result (λ b. is_nested b.of_type ≡ false) }
-    ensures clean { IfOk result (λ b. HasNoFault (rows (columnar_tree column.now))) }
+    ensures ok { IfOk result (λ b. b ≡ with_column builder (columnar_tree column.now)) }
+    ensures grown { IfOk result IsGrown }
+    ensures told { IfOk result (λ b. HasNoFault (read_cells (columnar_tree column.now))) }
     ensures err { IfErr result (IsUnread (columnar_tree column.now)) }
 {
+    column.as_array().well_formed_tree();
     let mut builder = builder;
     match append_to_builder(alloc, column, &mut builder) {
         Ok(()) => {
-            let _typed = builder.dtype();
+            let _grown = builder.dtype();
             Ok(builder)
         }
         Err(e) => Err(e),

@@ -1,14 +1,12 @@
 -- The text of the rows so far.
-use Rattle.std.proofs.Common.{◌≡◌, ℕ, ◌<◌, ◌≤◌, false, true, ◌||◌, not, List, [], ◌∷◌, ◌++◌, length, zero, suc, subst, take, map, slice_get, Some, refl, sym, ◌∙◌, ap, append_assoc, arith, flat_map, inl, inr}
+use Rattle.std.proofs.Common.{◌≡◌, ℕ, ◌<◌, ◌≤◌, false, true, List, [], ◌∷◌, ◌++◌, length, zero, suc, subst, take, map, slice_get, Some, refl, sym, ◌∙◌, ap, append_assoc, arith, flat_map, inl, inr}
 use Rattle.std.specs.Prelude.{codes, Bool}
-use Rattle.std.specs.Cmp.{second_so}
 use Rattle.std.proofs.lemmas.Grind.{common_steps, flat_map-append}
 use Rattle.vx_value.specs.Types.{DataType}
 use Rattle.vx_value.specs.Values.{Value, null}
 use Rattle.vx_value.specs.Typed.{Typed}
 use Rattle.vx_value.specs.Nullabilities.{with_nullability}
 use Rattle.vx_value.specs.Storage.{has_parts, is_nested}
-use Rattle.vx_value.specs.Supported.{has_columns}
 use Rattle.vx_value.specs.declared.dtype.Nullability.{Nullability}
 use Rattle.vx_value.specs.declared.dtype.Storage.{Storage}
 use Rattle.vx_value.specs.declared.dtype.Storage.TheVariants.{Text}
@@ -18,9 +16,8 @@ use Rattle.vx_value.specs.Cell.{Cell, value, fault}
 use Rattle.vx_tree.specs.Cells.{rows}
 use Rattle.vx_json.specs.RowText.{row_text}
 use Rattle.vx_tree.specs.ColumnTypes.{bytes_type}
-use Rattle.vx_tree.specs.Tree.{Tree, dtype, datum, id_of, len}
+use Rattle.vx_tree.specs.Tree.{Tree, dtype, len}
 use Rattle.vx_tree.specs.Canonicals.{columnar_tree}
-use Rattle.vx_tree.specs.Support.{takes_nested, supports}
 use Rattle.vx_tree.specs.declared.canonical.columnar.Columnar.{Columnar}
 use Rattle.vx_tree.proofs.CellsLemmas.{no_fault_at}
 use Rattle.vx_column.specs.Arguments.{IsArgument, IsSized, AreStored, cell_at, value_at, type_of_rows, type_of_argument, IsUnread as IsNotRead}
@@ -142,10 +139,6 @@ adds_column c a n old text is counted end e =
     let added = adds_lines (dtype t) (rows t) a n old is.typed plain
     (λ i lt. slice_get-get_or (rows t) i fault (omega (arith, counted, end, lt)) ∙ ap Some (is.shown i (omega (arith, end, lt)))) in
     subst (AddsRows (dtype t) (rows t) old) (sym e) (adds_all (dtype t) (rows t) n old (old ++ row_lines a n) added (omega (arith, counted, end)))
-
--- there are columns of a tree's type
-pub type_columns : (t : Tree) → supports (datum t) (dtype t) ≡ true → has_columns (dtype t) ≡ true
-type_columns t h = second_so (takes_nested (datum t) || not (is_nested (dtype t))) (has_columns (dtype t)) h
 
 -- a row that isn't read
 pub row_unread : (t : Tree) (i : ℕ) (e : VortexError) → IsUnreadRow t i e → IsUnread t e

@@ -34,7 +34,7 @@ use Rattle.vx_tree.specs.declared.validity.Validity.TheVariants as validity
 use Rattle.vx_tree.proofs.ValiditiesLemmas.{rows_allowed, tree_allowed}
 use Rattle.vx_tree.proofs.ConditionsLemmas.{none_refused, none_unless}
 use Rattle.vx_json.specs.SpelledValues.{integer_spelled, decimal_spelled, bytes_spelled, is_null, or_null, all_read}
-use Rattle.vx_json.specs.SpelledColumns.{column_of_rows, column_of_values, flat_of}
+use Rattle.vx_json.specs.SpelledColumns.{flat_rows, column_of_values, flat_of}
 use Rattle.vx_json.specs.Refused.{IsRead}
 use Rattle.vx_json.specs.SpelledNulls.{validity_spelled}
 use Rattle.vx_json.specs.declared.nulls.Nulls.{Nulls}
@@ -192,7 +192,7 @@ rows_column zero ty of_items read ds xs valid w h tells =
 
 pub rows_by : (ty : DataType) (ds : Items) (v : ColumnValues) (valid : List Bool) (w : Validity) → nullability_of ty ≡ Nullable →
     AreReadAs Nullable (storage_of ty) ds v valid → child_of w (length valid) ≡ child_by valid →
-    column_of_rows ty ds ≡ Some (column ty (count_of v) (data_of v) (child_of w (count_of v)))
+    flat_rows ty ds ≡ Some (column ty (count_of v) (data_of v) (child_of w (count_of v)))
 rows_by (type.bool Nullable) ds (Bits bits) valid w n h tells = rows_column false (type.bool Nullable) bool as_bool ds bits valid w h tells
 rows_by (type.primitive p Nullable) ds (Integers v) valid w n h tells =
     rows_column (pos 0) (type.primitive p Nullable) (primitive p) (integer_spelled p) ds (values_of v) valid w h.1 tells
@@ -227,7 +227,7 @@ bits_fit ty ds v valid w h tells = subst (λ n. array_refusal n w ≡ None) (lon
     long t u r = absurd r
 
 pub rows_unread : (d : DType) (ds : Items) → d ≢ dtype_of.Null → nullability_of (type_of d) ≡ Nullable → AreUnread Nullable (storage_of (type_of d)) ds →
-    column_of_rows (type_of d) ds ≡ None
+    flat_rows (type_of d) ds ≡ None
 rows_unread dtype_of.Null ds other n h = absurd (other refl)
 rows_unread (dtype_of.Bool Nullable) ds other n h = ap (option_map _) h
 rows_unread (dtype_of.Primitive p Nullable) ds other n h = ap (option_map _) h
@@ -253,7 +253,7 @@ values_there d ty of_items read ds = ap (option_map (column_of d ty of_items)) (
     by_read (Some xs) = ap Some (column_there d ty of_items xs)
 
 -- a column of a non-nullable type by its rows is one by its values
-pub rows_are_values : (ty : DataType) (ds : Items) → nullability_of ty ≡ NonNullable → column_of_rows ty ds ≡ column_of_values Absent ty ds
+pub rows_are_values : (ty : DataType) (ds : Items) → nullability_of ty ≡ NonNullable → flat_rows ty ds ≡ column_of_values Absent ty ds
 rows_are_values (type.bool NonNullable) ds h = values_there false (type.bool NonNullable) bool as_bool ds
 rows_are_values (type.primitive p NonNullable) ds h = values_there (pos 0) (type.primitive p NonNullable) (primitive p) (integer_spelled p) ds
 rows_are_values (type.decimal p s NonNullable) ds h =

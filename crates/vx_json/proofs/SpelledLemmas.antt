@@ -9,7 +9,6 @@ use Rattle.serde_json.specs.declared.value.Value.{Value}
 use Rattle.serde_json.specs.Data.{Data, array, object, Items, no_items, item, Members, no_members, member, depth, members_depth, items_depth}
 use Rattle.serde_json.specs.Find.{get, get_member, as_object, as_array}
 use Rattle.serde_json.specs.View.{view, members_view, items_view}
-use Rattle.vx_tree.specs.Tree.{Tree}
 use Rattle.vx_json.specs.Fields.{member_count, members_count, items_at, text_at}
 use Rattle.vx_json.specs.Spelled.{tree_spelled, trees_spelled, tree_first, trees_listed, tree_under, trees_under, tree_named, node_of}
 use Rattle.vx_json.specs.SpelledValues.{all_read}

@@ -1,11 +1,11 @@
 -- The column that JSON spells, by its rows or by its values and its validity.
-use Rattle.std.specs.Prelude.{ℕ, ◌+◌, length, Option, None, option_map, option_and_then, codes}
+use Rattle.std.specs.Prelude.{ℕ, ◌+◌, length, if◌then◌else◌, Option, None, option_map, option_and_then, codes}
 use Rattle.serde_json.specs.Data.{Data, Items}
 use Rattle.serde_json.specs.Find.{as_null, as_bool}
 use Rattle.vx_value.specs.Types as type
 use Rattle.vx_value.specs.Types.{DataType, nullability_of}
 use Rattle.vx_value.specs.Decimals.{smallest_width}
-use Rattle.vx_value.specs.Storage.{storage_of}
+use Rattle.vx_value.specs.Storage.{storage_of, is_nested}
 use Rattle.vx_value.specs.declared.dtype.Nullability.{Nullability}
 use Rattle.vx_value.specs.declared.dtype.Storage.{Storage}
 use Rattle.vx_value.specs.declared.dtype.Storage.TheVariants as storage
@@ -17,11 +17,13 @@ use Rattle.vx_tree.specs.Validities.{child_of}
 use Rattle.vx_json.specs.Fields.{keyed, items_at}
 use Rattle.vx_json.specs.SpelledNulls.{null_keys, validity_spelled}
 use Rattle.vx_json.specs.SpelledTypes.{type_at}
-use Rattle.vx_json.specs.SpelledValues.{integer_spelled, decimal_spelled, bytes_spelled, or_null, all_read}
+use Rattle.vx_json.specs.SpelledValues.{integer_spelled, decimal_spelled, bytes_spelled, or_null, value_spelled, all_read}
 use Rattle.vx_json.specs.declared.nulls.Nulls.{Nulls}
 use Rattle.vx_tree.specs.Views.{packed}
+use Rattle.vx_column.specs.ValueColumns.{column_of}
 
--- `{"enc":"col","type":T,"rows":[..]}`: a column of the rows, which may be null if the type is nullable; a line for each storage that has a spelling
+-- `{"enc":"col","type":T,"rows":[..]}`: a column of the rows, which may be null if the type is nullable. Of a type that isn't nested, a line for each
+-- storage that has a spelling
 abbrev pub rows_stored : Nullability → Storage → Items → Option Tree
 rows_stored m storage.Nulls ds = option_map (λ rows. nulls_of (length rows)) (all_read as_null ds)
 rows_stored m Bits ds = option_map (boolean_rows m) (all_read (or_null m as_bool) ds)
@@ -31,8 +33,15 @@ rows_stored m Text ds = option_map (bytes_rows (type.utf8 m)) (all_read (or_null
 rows_stored m Bytes ds = option_map (bytes_rows (type.binary m)) (all_read (or_null m (bytes_spelled Bytes)) ds)
 rows_stored m _ ds = None
 
+abbrev pub flat_rows : DataType → Items → Option Tree
+flat_rows ty = rows_stored (nullability_of ty) (storage_of ty)
+
+-- of a nested type, the column of the values
+abbrev pub nested_rows : DataType → Items → Option Tree
+nested_rows ty ds = option_map (column_of ty) (all_read (value_spelled ty) ds)
+
 abbrev pub column_of_rows : DataType → Items → Option Tree
-column_of_rows ty = rows_stored (nullability_of ty) (storage_of ty)
+column_of_rows ty ds = if is_nested ty then nested_rows ty ds else flat_rows ty ds
 
 abbrev pub col_spelled : Data → Option Tree
 col_spelled d = keyed 3 d (option_and_then (λ ty. option_and_then (column_of_rows ty) (items_at (codes "rows") d)) (type_at d))

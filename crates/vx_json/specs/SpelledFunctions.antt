@@ -60,6 +60,10 @@ declared _ = None
 abbrev pub cast : Data → Option ScalarFnRef
 cast d = keyed 4 d (option_map function.Cast (option_and_then declared (type_at d)))
 
+-- `get_item` has the name of the field under `field`
+abbrev pub get_item : Data → Option ScalarFnRef
+get_item d = keyed 4 d (option_map function.GetItem (text_at (codes "field") d))
+
 -- the names of binary operators: a line for each
 abbrev pub named_operators : List (List ℕ × Operator)
 named_operators =
@@ -90,6 +94,7 @@ named_functions =
     ∷ (codes "fill_null", without_options function.FillNull)
     ∷ (codes "is_null", without_options function.IsNull)
     ∷ (codes "is_not_null", without_options function.IsNotNull)
+    ∷ (codes "get_item", get_item)
     ∷ (codes "cast", cast)
     ∷ []
 

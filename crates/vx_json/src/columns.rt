@@ -1,16 +1,17 @@
 //! Columns: by their rows, or by their values and their validity.
 
-ghost use Rattle.std.specs.Prelude.{◌≡◌, length, option_map, IfOk};
+ghost use Rattle.std.specs.Prelude.{◌≡◌, length, option_map, true, IfOk};
 ghost use Rattle.vx_value.specs.Errors.{OnlyOutOfMemory};
 ghost use Rattle.serde_json.specs.View.{view, items_view};
 ghost use Rattle.serde_json.specs.Find.{as_null};
 ghost use Rattle.vx_value.specs.Types.{nullability_of};
+ghost use Rattle.vx_value.specs.Supported.{has_columns};
 ghost use Rattle.vx_value.specs.View.{type_of};
 ghost use Rattle.vx_tree.specs.Tree.{nulls_of};
 ghost use Rattle.vx_tree.specs.Validities.{child_of, child_by, nullability_by};
 ghost use Rattle.vx_json.specs.Refused.{IsRead};
 ghost use Rattle.vx_json.specs.SpelledValues.{all_read};
-ghost use Rattle.vx_json.specs.SpelledColumns.{column_of_rows, col_spelled, column_of_values, flat_spelled};
+ghost use Rattle.vx_json.specs.SpelledColumns.{column_of_rows, flat_rows, nested_rows, col_spelled, column_of_values, flat_spelled};
 
 use crate::BAD_VALUE;
 use crate::column_values::{column, column_values};
@@ -18,9 +19,10 @@ use crate::fields::{check_keys, items};
 use crate::nulls::Nulls;
 use crate::row_nulls::NoNulls;
 use crate::types::type_at;
-use crate::values::are_nulls;
+use crate::values::{are_nulls, scalar};
 use serde_json::Value;
 use std::alloc::Global;
+use vx_column::Builder;
 use vx_mask::BitBuilder;
 use vx_tree::{ArrayRef, IntoArray, NullArray, Validity};
 use vx_value::{DType, Nullability, VortexResult};
@@ -37,9 +39,35 @@ pub(crate) fn col(alloc: Global, value: &Value) -> VortexResult<ArrayRef>
     column_of_rows(alloc, dtype, list)
 }
 
-/// Reads a column of `dtype` with the rows in `list`, which may be null if the type is nullable.
+/// Reads a column of `dtype`, which must have columns, with the rows in `list`, which may be null if the type is nullable.
 fn column_of_rows(alloc: Global, dtype: DType, list: &Vec<Value>) -> VortexResult<ArrayRef>
+    requires { has_columns (type_of dtype) ≡ true }
     ensures { IsRead (column_of_rows (type_of dtype) (items_view list.now.items)) result }
+{
+    if dtype.is_nested() {
+        nested_rows(alloc, &dtype, list)
+    } else {
+        flat_rows(alloc, dtype, list)
+    }
+}
+
+/// Reads a column of `dtype`, which must have columns, with the rows in `list`, one value after the other.
+fn nested_rows(alloc: Global, dtype: &DType, list: &Vec<Value>) -> VortexResult<ArrayRef>
+    requires { has_columns (type_of dtype.now) ≡ true }
+    ensures { IsRead (nested_rows (type_of dtype.now) (items_view list.now.items)) result }
+{
+    let mut column = Builder::with_capacity(alloc, dtype.clone()?, list.len())?;
+    for value in list {
+        let row = scalar(alloc, dtype, value)?;
+        column.append_scalar(&row)?;
+    }
+    let _grown = column.dtype();
+    Ok(column.finish(alloc)?.into_array())
+}
+
+/// Reads a column of `dtype`, which isn't nested, with the rows in `list`, which may be null if the type is nullable.
+fn flat_rows(alloc: Global, dtype: DType, list: &Vec<Value>) -> VortexResult<ArrayRef>
+    ensures { IsRead (flat_rows (type_of dtype) (items_view list.now.items)) result }
 {
     match dtype.nullability() {
         Nullability::NonNullable => column_of_values(alloc, dtype, list, &Nulls::Absent),
@@ -50,7 +78,7 @@ fn column_of_rows(alloc: Global, dtype: DType, list: &Vec<Value>) -> VortexResul
 /// Reads a nullable column with the rows in `list`, which may be null.
 fn nullable_column(alloc: Global, dtype: DType, list: &Vec<Value>) -> VortexResult<ArrayRef>
     requires { nullability_of (type_of dtype) ≡ Nullability.Nullable }
-    ensures { IsRead (column_of_rows (type_of dtype) (items_view list.now.items)) result }
+    ensures { IsRead (flat_rows (type_of dtype) (items_view list.now.items)) result }
 {
     if let DType::Null = dtype {
         return null_column(alloc, list);

@@ -4,7 +4,7 @@ ghost use Rattle.std.specs.Prelude.{◌≡◌, Some};
 ghost use Rattle.serde_json.specs.View.{view};
 ghost use Rattle.vx_json.specs.Fields.{keyed};
 ghost use Rattle.vx_json.specs.Refused.{IsRead};
-ghost use Rattle.vx_json.specs.SpelledFunctions.{without_options, operator_named, strictness_at, between_options, between, cast, other_named, function_at};
+ghost use Rattle.vx_json.specs.SpelledFunctions.{without_options, operator_named, strictness_at, between_options, between, cast, get_item, other_named, function_at};
 
 use crate::BAD_VALUE;
 use crate::fields::{boolean, check_keys, text};
@@ -12,7 +12,7 @@ use crate::types::type_at;
 use serde_json::Value;
 use std::alloc::Global;
 use vx_fn::{BetweenOptions, Operator, ScalarFnRef, StrictComparison};
-use vx_value::VortexResult;
+use vx_value::{Name, VortexResult};
 
 /// Returns `function`. `InvalidArgument(BadValue)` if the object doesn't have exactly `keys` keys.
 fn with_keys(value: &Value, keys: usize, function: ScalarFnRef) -> VortexResult<ScalarFnRef>
@@ -95,6 +95,18 @@ fn cast(alloc: Global, value: &Value) -> VortexResult<ScalarFnRef>
     with_keys(value, 4, ScalarFnRef::Cast(target))
 }
 
+/// Reads the function that gives the field named under `field`. `InvalidArgument(BadValue)` if the object doesn't have exactly the keys
+/// `enc`, `fn`, `args` and `field`.
+fn get_item(alloc: Global, value: &Value) -> VortexResult<ScalarFnRef>
+    ensures { IsRead (get_item (view value.now)) result }
+{
+    let Some(field) = text(value, "field") else {
+        return Err(BAD_VALUE);
+    };
+    let name = Name::new(alloc, String::from_str(alloc, field)?)?;
+    with_keys(value, 4, ScalarFnRef::GetItem(name))
+}
+
 /// Reads the function named `name`, which isn't a binary operator, with the options that the object has for it.
 /// `InvalidArgument(BadValue)` if there is none.
 fn other_named(alloc: Global, value: &Value, name: &str) -> VortexResult<ScalarFnRef>
@@ -108,6 +120,7 @@ fn other_named(alloc: Global, value: &Value, name: &str) -> VortexResult<ScalarF
         "fill_null" => without_options(value, ScalarFnRef::FillNull),
         "is_null" => without_options(value, ScalarFnRef::IsNull),
         "is_not_null" => without_options(value, ScalarFnRef::IsNotNull),
+        "get_item" => get_item(alloc, value),
         "cast" => cast(alloc, value),
         _ => Err(BAD_VALUE),
     }

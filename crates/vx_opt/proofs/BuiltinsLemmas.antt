@@ -11,7 +11,7 @@ use Rattle.vx_value.specs.declared.dtype.Nullability.TheVariants.{NonNullable}
 use Rattle.vx_value.specs.declared.dtype.DType.{DType}
 use Rattle.vx_value.specs.declared.error.VortexError.{VortexError}
 use Rattle.vx_value.specs.declared.error.VortexError.TheVariants.{InvalidArgument}
-use Rattle.vx_value.specs.declared.error.ArgKind.TheVariants.{ChildLen, NoRow}
+use Rattle.vx_value.specs.declared.error.ArgKind.TheVariants.{ChildLen, NoRow, BadType}
 use Rattle.vx_value.proofs.CastsLemmas.{cast_to_self}
 use Rattle.vx_value.proofs.SupportedLemmas.{columns_kept}
 use Rattle.vx_fn.specs.ReturnTypes.{return_type}
@@ -22,7 +22,7 @@ use Rattle.vx_tree.specs.Calls.{call_refusal, called, all_of_len, row_refusal}
 use Rattle.vx_tree.specs.Conditions.{unless}
 use Rattle.vx_tree.specs.Keeps.{Keeps}
 use Rattle.vx_tree.specs.Well.{IsWell}
-use Rattle.vx_tree.proofs.ConditionsLemmas.{later_refused}
+use Rattle.vx_tree.proofs.ConditionsLemmas.{none_refused, later_refused}
 use Rattle.vx_rule.proofs.CastsLemmas.{C1_keeps}
 use Rattle.vx_opt.specs.Answers.{IsOptimized, IsLimited}
 use Rattle.vx_opt.specs.Select.{GivesJust}
@@ -36,11 +36,18 @@ calls_by f ts n t (Err e) h k l = inr (t, h, l)
 
 -- ---- a cast to the tree's own type
 
-module _ (target : DType) (t : Tree) (e : type_of target ≡ dtype t) where
+module _ (target : DType) (t : Tree) (e : type_of target ≡ dtype t) (kept : has_columns (dtype t) ≡ true) where
   cast_given : return_type (fn_of.Cast target) (dtype t ∷ []) ≡ Some (type_of target)
   cast_given =
       let has : has_cast (dtype t) (type_of target) ≡ true = subst (λ s. has_cast s (type_of target) ≡ true) e (cast_to_self (type_of target)) in
       ap (λ b. if b then Some (type_of target) else None) has
+
+  cast_taken : call_refusal (fn_of.Cast target) (t ∷ []) (len t) ≡ None
+  cast_taken =
+      none_refused (arity_refusal (fn_of.Cast target) 1) _ refl
+      (none_refused (unless (all_of_len (len t) (t ∷ [])) (InvalidArgument ChildLen)) _
+      (ap (λ b. unless (b && true) (InvalidArgument ChildLen)) (eq-eqb (len t) (len t) refl))
+      (ap row_refusal cast_given ∙ ap (λ b. unless b (InvalidArgument BadType)) (ap has_columns e ∙ kept)))
 
   cast_made : called (fn_of.Cast target) (t ∷ []) (len t) ≡ Some (call_of (fn_of.Cast target) (type_of target) (len t) (t ∷ []))
   cast_made = ap (option_map (λ ty. call_of (fn_of.Cast target) ty (len t) (t ∷ []))) cast_given
@@ -48,7 +55,7 @@ module _ (target : DType) (t : Tree) (e : type_of target ≡ dtype t) where
   same_cast : (u : Tree) → IsWell t → u ≡ t → StandsForCall (fn_of.Cast target) (t ∷ []) (len t) u
   same_cast u w h = (
     call_of (fn_of.Cast target) (type_of target) (len t) (t ∷ []),
-    cast_made,
+    (cast_taken, cast_made),
     subst (Keeps (call_of (fn_of.Cast target) (type_of target) (len t) (t ∷ []))) (sym h)
         (C1_keeps (type_of target) (len t) target t ((dtype t ∷ [], refl, cast_given), (w, tt)) (sym e)),
   )
@@ -61,7 +68,7 @@ module _ (target : DType) (t : Tree) (e : type_of target ≡ dtype t) where
 
 pub other_cast : (target : DType) (t : Tree) (r : Result Tree VortexError) → (type_of target ≡ dtype t → ⊥)
     → Calls (fn_of.Cast target) (t ∷ []) (len t) r → CastsTo target t r
-other_cast target t (Ok u) differ h = record { keeps = (h.0, h.1.1, h.2.rewritten.keeps); same = λ same. absurd (differ same); other = λ x. h }
+other_cast target t (Ok u) differ h = record { keeps = (h.0, h.1, h.2.rewritten.keeps); same = λ same. absurd (differ same); other = λ x. h }
 other_cast target t (Err x) differ h = record { keeps = tt; same = λ same. absurd (differ same); other = λ y. h }
 
 -- ---- a fill value of a type without columns

@@ -7,8 +7,8 @@ use Rattle.vx_value.specs.declared.error.VortexError.{VortexError}
 use Rattle.vx_value.specs.declared.error.VortexError.TheVariants.{OutOfMemory}
 use Rattle.vx_fn.specs.declared.function.ScalarFnRef.{ScalarFnRef}
 use Rattle.vx_fn.specs.declared.function.ScalarFnRef.TheVariants as fn_of
-use Rattle.vx_tree.specs.Tree.{Tree, dtype, len, interleave_of}
-use Rattle.vx_tree.specs.Calls.{called, call_refusal, interleaved_rows_refusal}
+use Rattle.vx_tree.specs.Tree.{Tree, dtype, len, interleave_of, interleaved_refusal}
+use Rattle.vx_tree.specs.Calls.{called, call_refusal}
 use Rattle.vx_tree.specs.Keeps.{Keeps}
 use Rattle.vx_opt.specs.Answers.{IsOptimized, IsLimited}
 use Rattle.vx_opt.specs.Select.{GivesJust}
@@ -37,9 +37,9 @@ IsUncalled f ts n e = IsNoCall f ts n e ⊎ ((t : Tree) × IsCall f ts n t × Is
 abbrev pub Calls : ScalarFnRef → List Tree → ℕ → Result Tree VortexError → Type 0
 Calls f ts n r = MatchResult r (IsCalled f ts n) (IsUncalled f ts n)
 
--- what may stand for the node of the call, whether or not one is made
+-- what may stand for the node of the call
 abbrev pub StandsForCall : ScalarFnRef → List Tree → ℕ → Tree → Type 0
-StandsForCall f ts n u = (t : Tree) × (called f ts n ≡ Some t) × Keeps t u
+StandsForCall f ts n u = (t : Tree) × IsCall f ts n t × Keeps t u
 
 -- a cast: the tree itself if it has the type, and else the call, optimized
 pub record CastsTo (target : DType) (t : Tree) (r : Result Tree VortexError) : Type 0 where
@@ -53,9 +53,9 @@ Casts ty t r = (target : DType) × (type_of target ≡ ty) × CastsTo target t r
 
 -- the trees aren't refused, and t interleaves them
 abbrev pub IsInterleaved : Tree → Tree → List Tree → Tree → Type 0
-IsInterleaved arrays rows ts t = (interleaved_rows_refusal arrays rows ts ≡ None) × (t ≡ interleave_of arrays rows ts)
+IsInterleaved arrays rows ts t = (interleaved_refusal arrays rows ts ≡ None) × (t ≡ interleave_of arrays rows ts)
 
 -- the result interleaves them, or there is no memory, or they are refused
 abbrev pub Interleaves : Tree → Tree → List Tree → Result Tree VortexError → Type 0
 Interleaves arrays rows ts r =
-    MatchResult r (IsInterleaved arrays rows ts) (λ e. (e ≡ OutOfMemory) ⊎ (interleaved_rows_refusal arrays rows ts ≡ Some e))
+    MatchResult r (IsInterleaved arrays rows ts) (λ e. (e ≡ OutOfMemory) ⊎ (interleaved_refusal arrays rows ts ≡ Some e))

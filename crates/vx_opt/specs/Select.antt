@@ -1,10 +1,10 @@
 -- Choosing rows: what is given, and why nothing is.
-use Rattle.std.specs.Prelude.{◌≡◌, ℕ, ◌≤◌, List, length, Bool, Some, None, ◌⊎◌, Result, MatchResult}
+use Rattle.std.specs.Prelude.{◌≡◌, ℕ, ◌≤◌, List, length, Bool, true, ◌⊎◌, Result, MatchResult}
 use Rattle.vx_value.specs.declared.error.VortexError.{VortexError}
 use Rattle.vx_value.specs.declared.error.VortexError.TheVariants.{OutOfMemory, OutOfBounds, InvalidArgument}
-use Rattle.vx_value.specs.declared.error.ArgKind.TheVariants.{MaskLen}
-use Rattle.vx_tree.specs.Tree.{Tree, len, slice_of, filter_of, dict_of}
-use Rattle.vx_tree.specs.Calls.{named_rows_refusal}
+use Rattle.vx_value.specs.declared.error.ArgKind.TheVariants.{MaskLen, SlotType}
+use Rattle.vx_tree.specs.Tree.{Tree, dtype, len, slice_of, filter_of, dict_of}
+use Rattle.vx_tree.specs.SlotTypes.{is_integer}
 use Rattle.vx_rule.specs.Rules.{IsPartOf}
 use Rattle.vx_opt.specs.Answers.{IsLimited}
 
@@ -15,6 +15,10 @@ IsRange a b t = (a ≤ b) × (b ≤ len t)
 -- the mask has a bit for each row
 abbrev pub IsMaskOf : List Bool → Tree → Type 0
 IsMaskOf bits t = length bits ≡ len t
+
+-- the indices are integers
+abbrev pub AreIndices : Tree → Type 0
+AreIndices indices = is_integer (dtype indices) ≡ true
 
 -- this tree or want of memory, and nothing else
 abbrev pub GivesJust : Tree → Result Tree VortexError → Type 0
@@ -31,7 +35,5 @@ IsNoSlice a b t = IsRefused (IsRange a b t) (OutOfBounds a b (len t)) (IsPartOf 
 abbrev pub IsNoFilter : List Bool → Tree → VortexError → Type 0
 IsNoFilter bits t = IsRefused (IsMaskOf bits t) (InvalidArgument (MaskLen (len t) (length bits))) (IsMaskOf bits t) (filter_of bits t)
 
--- a dictionary is made of indices and values that aren't refused
 abbrev pub IsNoTake : Tree → Tree → VortexError → Type 0
-IsNoTake indices t e =
-    (e ≡ OutOfMemory) ⊎ (named_rows_refusal indices t ≡ Some e) ⊎ ((named_rows_refusal indices t ≡ None) × IsLimited (dict_of indices t) 0 e)
+IsNoTake indices t = IsRefused (AreIndices indices) (InvalidArgument (SlotType 0)) (AreIndices indices) (dict_of indices t)

@@ -1,14 +1,13 @@
 //! Rows of an array: by a range, by a mask, and by indices.
 
-ghost use Rattle.std.specs.Prelude.{◌≡◌, ◌≤◌, ◌<◌, None, IfOk, IfErr, OnOk};
+ghost use Rattle.std.specs.Prelude.{◌≡◌, ◌≤◌, ◌<◌, IfOk, IfErr, OnOk};
 ghost use Rattle.vx_mask.specs.Masks.{bits_in};
 ghost use Rattle.vx_tree.specs.Tree.{Tree, dtype, len, slice_of, filter_of, dict_of};
-ghost use Rattle.vx_tree.specs.Calls.{named_rows_refusal};
 ghost use Rattle.vx_tree.specs.Columns.{empty_of};
 ghost use Rattle.vx_tree.specs.Keeps.{Keeps};
 ghost use Rattle.vx_rule.specs.Rules.{IsPartOf};
 ghost use Rattle.vx_opt.specs.Answers.{IsOptimized};
-ghost use Rattle.vx_opt.specs.Select.{IsRange, IsMaskOf, GivesJust, IsNoSlice, IsNoFilter, IsNoTake};
+ghost use Rattle.vx_opt.specs.Select.{IsRange, IsMaskOf, AreIndices, GivesJust, IsNoSlice, IsNoFilter, IsNoTake};
 
 use crate::optimizer::ArrayOptimizer;
 use std::alloc::Global;
@@ -46,12 +45,11 @@ pub trait ArraySelect: Sized {
         ensures refused { IfErr result (IsNoFilter (bits_in mask) (tree self.now)) };
 
     /// Returns the rows that `indices` names, null where an index is; an index that names no row is a fault of its row.
-    /// `InvalidArgument` with `SlotType` exactly if the indices aren't integers, and else with `BadType` exactly if the array's type is nested,
-    /// since a dictionary has no such values.
+    /// `InvalidArgument` with `SlotType` exactly if the indices aren't integers.
     fn take(&self, alloc: Global, indices: ArrayRef) -> VortexResult<ArrayRef>
         ensures keeps { IfOk result (Keeps (dict_of indices (tree self.now))) }
         ensures optimized { IfOk result (λ t. IsOptimized (dict_of indices (tree self.now)) t 0) }
-        ensures valid { OnOk result (named_rows_refusal indices (tree self.now) ≡ None) }
+        ensures valid { OnOk result (AreIndices indices) }
         ensures refused { IfErr result (IsNoTake indices (tree self.now)) };
 }
 

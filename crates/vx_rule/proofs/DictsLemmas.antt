@@ -14,18 +14,18 @@ use Rattle.vx_tree.specs.Slots.{map_slots, count_slots}
 use Rattle.vx_tree.specs.Lookups.{taken, taken_cells}
 use Rattle.vx_tree.specs.Cells.{rows, slots_rows, cells_at, valid_cell, valid_cells, shown_cell, HasNoFault, IsClean, AreClean}
 use Rattle.vx_tree.specs.Keeps.{CellKeeps, RowsKeep, Keeps, KeepsExactly}
-use Rattle.vx_tree.specs.Validities.{valid_rows, HasRows}
+use Rattle.vx_tree.specs.Validities.{valid_rows}
 use Rattle.vx_tree.specs.NodeValidities.{node_validity, IsValidityFor}
 use Rattle.vx_tree.specs.declared.validity.Validity.{Validity}
 use Rattle.vx_tree.specs.declared.validity.Validity.TheVariants as validity
-use Rattle.vx_tree.specs.Well.{shape, shape_of, shapes, IsWell, AreWell}
+use Rattle.vx_tree.specs.Well.{shape, shape_of, IsWell, AreWell}
 use Rattle.vx_tree.proofs.CellsLemmas.{rows_counted}
 use Rattle.vx_tree.proofs.JoinedLemmas.{all_valid, cells_sized}
 use Rattle.vx_tree.proofs.KeepsLemmas.{no_fault_kept}
-use Rattle.vx_tree.proofs.KindsLemmas.{type_in, len_in}
+use Rattle.vx_tree.proofs.KindsLemmas.{len_in}
 use Rattle.vx_tree.proofs.NodeValiditiesLemmas.{told_by_node}
 use Rattle.vx_tree.proofs.TellsLemmas.{non_nullable}
-use Rattle.vx_rule.specs.Rules.{constants, masked_by, named_by, taken_by, taken_of}
+use Rattle.vx_rule.specs.Rules.{masked_by, named_by, taken_of}
 use Rattle.vx_rule.proofs.PicksLemmas.{IsSecond, first_of, exactly_by, masked_slots, only_slot, slot_mapped}
 use Rattle.vx_rule.proofs.RangesLemmas.{copies_clean}
 

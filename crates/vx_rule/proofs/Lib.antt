@@ -13,7 +13,6 @@ pub mod PushLemmas
 mod AnswersLemmas
 mod StopsLemmas
 mod SlotsLemmas
-mod UnnestedLemmas
 mod CallsLemmas
 mod FitsLemmas
 mod QuietLemmas

@@ -4,13 +4,11 @@ ghost use Rattle.std.specs.Prelude.{◌≡◌, ◌≤◌, [], ◌∷◌, Some, I
 ghost use Rattle.vx_value.specs.Errors.{OnlyOutOfMemory};
 ghost use Rattle.vx_value.specs.View.{type_of};
 ghost use Rattle.vx_value.specs.Supported.{has_columns};
-ghost use Rattle.vx_value.specs.Storage.{is_nested};
 ghost use Rattle.vx_tree.specs.Tree.{dtype, len, datum, node, function, masked, slots_of, masked_of, dict_of, is_function, is_masked, is_dict, is_constant, is_canonical};
 ghost use Rattle.vx_tree.specs.Well.{IsNode, IsWell, shapes};
 ghost use Rattle.vx_value.specs.IsOf.{is_of};
 ghost use Rattle.vx_value.specs.View.{cell_of};
 ghost use Rattle.vx_tree.specs.SlotTypes.{is_integer};
-ghost use Rattle.vx_tree.specs.Support.{supports};
 ghost use Rattle.vx_tree.specs.Columns.{empty_of};
 ghost use Rattle.vx_tree.specs.Canonicals.{canonical_tree};
 ghost use Rattle.vx_rule.specs.Rules.{constants};
@@ -31,7 +29,6 @@ pub(crate) fn function_parts(array: &ArrayRef) -> (&ScalarFnRef, &[Option<ArrayR
     ensures shape { array.now ≡ node (dtype array.now) (len array.now) (function result.0.now) (slots_of result.1.now) }
     ensures node { IsNode (dtype array.now) (len array.now) (function result.0.now) (shapes (slots_of result.1.now)) }
     ensures well { IsWell array.now }
-    ensures supported { supports (function result.0.now) (dtype array.now) ≡ true }
 {
     array.well_formed_tree();
     let ArrayKind::ScalarFn(scalar_fn, slots) = array.kind() else {
@@ -40,8 +37,8 @@ pub(crate) fn function_parts(array: &ArrayRef) -> (&ScalarFnRef, &[Option<ArrayR
     (scalar_fn, slots)
 }
 
-/// Makes the node of `scalar_fn` over `slots`, with `len` rows of `original`'s type, which must not be nested. It must be well
-/// formed. Fails only with `OutOfMemory`.
+/// Makes the node of `scalar_fn` over `slots`, with `len` rows of `original`'s type. It must be well formed. Fails only with
+/// `OutOfMemory`.
 pub(crate) fn function_node(
     alloc: Global,
     original: &ArrayRef,
@@ -49,8 +46,7 @@ pub(crate) fn function_node(
     len: usize,
     slots: Vec<Option<ArrayRef>>,
 ) -> VortexResult<ArrayRef>
-    requires node { IsNode (dtype original.now) len (function scalar_fn.now) (shapes (slots_of slots.items)) }
-    requires supported { supports (function scalar_fn.now) (dtype original.now) ≡ true }
+    requires { IsNode (dtype original.now) len (function scalar_fn.now) (shapes (slots_of slots.items)) }
     ensures ok { IfOk result (λ t. t ≡ node (dtype original.now) len (function scalar_fn.now) (slots_of slots.items)) }
     ensures err { OnlyOutOfMemory result }
 {
@@ -91,12 +87,11 @@ pub(crate) fn masked_node(
     Ok(Array::from_parts_unchecked(alloc, parts)?.into_array())
 }
 
-/// Returns the codes and the values of `array`, which must be a dictionary. The values' type isn't nested.
+/// Returns the codes and the values of `array`, which must be a dictionary.
 pub(crate) fn dict_parts(array: &ArrayRef) -> (&ArrayRef, &ArrayRef)
     requires { is_dict (datum array.now) ≡ true }
     ensures shape { array.now ≡ dict_of result.0.now result.1.now }
     ensures well { IsWell array.now }
-    ensures unnested { is_nested (dtype result.1.now) ≡ false }
 {
     array.well_formed_tree();
     let ArrayKind::Dict(codes, values) = array.kind() else {
@@ -105,11 +100,9 @@ pub(crate) fn dict_parts(array: &ArrayRef) -> (&ArrayRef, &ArrayRef)
     (codes, values)
 }
 
-/// Makes the dictionary of `values`, whose type must not be nested, by `codes`, which must be integers. Fails only with
-/// `OutOfMemory`.
+/// Makes the dictionary of `values` by `codes`, which must be integers. Fails only with `OutOfMemory`.
 pub(crate) fn dict_node(alloc: Global, codes: ArrayRef, values: ArrayRef) -> VortexResult<ArrayRef>
-    requires integers { is_integer (dtype codes) ≡ true }
-    requires unnested { is_nested (dtype values) ≡ false }
+    requires { is_integer (dtype codes) ≡ true }
     ensures ok { IfOk result (λ t. t ≡ dict_of codes values) }
     ensures err { OnlyOutOfMemory result }
 {

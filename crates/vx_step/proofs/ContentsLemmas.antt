@@ -14,7 +14,7 @@ use Rattle.vx_tree.specs.Slots.{set_slot, put, IsAbsentAt, IsPresentAt, IsPresen
 use Rattle.vx_tree.specs.Firm.{KeepsFirmly}
 use Rattle.vx_tree.proofs.FirmLemmas.{firmly}
 use Rattle.vx_tree.specs.Keeps.{KeepsExactly}
-use Rattle.vx_tree.proofs.KeepsLemmas.{exactly_of_rows, column_exactly}
+use Rattle.vx_tree.proofs.KeepsLemmas.{exactly_of_rows, column_exactly, rows_equal}
 use Rattle.vx_step.specs.Turns.{node_potential}
 use Rattle.vx_step.specs.Contents.{with_content, IsUsed, IsPart, IsWithout, IsAppend}
 use Rattle.vx_step.specs.Steps.{AwaitsAt, IsOpen, IsStepTo, IsDone, IsAnswer}
@@ -94,6 +94,13 @@ clean_left zero c (absent ss) h k = k.1
 clean_left zero c (slot s ss) h k = absurd h
 clean_left (suc i) c (absent ss) h k = clean_left i c ss h k
 clean_left (suc i) c (slot s ss) h k = (k.0, clean_left i c ss h k.1)
+
+clean_taken : (i : ℕ) (c : Tree) (ss : Slots) → IsAbsentAt i ss → AreClean (set_slot i c ss) → IsClean c
+clean_taken i c no_slots h k = absurd h
+clean_taken zero c (absent ss) h k = k.0
+clean_taken zero c (slot s ss) h k = absurd h
+clean_taken (suc i) c (absent ss) h k = clean_taken i c ss h k
+clean_taken (suc i) c (slot s ss) h k = clean_taken i c ss h k.1
 
 -- what is left beside it
 ready_left : (i : ℕ) (c : Tree) (ss : Slots) → IsAbsentAt i ss → IsReadyAt i (set_slot i c ss) → present_slots (set_slot i c ss) ≡ slot c (present_slots ss)
@@ -205,18 +212,18 @@ part_typed b (node ty n d ss) h =
 -- ---- the step that appends it
 
 module _ (ty : DataType) (n i : ℕ) (c : Tree) (ss : Slots) (hole : IsAbsentAt i ss) (ready : IsReadyAt i (set_slot i c ss)) where
-  begins : (b : Tree) → IsClean b → rows b ≡ rows c → KeepsFirmly (node ty n chunked (set_slot i c ss)) (node ty n chunked (slot b ss))
+  begins : (b : Tree) → (IsClean c → IsClean b) → rows b ≡ rows c → KeepsFirmly (node ty n chunked (set_slot i c ss)) (node ty n chunked (slot b ss))
   begins b clean same =
       firmly _ _ (exactly_of_rows ty n chunked chunked (set_slot i c ss) (slot b ss)
-      (ready_rows i c ss hole ready ∙ ap (λ l. l ++ chained (slots_rows ss)) (sym same)) (λ k. (clean, clean_left i c ss hole k)))
+      (ready_rows i c ss hole ready ∙ ap (λ l. l ++ chained (slots_rows ss)) (sym same)) (λ k. (clean (clean_taken i c ss hole k), clean_left i c ss hole k)))
 
-  continues : (a b : Tree) → IsClean b → rows b ≡ rows a ++ rows c
+  continues : (a b : Tree) → (IsClean a → IsClean c → IsClean b) → rows b ≡ rows a ++ rows c
       → KeepsFirmly (node ty n chunked (slot a (set_slot i c ss))) (node ty n chunked (slot b ss))
   continues a b clean same =
       firmly _ _ (exactly_of_rows ty n chunked chunked (slot a (set_slot i c ss)) (slot b ss)
       (ap (λ l. rows a ++ l) (ready_rows i c ss hole ready) ∙ sym (append_assoc (rows a) (rows c) (chained (slots_rows ss)))
       ∙ ap (λ l. l ++ chained (slots_rows ss)) (sym same))
-      (λ k. (clean, clean_left i c ss hole k.1)))
+      (λ k. (clean k.0 (clean_taken i c ss hole k.1), clean_left i c ss hole k.1)))
 
   open_typed : IsOpen (node ty n chunked (set_slot i c ss)) → dtype c ≡ ty
   open_typed opened =
@@ -268,9 +275,9 @@ module _ (i : ℕ) (t : Tree) (chunks : is_chunked (datum t) ≡ true) (opened :
     present = present_at t ready;
     column = each (λ c p t. is_columnar (datum c) ≡ true) (λ ty n c ss hole r opened. ready_column i c ss hole r);
     typed = each (λ c p t. dtype c ≡ dtype t) (λ ty n c ss hole r opened. open_typed ty n i c ss hole r opened);
-    begins = λ b. each (λ c p t. IsClean b → rows b ≡ rows c → KeepsFirmly t (with_content b p)) (λ ty n c ss hole r opened. begins ty n i c ss hole r b);
+    begins = λ b. each (λ c p t. (IsClean c → IsClean b) → rows b ≡ rows c → KeepsFirmly t (with_content b p)) (λ ty n c ss hole r opened. begins ty n i c ss hole r b);
     begun = λ b. each (λ c p t. IsNodeOf t → shape_of b ≡ shape_of c → IsPart b p) (λ ty n c ss hole r opened. begun ty n i c ss hole r b);
-    continues = λ a b. each (λ c p t. IsClean b → rows b ≡ rows a ++ rows c → KeepsFirmly (with_content a t) (with_content b p))
+    continues = λ a b. each (λ c p t. (IsClean a → IsClean c → IsClean b) → rows b ≡ rows a ++ rows c → KeepsFirmly (with_content a t) (with_content b p))
         (λ ty n c ss hole r opened. continues ty n i c ss hole r a b);
     continued = λ a b. each (λ c p t. IsPart a t → dtype b ≡ dtype t → len b ≡ len a + len c → IsPart b p)
         (λ ty n c ss hole r opened. continued ty n i c ss hole r a b);
@@ -304,14 +311,21 @@ none_left no_slots h = refl
 none_left (absent ss) h = none_left ss h
 none_left (slot s ss) h = absurd h
 
-used_exactly : (ty : DataType) (n : ℕ) (ss : Slots) → AllAbsent ss → (b : Tree) → IsPart b (node ty n chunked ss) → IsClean b
-    → KeepsExactly (node ty n chunked (slot b ss)) b
-used_exactly ty n ss none b w clean =
+used_exactly : (ty : DataType) (n : ℕ) (ss : Slots) → AllAbsent ss → (b : Tree) → IsPart b (node ty n chunked ss) → KeepsExactly (node ty n chunked (slot b ss)) b
+used_exactly ty n ss none b w =
     let first = first_shape ty b (shapes (present_slots ss)) w.fits.0 w.fits.1 in
     let empty : first.0 ≡ [] = no_lengths first.0 (ap shapes (sym (none_left ss none)) ∙ first.3) in
     let total : n ≡ sum (len b ∷ []) = w.fits.2 ∙ ap sum (first.2 ∙ ap (λ l. len b ∷ l) empty) in
-    column_exactly (node ty n chunked (slot b ss)) b (sym first.1) (omega (arith, total, sum_by-cons (λ x. x) (len b) []))
-    (ap (λ l. rows b ++ l) (none_rows ss none) ∙ append-nil (rows b)) clean
+    let shown = ap (λ l. rows b ++ l) (none_rows ss none) ∙ append-nil (rows b) in
+    record {
+      keeps = record {
+        same_type = sym first.1;
+        same_len = omega (arith, total, sum_by-cons (λ x. x) (len b) []);
+        same_rows = rows_equal _ _ shown;
+        still_clean = λ k. k.1.0;
+      };
+      equal = shown;
+    }
   where
     no_lengths : (ns : List ℕ) → [] ≡ of_lengths ty ns → ns ≡ []
     no_lengths [] e = refl
@@ -327,7 +341,7 @@ chunks_used (node ty n d ss) k opened none some =
     let e = chunk_data d k in
     let left = left_typed ty n ss (subst (λ x. IsOpen (node ty n x ss)) e opened) in
     subst (λ x. IsStepTo (node ty n x ss) (node ty n x ss) Done) (sym e)
-    (inr (refl, record { used = (refl, some_absent ss none some, left.0, left.1); kept = λ b part clean. firmly _ _ (used_exactly ty n ss none b part clean); falls = omega arith }))
+    (inr (refl, record { used = (refl, some_absent ss none some, left.0, left.1); kept = λ b part. firmly _ _ (used_exactly ty n ss none b part); falls = omega arith }))
 
 -- ---- no chunks at all
 

@@ -1,20 +1,15 @@
 -- The steps of a dictionary.
-use Rattle.std.proofs.Common.{◌≡◌, inl, inr, true, false, refl, sym, ◌∙◌, ap, subst, arith}
+use Rattle.std.proofs.Common.{◌≡◌, ◌∙◌, inl, inr, true, false, refl, sym, ap, arith}
 use Rattle.std.proofs.lemmas.Bool.{false≢true}
 use Rattle.vx_value.specs.Types as type
 use Rattle.vx_value.specs.Types.{DataType}
-use Rattle.vx_value.specs.Storage.{is_nested}
 use Rattle.vx_value.specs.declared.error.VortexError.{VortexError}
-use Rattle.vx_value.proofs.NullabilitiesLemmas.{nested_kept}
-use Rattle.vx_fn.specs.Meanings.{widen}
-use Rattle.vx_tree.specs.Tree.{Tree, dict, dict_of, dtype, datum, is_columnar}
+use Rattle.vx_tree.specs.Tree.{Tree, dict_of, dtype, datum, is_columnar}
 use Rattle.vx_tree.specs.SlotTypes.{is_integer}
 use Rattle.vx_tree.specs.Columns.{IsColumn}
-use Rattle.vx_tree.specs.Support.{supports}
 use Rattle.vx_tree.specs.Well.{IsNodeOf, IsWell}
 use Rattle.vx_tree.proofs.ColumnsLemmas.{column_known}
 use Rattle.vx_tree.proofs.KeepsLemmas.{column_exactly}
-use Rattle.vx_tree.proofs.SupportLemmas.{supports_unnested}
 use Rattle.vx_column.specs.Casts.{IsIntegerType}
 use Rattle.vx_column.specs.LookedUp.{AreTaken, AreNotTaken}
 use Rattle.vx_step.specs.Steps.{HasNoShortcut, IsAnswer, IsDone, IsReady, IsFailed}
@@ -25,12 +20,6 @@ use Rattle.vx_step.proofs.StepsLemmas.{unless_filter, column_done}
 integer_type : (t : DataType) → is_integer t ≡ true → IsIntegerType t
 integer_type (type.primitive p m) h = (p, refl)
 integer_type _ h = absurd (false≢true h)
-
--- a dictionary has no nested type, so its values don't
-pub values_unnested : (t codes values : Tree) → t ≡ dict_of codes values → supports (datum t) (dtype t) ≡ true → is_nested (dtype values) ≡ false
-values_unnested t codes values shown h =
-    sym (nested_kept _ (dtype values))
-    ∙ supports_unnested dict (widen (dtype codes) (dtype values)) refl (subst (λ x. supports (datum x) (dtype x) ≡ true) shown h)
 
 module _ (codes values : Tree) where
   pub codes_integer : IsNodeOf (dict_of codes values) → IsIntegerType (dtype codes)

@@ -3,7 +3,6 @@ use Rattle.std.proofs.Common.{◌≡◌, inl, inr, ℕ, List, [], ◌∷◌, map
 use Rattle.std.proofs.lemmas.Bool.{false≢true}
 use Rattle.vx_value.specs.Types as type
 use Rattle.vx_value.specs.Types.{DataType}
-use Rattle.vx_value.specs.Storage.{is_nested}
 use Rattle.vx_value.specs.declared.dtype.Nullability.TheVariants.{NonNullable}
 use Rattle.vx_value.specs.declared.error.VortexError.{VortexError}
 use Rattle.vx_tree.specs.Tree.{Tree, Slots, node, filled_slots, interleave, dtype, len, datum, all_present, is_columnar, is_constant}
@@ -12,11 +11,9 @@ use Rattle.vx_tree.specs.Shapes.{shapes}
 use Rattle.vx_tree.specs.Cells.{rows, slots_rows, HasNoFault}
 use Rattle.vx_tree.specs.Columns.{IsColumn}
 use Rattle.vx_tree.specs.Lookups.{paired_cells}
-use Rattle.vx_tree.specs.Support.{supports}
 use Rattle.vx_tree.specs.Well.{IsNode, IsWell}
 use Rattle.vx_tree.proofs.ColumnsLemmas.{column_known}
 use Rattle.vx_tree.proofs.KeepsLemmas.{column_exactly}
-use Rattle.vx_tree.proofs.SupportLemmas.{supports_unnested}
 use Rattle.vx_column.specs.Interleaved.{IsIndexType, AreOfType}
 use Rattle.vx_step.specs.Steps.{IsAnswer, IsDone, IsFailed, AwaitsAt}
 use Rattle.vx_step.specs.Waiting.{AreColumns, ArePairs, IsPaired, IsNotPaired}
@@ -42,11 +39,11 @@ filled_rows [] = refl
 filled_rows (t ∷ ts) = ap (λ l. rows t ∷ l) (filled_rows ts)
 
 -- what the slots of interleaved rows are
-pairs : (ty : DataType) (n : ℕ) (ts : List Tree) → IsNode ty n interleave (shapes (filled_slots ts)) → is_nested ty ≡ false → ArePairs ts
-pairs ty n [] w plain = absurd (cc (w.4))
-pairs ty n (a ∷ []) w plain = absurd (cc (w.4))
-pairs ty n (a ∷ r ∷ []) w plain = absurd (cc (w.4))
-pairs ty n (a ∷ r ∷ v ∷ vs) w plain =
+pairs : (ty : DataType) (n : ℕ) (ts : List Tree) → IsNode ty n interleave (shapes (filled_slots ts)) → ArePairs ts
+pairs ty n [] w = absurd (cc (w.4))
+pairs ty n (a ∷ []) w = absurd (cc (w.4))
+pairs ty n (a ∷ r ∷ []) w = absurd (cc (w.4))
+pairs ty n (a ∷ r ∷ v ∷ vs) w =
     let first : dtype a ≡ w.0 = cc (w.4) in
     let second : dtype r ≡ w.1 = cc (w.4) in
     let long : len a ≡ n = cc (w.4) in
@@ -59,7 +56,6 @@ pairs ty n (a ∷ r ∷ v ∷ vs) w plain =
       long = same ∙ sym long;
       some = omega arith;
       typed = subst (λ s. AreOfType s (v ∷ vs)) (sym typed.0) typed;
-      unnested = ap is_nested typed.0 ∙ plain;
     }
 
 paired_done : (ty : DataType) (n : ℕ) (ts : List Tree) → IsNode ty n interleave (shapes (filled_slots ts)) → AreColumns (filled_slots ts) → (u : Tree)
@@ -101,10 +97,9 @@ module _ (t : Tree) (ss : Slots) (shown : t ≡ node (dtype t) (len t) interleav
       (unless_filter (node (dtype t) (len t) interleave ss) refl, (each_executed i, awaited), refl)
 
   module _ (ts : List Tree) (filled : filled_slots ts ≡ ss) where
-    pub may_pair : supports (datum t) (dtype t) ≡ true → ArePairs ts
-    may_pair supported =
+    pub may_pair : ArePairs ts
+    may_pair =
         pairs (dtype t) (len t) ts (subst (λ x. IsNode (dtype t) (len t) interleave (shapes x)) (sym filled) well)
-        (supports_unnested interleave (dtype t) refl (subst (λ d. supports d (dtype t) ≡ true) (ap datum shown) supported))
 
     whole : node (dtype t) (len t) interleave (filled_slots ts) ≡ t
     whole = ap (node (dtype t) (len t) interleave) filled ∙ sym shown

@@ -1,7 +1,7 @@
 -- The column that a node steps to, and why a function has none.
 use Rattle.std.proofs.Common.{◌≡◌, inl, inr, ℕ, zero, suc, Option, None, ◌<◌, ◌&&◌, nat_lt, List, [], ◌∷◌, map, true, false, Some, refl, sym, ◌∙◌, ap, subst, arith}
 use Rattle.vx_value.specs.Types.{DataType}
-use Rattle.vx_value.specs.Storage.{is_nested}
+use Rattle.vx_value.specs.Supported.{has_columns}
 use Rattle.vx_value.specs.declared.error.VortexError.{VortexError}
 use Rattle.vx_fn.specs.ReturnTypes.{return_type}
 use Rattle.vx_fn.specs.declared.function.ScalarFnRef.{ScalarFnRef}
@@ -14,13 +14,11 @@ use Rattle.vx_tree.specs.Columns.{IsColumn}
 use Rattle.vx_tree.proofs.ColumnsLemmas.{column_known, canonical_columnar, canonical_open}
 use Rattle.vx_step.proofs.TurnsLemmas.{top_paid, top_own}
 use Rattle.vx_tree.specs.Cells.{rows, HasNoFault, IsClean}
-use Rattle.vx_tree.specs.Support.{supports}
 use Rattle.vx_tree.specs.Well.{IsNode, IsWell, shapes}
 use Rattle.vx_tree.proofs.FirmLemmas.{firmly}
 use Rattle.vx_tree.specs.Keeps.{KeepsExactly}
 use Rattle.vx_tree.proofs.CallsLemmas.{filled_types}
 use Rattle.vx_tree.proofs.RefusalsLemmas.{types_back, present_types}
-use Rattle.vx_tree.proofs.SupportLemmas.{supports_unnested}
 use Rattle.vx_step.specs.Steps.{HasNoShortcut, IsAnswer, AwaitsAt, IsDone, IsReady, IsDue, IsFailed, AreReady, are_constant, gives_constant}
 use Rattle.vx_step.specs.Waiting.{AreColumns}
 use Rattle.vx_step.specs.declared.whole.Answer.TheVariants.{Wait}
@@ -147,12 +145,9 @@ module _ (f : ScalarFnRef) (t : Tree) (ss : Slots) (ts : List Tree) (shown : t �
       let types : map dtype ts ≡ well.0 = sym (filled_types ts) ∙ ap (λ x. types_in (shapes x)) filled ∙ ap types_in well.1 ∙ types_back (len t) well.0 in
       ap (return_type f) types ∙ well.2
 
-  -- and gives no nested values
-  pub call_unnested : supports (datum t) (dtype t) ≡ true → (ty : DataType) → return_type f (map dtype ts) ≡ Some ty → is_nested ty ≡ false
-  call_unnested supported ty row =
-      let same : dtype t ≡ ty = cc (sym typed ∙ row) in
-      let plain = supports_unnested (function f) (dtype t) refl (subst (λ d. supports d (dtype t) ≡ true) (ap datum shown) supported) in
-      subst (λ u. is_nested u ≡ false) same plain
+  -- and there are columns of what it gives
+  pub call_columns : has_columns (dtype t) ≡ true → (ty : DataType) → return_type f (map dtype ts) ≡ Some ty → has_columns ty ≡ true
+  call_columns columns ty row = let same : dtype t ≡ ty = cc (sym typed ∙ row) in subst (λ u. has_columns u ≡ true) same columns
 
   pub may_call : IsCall f ts (len t)
   may_call = (dtype t, subst (λ x. IsNode (dtype t) (len t) (function f) (shapes x)) (sym filled) well)

@@ -36,10 +36,10 @@ pub record IsAppend (i : ℕ) (t : Tree) : Type 0 where
   pub column : (c p : Tree) → IsWithout i c p t → is_columnar (datum c) ≡ true
   pub typed : (c p : Tree) → IsWithout i c p t → dtype c ≡ dtype t
   -- the node without the slot, and with its rows as content, stands for t exactly
-  pub begins : (b c p : Tree) → IsWithout i c p t → IsClean b → rows b ≡ rows c → KeepsFirmly t (with_content b p)
+  pub begins : (b c p : Tree) → IsWithout i c p t → (IsClean c → IsClean b) → rows b ≡ rows c → KeepsFirmly t (with_content b p)
   pub begun : (b c p : Tree) → IsWithout i c p t → IsNodeOf t → shape_of b ≡ shape_of c → IsPart b p
   -- so does the node without the slot, and with its rows added to its content, for t with the content
-  pub continues : (a b c p : Tree) → IsWithout i c p t → IsClean b → rows b ≡ rows a ++ rows c → KeepsFirmly (with_content a t) (with_content b p)
+  pub continues : (a b c p : Tree) → IsWithout i c p t → (IsClean a → IsClean c → IsClean b) → rows b ≡ rows a ++ rows c → KeepsFirmly (with_content a t) (with_content b p)
   pub continued : (a b c p : Tree) → IsWithout i c p t → IsPart a t → dtype b ≡ dtype t → len b ≡ len a + len c → IsPart b p
   -- fewer turns are left
   pub falls : (c p : Tree) → IsWithout i c p t → node_potential p < node_potential t
@@ -47,6 +47,6 @@ pub record IsAppend (i : ℕ) (t : Tree) : Type 0 where
 -- t is used up: with content of its type and length, it stands exactly for that
 pub record IsUsedUp (t : Tree) : Type 0 where
   pub used : IsUsed t
-  pub kept : (b : Tree) → IsPart b t → IsClean b → KeepsFirmly (with_content b t) b
+  pub kept : (b : Tree) → IsPart b t → KeepsFirmly (with_content b t) b
   -- more turns than a canonical column has
   pub falls : 1 < node_potential t

@@ -1,9 +1,10 @@
 //! Columns appended to builders.
 
 ghost use Rattle.std.specs.Prelude.{◌≡◌, None, IfErr, OnOk, OnErr};
-ghost use Rattle.vx_tree.specs.Cells.{rows, HasNoFault};
+ghost use Rattle.vx_tree.specs.Cells.{HasNoFault};
 ghost use Rattle.vx_tree.specs.Canonicals.{columnar_tree};
-ghost use Rattle.vx_column.specs.Built.{appended, values_in, column_refusal, IsUnappended};
+ghost use Rattle.vx_column.specs.Expanded.{expansion};
+ghost use Rattle.vx_column.specs.Grown.{with_column, cells_read, column_refusal, IsUnappended};
 
 use std::alloc::Global;
 use vx_column::Builder;
@@ -14,15 +15,16 @@ use vx_value::VortexResult;
 ///
 /// The first condition that fails gives the error: `InvalidArgument` with `BadType` exactly if `column` isn't of the builder's
 /// type, nullability included, then `TooLong` exactly if there would be more than `usize::MAX` rows, then `Fault` exactly if a row
-/// of `column` is a fault. Otherwise the only error is `OutOfMemory`.
+/// that is read has no value: of a nested type, one of the validity alone. Otherwise the only error is `OutOfMemory`.
 pub fn append_to_builder(
     alloc: Global,
     column: &Columnar,
     builder: &mut Builder,
 ) -> VortexResult<()>
-    ensures ok { OnOk result (builder.new ≡ appended builder.old (values_in (rows (columnar_tree column.now)))) }
+    ensures ok { OnOk result (builder.new ≡ with_column builder.old (columnar_tree column.now)) }
     ensures err { OnErr result (builder.new ≡ builder.old) }
-    ensures valid { OnOk result ((column_refusal builder.old (columnar_tree column.now) ≡ None) × HasNoFault (rows (columnar_tree column.now))) }
+    ensures valid { OnOk result ((column_refusal builder.old (columnar_tree column.now) ≡ None)
+        × HasNoFault (cells_read builder.old.of_type (expansion (columnar_tree column.now)))) }
     ensures refused { IfErr result (IsUnappended builder.old (columnar_tree column.now)) }
 {
     builder.append_column(alloc, column)

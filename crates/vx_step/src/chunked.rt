@@ -16,7 +16,7 @@ use vx_value::VortexResult;
 
 /// Requests the first chunk that is there as a column, and its rows once it is one. Without chunks the result is the empty column;
 /// once all are used up, it is the node as it is. Fails only with `OutOfMemory`.
-#[tactic(auto, using(crate::proofs::ContentsLemmas::chunks_empty, crate::proofs::ContentsLemmas::chunks_used, vx_tree::proofs::SupportLemmas::supports_columns))]
+#[tactic(auto, using(crate::proofs::ContentsLemmas::chunks_empty, crate::proofs::ContentsLemmas::chunks_used))]
 pub(crate) fn append_or_wait(alloc: Global, array: Suspended) -> VortexResult<ExecutionResult>
     requires chunked { is_chunked (datum array) ≡ true }
     requires slots { IsOpen array }

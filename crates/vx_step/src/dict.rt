@@ -1,8 +1,7 @@
 //! One step of a dictionary.
 
-ghost use Rattle.std.specs.Prelude.{◌≡◌, IfOk, IfErr, false};
-ghost use Rattle.vx_value.specs.Storage.{is_nested};
-ghost use Rattle.vx_tree.specs.Tree.{dict_of, dtype};
+ghost use Rattle.std.specs.Prelude.{IfOk, IfErr};
+ghost use Rattle.vx_tree.specs.Tree.{dict_of};
 ghost use Rattle.vx_tree.specs.Well.{IsNodeOf};
 ghost use Rattle.vx_step.specs.Steps.{IsAnswer, IsFailed};
 
@@ -13,7 +12,7 @@ use vx_column::take_rows;
 use vx_tree::{ArrayRef, Columnar, IntoArray};
 use vx_value::VortexResult;
 
-/// Requests `codes` as a column, then `values`, whose type must not be nested; looks the values up once both are.
+/// Requests `codes` as a column, then `values`; looks the values up once both are.
 #[tactic(auto, using(crate::proofs::DictLemmas::codes_wait, crate::proofs::DictLemmas::values_wait, crate::proofs::DictLemmas::codes_integer))]
 pub(crate) fn take_or_wait(
     alloc: Global,
@@ -21,7 +20,6 @@ pub(crate) fn take_or_wait(
     values: &ArrayRef,
 ) -> VortexResult<Answer>
     requires node { IsNodeOf (dict_of codes.now values.now) }
-    requires unnested { is_nested (dtype values.now) ≡ false }
     ensures ok { IfOk result (IsAnswer (dict_of codes.now values.now)) }
     ensures err { IfErr result (IsFailed (dict_of codes.now values.now)) }
 {

@@ -34,7 +34,7 @@ pub(crate) enum Answer {
 /// # Errors
 ///
 /// `Fault` only if a row of `array`, or of a node in it, has no value; `OutOfMemory`.
-#[tactic(auto, using(crate::proofs::StepsLemmas::constant_done, crate::proofs::DictLemmas::values_unnested))]
+#[tactic(auto, using(crate::proofs::StepsLemmas::constant_done))]
 pub(crate) fn step_of(alloc: Global, array: &ArrayRef) -> VortexResult<Answer>
     requires open { is_canonical (datum array.now) ≡ false }
     requires unchunked { is_chunked (datum array.now) ≡ false }

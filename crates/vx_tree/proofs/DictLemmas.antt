@@ -1,13 +1,9 @@
 -- Dictionaries: their parts, and how they are opened.
 use Rattle.std.proofs.Common.{◌≡◌, ◌≢◌, ℕ, List, [], ◌∷◌, length, get_or, true, Option, Some, None, refl, sym, ap, subst, ◌∙◌, arith}
-use Rattle.std.specs.Prelude.{option_map, Bool, false, not}
 use Rattle.std.specs.Cmp.{unsigned_Decides}
 use Rattle.vx_value.specs.Types.{DataType, same_type_Decides}
-use Rattle.vx_value.specs.View.{type_of}
-use Rattle.vx_value.specs.Storage.{is_nested}
-use Rattle.vx_value.proofs.NullabilitiesLemmas.{nested_kept}
-use Rattle.vx_tree.specs.Support.{supports}
-use Rattle.vx_tree.proofs.SupportLemmas.{unnested_supports}
+use Rattle.vx_value.specs.Supported.{has_columns}
+use Rattle.vx_value.proofs.SupportedLemmas.{columns_kept}
 use Rattle.vx_value.specs.declared.error.VortexError.TheVariants.{InvalidArgument}
 use Rattle.vx_value.specs.declared.error.ArgKind.TheVariants.{SlotCount, SlotMissing}
 use Rattle.vx_fn.specs.Meanings.{widen}
@@ -99,11 +95,7 @@ kind_dict n well z w c v e g s i r =
     let counted : n.len ≡ len c = sym (ap len_in o.3) ∙ ap len codes_are in
     ((λ j. node ((h.5 ∙ (λ k. widen (coded k) (typed k))) j) (counted j) (e j) (slots_of (slots_are j))), well)
 
--- ---- its type, which isn't nested if its values' isn't
+-- ---- its type has columns if its values' has
 
-unset : (b : Bool) → not b ≡ true → b ≡ false
-unset true h = absurd (cc)
-unset false h = refl
-
-pub named_supported : (ty c s : DataType) → ty ≡ widen c s → not (is_nested s) ≡ true → supports enc.dict ty ≡ true
-named_supported ty c s typed h = unnested_supports enc.dict ty (ap is_nested typed ∙ nested_kept _ s ∙ unset (is_nested s) h)
+pub named_columns : (ty c s : DataType) → ty ≡ widen c s → has_columns s ≡ true → has_columns ty ≡ true
+named_columns ty c s typed h = ap has_columns typed ∙ columns_kept _ s ∙ h

@@ -14,7 +14,6 @@ pub mod TypedLemmas
 pub mod ReplacementsLemmas
 pub mod FieldNamesLemmas
 pub mod EmptyLemmas
-pub mod SupportLemmas
 pub mod StructSlotsLemmas
 pub mod StructToldLemmas
 pub mod NativesLemmas

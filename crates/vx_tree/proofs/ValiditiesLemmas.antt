@@ -6,7 +6,6 @@ use Rattle.std.proofs.Common.{None}
 use Rattle.std.proofs.Common.{refl}
 use Rattle.vx_value.specs.Storage.{is_nested}
 use Rattle.vx_value.specs.Supported.{has_columns}
-use Rattle.vx_tree.specs.Support.{supports}
 use Rattle.vx_value.proofs.NullabilitiesLemmas.{nested_kept}
 use Rattle.std.proofs.Common.{sym}
 use Rattle.std.proofs.Common.{ap}
@@ -324,5 +323,5 @@ rows_allowed n (validity.Array t) h = tree_allowed t n h.1 h.2
 rows_allowed n _ h = refl
 
 -- there are columns of the type of a constant's value
-pub constant_supported : (t : Tree) (v : Typed) (n : ℕ) → t ≡ constant_of v n → supports (datum t) (dtype t) ≡ true → has_columns v.of_type ≡ true
-constant_supported t v n shown h = subst (λ u. supports (datum u) (dtype u) ≡ true) shown h
+pub constant_supported : (t : Tree) (v : Typed) (n : ℕ) → t ≡ constant_of v n → has_columns (dtype t) ≡ true → has_columns v.of_type ≡ true
+constant_supported t v n shown h = subst (λ u. has_columns (dtype u) ≡ true) shown h

@@ -6,19 +6,19 @@ use Rattle.vx_value.specs.declared.error.VortexError.TheVariants.{InvalidArgumen
 use Rattle.vx_value.specs.declared.error.ArgKind.TheVariants.{ChildLen, NoChildren, NoRow}
 use Rattle.vx_fn.specs.ReturnTypes.{return_type}
 use Rattle.vx_fn.specs.declared.function.ScalarFnRef.{ScalarFnRef}
-use Rattle.vx_tree.specs.Tree.{Tree, dtype, len, call_of, arity_refusal, codes_refusal, first_type, interleaved_refusal}
+use Rattle.vx_tree.specs.Tree.{Tree, dtype, len, call_of, arity_refusal}
 use Rattle.vx_tree.specs.Conditions.{first_of_both, unless}
-use Rattle.vx_tree.specs.Support.{nested_refusal}
+use Rattle.vx_tree.specs.Support.{columns_refusal}
 
 -- each tree has n rows
 abbrev pub all_of_len : ℕ → List Tree → Bool
 all_of_len n [] = true
 all_of_len n (t ∷ ts) = (len t == n) && all_of_len n ts
 
--- NoRow if the function takes no arguments of these types, BadType if its result is nested: there are no such columns yet
+-- NoRow if the function takes no arguments of these types, BadType if its result has no columns
 abbrev pub row_refusal : Option DataType → Option VortexError
 row_refusal None = Some (InvalidArgument NoRow)
-row_refusal (Some ty) = nested_refusal ty
+row_refusal (Some ty) = columns_refusal ty
 
 -- why the function can't be applied to the trees with n rows, None if it can
 abbrev pub call_refusal : ScalarFnRef → List Tree → ℕ → Option VortexError
@@ -39,11 +39,3 @@ called f ts n = option_map (λ ty. call_of f ty n ts) (return_type f (map dtype 
 abbrev pub inferred : ScalarFnRef → List Tree → Option Tree
 inferred f [] = None
 inferred f (t ∷ ts) = called f (t ∷ ts) (len t)
-
--- ---- nodes of rows that other rows name, whose values aren't nested
-
-abbrev pub named_rows_refusal : Tree → Tree → Option VortexError
-named_rows_refusal codes values = first_of_both (codes_refusal (dtype codes)) (nested_refusal (dtype values))
-
-abbrev pub interleaved_rows_refusal : Tree → Tree → List Tree → Option VortexError
-interleaved_rows_refusal arrays rows ts = first_of_both (nested_refusal (first_type ts)) (interleaved_refusal arrays rows ts)

@@ -1,8 +1,8 @@
 -- Which trees are well formed: the invariant of an `ArrayRef`.
 use Rattle.std.specs.Prelude.{ℕ, List, Option, ◌≡◌, true}
 use Rattle.vx_value.specs.Types.{DataType}
-use Rattle.vx_tree.specs.Tree.{Tree, dtype, datum, Data, Slots, node, no_slots, absent, slot, meaning}
-use Rattle.vx_tree.specs.Support.{supports}
+use Rattle.vx_tree.specs.Tree.{Tree, dtype, Data, Slots, node, no_slots, absent, slot, meaning}
+use Rattle.vx_value.specs.Supported.{has_columns}
 pub use Rattle.vx_tree.specs.Shapes.{Shape, shape, shape_of, shapes, IsValidity, IsFlat}
 
 -- the conditions on a node, its slots' own apart
@@ -24,4 +24,4 @@ abbrev mutual
 
 -- the invariant of an array
 abbrev pub IsTree : Tree → Type 0
-IsTree t = IsWell t × supports (datum t) (dtype t) ≡ true
+IsTree t = IsWell t × has_columns (dtype t) ≡ true

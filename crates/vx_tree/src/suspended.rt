@@ -2,7 +2,7 @@
 
 ghost use Rattle.std.specs.Prelude.{◌≡◌, ◌==◌, ◌⊎◌, ◌+◌, ◌^◌, ◌<◌, ◌≤◌, IfOk, MatchOption, true};
 ghost use Rattle.vx_value.specs.View.{type_of};
-ghost use Rattle.vx_tree.specs.Support.{supports};
+ghost use Rattle.vx_value.specs.Supported.{has_columns};
 ghost use Rattle.vx_tree.specs.Tree.{dtype, len, datum, slots, slots_of};
 ghost use Rattle.vx_tree.specs.TreeView.{data_of};
 ghost use Rattle.vx_value.specs.Errors.{OnlyOutOfMemory};
@@ -39,14 +39,14 @@ impl Model for Suspended {
 
     ghost use Rattle.vx_tree.specs.TreeView.{tree_of};
     ghost use Rattle.std.specs.Prelude.{◌≡◌, true};
-    ghost use Rattle.vx_tree.specs.Support.{supports};
-    ghost use Rattle.vx_tree.specs.Tree.{slots, datum, dtype};
+    ghost use Rattle.vx_value.specs.Supported.{has_columns};
+    ghost use Rattle.vx_tree.specs.Tree.{slots, dtype};
     ghost use Rattle.vx_tree.specs.Slots.{NoneBefore};
 
     ghost view = { λ a. tree_of a.node.value };
 
     ghost invariant = { λ a. NoneBefore a.first (slots (tree_of a.node.value))
-        × supports (datum (tree_of a.node.value)) (dtype (tree_of a.node.value)) ≡ true };
+        × has_columns (dtype (tree_of a.node.value)) ≡ true };
 }
 
 impl ArrayRef {
@@ -106,7 +106,7 @@ impl Suspended {
     /// Returns the type of the rows.
     pub fn dtype(&self) -> &DType
         ensures dtype { type_of result.now ≡ dtype self.now }
-        ensures supported { supports (datum self.now) (dtype self.now) ≡ true }
+        ensures supported { has_columns (dtype self.now) ≡ true }
     {
         &self.node.dtype
     }

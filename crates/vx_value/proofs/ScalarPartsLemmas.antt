@@ -1,5 +1,5 @@
 -- Nested scalars are of their types, and so are their parts.
-use Rattle.std.proofs.Common.{◌≡◌, ℕ, suc, ◌+◌, ◌<◌, Bool, true, ◌&&◌, List, [], ◌∷◌, ◌++◌, length, drop, Option, None, Some}
+use Rattle.std.proofs.Common.{◌≡◌, ℕ, zero, suc, ◌+◌, ◌<◌, ◌≤◌, Bool, true, ◌&&◌, List, [], ◌∷◌, ◌++◌, length, drop, slice_get, Option, None, Some}
 use Rattle.std.proofs.Common.{refl, sym, ◌∙◌, ap, arith, append_assoc}
 use Rattle.std.specs.List.{All}
 use Rattle.std.specs.Cmp.{first_so, second_so}
@@ -13,12 +13,14 @@ use Rattle.vx_value.specs.View.{type_of, fields_of, cell_of, values_of}
 use Rattle.vx_value.specs.IsOf.{is_of, are_of}
 use Rattle.vx_value.specs.Fits.{or_else, list_overflow, named_overflow, ListsFit}
 use Rattle.vx_value.specs.Typed.{Typed}
-use Rattle.vx_value.specs.ScalarParts.{values_in, IsSound, AreFields, HaveFields, fields_by}
+use Rattle.vx_value.specs.Defaults.{default_of}
+use Rattle.vx_value.specs.ScalarParts.{values_in, IsSound, AreFields, HaveFields, fields_by, fields_of_type, fields_in}
+use Rattle.vx_value.specs.declared.dtype.Nullability.{Nullability}
 use Rattle.vx_value.specs.declared.nested.Field.{Field}
 use Rattle.vx_value.specs.declared.scalar.ScalarValue.{ScalarValue}
 use Rattle.vx_value.proofs.DefaultsLemmas.{both_true}
 use Rattle.vx_value.proofs.TypedLemmas.{bare_typed}
-use Rattle.vx_value.proofs.FitsLemmas.{named_at}
+use Rattle.vx_value.proofs.FitsLemmas.{named_at, named_past}
 
 -- ---- extensions
 
@@ -122,3 +124,59 @@ present_at fs vs i f v p q =
 -- one more is made of those to come
 pub one_more : (all done more rest after : List Typed) (s : Typed) → all ≡ done ++ rest → rest ≡ s ∷ after → more ≡ done ++ s ∷ [] → all ≡ more ++ after
 one_more all done more rest after s h e m = h ∙ ap (λ xs. done ++ xs) e ∙ sym (append_assoc done (s ∷ []) after) ∙ ap (λ xs. xs ++ after) (sym m)
+
+-- ---- one field of a struct
+
+-- the values after a place are of their types, and their lists fit
+pub typed_after : (fs : List Field) (vs : List (Option ScalarValue)) (i : ℕ) → are_of (fields_of fs) (values_of vs) ≡ true
+    → are_of (fields_of (drop i fs)) (values_of (drop i vs)) ≡ true
+typed_after fs vs zero h = h
+typed_after [] [] (suc i) h = refl
+typed_after [] (v ∷ vs) (suc i) h = absurd (cc)
+typed_after (f ∷ fs) [] (suc i) h = absurd (cc)
+typed_after (f ∷ fs) (v ∷ vs) (suc i) h =
+    typed_after fs vs i (second_so (is_of (type_of f.dtype) (cell_of v)) (are_of (fields_of fs) (values_of vs)) h)
+
+pub fit_after : (fs : List Field) (vs : List (Option ScalarValue)) (i : ℕ) → named_overflow (fields_of fs) (values_of vs) ≡ None
+    → named_overflow (fields_of (drop i fs)) (values_of (drop i vs)) ≡ None
+fit_after fs vs zero h = h
+fit_after [] vs (suc i) h = refl
+fit_after (f ∷ fs) [] (suc i) h = let past : 0 ≤ suc i = omega arith in named_past (f ∷ fs) [] (suc i) past
+fit_after (f ∷ fs) (v ∷ vs) (suc i) h =
+    fit_after fs vs i (neither_some (list_overflow (type_of f.dtype) (cell_of v)) (named_overflow (fields_of fs) (values_of vs)) h).1
+
+-- the field at a place is of the type there, with the value there
+pub field_at : (fs : List Field) (vs : List (Option ScalarValue)) (i : ℕ) (f : Field) (v : Option ScalarValue) → i < length fs → i < length vs
+    → slice_get (fields_by (fields_of fs) (value.fields (values_of vs))) i
+    ≡ Some (record { of_type = type_of (get_or fs i f).dtype; value = cell_of (get_or vs i v) })
+field_at [] vs i f v p q = absurd (omega (arith, p))
+field_at (g ∷ fs) [] i f v p q = absurd (omega (arith, q))
+field_at (g ∷ fs) (w ∷ vs) zero f v p q = refl
+field_at (g ∷ fs) (w ∷ vs) (suc i) f v p q = let a : i < length fs = omega (arith, p) in let b : i < length vs = omega (arith, q) in field_at fs vs i f v a b
+
+-- of a null struct it is the default value of that type
+default_at : (fs : List Field) (i : ℕ) (f : Field) → i < length fs
+    → slice_get (fields_by (fields_of fs) value.null) i
+    ≡ Some (record { of_type = type_of (get_or fs i f).dtype; value = default_of (type_of (get_or fs i f).dtype) })
+default_at [] i f p = absurd (omega (arith, p))
+default_at (g ∷ fs) zero f p = refl
+default_at (g ∷ fs) (suc i) f p = let a : i < length fs = omega (arith, p) in default_at fs i f a
+
+-- as many scalars as fields
+as_many : (fs : List Field) (v : Value) → length (fields_by (fields_of fs) v) ≡ length fs
+as_many [] v = refl
+as_many (f ∷ fs) (value.fields (value.item v vs)) = let rest = as_many fs (value.fields vs) in omega (arith, rest)
+as_many (f ∷ fs) (value.fields value.no_values) = let rest = as_many fs (value.fields value.no_values) in omega (arith, rest)
+as_many (f ∷ fs) v = let rest = as_many fs v in omega (arith, rest)
+
+-- a place among the fields of a struct
+pub among_fields : (s : Typed) (fs : List Field) (n : Nullability) (i : ℕ) → type.struct (fields_of fs) n ≡ s.of_type → i < length (fields_in s)
+    → i < length fs
+among_fields s fs n i e p =
+    let same : length (fields_by (fields_of fs) s.value) ≡ length (fields_in s) = ap (λ t. length (fields_of_type t s.value)) e in
+    omega (arith, p, same, as_many fs s.value)
+
+pub null_field : (s : Typed) (fs : List Field) (n : Nullability) (i : ℕ) (f : Field) → type.struct (fields_of fs) n ≡ s.of_type → value.null ≡ s.value
+    → i < length fs
+    → slice_get (fields_in s) i ≡ Some (record { of_type = type_of (get_or fs i f).dtype; value = default_of (type_of (get_or fs i f).dtype) })
+null_field s fs n i f e v p = sym (λ k. slice_get (fields_of_type (e k) (v k)) i) ∙ default_at fs i f p

@@ -1,6 +1,6 @@
 //! Nested scalars made of their parts, and taken apart.
 
-ghost use Rattle.std.specs.Prelude.{◌≡◌, List, ℕ, IfOk, OnOk, true, None};
+ghost use Rattle.std.specs.Prelude.{◌≡◌, ◌<◌, List, ℕ, IfOk, OnOk, true, None, Some, length, slice_get};
 ghost use Rattle.std.specs.List.{All};
 ghost use Rattle.vx_value.specs.Errors.{OnlyOutOfMemory};
 ghost use Rattle.vx_value.specs.Types as type;
@@ -60,6 +60,26 @@ impl Scalar {
             _ => unreachable!(),
         }
     }
+
+    /// Returns field `index` of a struct, which must have it; the default value of its type if the struct is null. Fails only
+    /// with `OutOfMemory`. (own)
+    pub fn field(&self, alloc: Global, index: usize) -> VortexResult<Scalar>
+        requires structs { IsStruct self.now.of_type }
+        requires index { index < length (fields_in self.now) }
+        ensures ok { IfOk result (λ s. slice_get (fields_in self.now) index ≡ Some s) }
+        ensures err { OnlyOutOfMemory result }
+    {
+        match (self.dtype(), self.entry()) {
+            (DType::Struct(fields, _), Some(ScalarValue::Struct(values))) => {
+                present_field(fields.as_slice(), values.as_slice(), index)
+            }
+            (DType::Struct(fields, _), None) => {
+                let dtype = fields.as_slice()[index].dtype.clone()?;
+                Scalar::default_value(alloc, dtype)
+            }
+            _ => unreachable!(),
+        }
+    }
 }
 
 /// Returns the values of `parts`, without copying them.
@@ -102,6 +122,21 @@ fn present_fields(
         scalars.push(copied(&types[i].dtype, &values[i])?)?;
     }
     Ok(scalars)
+}
+
+/// Returns the scalar of type `index` among `types` with this one of the values.
+fn present_field(
+    types: &[Field],
+    values: &[Option<ScalarValue>],
+    index: usize,
+) -> VortexResult<Scalar>
+    requires typed { are_of (fields_of types.now) (values_of values.now) ≡ true }
+    requires fit { named_overflow (fields_of types.now) (values_of values.now) ≡ None }
+    requires index { index < length types.now }
+    ensures ok { IfOk result (λ s. slice_get (fields_by (fields_of types.now) (fields (values_of values.now))) index ≡ Some s) }
+    ensures err { OnlyOutOfMemory result }
+{
+    copied(&types[index].dtype, &values[index])
 }
 
 /// Returns the default values of `types`.

@@ -2,7 +2,6 @@
 
 ghost use Rattle.std.specs.Prelude.{◌≡◌, ◌<◌, false, length, IfOk, IfErr, IfSome, IfNone};
 ghost use Rattle.vx_value.specs.declared.dtype.Nullability.TheVariants.{Nullable};
-ghost use Rattle.vx_value.specs.Storage.{is_nested};
 ghost use Rattle.vx_tree.specs.Tree.{dtype, len};
 ghost use Rattle.vx_tree.specs.Cells.{rows};
 ghost use Rattle.vx_tree.specs.Canonicals.{canonical_tree};
@@ -27,7 +26,6 @@ pub(crate) fn take_each(
     requires places { length places.now ≡ len }
     requires valid { HasValidity valid.now len }
     requires within { AreWithin valid.now places.now values.now len }
-    requires unnested { is_nested (dtype values.now) ≡ false }
     ensures ok { IfOk result (λ c. AreNamedRows valid.now places.now values.now len (canonical_tree c)) }
     ensures err { IfErr result (IsNotLookedUp (named_cells valid.now places.now (rows values.now) len)) }
 {

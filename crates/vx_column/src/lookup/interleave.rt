@@ -3,12 +3,12 @@
 ghost use Rattle.std.specs.Prelude.{◌≡◌, ◌<◌, ◌&&◌, ℕ, false, true, map, length, replicate, IfOk, IfErr};
 ghost use Rattle.vx_value.specs.Errors.{OnlyOutOfMemory};
 ghost use Rattle.vx_value.specs.Cell.{value};
-ghost use Rattle.vx_value.specs.Storage.{is_nested};
+ghost use Rattle.vx_value.specs.Supported.{has_columns};
 ghost use Rattle.vx_tree.specs.Tree.{dtype, len as count, datum, is_constant};
 ghost use Rattle.vx_tree.specs.Cells.{rows};
 ghost use Rattle.vx_tree.specs.Lookups.{paired_cells};
 ghost use Rattle.vx_tree.specs.Canonicals.{columnar_tree, canonical_tree};
-ghost use Rattle.vx_column.specs.Interleaved.{AreInterleaved, IsInterleaving, IsNotInterleaving, IsIndexType, first_type, AreOfType, IsPaired, IsNotPaired, pair_cells};
+ghost use Rattle.vx_column.specs.Interleaved.{AreInterleaved, IsInterleaving, IsNotInterleaving, IsIndexType, first_type, AreOfType, IsPaired, IsNotPaired, pair_cell, pair_cells};
 ghost use Rattle.vx_column.specs.LookedUp.{IsCanonicalOf, IsLookedUp, IsNotLookedUp};
 
 use crate::builder::Builder;
@@ -20,7 +20,7 @@ use vx_value::{Scalar, VortexResult};
 
 /// Returns the column of which row i is row `row_indices[i]`, counted from 0, of column `array_indices[i]` of `values`. The
 /// indices must be non-nullable integers, as many of the one as of the other; there must be a column, and all must be of one
-/// type, which must not be nested and is the result's. The result is a constant if there is a row and both columns of indices are constants, else
+/// type, the result's. The result is a constant if there is a row and both columns of indices are constants, else
 /// canonical. Rows that no pair names aren't read. (own)
 ///
 /// # Errors
@@ -79,7 +79,6 @@ fn interleave_constant(
     requires array { IsIndexType array.now.of_type }
     requires row { IsIndexType row.now.of_type }
     requires typed { AreOfType (first_type (map columnar_tree values.now)) (map columnar_tree values.now) }
-    requires unnested { is_nested (first_type (map columnar_tree values.now)) ≡ false }
     requires some { 0 < len }
     ensures ok { IfOk result (λ u. IsLookedUp (first_type (map columnar_tree values.now)) len (paired_cells (map rows (map columnar_tree values.now))
         (replicate len (value array.now.value)) (replicate len (value row.now.value))) true (columnar_tree u)) }
@@ -128,13 +127,32 @@ fn interleave_each(
     let len = array_indices.len();
     let mut column = Builder::with_capacity(alloc, values[0].dtype().clone()?, len)?;
     for index in 0..len {
-        let array = execute_scalar(alloc, array_indices.as_array(), index)?;
-        let row = execute_scalar(alloc, row_indices.as_array(), index)?;
-        let scalar = row_paired(alloc, values, &array, &row)?;
+        let scalar = row_at(alloc, array_indices, row_indices, values, index)?;
         column.append_scalar(&scalar)?;
     }
     let _dtype = column.dtype();
     column.finish(alloc)
+}
+
+/// Returns the row that pair `index` names. `Fault` if there is no such value.
+fn row_at(
+    alloc: Global,
+    array_indices: &Columnar,
+    row_indices: &Columnar,
+    values: &[Columnar],
+    index: usize,
+) -> VortexResult<Scalar>
+    requires pairs { AreInterleaved (columnar_tree array_indices.now) (columnar_tree row_indices.now) (map columnar_tree values.now) }
+    requires index { index < count (columnar_tree array_indices.now) }
+    ensures ok { IfOk result (λ s. pair_cell (columnar_tree array_indices.now) (columnar_tree row_indices.now) (map columnar_tree values.now) index ≡ value s.value) }
+    ensures typed { IfOk result (λ s. s.of_type ≡ first_type (map columnar_tree values.now)) }
+    ensures err { IfErr result (IsNotLookedUp
+        (pair_cells (columnar_tree array_indices.now) (columnar_tree row_indices.now) (map columnar_tree values.now) (count (columnar_tree array_indices.now)))) }
+{
+    let array = execute_scalar(alloc, array_indices.as_array(), index)?;
+    let row = execute_scalar(alloc, row_indices.as_array(), index)?;
+    let scalar = row_paired(alloc, values, &array, &row)?;
+    Ok(scalar)
 }
 
 /// Returns row `row` of column `array` of `values`. `Fault` if there is no such value.
@@ -148,6 +166,7 @@ fn row_paired(
     requires row { IsIndexType row.now.of_type }
     requires typed { AreOfType (first_type (map columnar_tree values.now)) (map columnar_tree values.now) }
     ensures ok { IfOk result (IsPaired (map columnar_tree values.now) array.now row.now) }
+    ensures columns { IfOk result (λ s. has_columns s.of_type ≡ true) }
     ensures err { IfErr result (IsNotPaired (map columnar_tree values.now) array.now row.now) }
 {
     let Some(place) = place_of_code(array, values.len())? else {

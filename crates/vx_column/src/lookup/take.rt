@@ -3,7 +3,6 @@
 ghost use Rattle.std.specs.Prelude.{◌≡◌, ◌<◌, ℕ, false, true, length, replicate, IfOk, IfErr, MatchOption};
 ghost use Rattle.vx_value.specs.Errors.{OnlyOutOfMemory};
 ghost use Rattle.vx_value.specs.Cell.{value};
-ghost use Rattle.vx_value.specs.Storage.{is_nested};
 ghost use Rattle.vx_fn.specs.Meanings.{widen};
 ghost use Rattle.vx_tree.specs.Tree.{dtype, len, datum, is_constant};
 ghost use Rattle.vx_tree.specs.Cells.{rows};
@@ -25,7 +24,7 @@ use vx_tree::{ArrayKind, Canonical, Columnar};
 use vx_value::{Scalar, VortexError, VortexResult};
 
 /// Returns the rows of a dictionary: for each of `codes`, which must be integers, the row of `values` that it names, counted
-/// from 0; null if the code is null. The type is that of `values`, which must not be nested, nullable if the codes' type is.
+/// from 0; null if the code is null. The type is that of `values`, nullable if the codes' type is.
 /// The result is a constant if there is a row and `codes` is a constant, else canonical. Nothing is looked up under a null, and
 /// rows that no code names aren't read; the bytes of text are shared. (own)
 ///
@@ -35,7 +34,6 @@ use vx_value::{Scalar, VortexError, VortexResult};
 /// `OutOfMemory`.
 pub fn take_rows(alloc: Global, codes: &Columnar, values: &Columnar) -> VortexResult<Columnar>
     requires integers { IsIntegerType (dtype (columnar_tree codes.now)) }
-    requires unnested { is_nested (dtype (columnar_tree values.now)) ≡ false }
     ensures ok { IfOk result (λ u. AreTaken (columnar_tree codes.now) (columnar_tree values.now) (columnar_tree u)) }
     ensures err { IfErr result (AreNotTaken (columnar_tree codes.now) (columnar_tree values.now)) }
 {
@@ -61,7 +59,6 @@ pub(crate) fn code_of(codes: &Columnar) -> Option<&Scalar>
 /// Makes the empty column of the rows that `codes`, which must have none, names among `values`. Fails only with `OutOfMemory`.
 fn take_none(alloc: Global, codes: &Columnar, values: &Columnar) -> VortexResult<Columnar>
     requires none { len (columnar_tree codes.now) ≡ 0 }
-    requires unnested { is_nested (dtype (columnar_tree values.now)) ≡ false }
     ensures ok { IfOk result (λ u. AreTaken (columnar_tree codes.now) (columnar_tree values.now) (columnar_tree u)) }
     ensures err { OnlyOutOfMemory result }
 {
@@ -82,7 +79,6 @@ fn take_constant(
 ) -> VortexResult<Columnar>
     requires code { IsIntegerType code.now.of_type }
     requires some { 0 < len }
-    requires unnested { is_nested (dtype (columnar_tree values.now)) ≡ false }
     ensures ok { IfOk result (λ u. IsLookedUp (widen code.now.of_type (dtype (columnar_tree values.now))) len
         (taken_cells (replicate len (value code.now.value)) (rows (columnar_tree values.now))) true (columnar_tree u)) }
     ensures err { IfErr result (IsNotLookedUp (taken_cells (replicate len (value code.now.value)) (rows (columnar_tree values.now)))) }
@@ -117,7 +113,6 @@ pub(crate) fn place_of_code(code: &Scalar, bound: usize) -> VortexResult<Option<
 fn take_column(alloc: Global, codes: &Columnar, values: &Columnar) -> VortexResult<Columnar>
     requires integers { IsIntegerType (dtype (columnar_tree codes.now)) }
     requires stored { is_constant (datum (columnar_tree codes.now)) ≡ false }
-    requires unnested { is_nested (dtype (columnar_tree values.now)) ≡ false }
     ensures ok { IfOk result (λ u. AreTaken (columnar_tree codes.now) (columnar_tree values.now) (columnar_tree u)) }
     ensures err { IfErr result (AreNotTaken (columnar_tree codes.now) (columnar_tree values.now)) }
 {
@@ -132,7 +127,7 @@ fn take_column(alloc: Global, codes: &Columnar, values: &Columnar) -> VortexResu
 }
 
 /// Makes the column of the rows of `values` at `places`, `len` of them, which must exist; null in each row that isn't `valid`.
-/// Reads each row on its own if a row that may not be named has no value. `Fault` if one that is named has none.
+/// Reads each row on its own if the type is nested, or if a row that may not be named has no value. `Fault` if one that is named has none.
 fn take_places(
     alloc: Global,
     places: &[u64],
@@ -143,10 +138,12 @@ fn take_places(
     requires places { length places.now ≡ len }
     requires valid { HasValidity valid.now len }
     requires within { AreWithin valid.now places.now (columnar_tree values.now) len }
-    requires unnested { is_nested (dtype (columnar_tree values.now)) ≡ false }
     ensures ok { IfOk result (λ c. AreNamedRows valid.now places.now (columnar_tree values.now) len (canonical_tree c)) }
     ensures err { IfErr result (IsNotLookedUp (named_cells valid.now places.now (rows (columnar_tree values.now)) len)) }
 {
+    if values.dtype().is_nested() {
+        return take_each(alloc, values.as_array(), places, valid, len);
+    }
     match argument_of(alloc, values) {
         Ok(argument) => take_argument(alloc, places, valid, &argument, len),
         Err(VortexError::Fault) => take_each(alloc, values.as_array(), places, valid, len),

@@ -2,7 +2,7 @@
 
 ghost use Rattle.std.specs.Prelude.{◌≡◌, length, true, false, IfOk};
 ghost use Rattle.vx_value.specs.Errors.{OnlyOutOfMemory};
-ghost use Rattle.vx_value.specs.Storage.{is_nested};
+ghost use Rattle.vx_value.specs.Supported.{has_columns};
 ghost use Rattle.vx_tree.specs.Tree.{constant_of};
 ghost use Rattle.vx_tree.specs.Natives.{values_of, ptype_of};
 ghost use Rattle.vx_tree.specs.DecimalNumbers.{numbers_of, decimal_type_of};
@@ -89,9 +89,9 @@ pub(crate) fn varbinview_column(
     Ok(Canonical::VarBinView(column))
 }
 
-/// Makes the constant of `len` rows, each `scalar`, whose type must not be nested. Fails only with `OutOfMemory`.
+/// Makes the constant of `len` rows, each `scalar`, whose type must have columns. Fails only with `OutOfMemory`.
 pub(crate) fn constant(alloc: Global, scalar: Scalar, len: usize) -> VortexResult<Columnar>
-    requires { is_nested scalar.of_type ≡ false }
+    requires { has_columns scalar.of_type ≡ true }
     ensures ok { IfOk result (λ c. columnar_tree c ≡ constant_of scalar len) }
     ensures err { OnlyOutOfMemory result }
 {

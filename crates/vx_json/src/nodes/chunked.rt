@@ -12,7 +12,7 @@ use std::alloc::Global;
 use vx_tree::{ArrayRef, ChunkedArray, IntoArray};
 use vx_value::{VortexError, VortexResult};
 
-/// Reads the array of the rows of `chunks`, one chunk after the other, if each is of the array's type, which isn't nested.
+/// Reads the array of the rows of `chunks`, one chunk after the other, if each is of the array's type.
 pub(crate) fn read(alloc: Global, value: &Value, chunks: Vec<ArrayRef>) -> VortexResult<ArrayRef>
     ensures { IsRead (chunked_spelled (view value.now) chunks.items) result }
 {

@@ -11,7 +11,7 @@ use std::alloc::Global;
 use vx_tree::{ArrayRef, DictArray, IntoArray};
 use vx_value::{VortexError, VortexResult};
 
-/// Reads the array of the `values` that `codes` name, if these are integers and the values aren't nested.
+/// Reads the array of the `values` that `codes` name, if these are integers.
 pub(crate) fn read(
     alloc: Global,
     value: &Value,

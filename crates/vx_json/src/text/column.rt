@@ -30,7 +30,6 @@ fn head_text(alloc: Global, array: &ArrayRef) -> VortexResult<String>
 
 /// Appends a line for each row of `array`, which are read one by one. `Fault` if a row has no value; `OutOfMemory`. Some of the lines
 /// may have been appended.
-#[tactic(auto, using(crate::proofs::OutputLemmas::type_columns))]
 fn push_each(alloc: Global, text: &mut String, array: &ArrayRef) -> VortexResult<()>
     ensures ok { OnOk result (AddsRows (dtype array.now) (rows array.now) (string_bytes text.old) (string_bytes text.new)) }
     ensures err { IfErr result (IsUnread array.now) }

@@ -1,12 +1,11 @@
 //! The rules of masked arrays.
 
-ghost use Rattle.std.specs.Prelude.{◌≡◌, Some, None, IfOk, IfSome, ◌∷◌, [], length, option_map, true, false};
+ghost use Rattle.std.specs.Prelude.{◌≡◌, Some, None, IfOk, ◌∷◌, [], length, option_map, true, false};
 ghost use Rattle.vx_value.specs.Errors.{OnlyOutOfMemory};
 ghost use Rattle.vx_mask.specs.Masks.{bits_in};
 ghost use Rattle.vx_fn.specs.declared.function.ScalarFnRef.TheVariants as fn_of;
 ghost use Rattle.vx_tree.specs.Tree.{dtype, len, datum, slots_of, slice_of, filter_of, dict_of, is_masked, is_columnar};
 ghost use Rattle.vx_value.specs.Types.{nullability_of};
-ghost use Rattle.vx_value.specs.Storage.{is_nested};
 ghost use Rattle.vx_tree.specs.SlotTypes.{is_integer};
 ghost use Rattle.vx_rule.specs.Rules.{IsPartOf, taken_of, validity_column};
 ghost use Rattle.vx_rule.specs.Calls.{IsCallOf};
@@ -180,15 +179,14 @@ fn is_plain_column(array: &ArrayRef) -> bool
     }
 }
 
-/// Returns the validity of the rows that `codes`, which must be integers, names, given the slot of the values', whose type must
-/// not be nested. A constant stays one. Fails only with `OutOfMemory`.
+/// Returns the validity of the rows that `codes`, which must be integers, names, given the slot of the values'. A constant stays
+/// one. Fails only with `OutOfMemory`.
 fn take_validity(
     alloc: Global,
     codes: &ArrayRef,
     validity: &Option<ArrayRef>,
 ) -> VortexResult<Option<ArrayRef>>
-    requires integers { is_integer (dtype codes.now) ≡ true }
-    requires unnested { IfSome validity.now (λ t. is_nested (dtype t) ≡ false) }
+    requires { is_integer (dtype codes.now) ≡ true }
     ensures ok { IfOk result (λ w. w ≡ option_map (taken_of codes.now) validity.now) }
     ensures err { OnlyOutOfMemory result }
 {

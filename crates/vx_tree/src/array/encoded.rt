@@ -5,7 +5,6 @@ ghost use Rattle.vx_tree.specs.Tree.{Data};
 ghost use Rattle.vx_tree.specs.TreeView.{data_of, tree_of};
 ghost use Rattle.vx_tree.specs.Well.{IsNodeOf};
 ghost use Rattle.vx_tree.specs.Kinds.{IsKindOf};
-ghost use Rattle.vx_tree.specs.Support.{takes_nested};
 
 use crate::array::{ArrayKind, Encoding, Node};
 use vx_value::Id;
@@ -24,10 +23,6 @@ pub trait EncodingVariant: Encoded {
     ghost stands_for: { Self.TypedArrayData → Data };
 
     ghost is_kind: { Data → Bool };
-
-    /// Returns whether nodes with this data may have rows of a nested type. (own)
-    fn takes_nested(payload: &Self::TypedArrayData) -> bool
-        ensures { result ≡ takes_nested (stands_for payload.now) };
 
     /// Returns `payload` as the data of a node. (own)
     fn wrap(payload: Self::TypedArrayData) -> Encoding

@@ -9,7 +9,6 @@ ghost use Rattle.vx_tree.specs.Names.{name_text};
 ghost use Rattle.vx_tree.specs.TreeView.{data_of};
 ghost use Rattle.vx_tree.specs.Cells.{rows};
 ghost use Rattle.vx_tree.specs.Well.{IsWell};
-ghost use Rattle.vx_tree.specs.Support.{supports};
 
 use crate::array::{ArrayRef, ArrayView, Encoding, EncodingVariant, SlotName};
 use crate::matcher::Matcher;
@@ -177,13 +176,13 @@ impl ArrayRef {
         }
     }
 
-    /// States what holds of every tree: it is well formed, its meaning has one cell per row, and its encoding supports its
+    /// States what holds of every tree: it is well formed, its meaning has one cell per row, and there are columns of its
     /// type. (own)
     #[tactic(auto, using(crate::proofs::CellsLemmas::rows_counted))]
     pub fn well_formed_tree(&self)
         ensures formed { IsWell self.now }
         ensures counted { length (rows self.now) ≡ len self.now }
-        ensures supported { supports (datum self.now) (dtype self.now) ≡ true }
+        ensures supported { has_columns (dtype self.now) ≡ true }
     {
         let _well = &self.node;
     }

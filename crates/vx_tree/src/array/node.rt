@@ -6,7 +6,7 @@ ghost use Rattle.vx_value.specs.Errors.{OnlyOutOfMemory};
 ghost use Rattle.vx_tree.specs.Tree.{Tree, slots_of};
 ghost use Rattle.vx_tree.specs.TreeView.{data_of, tree_of};
 ghost use Rattle.vx_tree.specs.Well.{IsNodeOf, IsWell, AreWell};
-ghost use Rattle.vx_tree.specs.Support.{supports};
+ghost use Rattle.vx_value.specs.Supported.{has_columns};
 
 use crate::arrays::boolean::BoolData;
 use crate::arrays::constant::ConstantData;
@@ -169,7 +169,7 @@ impl Node {
     /// `OutOfMemory`.
     pub fn into_array(self, alloc: Global) -> VortexResult<ArrayRef>
         requires node { IsNodeOf (tree_of self) }
-        requires supported { supports (data_of self.encoding) (type_of self.dtype) ≡ true }
+        requires supported { has_columns (type_of self.dtype) ≡ true }
         ensures ok { IfOk result (λ t. t ≡ tree_of self) }
         ensures err { OnlyOutOfMemory result }
     {

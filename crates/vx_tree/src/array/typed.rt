@@ -3,11 +3,10 @@
 ghost use Rattle.std.specs.Prelude.{◌≡◌, ◌⊎◌, ◌==◌, [], ◌∷◌, is_ok, IfOk, IfErr, OnOk, Some, None, true, false};
 ghost use Rattle.vx_value.specs.Errors.{OnlyOutOfMemory};
 ghost use Rattle.vx_value.specs.View.{type_of};
-ghost use Rattle.vx_value.specs.Supported.{has_columns};
 ghost use Rattle.vx_tree.specs.Tree.{Tree, dtype, len, datum, slots, slots_of, node, id_of};
 ghost use Rattle.vx_tree.specs.Well.{shapes, IsNode};
 ghost use Rattle.vx_tree.specs.Refusals.{refusal};
-ghost use Rattle.vx_tree.specs.Support.{supports};
+ghost use Rattle.vx_value.specs.Supported.{has_columns};
 
 use crate::array::{ArrayRef, ArrayView, Encoded, Node, VTable};
 use std::alloc::{AllocError, Global};
@@ -81,37 +80,30 @@ impl<V: Encoded> ArrayParts<V> {
     }
 }
 
-/// Returns whether nodes of `V`'s encoding with this data may have the type.
-fn supports<V: VTable>(payload: &V::TypedArrayData, dtype: &DType) -> bool
-    ensures { result ≡ supports (V.stands_for payload.now) (type_of dtype.now) }
-{
-    (V::takes_nested(payload) || !dtype.is_nested()) && has_columns(dtype)
-}
-
 impl<V: VTable> Array<V> {
-    /// Makes the node of `parts`. `InvalidArgument` with `BadType` if the encoding doesn't support their type, else the error of
+    /// Makes the node of `parts`. `InvalidArgument` with `BadType` if their type has no columns, else the error of
     /// `VTable::validate` if they break a condition of the encoding.
     pub fn try_from_parts(alloc: Global, parts: ArrayParts<V>) -> VortexResult<Array<V>>
         ensures ok { IfOk result (λ a. a ≡ node (type_of parts.dtype) parts.len (V.stands_for parts.payload) (slots_of parts.slots.items)) }
         ensures valid { OnOk result (refusal (V.named parts.vtable) (type_of parts.dtype) parts.len
             (V.stands_for parts.payload) (shapes (slots_of parts.slots.items)) ≡ None) }
-        ensures supported { OnOk result (supports (V.stands_for parts.payload) (type_of parts.dtype) ≡ true) }
+        ensures supported { OnOk result (has_columns (type_of parts.dtype) ≡ true) }
         ensures refused { IfErr result (λ e. (e ≡ VortexError.OutOfMemory)
-            ⊎ ((e ≡ VortexError.InvalidArgument ArgKind.BadType) × (supports (V.stands_for parts.payload) (type_of parts.dtype) ≡ false))
+            ⊎ ((e ≡ VortexError.InvalidArgument ArgKind.BadType) × (has_columns (type_of parts.dtype) ≡ false))
             ⊎ (refusal (V.named parts.vtable) (type_of parts.dtype) parts.len
             (V.stands_for parts.payload) (shapes (slots_of parts.slots.items)) ≡ Some e)) }
     {
-        if !supports::<V>(&parts.payload, &parts.dtype) {
+        if !has_columns(&parts.dtype) {
             return Err(VortexError::InvalidArgument(ArgKind::BadType));
         }
         Array::validated(alloc, parts)
     }
 
-    /// Makes the node of `parts`, whose type the encoding must support. Refuses with the error of `VTable::validate` if they break a
+    /// Makes the node of `parts`, whose type must have columns. Refuses with the error of `VTable::validate` if they break a
     /// condition of the encoding.
     #[tactic(auto, using(crate::proofs::RefusedExactlyLemmas::node_unless_refused))]
     pub(crate) fn validated(alloc: Global, parts: ArrayParts<V>) -> VortexResult<Array<V>>
-        requires { supports (V.stands_for parts.payload) (type_of parts.dtype) ≡ true }
+        requires { has_columns (type_of parts.dtype) ≡ true }
         ensures ok { IfOk result (λ a. a ≡ node (type_of parts.dtype) parts.len (V.stands_for parts.payload) (slots_of parts.slots.items)) }
         ensures valid { OnOk result (refusal (V.named parts.vtable) (type_of parts.dtype) parts.len
             (V.stands_for parts.payload) (shapes (slots_of parts.slots.items)) ≡ None) }
@@ -123,11 +115,11 @@ impl<V: VTable> Array<V> {
         Ok(Array::from_parts_unchecked(alloc, parts)?)
     }
 
-    /// Makes the node of `parts` without checking them. They must meet the conditions of the encoding, which must
-    /// support their type. Fails only with `OutOfMemory`.
+    /// Makes the node of `parts` without checking them. They must meet the conditions of the encoding, and
+    /// their type must have columns. Fails only with `OutOfMemory`.
     pub fn from_parts_unchecked(alloc: Global, parts: ArrayParts<V>) -> VortexResult<Array<V>>
         requires node { IsNode (type_of parts.dtype) parts.len (V.stands_for parts.payload) (shapes (slots_of parts.slots.items)) }
-        requires supported { supports (V.stands_for parts.payload) (type_of parts.dtype) ≡ true }
+        requires supported { has_columns (type_of parts.dtype) ≡ true }
         ensures ok { IfOk result (λ a. a ≡ node (type_of parts.dtype) parts.len (V.stands_for parts.payload) (slots_of parts.slots.items)) }
         ensures err { OnlyOutOfMemory result }
     {
@@ -143,7 +135,7 @@ impl<V: VTable> Array<V> {
         slots: Vec<Option<ArrayRef>>,
     ) -> VortexResult<Array<V>>
         requires node { IsNode (type_of dtype) len (V.stands_for payload) (shapes (slots_of slots.items)) }
-        requires supported { supports (V.stands_for payload) (type_of dtype) ≡ true }
+        requires supported { has_columns (type_of dtype) ≡ true }
         ensures ok { IfOk result (λ a. a ≡ node (type_of dtype) len (V.stands_for payload) (slots_of slots.items)) }
         ensures err { OnlyOutOfMemory result }
     {
@@ -169,7 +161,7 @@ impl<V: VTable> Array<V> {
         slot: Option<ArrayRef>,
     ) -> VortexResult<Array<V>>
         requires node { IsNode (type_of dtype) len (V.stands_for payload) (shapes (slots_of (slot ∷ []))) }
-        requires supported { supports (V.stands_for payload) (type_of dtype) ≡ true }
+        requires supported { has_columns (type_of dtype) ≡ true }
         ensures ok { IfOk result (λ a. a ≡ node (type_of dtype) len (V.stands_for payload) (slots_of (slot ∷ []))) }
         ensures err { OnlyOutOfMemory result }
     {

@@ -42,10 +42,6 @@ impl Encoded for Bool {
 }
 
 impl EncodingVariant for Bool {
-    fn takes_nested(_payload: &BoolData) -> bool {
-        false
-    }
-
     fn wrap(payload: BoolData) -> Encoding {
         Encoding::Bool(payload)
     }

@@ -5,7 +5,7 @@ ghost use Rattle.vx_tree.specs.Tree.{chunked, is_chunked, chunked_of, chunks_ref
 ghost use Rattle.vx_tree.specs.Well.{shapes};
 ghost use Rattle.vx_tree.specs.SlotTypes.{lengths_in};
 ghost use Rattle.vx_value.specs.View.{type_of};
-ghost use Rattle.vx_value.specs.Storage.{is_nested};
+ghost use Rattle.vx_value.specs.Supported.{has_columns};
 ghost use Rattle.vx_value.specs.declared.id.Id.TheVariants as id;
 
 use crate::array::{
@@ -17,7 +17,7 @@ use crate::arrays::slots::{append_slots, check_present, check_types, total_len};
 use crate::arrays::{into_payload, payload};
 use crate::conditions::check_that;
 use std::alloc::Global;
-use vx_value::{ArgKind, DType, Id, VortexError, VortexResult};
+use vx_value::{ArgKind, DType, Id, VortexError, VortexResult, has_columns};
 
 /// The tag of the chunked encoding.
 #[derive(Clone, Copy, Debug)]
@@ -34,10 +34,6 @@ impl Encoded for Chunked {
 }
 
 impl EncodingVariant for Chunked {
-    fn takes_nested(_payload: &EmptyArrayData) -> bool {
-        false
-    }
-
     fn wrap(payload: EmptyArrayData) -> Encoding {
         Encoding::Chunked(payload)
     }
@@ -93,19 +89,18 @@ fn has_total(len: usize, slots: &[Option<ArrayRef>]) -> bool
 impl ChunkedArray {
     /// Makes the array of the rows of `chunks`, one chunk after the other, each of which must be of type `dtype`.
     ///
-    /// The first condition that fails gives the error: `InvalidArgument` with `BadType` if `dtype` is nested, with `SlotType` of
-    /// the first chunk that has another
-    /// type, then `TooLong` if the rows together exceed `usize::MAX`.
+    /// The first condition that fails gives the error: `InvalidArgument` with `BadType` if `dtype` has no columns, with
+    /// `SlotType` of the first chunk that has another type, then `TooLong` if the rows together exceed `usize::MAX`.
     #[tactic(auto, using(crate::proofs::ChunkedLemmas::chunks, crate::proofs::SlotTypesLemmas::filled_map, crate::proofs::ConditionsLemmas::in_turn))]
     pub fn try_new(alloc: Global, chunks: Vec<ArrayRef>, dtype: DType) -> VortexResult<ChunkedArray>
         ensures ok { IfOk result (λ a. a ≡ chunked_of (type_of dtype) chunks.items) }
         ensures valid { OnOk result (chunks_refusal (type_of dtype) chunks.items ≡ None) }
-        ensures unnested { OnOk result (is_nested (type_of dtype) ≡ false) }
+        ensures columns { OnOk result (has_columns (type_of dtype) ≡ true) }
         ensures refused { IfErr result (λ e. (e ≡ VortexError.OutOfMemory)
-            ⊎ ((e ≡ VortexError.InvalidArgument ArgKind.BadType) × (is_nested (type_of dtype) ≡ true))
+            ⊎ ((e ≡ VortexError.InvalidArgument ArgKind.BadType) × (has_columns (type_of dtype) ≡ false))
             ⊎ (chunks_refusal (type_of dtype) chunks.items ≡ Some e)) }
     {
-        if dtype.is_nested() {
+        if !has_columns(&dtype) {
             return Err(VortexError::InvalidArgument(ArgKind::BadType));
         }
         let slots = append_slots(Vec::new(alloc), chunks)?;

@@ -55,10 +55,6 @@ impl Encoded for Constant {
 }
 
 impl EncodingVariant for Constant {
-    fn takes_nested(_payload: &ConstantData) -> bool {
-        true
-    }
-
     fn wrap(payload: ConstantData) -> Encoding {
         Encoding::Constant(payload)
     }

@@ -47,10 +47,6 @@ impl Encoded for Decimal {
 }
 
 impl EncodingVariant for Decimal {
-    fn takes_nested(_payload: &DecimalData) -> bool {
-        false
-    }
-
     fn wrap(payload: DecimalData) -> Encoding {
         Encoding::Decimal(payload)
     }

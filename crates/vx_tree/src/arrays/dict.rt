@@ -1,14 +1,14 @@
 //! Dictionaries: arrays whose rows are looked up among values by codes.
 
-ghost use Rattle.std.specs.Prelude.{◌≡◌, ◌⊎◌, refl, ℕ, ◌∷◌, [], IfOk, IfErr, OnOk, MatchResult, Some, None};
-ghost use Rattle.vx_tree.specs.Tree.{dict, is_dict, dict_of, dict_refusal, slots_of, dtype};
+ghost use Rattle.std.specs.Prelude.{◌≡◌, ◌⊎◌, refl, ℕ, ◌∷◌, [], IfOk, IfErr, OnOk, MatchResult, Some, None, true};
+ghost use Rattle.vx_tree.specs.Tree.{dict, is_dict, dict_of, dict_refusal, codes_refusal, slots_of, dtype};
 ghost use Rattle.vx_value.specs.Errors.{OnlyOutOfMemory};
 ghost use Rattle.vx_value.specs.Types.{DataType};
 ghost use Rattle.vx_value.specs.View.{type_of};
+ghost use Rattle.vx_value.specs.Supported.{has_columns};
 ghost use Rattle.vx_fn.specs.Meanings.{widen};
 ghost use Rattle.vx_value.specs.declared.id.Id.TheVariants as id;
 ghost use Rattle.vx_tree.specs.Well.{shape_of, shapes};
-ghost use Rattle.vx_tree.specs.Calls.{named_rows_refusal};
 
 use crate::array::{
     Array, ArrayId, ArrayKind, ArrayParts, ArrayRef, Encoded, Encoding, EncodingKind,
@@ -37,10 +37,6 @@ impl Encoded for Dict {
 }
 
 impl EncodingVariant for Dict {
-    fn takes_nested(_payload: &EmptyArrayData) -> bool {
-        false
-    }
-
     fn wrap(payload: EmptyArrayData) -> Encoding {
         Encoding::Dict(payload)
     }
@@ -105,8 +101,10 @@ fn codes_and_values(slots: &[Option<ArrayRef>]) -> VortexResult<(&ArrayRef, &Arr
 }
 
 /// Returns the type of a dictionary: that of its values, nullable if its codes are. Fails only with `OutOfMemory`.
+#[tactic(auto, using(crate::proofs::DictLemmas::named_columns))]
 fn type_by(alloc: Global, codes: &ArrayRef, values: &ArrayRef) -> VortexResult<DType>
     ensures ok { IfOk result (λ t. type_of t ≡ widen (dtype codes.now) (dtype values.now)) }
+    ensures columns { IfOk result (λ t. has_columns (type_of t) ≡ true) }
     ensures err { OnlyOutOfMemory result }
 {
     let nullability = codes.dtype().nullability();
@@ -116,18 +114,13 @@ fn type_by(alloc: Global, codes: &ArrayRef, values: &ArrayRef) -> VortexResult<D
 
 impl DictArray {
     /// Makes the array of the `values` that `codes` name, with as many rows as `codes` has. Its type is that of `values`,
-    /// nullable if `codes` is.
-    ///
-    /// The first condition that fails gives the error: `InvalidArgument` with `SlotType` exactly if the codes aren't integers, with
-    /// `BadType` exactly if the values' type is nested.
-    #[tactic(auto, using(crate::proofs::ConditionsLemmas::in_turn, crate::proofs::DictLemmas::named_supported))]
+    /// nullable if `codes` is. `InvalidArgument` with `SlotType` exactly if the codes aren't integers.
     pub fn try_new(alloc: Global, codes: ArrayRef, values: ArrayRef) -> VortexResult<DictArray>
         ensures ok { IfOk result (λ a. a ≡ dict_of codes values) }
-        ensures valid { OnOk result (named_rows_refusal codes values ≡ None) }
-        ensures refused { IfErr result (λ e. (e ≡ VortexError.OutOfMemory) ⊎ (named_rows_refusal codes values ≡ Some e)) }
+        ensures valid { OnOk result (codes_refusal (dtype codes) ≡ None) }
+        ensures refused { IfErr result (λ e. (e ≡ VortexError.OutOfMemory) ⊎ (codes_refusal (dtype codes) ≡ Some e)) }
     {
         check_that(is_integer(&codes), ArgKind::SlotType { slot: 0 })?;
-        check_that(!values.dtype().is_nested(), ArgKind::BadType)?;
         let dtype = type_by(alloc, &codes, &values)?;
         let len = codes.len();
         let slots = vec![in alloc; Some(codes), Some(values)]?;

@@ -36,10 +36,6 @@ impl Encoded for Extension {
 }
 
 impl EncodingVariant for Extension {
-    fn takes_nested(_payload: &EmptyArrayData) -> bool {
-        true
-    }
-
     fn wrap(payload: EmptyArrayData) -> Encoding {
         Encoding::Extension(payload)
     }

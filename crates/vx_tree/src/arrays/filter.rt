@@ -84,10 +84,6 @@ impl Encoded for Filter {
 }
 
 impl EncodingVariant for Filter {
-    fn takes_nested(_payload: &FilterData) -> bool {
-        true
-    }
-
     fn wrap(payload: FilterData) -> Encoding {
         Encoding::Filter(payload)
     }

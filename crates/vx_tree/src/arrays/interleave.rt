@@ -1,11 +1,11 @@
 //! Interleaved arrays: each row is a row of one of several arrays.
 
-ghost use Rattle.std.specs.Prelude.{◌≡◌, ◌⊎◌, ◌≤◌, refl, length, IfOk, IfErr, OnOk, Some, None, false};
+ghost use Rattle.std.specs.Prelude.{◌≡◌, ◌⊎◌, ◌≤◌, refl, length, IfOk, IfErr, OnOk, Some, None, true};
 ghost use Rattle.vx_value.specs.Errors.{OnlyOutOfMemory};
 ghost use Rattle.vx_value.specs.View.{type_of};
+ghost use Rattle.vx_value.specs.Supported.{has_columns};
 ghost use Rattle.vx_tree.specs.Conditions.{Checks};
-ghost use Rattle.vx_tree.specs.Tree.{interleave, is_interleave, interleave_of, present_refusal, first_type, slots_of};
-ghost use Rattle.vx_tree.specs.Calls.{interleaved_rows_refusal};
+ghost use Rattle.vx_tree.specs.Tree.{interleave, is_interleave, interleave_of, interleaved_refusal, present_refusal, first_type, slots_of};
 ghost use Rattle.vx_tree.specs.Well.{shapes};
 ghost use Rattle.vx_tree.specs.SlotTypes.{missing_refusal};
 ghost use Rattle.vx_value.specs.declared.id.Id.TheVariants as id;
@@ -36,10 +36,6 @@ impl Encoded for Interleave {
 }
 
 impl EncodingVariant for Interleave {
-    fn takes_nested(_payload: &EmptyArrayData) -> bool {
-        false
-    }
-
     fn wrap(payload: EmptyArrayData) -> Encoding {
         Encoding::Interleave(payload)
     }
@@ -108,6 +104,7 @@ fn check_interleaved(dtype: &DType, len: usize, slots: &[Option<ArrayRef>]) -> V
 /// Returns the type of the first array, the null type if there is none. Fails only with `OutOfMemory`.
 fn first_type(values: &[ArrayRef]) -> VortexResult<DType>
     ensures ok { IfOk result (λ t. type_of t ≡ first_type values.now) }
+    ensures columns { IfOk result (λ t. has_columns (type_of t) ≡ true) }
     ensures err { OnlyOutOfMemory result }
 {
     match values.first() {
@@ -119,7 +116,7 @@ fn first_type(values: &[ArrayRef]) -> VortexResult<DType>
 impl InterleaveArray {
     /// Makes the array whose row i is row `row_indices[i]` of `values[array_indices[i]]`.
     ///
-    /// The first condition that fails gives the error: `InvalidArgument` with `BadType` if the values' type is nested, `SlotCount` if there are no values, `SlotType` of
+    /// The first condition that fails gives the error: `InvalidArgument` with `SlotCount` if there are no values, `SlotType` of
     /// the first of both indices that isn't of non-nullable integers, or else of the first value that has another type than
     /// the first one, and `SlotLen` if the indices differ in length. Slots are numbered from the array indices on.
     #[tactic(auto, using(crate::proofs::InterleaveLemmas::interleaves))]
@@ -130,12 +127,11 @@ impl InterleaveArray {
         row_indices: ArrayRef,
     ) -> VortexResult<InterleaveArray>
         ensures ok { IfOk result (λ a. a ≡ interleave_of array_indices row_indices values.items) }
-        ensures valid { OnOk result (interleaved_rows_refusal array_indices row_indices values.items ≡ None) }
+        ensures valid { OnOk result (interleaved_refusal array_indices row_indices values.items ≡ None) }
         ensures refused { IfErr result (λ e. (e ≡ VortexError.OutOfMemory)
-            ⊎ (interleaved_rows_refusal array_indices row_indices values.items ≡ Some e)) }
+            ⊎ (interleaved_refusal array_indices row_indices values.items ≡ Some e)) }
     {
         let dtype = first_type(values.as_slice())?;
-        check_that(!dtype.is_nested(), ArgKind::BadType)?;
         let len = array_indices.len();
         let indices = vec![in alloc; Some(array_indices), Some(row_indices)]?;
         let slots = append_slots(indices, values)?;

@@ -40,10 +40,6 @@ impl Encoded for Masked {
 }
 
 impl EncodingVariant for Masked {
-    fn takes_nested(_payload: &MaskedData) -> bool {
-        true
-    }
-
     fn wrap(payload: MaskedData) -> Encoding {
         Encoding::Masked(payload)
     }

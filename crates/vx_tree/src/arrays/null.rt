@@ -33,10 +33,6 @@ impl Encoded for Null {
 }
 
 impl EncodingVariant for Null {
-    fn takes_nested(_payload: &EmptyArrayData) -> bool {
-        false
-    }
-
     fn wrap(payload: EmptyArrayData) -> Encoding {
         Encoding::Null(payload)
     }

@@ -42,10 +42,6 @@ impl Encoded for Primitive {
 }
 
 impl EncodingVariant for Primitive {
-    fn takes_nested(_payload: &PrimitiveData) -> bool {
-        false
-    }
-
     fn wrap(payload: PrimitiveData) -> Encoding {
         Encoding::Primitive(payload)
     }

@@ -1,9 +1,9 @@
 //! Lazy functions of other arrays.
 
-ghost use Rattle.std.specs.Prelude.{◌≡◌, refl, ◌⊎◌, ◌++◌, map, IfOk, IfErr, OnOk, Some, None, false};
+ghost use Rattle.std.specs.Prelude.{◌≡◌, refl, ◌⊎◌, ◌++◌, map, IfOk, IfErr, OnOk, Some, None, true};
 ghost use Rattle.vx_tree.specs.Tree.{function, is_function, slots_of, filled_slots, arity_refusal, slots_refusal, types_refusal, result_refusal, all_present, all_long, types_in};
 ghost use Rattle.vx_value.specs.View.{type_of};
-ghost use Rattle.vx_value.specs.Storage.{is_nested};
+ghost use Rattle.vx_value.specs.Supported.{has_columns};
 ghost use Rattle.vx_tree.specs.Conditions.{Checks};
 ghost use Rattle.vx_tree.specs.Well.{shapes};
 ghost use Rattle.vx_tree.specs.Refusals.{is_long, type_in};
@@ -19,7 +19,7 @@ use crate::conditions::check_that;
 use crate::types::is_same_type;
 use std::alloc::{AllocError, Global};
 use vx_fn::{Arity, ScalarFnRef};
-use vx_value::{ArgKind, DType, VortexError, VortexResult};
+use vx_value::{ArgKind, DType, VortexError, VortexResult, has_columns};
 
 /// The tag of the nodes of one function.
 #[derive(Clone, Copy, Debug)]
@@ -61,10 +61,6 @@ impl Encoded for ScalarFn {
 }
 
 impl EncodingVariant for ScalarFn {
-    fn takes_nested(_payload: &ScalarFnData) -> bool {
-        false
-    }
-
     fn wrap(payload: ScalarFnData) -> Encoding {
         Encoding::ScalarFn(payload)
     }
@@ -216,21 +212,21 @@ fn check_result(
     )
 }
 
-/// Returns the type of the rows of `function` applied to the trees in `slots`. It must not be nested.
+/// Returns the type of the rows of `function` applied to the trees in `slots`. It must have columns.
 fn column_dtype(
     alloc: Global,
     function: &ScalarFnRef,
     slots: &[Option<ArrayRef>],
 ) -> VortexResult<DType>
     ensures ok { IfOk result (λ t. return_type function.now (types_in (shapes (slots_of slots.now))) ≡ Some (type_of t)) }
-    ensures unnested { IfOk result (λ t. is_nested (type_of t) ≡ false) }
+    ensures columns { IfOk result (λ t. has_columns (type_of t) ≡ true) }
     ensures valid { OnOk result (row_refusal (return_type function.now (types_in (shapes (slots_of slots.now)))) ≡ None) }
     ensures refused { IfErr result (λ e. (e ≡ VortexError.OutOfMemory)
         ⊎ (row_refusal (return_type function.now (types_in (shapes (slots_of slots.now)))) ≡ Some e)) }
 {
     let types = types_of(alloc, slots)?;
     let dtype = function.return_dtype(alloc, types.as_slice())?;
-    check_that(!dtype.is_nested(), ArgKind::BadType)?;
+    check_that(has_columns(&dtype), ArgKind::BadType)?;
     Ok(dtype)
 }
 
@@ -271,7 +267,7 @@ impl ScalarFnArray {
     ///
     /// The first condition that fails gives the error: `InvalidArgument` with `Arity` if the function takes another number of
     /// arguments, `ChildLen` if a child doesn't have `len` rows, `NoRow` if the function takes no arguments of their types, and
-    /// `BadType` if its result is nested.
+    /// `BadType` if its result has no columns.
     #[tactic(auto, using(crate::proofs::CallsLemmas::calls))]
     pub fn try_new_with_len(
         alloc: Global,

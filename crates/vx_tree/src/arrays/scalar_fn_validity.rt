@@ -43,10 +43,6 @@ impl Encoded for ScalarFnValidity {
 }
 
 impl EncodingVariant for ScalarFnValidity {
-    fn takes_nested(_payload: &EmptyArrayData) -> bool {
-        false
-    }
-
     fn wrap(payload: EmptyArrayData) -> Encoding {
         Encoding::ScalarFnValidity(payload)
     }

@@ -86,10 +86,6 @@ impl Encoded for Slice {
 }
 
 impl EncodingVariant for Slice {
-    fn takes_nested(_payload: &SliceData) -> bool {
-        true
-    }
-
     fn wrap(payload: SliceData) -> Encoding {
         Encoding::Slice(payload)
     }

@@ -42,10 +42,6 @@ impl Encoded for Struct {
 }
 
 impl EncodingVariant for Struct {
-    fn takes_nested(_payload: &EmptyArrayData) -> bool {
-        true
-    }
-
     fn wrap(payload: EmptyArrayData) -> Encoding {
         Encoding::Struct(payload)
     }

@@ -44,10 +44,6 @@ impl Encoded for VarBinView {
 }
 
 impl EncodingVariant for VarBinView {
-    fn takes_nested(_payload: &VarBinViewData) -> bool {
-        false
-    }
-
     fn wrap(payload: VarBinViewData) -> Encoding {
         Encoding::VarBinView(payload)
     }

@@ -1,8 +1,9 @@
 //! Functions applied to whole columns.
 
-ghost use Rattle.std.specs.Prelude.{◌≡◌, map, false, IfOk, IfErr, Some};
+ghost use Rattle.std.specs.Prelude.{◌≡◌, map, false, true, IfOk, IfErr, Some};
 ghost use Rattle.vx_value.specs.Types.{DataType};
 ghost use Rattle.vx_value.specs.Storage.{is_nested};
+ghost use Rattle.vx_value.specs.Supported.{has_columns};
 ghost use Rattle.vx_fn.specs.ReturnTypes.{return_type};
 ghost use Rattle.vx_tree.specs.Tree.{dtype};
 ghost use Rattle.vx_tree.specs.Canonicals.{columnar_tree, canonical_tree};
@@ -11,7 +12,7 @@ ghost use Rattle.vx_column.specs.Arguments.{types_of, any_nested};
 ghost use Rattle.vx_column.specs.Computed.{Takes, IsCanonicalResult, HasNoCanonicalResult};
 
 use crate::functions::apply::constant::{apply_constants, constants};
-use crate::functions::apply::each::apply_each;
+use crate::functions::apply::each::{apply_each, result_dtype};
 use crate::functions::cast::cast;
 use crate::functions::operator::{between, negate, operate};
 use crate::functions::select::{fill_null, is_not_null, is_null, mask, zip};
@@ -22,9 +23,9 @@ use vx_tree::{Canonical, Columnar};
 use vx_value::VortexResult;
 
 /// Applies `function` to `arguments`, each `len` rows long, in one pass and one allocation for the rows, or row by row if the
-/// type of an argument is nested; constants aren't expanded, and values under nulls aren't computed. The result is a constant
+/// type of an argument or of the result is nested; constants aren't expanded, and values under nulls aren't computed. The result is a constant
 /// if `len > 0` and every argument is one, else canonical; its validity is absent if no row is null, and booleans are `false`
-/// under nulls. Its type must not be nested. (own)
+/// under nulls. Its type must have columns. (own)
 ///
 /// # Errors
 ///
@@ -36,7 +37,7 @@ pub fn apply_fn(
     len: usize,
 ) -> VortexResult<Columnar>
     requires call { IsCall function.now (map columnar_tree arguments.now) len }
-    requires unnested { (ty : DataType) → return_type function.now (map dtype (map columnar_tree arguments.now)) ≡ Some ty → is_nested ty ≡ false }
+    requires columns { (ty : DataType) → return_type function.now (map dtype (map columnar_tree arguments.now)) ≡ Some ty → has_columns ty ≡ true }
     ensures ok { IfOk result (λ c. IsApplied function.now (map columnar_tree arguments.now) len (columnar_tree c)) }
     ensures err { IfErr result (IsUnapplied function.now (map columnar_tree arguments.now) len) }
 {
@@ -63,7 +64,7 @@ fn any_nested(columns: &[Columnar]) -> bool
 }
 
 /// Applies `function` to `arguments`, each `len` rows long: to whole columns, or row by row if a type is nested; that of the
-/// result must not be. `Fault` if a row has no value.
+/// result must have columns. `Fault` if a row has no value.
 fn apply_rows(
     alloc: Global,
     function: &ScalarFnRef,
@@ -71,12 +72,13 @@ fn apply_rows(
     len: usize,
 ) -> VortexResult<Canonical>
     requires call { IsCall function.now (map columnar_tree arguments.now) len }
-    requires unnested { (ty : DataType) → return_type function.now (map dtype (map columnar_tree arguments.now)) ≡ Some ty → is_nested ty ≡ false }
+    requires columns { (ty : DataType) → return_type function.now (map dtype (map columnar_tree arguments.now)) ≡ Some ty → has_columns ty ≡ true }
     ensures ok { IfOk result (λ c. IsAppliedEach function.now (map columnar_tree arguments.now) len (canonical_tree c)) }
     ensures err { IfErr result (IsUnapplied function.now (map columnar_tree arguments.now) len) }
 {
-    if any_nested(arguments) {
-        return apply_each(alloc, function, arguments, len);
+    let dtype = result_dtype(alloc, function, arguments)?;
+    if any_nested(arguments) || dtype.is_nested() {
+        return apply_each(alloc, dtype, function, arguments, len);
     }
     let rows = arguments_of(alloc, arguments)?;
     apply_to_columns(alloc, function, rows.as_slice(), len)

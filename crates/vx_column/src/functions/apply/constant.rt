@@ -3,7 +3,7 @@
 ghost use Rattle.std.specs.Prelude.{◌≡◌, ◌<◌, map, IfOk, IfErr, IfSome, IfNone, IsSome, Some, MatchOption, true, false};
 ghost use Rattle.std.specs.List.{AllZip};
 ghost use Rattle.vx_value.specs.Types.{DataType};
-ghost use Rattle.vx_value.specs.Storage.{is_nested};
+ghost use Rattle.vx_value.specs.Supported.{has_columns};
 ghost use Rattle.vx_fn.specs.ReturnTypes.{return_type};
 ghost use Rattle.vx_tree.specs.Tree.{datum, is_constant};
 ghost use Rattle.vx_tree.specs.Cells.{rows, HasNoFault};
@@ -51,7 +51,7 @@ fn constant_of(column: &Columnar) -> Result<Option<Scalar>, AllocError>
     }
 }
 
-/// Applies `function` to `scalars` once, and returns a constant of `len` rows, whose type must not be nested. `Fault` if there
+/// Applies `function` to `scalars` once, and returns a constant of `len` rows, whose type must have columns. `Fault` if there
 /// is no value.
 pub(crate) fn apply_constants(
     alloc: Global,
@@ -60,7 +60,7 @@ pub(crate) fn apply_constants(
     len: usize,
 ) -> VortexResult<Columnar>
     requires taken { IsSome (return_type function.now (types_of_scalars scalars.now)) }
-    requires unnested { (ty : DataType) → return_type function.now (types_of_scalars scalars.now) ≡ Some ty → is_nested ty ≡ false }
+    requires columns { (ty : DataType) → return_type function.now (types_of_scalars scalars.now) ≡ Some ty → has_columns ty ≡ true }
     requires some { 0 < len }
     ensures ok { IfOk result (λ c. IsResult function.now (types_of_scalars scalars.now) (λ _. cells_of_scalars scalars.now) len (columnar_tree c)) }
     ensures constant { IfOk result (λ c. is_constant (datum (columnar_tree c)) ≡ true) }

@@ -1,11 +1,8 @@
-use Rattle.std.proofs.Common.{◌≡◌, ◌<◌, ◌^◌, length, true, false, None, sym, ap, subst, ◌∙◌}
-use Rattle.std.specs.List.{list_all}
-use Rattle.vx_value.specs.IsOf.{is_of}
-use Rattle.vx_value.specs.Storage.{is_nested}
+use Rattle.std.proofs.Common.{◌≡◌, ◌<◌, ◌^◌, None, sym, ap, subst, ◌∙◌}
 use Rattle.vx_tree.specs.Tree.{len}
-use Rattle.vx_tree.specs.Cells.{rows}
+use Rattle.vx_tree.specs.Well.{IsWell}
 use Rattle.vx_tree.specs.Canonicals.{columnar_tree}
-use Rattle.vx_column.specs.Built.{TypedRows, appended, values_in, column_refusal}
+use Rattle.vx_column.specs.Grown.{IsGrown, with_column, column_refusal}
 use Rattle.vx_step.specs.Contents.{IsWithout}
 use Rattle.vx_exec.specs.declared.turn.Focus.TheVariants.{Partial}
 use Rattle.vx_exec.proofs.MovesLemmas.{never_refused}
@@ -28,13 +25,12 @@ returns-in-Ok-append_rows-clause-ok c =
     let u = columnar_tree c.in-Ok.column in
     let p = c.in_ok-parent.parent in
     let w = subst (λ x. IsWithout c.args.slot x p t) (sym c.in-Ok.ensures.ok) c.in_ok-parent.ensures.ok in
-    let grown = c.in-Ok-append_rows.ensures.ok ∙ ap (λ r. appended r (values_in (rows u))) c.in_ok-builder.ensures.ok in (
+    let same = c.in-Ok-append_rows.ensures.ok ∙ ap (λ r. with_column r u) c.in_ok-builder.ensures.ok in (
       u,
       p,
       w,
-      ap (Partial p) grown,
-      c.in-Ok-append_rows.ensures.clean,
-      subst (λ x. length (rows x) ≡ len x) c.as_array.ensures.of c.well_formed_tree.ensures.counted,
-      subst (λ (r : TypedRows). list_all (is_of r.of_type) r.values ≡ true) grown c.in-Ok-append_rows.ensures.typed,
-      subst (λ (r : TypedRows). is_nested r.of_type ≡ false) grown c.in-Ok-append_rows.ensures.unnested,
+      ap (Partial p) same,
+      c.in-Ok-append_rows.ensures.told,
+      subst IsWell c.as_array.ensures.of c.well_formed_tree.ensures.formed,
+      subst IsGrown same c.in-Ok-append_rows.ensures.grown,
     )

@@ -1,4 +1,4 @@
-use Rattle.std.proofs.Common.{◌≡◌, ◌+◌, ◌*◌, ◌∙◌, None, [], ◌∷◌, ap, map, codes, sym, arith, rules}
+use Rattle.std.proofs.Common.{◌≡◌, ◌+◌, ◌∙◌, None, [], ◌∷◌, ap, map, codes, sym, arith, rules}
 use Rattle.std.proofs.lemmas.List.{map-append}
 use Rattle.serde_json.specs.View.{view, items_view}
 use Rattle.vx_value.specs.Supported.{have_columns}

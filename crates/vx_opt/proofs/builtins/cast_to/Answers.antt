@@ -10,4 +10,4 @@ returns-then-eq c =
     let g = c.eq.ensures in
     let i = c.dtype.ensures.dtype in
     let e : type_of c.args.target ≡ dtype c.args.array.now = search rules in
-    own_cast c.args.target c.args.array.now e (Ok c.in_ok-clone.field-0) c.well_formed_tree.ensures.formed c.in_ok-clone.ensures.cases
+    own_cast c.args.target c.args.array.now e c.dtype.ensures.columns (Ok c.in_ok-clone.field-0) c.well_formed_tree.ensures.formed c.in_ok-clone.ensures.cases

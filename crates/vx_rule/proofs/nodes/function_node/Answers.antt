@@ -1,10 +1,10 @@
-use Rattle.std.proofs.Common.{◌≡◌, true, refl, ap, sym, subst, ◌∙◌}
+use Rattle.std.proofs.Common.{◌≡◌, refl, ap, sym, subst, ◌∙◌}
+use Rattle.vx_value.specs.Supported.{has_columns}
 use Rattle.vx_value.specs.View.{type_of}
 use Rattle.vx_fn.specs.declared.function.ScalarFnRef.{ScalarFnRef}
 use Rattle.vx_fn.specs.declared.function.ScalarFnRef.TheVariants as fn_of
 use Rattle.vx_fn.specs.contracts.function.ScalarFnRefClone.TheImpl as cloning
 use Rattle.vx_tree.specs.Tree.{dtype, node, function, slots_of}
-use Rattle.vx_tree.specs.Support.{supports}
 use Rattle.vx_tree.specs.Well.{IsNode, shapes}
 use Rattle.vx_rule.proofs.nodes.function_node.Goals as goal
 
@@ -29,7 +29,7 @@ pub from_parts_unchecked-requires-clause-node : goal.from_parts_unchecked-requir
 from_parts_unchecked-requires-clause-node c =
     let typed : type_of c.in_ok-clone-2.field-0 ≡ dtype c.args.original.now = ap type_of c.in_ok-clone-2.ensures.cases ∙ c.dtype.ensures.dtype in
     let same = ap (λ p. p.scalar_fn) c.new-payload.ensures ∙ clone_is_same _ _ c.in_ok-clone.ensures.cases in
-    rw c.new-parts.ensures (subst (λ x. x) (λ i. IsNode (sym typed i) c.args.len (function (sym same i)) (shapes (slots_of c.args.slots.items))) c.requires.node)
+    rw c.new-parts.ensures (subst (λ x. x) (λ i. IsNode (sym typed i) c.args.len (function (sym same i)) (shapes (slots_of c.args.slots.items))) c.requires)
 
 pub returns-clause-ok : goal.returns-clause-ok
 returns-clause-ok c =
@@ -41,5 +41,4 @@ returns-clause-ok c =
 pub from_parts_unchecked-requires-clause-supported : goal.from_parts_unchecked-requires-clause-supported
 from_parts_unchecked-requires-clause-supported c =
     let typed : type_of c.in_ok-clone-2.field-0 ≡ dtype c.args.original.now = ap type_of c.in_ok-clone-2.ensures.cases ∙ c.dtype.ensures.dtype in
-    let same = ap (λ p. p.scalar_fn) c.new-payload.ensures ∙ clone_is_same _ _ c.in_ok-clone.ensures.cases in
-    rw c.new-parts.ensures (subst (λ x. x) (λ i. supports (function (sym same i)) (sym typed i) ≡ true) c.requires.supported)
+    ap (λ p. has_columns (type_of p.dtype)) c.new-parts.ensures ∙ ap has_columns typed ∙ c.dtype.ensures.columns

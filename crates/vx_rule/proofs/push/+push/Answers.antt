@@ -70,8 +70,8 @@ push_function-loop-slot-preserved t c =
     (all_zip_more R c.function_parts.result.1.now c.loop-slot.parts.items c.loop-slot.slot-index c.slot-item.result (Some c.in-Ok.part) c.loop-slot-test.true
     c.slot-item.is c.loop-slot.invariant pushed)
 
-pub push_function-function_node-requires-clause-node : goal.push_function-function_node-requires-clause-node
-push_function-function_node-requires-clause-node t c =
+pub push_function-function_node-requires : goal.push_function-function_node-requires
+push_function-function_node-requires t c =
     let p = c.function_parts in
     function_sized c.args.array.now p.result.0.now p.result.1.now p.ensures.shape p.ensures.node c.args.range.start c.args.range.end c.loop-slot.slot-index
     c.loop-slot.parts.items c.loop-slot-test.false c.loop-slot.invariant

@@ -1,20 +1,11 @@
-use Rattle.std.proofs.Common.{ap, ◌∙◌}
 use Rattle.std.proofs.lemmas.Result.{IfOk-weaker}
-use Rattle.vx_value.specs.Storage.{is_nested}
-use Rattle.vx_tree.specs.Tree.{dtype}
-use Rattle.vx_rule.proofs.UnnestedLemmas.{values_unnested}
 use Rattle.vx_rule.proofs.PushLemmas.{codes_pushed, dict_pushed}
 use Rattle.vx_rule.proofs.push.dict_part.Goals as goal
 
-pub dict_node-requires-clause-integers : goal.dict_node-requires-clause-integers
-dict_node-requires-clause-integers c =
+pub dict_node-requires : goal.dict_node-requires
+dict_node-requires c =
     codes_pushed c.args.range.start c.args.range.end c.args.array.now c.args.codes.now c.args.values.now c.requires.shape c.well_formed_tree.ensures.formed
     c.requires.within c.args.part c.requires.part
-
-pub dict_node-requires-clause-unnested : goal.dict_node-requires-clause-unnested
-dict_node-requires-clause-unnested c =
-    ap (λ t. is_nested (dtype t)) c.in_ok-clone.ensures.cases
-    ∙ values_unnested c.args.array.now c.args.codes.now c.args.values.now c.requires.shape c.well_formed_tree.ensures.supported
 
 pub returns-clause-ok : goal.returns-clause-ok
 returns-clause-ok c =

@@ -1,5 +1,4 @@
-use Rattle.std.proofs.Common.{◌≡◌, true, false, ◌∙◌, sym, subst, rules}
-use Rattle.vx_value.specs.Storage.{is_nested}
+use Rattle.std.proofs.Common.{◌≡◌, true, ◌∙◌, sym, subst, rules}
 use Rattle.vx_tree.specs.Tree.{dict_of, dtype, datum, is_columnar}
 use Rattle.vx_tree.specs.Canonicals.{columnar_tree}
 use Rattle.vx_tree.specs.Well.{IsWell}
@@ -9,15 +8,10 @@ use Rattle.vx_step.specs.Steps.{IsDone}
 use Rattle.vx_step.proofs.DictLemmas.{codes_integer, taken_done}
 use Rattle.vx_step.proofs.dict.take_or_wait.Goals as goal
 
-pub take_rows-requires-clause-integers : goal.take_rows-requires-clause-integers
-take_rows-requires-clause-integers c =
+pub take_rows-requires : goal.take_rows-requires
+take_rows-requires c =
     let same : columnar_tree c.in-Ok.codes ≡ c.args.codes.now = c.in-Ok.ensures.ok ∙ c.in_ok-clone.ensures.cases in
-    subst (λ x. IsIntegerType (dtype x)) (sym same) (codes_integer c.args.codes.now c.args.values.now c.requires.node)
-
-pub take_rows-requires-clause-unnested : goal.take_rows-requires-clause-unnested
-take_rows-requires-clause-unnested c =
-    let same : columnar_tree c.in-Ok-try_from_array_ref.values ≡ c.args.values.now = c.in-Ok-try_from_array_ref.ensures.ok ∙ c.in_ok-clone-2.ensures.cases in
-    subst (λ x. is_nested (dtype x) ≡ false) (sym same) c.requires.unnested
+    record { integers = subst (λ x. IsIntegerType (dtype x)) (sym same) (codes_integer c.args.codes.now c.args.values.now c.requires.node) }
 
 pub returns-in-Ok-take_rows-clause-ok : goal.returns-in-Ok-take_rows-clause-ok
 returns-in-Ok-take_rows-clause-ok c =

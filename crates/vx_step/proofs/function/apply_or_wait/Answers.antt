@@ -1,6 +1,6 @@
-use Rattle.std.proofs.Common.{◌≡◌, false, Some, List, map, sym, subst, rules}
+use Rattle.std.proofs.Common.{◌≡◌, true, Some, List, map, sym, subst, rules}
 use Rattle.vx_value.specs.Types.{DataType}
-use Rattle.vx_value.specs.Storage.{is_nested}
+use Rattle.vx_value.specs.Supported.{has_columns}
 use Rattle.vx_fn.specs.ReturnTypes.{return_type}
 use Rattle.vx_value.specs.declared.error.VortexError.{VortexError}
 use Rattle.vx_tree.specs.Tree.{slots_of, dtype}
@@ -9,7 +9,7 @@ use Rattle.vx_tree.specs.Well.{IsWell}
 use Rattle.vx_tree.specs.declared.canonical.columnar.Columnar.{Columnar}
 use Rattle.vx_step.specs.Steps.{IsDone, IsFailed}
 use Rattle.vx_column.specs.Applied.{IsCall, IsApplied, IsUnapplied}
-use Rattle.vx_step.proofs.StepsLemmas.{function_waits, slots_present, may_call, call_unnested, applied_done, unapplied_failed}
+use Rattle.vx_step.proofs.StepsLemmas.{function_waits, slots_present, may_call, call_columns, applied_done, unapplied_failed}
 use Rattle.vx_step.proofs.function.apply_or_wait.Goals as goal
 
 pub apply_fn-requires-clause-call : goal.apply_fn-requires-clause-call
@@ -20,14 +20,14 @@ apply_fn-requires-clause-call c =
     subst (λ (xs : List Columnar). IsCall f (map columnar_tree xs) c.len.result) (sym c.as_slice.ensures.value)
     (subst (λ n. IsCall f ts n) (sym c.len.ensures) call)
 
-pub apply_fn-requires-clause-unnested : goal.apply_fn-requires-clause-unnested
-apply_fn-requires-clause-unnested c =
+pub apply_fn-requires-clause-columns : goal.apply_fn-requires-clause-columns
+apply_fn-requires-clause-columns c =
     let f = c.args.scalar_fn.now in
     let ts = map columnar_tree c.in_ok-columns-in-None.columns.items in
-    let unnested = call_unnested f c.args.array.now (slots_of c.args.slots.now) ts c.requires.shape c.requires.well c.in_ok-columns-in-None.ensures
+    let columns = call_columns f c.args.array.now (slots_of c.args.slots.now) ts c.requires.shape c.requires.well c.in_ok-columns-in-None.ensures
     c.well_formed_tree.ensures.supported in
-    subst (λ (xs : List Columnar). (ty : DataType) → return_type f (map dtype (map columnar_tree xs)) ≡ Some ty → is_nested ty ≡ false) (sym c.as_slice.ensures.value)
-    unnested
+    subst (λ (xs : List Columnar). (ty : DataType) → return_type f (map dtype (map columnar_tree xs)) ≡ Some ty → has_columns ty ≡ true) (sym c.as_slice.ensures.value)
+    columns
 
 pub returns-in_ok-column-in-None-clause-ok : goal.returns-in_ok-column-in-None-clause-ok
 returns-in_ok-column-in-None-clause-ok c =

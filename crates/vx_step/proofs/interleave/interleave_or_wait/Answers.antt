@@ -15,7 +15,7 @@ pub interleave_columns-requires : goal.interleave_columns-requires
 interleave_columns-requires c =
     let ts = map columnar_tree c.in_ok-columns-in-None.columns.items in
     subst (λ (xs : List Columnar). ArePairs (map columnar_tree xs)) (sym c.as_slice.ensures.value)
-    (may_pair c.args.array.now (slots_of c.args.slots.now) c.requires.shape c.requires.well ts c.in_ok-columns-in-None.ensures c.well_formed_tree.ensures.supported)
+    (may_pair c.args.array.now (slots_of c.args.slots.now) c.requires.shape c.requires.well ts c.in_ok-columns-in-None.ensures)
 
 pub returns-in-Ok-clause-ok : goal.returns-in-Ok-clause-ok
 returns-in-Ok-clause-ok c =

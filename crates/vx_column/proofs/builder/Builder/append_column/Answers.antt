@@ -1,64 +1,59 @@
-use Rattle.std.proofs.Common.{◌≡◌, OnOk, replicate, length, ap, sym, subst, ◌∙◌}
-use Rattle.std.proofs.lemmas.Result.{on_ok_weaker}
-use Rattle.vx_value.specs.Types.{nullability_of}
-use Rattle.vx_value.specs.Values.{null}
-use Rattle.vx_tree.specs.Tree.{len}
-use Rattle.vx_tree.specs.Cells.{rows}
+use Rattle.std.proofs.Common.{◌≡◌, None, OnOk, IfErr, true, sym, ap, subst, ◌∙◌}
+use Rattle.std.proofs.lemmas.Result.{on_ok_weaker, IfErr-weaker}
+use Rattle.vx_value.specs.Supported.{has_columns}
 use Rattle.vx_tree.specs.Canonicals.{columnar_tree}
+use Rattle.vx_tree.specs.Cells.{HasNoFault}
+use Rattle.vx_tree.specs.Tree.{dtype}
+use Rattle.vx_tree.specs.Well.{IsWell}
 use Rattle.vx_tree.proofs.ConditionsLemmas.{none_refused}
-use Rattle.vx_column.specs.Built.{appended, type_refusal, length_refusal}
-use Rattle.vx_column.specs.Growing.{values_or}
-use Rattle.vx_column.proofs.GrowingLemmas.{same_as}
-use Rattle.vx_column.proofs.BuiltLemmas.{values_null, clean_null, values_shown, clean_shown, unread_unappended}
+use Rattle.vx_column.specs.Arguments.{IsUnread}
+use Rattle.vx_column.specs.Built.{length_refusal}
+use Rattle.vx_column.specs.Expanded.{expansion}
+use Rattle.vx_column.specs.Grown.{count, cells_read, type_refusal, column_refusal, IsUnappended}
+use Rattle.vx_column.specs.Kept.{rows_in}
+use Rattle.vx_column.specs.Pieces.{IsNoPiece}
+use Rattle.vx_column.proofs.GrownLemmas.{same_as}
+use Rattle.vx_column.proofs.KeptLemmas.{flat_told, flat_unread, nested_told, nested_unread}
 use Rattle.vx_column.proofs.builder.Builder.append_column.Goals as goal
+use Rattle.vx_column.proofs.builder.Builder.append_column.Goals.{in-Flat, in-Nested}
 
-pub returns-then-is_null_constant-clause-ok : goal.returns-then-is_null_constant-clause-ok
-returns-then-is_null_constant-clause-ok c =
-    let t = columnar_tree c.args.column.now in
-    let is = c.is_null_constant.ensures c.if-is_null_constant.true in
-    subst (λ vs. OnOk c.push_nulls.result (c.push_nulls.new.self ≡ appended c.args.self.now vs))
-    (ap (λ n. replicate n null) c.len-then-is_null_constant.ensures ∙ values_null t is) c.push_nulls.ensures.ok
+pub push_column-requires-in-Nested-clause-typed : goal.push_column-requires-in-Nested-clause-typed
+push_column-requires-in-Nested-clause-typed c =
+    sym c.dtype.ensures.dtype ∙ same_as c.args.self.now _ c.in_ok-check_type.ensures
+    ∙ ap (λ r. r.of_type) (sym c.self.view_is ∙ ap rows_in c.in-Nested.is)
 
-pub returns-then-is_null_constant-clause-valid : goal.returns-then-is_null_constant-clause-valid
-returns-then-is_null_constant-clause-valid c =
+pub returns-clause-valid : goal.returns-clause-valid
+returns-clause-valid c =
     let r = c.args.self.now in
     let t = columnar_tree c.args.column.now in
-    let is = c.is_null_constant.ensures c.if-is_null_constant.true in
+    let well = subst IsWell c.as_array.ensures.of c.well_formed_tree.ensures.formed in
+    let has = subst (λ u. has_columns (dtype u) ≡ true) c.as_array.ensures.of c.well_formed_tree.ensures.supported in
     let none = none_refused _ _ (ap (type_refusal r) (sym c.dtype.ensures.dtype) ∙ c.in_ok-check_type.ensures)
-    (ap (length_refusal (length r.values)) (sym c.len.ensures) ∙ c.in_ok-check_len.ensures) in
-    on_ok_weaker c.push_nulls.result (λ _. (none, clean_null t is)) c.push_nulls.ensures.ok
+    (ap (length_refusal (count r)) (sym c.len.ensures) ∙ c.in_ok-check_len.ensures) in
+    elim c.match-self.branch [
+      | in-Flat w ↦ subst (λ x. OnOk x ((column_refusal r t ≡ None) × HasNoFault (cells_read r.of_type (expansion t)))) (sym w.result-is)
+          (on_ok_weaker w.push_column.result
+          (λ h. (none, flat_told c.self.inside.rows r t c.self.view_is w.in-Flat.rows w.in-Flat.is w.dtype-dtype.ensures.unnested well has h))
+          w.push_column.ensures.valid)
+      | in-Nested w ↦ subst (λ x. OnOk x ((column_refusal r t ≡ None) × HasNoFault (cells_read r.of_type (expansion t)))) (sym w.result-is)
+          (on_ok_weaker w.push_column-in-Nested.result
+          (λ h. (none, nested_told c.self.inside.rows r t c.self.view_is w.in-Nested.rows w.in-Nested.is h)) w.push_column-in-Nested.ensures.valid)
+    ]
 
-pub push_nulls-requires-clause-nullable : goal.push_nulls-requires-clause-nullable
-push_nulls-requires-clause-nullable c =
-    let r = c.args.self.now in
-    ap nullability_of (sym (same_as r _ (ap (type_refusal r) (sym c.dtype.ensures.dtype) ∙ c.in_ok-check_type.ensures)))
-    ∙ (c.is_null_constant.ensures c.if-is_null_constant.true).1
-
-pub push_argument-requires-clause-typed : goal.push_argument-requires-clause-typed
-push_argument-requires-clause-typed c =
-    let r = c.args.self.now in
-    sym (same_as r _ (ap (type_refusal r) (sym c.dtype.ensures.dtype) ∙ c.in_ok-check_type.ensures)) ∙ c.in-Ok.ensures.ok.typed
-
-pub returns-in-Ok-clause-ok : goal.returns-in-Ok-clause-ok
-returns-in-Ok-clause-ok c =
-    let t = columnar_tree c.args.column.now in
-    let a = c.in-Ok.argument in
-    let counted = subst (λ u. length (rows u) ≡ len u) c.as_array.ensures.of c.well_formed_tree.ensures.counted in
-    subst (λ vs. OnOk c.push_argument.result (c.push_argument.new.self ≡ appended c.args.self.now vs))
-    (ap (values_or null a.rows a.valid) c.len-in-Ok.ensures ∙ values_shown t a counted c.in-Ok.ensures.ok.shown) c.push_argument.ensures.ok
-
-pub returns-in-Ok-clause-valid : goal.returns-in-Ok-clause-valid
-returns-in-Ok-clause-valid c =
+pub returns-clause-refused : goal.returns-clause-refused
+returns-clause-refused c =
     let r = c.args.self.now in
     let t = columnar_tree c.args.column.now in
-    let counted = subst (λ u. length (rows u) ≡ len u) c.as_array.ensures.of c.well_formed_tree.ensures.counted in
+    let well = subst IsWell c.as_array.ensures.of c.well_formed_tree.ensures.formed in
+    let has = subst (λ u. has_columns (dtype u) ≡ true) c.as_array.ensures.of c.well_formed_tree.ensures.supported in
     let none = none_refused _ _ (ap (type_refusal r) (sym c.dtype.ensures.dtype) ∙ c.in_ok-check_type.ensures)
-    (ap (length_refusal (length r.values)) (sym c.len.ensures) ∙ c.in_ok-check_len.ensures) in
-    on_ok_weaker c.push_argument.result (λ _. (none, clean_shown t c.in-Ok.argument counted c.in-Ok.ensures.ok.shown)) c.push_argument.ensures.ok
-
-pub returns-in-Err-clause-refused : goal.returns-in-Err-clause-refused
-returns-in-Err-clause-refused c =
-    let r = c.args.self.now in
-    let none = none_refused _ _ (ap (type_refusal r) (sym c.dtype.ensures.dtype) ∙ c.in_ok-check_type.ensures)
-    (ap (length_refusal (length r.values)) (sym c.len.ensures) ∙ c.in_ok-check_len.ensures) in
-    unread_unappended r (columnar_tree c.args.column.now) c.in-Err.e none c.in-Err.ensures.err
+    (ap (length_refusal (count r)) (sym c.len.ensures) ∙ c.in_ok-check_len.ensures) in
+    elim c.match-self.branch [
+      | in-Flat w ↦ subst (λ x. IfErr x (IsUnappended r t)) (sym w.result-is)
+          (IfErr-weaker w.push_column.result (IsUnread t) (IsUnappended r t)
+          (λ e. flat_unread c.self.inside.rows r t c.self.view_is w.in-Flat.rows w.in-Flat.is w.dtype-dtype.ensures.unnested well has e none)
+          w.push_column.ensures.refused)
+      | in-Nested w ↦ subst (λ x. IfErr x (IsUnappended r t)) (sym w.result-is)
+          (IfErr-weaker w.push_column-in-Nested.result (IsNoPiece w.in-Nested.rows.of_type (expansion t)) (IsUnappended r t)
+          (λ e. nested_unread c.self.inside.rows r t c.self.view_is w.in-Nested.rows w.in-Nested.is e none) w.push_column-in-Nested.ensures.refused)
+    ]

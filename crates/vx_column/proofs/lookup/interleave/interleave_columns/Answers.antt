@@ -25,4 +25,4 @@ returns-clause-ok c =
     let well = subst IsWell c.as_array.ensures.of c.well_formed_tree.ensures.formed in
     let wells = subst IsWell c.as_array-2.ensures.of c.well_formed_tree-2.ensures.formed in
     let whole = subst IsWell c.as_array-3.ensures.of c.well_formed_tree-3.ensures.formed in
-    pairs_found arrays places values (canonical_tree c.in_ok-column.column) c.requires.pairs.unnested well wells whole c.requires.pairs.long c.requires.stored c.in_ok-column.ensures.ok
+    pairs_found arrays places values (canonical_tree c.in_ok-column.column) well wells whole c.requires.pairs.long c.requires.stored c.in_ok-column.ensures.ok

@@ -1,5 +1,4 @@
-use Rattle.std.proofs.Common.{map, ap, ◌∙◌}
-use Rattle.vx_value.specs.Storage.{is_nested}
+use Rattle.std.proofs.Common.{map}
 use Rattle.std.proofs.lemmas.Result.{IfOk-weaker}
 use Rattle.vx_tree.specs.Canonicals.{columnar_tree}
 use Rattle.vx_tree.specs.Cells.{rows}
@@ -17,4 +16,4 @@ returns-clause-ok c =
     c.constant.ensures.ok
 
 pub constant-requires : goal.constant-requires
-constant-requires c = ap is_nested c.in_ok-scalar.ensures.ok.1 ∙ c.requires.unnested
+constant-requires c = c.in_ok-scalar.ensures.columns

@@ -1,7 +1,7 @@
 use Rattle.std.proofs.Common.{◌≡◌, ◌<◌, length, map, get_or, inl, inr, sym, ap, subst, ◌∙◌}
 use Rattle.std.proofs.lemmas.Option.{get_or_from_slice_get}
 use Rattle.std.proofs.lemmas.Result.{IfOk-weaker, IfErr-weaker, err_from_is_err_and}
-use Rattle.vx_value.specs.Storage.{is_nested}
+use Rattle.vx_value.specs.Supported.{has_columns}
 use Rattle.vx_value.specs.Cell.{value, fault}
 use Rattle.vx_tree.specs.Canonicals.{columnar_tree}
 use Rattle.vx_tree.specs.Cells.{rows, cells_at}
@@ -57,6 +57,10 @@ returns-clause-ok c =
       row.1 ∙ typed,
     ))
     c.execute_scalar.ensures.ok
+
+pub returns-clause-columns : goal.returns-clause-columns
+returns-clause-columns c =
+    IfOk-weaker c.execute_scalar.result _ _ (λ s row. ap has_columns row.1 ∙ c.well_formed_tree.ensures.supported) c.execute_scalar.ensures.ok
 
 pub returns-clause-err : goal.returns-clause-err
 returns-clause-err c =

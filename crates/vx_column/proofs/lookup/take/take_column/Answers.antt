@@ -4,7 +4,7 @@ use Rattle.vx_tree.specs.Canonicals.{columnar_tree, canonical_tree}
 use Rattle.vx_tree.specs.Cells.{rows}
 use Rattle.vx_tree.specs.Well.{IsWell}
 use Rattle.vx_column.specs.LookedUp.{AreNotTaken, AreNamedRows, named_cells, IsNotLookedUp}
-use Rattle.vx_column.proofs.LookedUpLemmas.{code_unread, code_missed, named_missed, column_found}
+use Rattle.vx_column.proofs.LookedUpLemmas.{code_unread, code_missed, named_missed, named_found}
 use Rattle.vx_column.proofs.lookup.take.take_column.Goals as goal
 
 pub returns-in_err-codes-clause-err : goal.returns-in_err-codes-clause-err
@@ -44,7 +44,7 @@ returns-clause-ok c =
     let values = c.args.values.now in
     let well = subst IsWell c.as_array.ensures.of c.well_formed_tree.ensures.formed in
     let whole = subst IsWell c.as_array-3.ensures.of c.well_formed_tree-3.ensures.formed in
-    column_found codes values c.in_ok-codes.codes c.len.result c.len-len.result well c.in_ok-codes.ensures.ok c.len-len.ensures c.in_ok-places.places.items
-    (canonical_tree c.in_ok-column.column) c.requires.unnested whole c.in_ok-places.ensures.ok c.requires.stored
+    named_found codes values c.in_ok-codes.codes c.len.result c.len-len.result well c.in_ok-codes.ensures.ok c.len-len.ensures c.in_ok-places.places.items
+    (canonical_tree c.in_ok-column.column) whole c.in_ok-places.ensures.ok c.requires.stored
     (subst (λ x. AreNamedRows c.in_ok-codes.codes.valid x (columnar_tree values) c.len-len.result (canonical_tree c.in_ok-column.column)) c.as_slice.ensures.value
     c.in_ok-column.ensures.ok)

@@ -1,9 +1,9 @@
 use Rattle.std.proofs.Common.{◌≡◌, length, replicate, inl, inr, sym, ap, subst, ◌∙◌}
 use Rattle.std.proofs.lemmas.Result.{IfOk-weaker, err_from_is_err_and}
 use Rattle.vx_value.specs.Types.{nullability_of}
-use Rattle.vx_value.specs.Storage.{is_nested}
+use Rattle.vx_value.specs.Supported.{has_columns}
 use Rattle.vx_value.specs.Nullabilities.{union}
-use Rattle.vx_value.proofs.NullabilitiesLemmas.{nested_kept}
+use Rattle.vx_value.proofs.SupportedLemmas.{columns_kept}
 use Rattle.vx_value.specs.Cell.{value, fault}
 use Rattle.vx_fn.specs.Meanings.{widen}
 use Rattle.vx_tree.specs.Canonicals.{columnar_tree}
@@ -63,6 +63,5 @@ returns-in_err-scalar-clause-err c =
 pub constant-requires : goal.constant-requires
 constant-requires c =
     let ty = dtype c.as_array-array.result.now in
-    ap is_nested c.in_ok-scalar.ensures.ok.1 ∙ nested_kept (union c.nullability-nullability.result (nullability_of ty)) ty
-    ∙ ap (λ t. is_nested (dtype t)) c.as_array-array.ensures.of
-    ∙ c.requires.unnested
+    ap has_columns c.in_ok-scalar.ensures.ok.1 ∙ columns_kept (union c.nullability-nullability.result (nullability_of ty)) ty
+    ∙ c.well_formed_tree.ensures.supported

@@ -2,7 +2,6 @@ use Rattle.std.proofs.Common.{rules, ◌≡◌, ◌∙◌, Some, ap, inl, inr, t
 use Rattle.std.specs.Prelude.{is_some}
 use Rattle.vx_value.specs.Supported.{has_columns}
 use Rattle.vx_tree.specs.Tree.{dtype, len, datum, slots_of}
-use Rattle.vx_tree.proofs.SupportLemmas.{supports_columns}
 use Rattle.vx_rule.specs.Tags.{applies}
 use Rattle.vx_rule.specs.Constants.{constant_values, folds}
 use Rattle.vx_rule.proofs.ConstantsLemmas.{folded_type, folded_same, folded_value, folded_none, folded_quiet, fit_folded}
@@ -23,7 +22,7 @@ new_unchecked-requires c =
     let vs : constant_values (slots_of p.result.1.now) ≡ Some c.as_slice.result.now = search rules in
     let same = folded_same (dtype t) (len t) p.result.0.now (slots_of p.result.1.now) t c.as_slice.result.now p.ensures.well p.ensures.shape
     p.ensures.node vs c.in-Ok.scalar c.in-Ok.ensures.typed in
-    ap has_columns same ∙ supports_columns (datum t) (dtype t) c.well_formed_tree.ensures.supported
+    ap has_columns same ∙ c.well_formed_tree.ensures.supported
 
 pub returns-in-Ok : goal.returns-in-Ok
 returns-in-Ok c =

@@ -1,29 +1,14 @@
-use Rattle.std.proofs.Common.{◌≡◌, Some, refl, sym, ap, subst, ◌∙◌}
-use Rattle.vx_value.specs.Storage.{is_nested}
-use Rattle.vx_tree.specs.Tree.{Tree, dtype, dict_of}
-use Rattle.vx_tree.specs.Slots.{present_from}
+use Rattle.std.proofs.Common.{◌≡◌, Some, refl, ◌∙◌}
+use Rattle.vx_tree.specs.Tree.{dict_of}
 use Rattle.vx_rule.proofs.QuietLemmas.{masked_values_quiet}
 use Rattle.vx_rule.proofs.SlotsLemmas.{taken_masked}
 use Rattle.vx_rule.proofs.FitsLemmas.{fit_D2, raw_row}
-use Rattle.vx_rule.proofs.UnnestedLemmas.{values_unnested, child_unnested, validity_unnested}
 use Rattle.vx_rule.proofs.encodings.masked.dict_of_masked.Goals as goal
 
 pub returns-then-not-is_plain_column : goal.returns-then-not-is_plain_column
 returns-then-not-is_plain_column c =
     masked_values_quiet c.args.parent.now c.args.codes.now c.args.values.now c.masked_parts.result.0.now c.masked_parts.result.1.now c.requires.dict
     c.masked_parts.ensures.shape (c.if-not-is_plain_column.ensures.no refl)
-
-pub dict_node-requires-clause-unnested : goal.dict_node-requires-clause-unnested
-dict_node-requires-clause-unnested c =
-    let p = c.masked_parts in
-    let child : c.in_ok-clone-2.field-0 ≡ p.result.0.now = c.in_ok-clone-2.ensures.cases in
-    ap (λ t. is_nested (dtype t)) child
-    ∙ child_unnested c.args.values.now p.result.0.now p.result.1.now p.ensures.shape
-    (values_unnested c.args.parent.now c.args.codes.now c.args.values.now c.requires.dict c.well_formed_tree.ensures.supported)
-
-pub take_validity-requires-clause-unnested : goal.take_validity-requires-clause-unnested
-take_validity-requires-clause-unnested c =
-    let p = c.masked_parts in validity_unnested c.args.values.now p.result.0.now p.result.1.now p.ensures.shape p.ensures.well
 
 pub masked_node-requires : goal.masked_node-requires
 masked_node-requires c =

@@ -1,7 +1,6 @@
-use Rattle.std.proofs.Common.{◌≡◌, true, Some, ◌∷◌, [], sym, ap, subst, ◌∙◌}
+use Rattle.std.proofs.Common.{◌≡◌, Some, ◌∷◌, [], sym, subst, ◌∙◌}
 use Rattle.vx_fn.specs.declared.function.ScalarFnRef.TheVariants as fn_of
-use Rattle.vx_tree.specs.Tree.{dtype, len, datum, node, function, slots_of}
-use Rattle.vx_tree.specs.Support.{supports}
+use Rattle.vx_tree.specs.Tree.{dtype, len, node, function, slots_of}
 use Rattle.vx_tree.specs.Well.{IsNode, shapes}
 use Rattle.vx_tree.specs.NodeValidities.{both_of}
 use Rattle.vx_rule.specs.Rules.{validity_column}
@@ -19,8 +18,8 @@ and_lazily-requires-clause-second c =
     rw c.len-len.ensures (told_has_rows (dtype t) (len t) t c.args.input.now c.args.mask.now p.result.0.now p.result.1.now c.well_formed_tree.ensures.formed
     c.requires.call.0 c.requires.call.1 p.ensures.shape y is)
 
-pub function_node-requires-clause-node : goal.function_node-requires-clause-node
-function_node-requires-clause-node c =
+pub function_node-requires : goal.function_node-requires
+function_node-requires c =
     let t = c.args.parent.now in
     let p = c.masked_parts in
     let m = c.in_ok-clone.field-0 in
@@ -30,10 +29,6 @@ function_node-requires-clause-node c =
     let made = both_node (dtype t) (len t) t c.args.input.now c.args.mask.now p.result.0.now p.result.1.now c.well_formed_tree.ensures.formed
     c.requires.call.0 c.requires.call.1 p.ensures.shape m y c.in_ok-both.both both in
     subst (λ x. x) (λ i. IsNode (dtype t) (sym c.len-len.ensures i) (function fn_of.Mask) (shapes (slots_of (sym items i)))) made
-
-pub function_node-requires-clause-supported : goal.function_node-requires-clause-supported
-function_node-requires-clause-supported c =
-    let t = c.args.parent.now in subst (λ d. supports d (dtype t) ≡ true) (ap datum c.requires.call.0) c.well_formed_tree.ensures.supported
 
 pub returns : goal.returns
 returns c =

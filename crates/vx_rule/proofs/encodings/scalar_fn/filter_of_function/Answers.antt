@@ -13,8 +13,8 @@ choose_slots-requires c =
     subst (λ n. all_long n (shapes (slots_of p.result.1.now)) ≡ true) (sym c.requires.long)
     (called_long (dtype x) (len x) p.result.0.now p.result.1.now p.ensures.node)
 
-pub function_node-requires-clause-node : goal.function_node-requires-clause-node
-function_node-requires-clause-node c =
+pub function_node-requires : goal.function_node-requires
+function_node-requires c =
     let x = c.args.child.now in
     let p = c.function_parts in
     let us = slots_of c.in_ok-choices.choices.items in

@@ -10,8 +10,8 @@ slice_slots-requires-clause-long c =
     let p = c.function_parts in
     rw c.len.ensures (called_long (dtype x) (len x) p.result.0.now p.result.1.now p.ensures.node)
 
-pub function_node-requires-clause-node : goal.function_node-requires-clause-node
-function_node-requires-clause-node c =
+pub function_node-requires : goal.function_node-requires
+function_node-requires c =
     let x = c.args.child.now in
     let p = c.function_parts in
     sliced_node (dtype x) (len x) p.result.0.now (slots_of p.result.1.now) (slots_of c.in_ok-slices.slices.items) x p.ensures.well p.ensures.shape

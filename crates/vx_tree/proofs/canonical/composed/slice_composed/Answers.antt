@@ -6,7 +6,7 @@ use Rattle.vx_tree.specs.Well.{IsNode, shapes}
 use Rattle.vx_tree.specs.Keeps.{KeepsExactly}
 use Rattle.vx_tree.specs.Parts.{part_of}
 use Rattle.vx_tree.specs.Slots.{map_slots}
-use Rattle.vx_tree.specs.Support.{supports}
+use Rattle.vx_value.specs.Supported.{has_columns}
 use Rattle.vx_tree.proofs.ComposedSlicesLemmas.{sliced}
 use Rattle.vx_tree.proofs.canonical.composed.slice_composed.Given as given
 use Rattle.vx_tree.proofs.canonical.composed.slice_composed.Goals as goal
@@ -47,4 +47,4 @@ returns-clause-range g c =
 pub of-requires-clause-supported : goal.of-requires-clause-supported
 of-requires-clause-supported g c =
     let typed : type_of c.in_ok-dtype.dtype ≡ dtype c.args.column.now = search rules in
-    subst (λ x. x) (λ i. supports (sym c.no_data.ensures i) (sym typed i) ≡ true) c.composed_slots.ensures.columns
+    subst (λ x. x) (λ i. has_columns (sym typed i) ≡ true) c.composed_slots.ensures.columns

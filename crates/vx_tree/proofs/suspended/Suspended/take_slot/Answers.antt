@@ -3,8 +3,8 @@ use Rattle.std.specs.Prelude.{is_ok}
 use Rattle.std.specs.Vec.{with_item}
 use Rattle.vx_value.specs.View.{type_of}
 use Rattle.vx_tree.specs.TreeView.{data_of, tree_of}
-use Rattle.vx_tree.specs.Support.{supports}
-use Rattle.vx_tree.specs.Tree.{slots, datum, dtype}
+use Rattle.vx_value.specs.Supported.{has_columns}
+use Rattle.vx_tree.specs.Tree.{slots, dtype}
 use Rattle.vx_tree.specs.Slots.{IsPresent, NoneBefore}
 use Rattle.vx_tree.proofs.SlotsLemmas.{present_bound, present_some, own_or_copy}
 use Rattle.vx_tree.proofs.SuspendedLemmas.{none_left, slot_out}
@@ -36,7 +36,7 @@ invariant_of-result c =
     let n = c.in_ok-root.root.now in
     let same = own_or_copy tree_of n c.self.inside.node.value c.args.self c.in_ok-root.ensures.value c.self.view_is in
     let before : NoneBefore c.self.inside.first (slots (tree_of n)) = subst (λ x. NoneBefore c.self.inside.first (slots x)) (c.self.view_is ∙ sym same) c.self.invariant.0 in
-    let supported : supports (data_of n.encoding) (type_of n.dtype) ≡ true = subst (λ x. supports (datum x) (dtype x) ≡ true) (c.self.view_is ∙ sym same) c.self.invariant.1 in
+    let supported : has_columns (type_of n.dtype) ≡ true = subst (λ x. has_columns (dtype x) ≡ true) (c.self.view_is ∙ sym same) c.self.invariant.1 in
     rw (c.make_mut.follows.holds (record { dtype = n.dtype; len = n.len; encoding = n.encoding; slots = with_item n.slots c.args.slot c.take-taken.new.self })
     (ap is_ok c.in_ok-root.was))
     ((none_left n.slots.items c.args.slot c.self.inside.first c.first_left-first.result c.take-taken.new.self c.take-taken.ensures.after before c.first_left-first.ensures), supported)

@@ -11,7 +11,7 @@ use Rattle.vx_tree.proofs.ColumnsLemmas.{canonical_open}
 use Rattle.vx_column.proofs.CellsLemmas.{IfOk-both}
 use Rattle.vx_column.proofs.AppliedLemmas.{taken, applied, unapplied, all_repeat}
 use Rattle.vx_column.proofs.FormedLemmas.{constant_formed}
-use Rattle.vx_column.proofs.WholeLemmas.{canonical_whole}
+use Rattle.vx_column.proofs.WholeLemmas.{canonical_told}
 use Rattle.vx_column.proofs.CallsLemmas.{scalar_rows}
 use Rattle.vx_column.proofs.RowByRowLemmas.{own_rows}
 use Rattle.vx_column.proofs.functions.apply.apply.apply_fn.Goals as goal
@@ -22,12 +22,12 @@ apply_constants-requires-clause-taken c =
     let rows = scalar_rows c.args.function.now c.args.len c.args.arguments.now c.in-Some.scalars.items c.requires.call all in
     rw c.as_slice.ensures.value (taken c.args.function.now rows c.requires.call)
 
-pub apply_constants-requires-clause-unnested : goal.apply_constants-requires-clause-unnested
-apply_constants-requires-clause-unnested c =
+pub apply_constants-requires-clause-columns : goal.apply_constants-requires-clause-columns
+apply_constants-requires-clause-columns c =
     let f = c.args.function.now in
     let all = rw c.in-Some.is at c.in_ok-scalars.ensures.all in
     let rows = scalar_rows f c.args.len c.args.arguments.now c.in-Some.scalars.items c.requires.call all in
-    rw c.as_slice.ensures.value (λ ty typed. c.requires.unnested ty (ap (return_type f) rows.types ∙ typed))
+    rw c.as_slice.ensures.value (λ ty typed. c.requires.columns ty (ap (return_type f) rows.types ∙ typed))
 
 pub returns-in-Some-clause-ok : goal.returns-in-Some-clause-ok
 returns-in-Some-clause-ok c =
@@ -56,7 +56,6 @@ returns-in_ok-column-in-None-clause-ok c =
     let made = c.in_ok-column-in-None.ensures.ok in
     let other = rw c.in-None.is at c.in_ok-scalars.ensures.not_all in
     let column = canonical_tree c.in_ok-column-in-None.column in
-    let plain = c.requires.unnested (dtype column) made.result.typed in
     let well = subst IsWell c.as_array.ensures.of c.well_formed_tree.ensures.formed in
-    applied (own_rows ts c.args.len) made.result (canonical_whole column plain well made.canonical made.result.clean)
+    applied (own_rows ts c.args.len) made.result (canonical_told column well made.canonical made.result.clean made.told)
     (canonical_open (datum column) made.canonical ∙ sym other) made.formed

@@ -33,4 +33,4 @@ returns-in_err-scalar-clause-err c =
     ]))
 
 pub constant-requires : goal.constant-requires
-constant-requires c = c.requires.unnested c.in_ok-scalar.scalar.of_type c.in_ok-scalar.ensures.typed
+constant-requires c = c.requires.columns c.in_ok-scalar.scalar.of_type c.in_ok-scalar.ensures.typed

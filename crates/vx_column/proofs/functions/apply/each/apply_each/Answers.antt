@@ -1,8 +1,7 @@
 use Rattle.std.proofs.Common.{◌≡◌, ◌+◌, ◌<◌, ◌^◌, ◌∙◌, inl, inr, map, length, Some, refl, sym, ap, subst, arith}
-use Rattle.std.specs.Prelude.{is_some}
 use Rattle.std.proofs.lemmas.List.{length-map}
 use Rattle.std.proofs.lemmas.List.FromFn.{length-map-range_with_len}
-use Rattle.std.proofs.lemmas.Result.{err_from_is_err_and}
+use Rattle.std.proofs.lemmas.Result.{IfOk-weaker, err_from_is_err_and}
 use Rattle.vx_value.specs.Cell.{value}
 use Rattle.vx_fn.specs.Apply.{apply}
 use Rattle.vx_fn.specs.ReturnTypes.{return_type}
@@ -10,15 +9,10 @@ use Rattle.vx_tree.specs.Tree.{dtype}
 use Rattle.vx_tree.specs.Canonicals.{columnar_tree, canonical_tree}
 use Rattle.vx_column.specs.Applied.{row_in, IsUnapplied}
 use Rattle.vx_column.specs.Computed.{cells_of}
-use Rattle.vx_column.proofs.CallsLemmas.{call_typed}
-use Rattle.vx_column.proofs.CellsLemmas.{IfOk-both}
 use Rattle.vx_column.proofs.ComputedLemmas.{rows_more}
 use Rattle.vx_column.proofs.EachLemmas.{never_refused, built_found}
 use Rattle.vx_column.proofs.RowByRowLemmas.{each_built, row_missed, row_typed}
 use Rattle.vx_column.proofs.functions.apply.each.apply_each.Goals as goal
-
-pub result_dtype-requires : goal.result_dtype-requires
-result_dtype-requires c = ap is_some (call_typed c.args.function.now (map columnar_tree c.args.arguments.now) c.args.len c.requires.call)
 
 pub loop-index-preserved : goal.loop-index-preserved
 loop-index-preserved c =
@@ -29,12 +23,13 @@ loop-index-preserved c =
     let s = c.in_ok-scalar.scalar in
     let more = c.in_ok-append_scalar.ensures.ok in
     let kept = ap (λ r. r.of_type) more in
-    let typed = row_typed f ts i s column.of_type c.loop-index.invariant.0 c.in_ok-scalar.ensures.ok in
+    let typed = row_typed f ts i s column.of_type c.loop-index.invariant.1 c.in_ok-scalar.ensures.ok in
     let given : apply f (map dtype ts) column.of_type (row_in ts i) ≡ value s.value =
     ap (λ ty. apply f (map dtype ts) ty (row_in ts i)) (sym typed) ∙ c.in_ok-scalar.ensures.ok.1 in
     let grown = ap (λ r. map (λ v. value v) r.values) more
-    ∙ rows_more (λ v. value v) (λ k. apply f (map dtype ts) column.of_type (row_in ts k)) column.values i s.value c.loop-index.invariant.1 given in (
-      c.loop-index.invariant.0 ∙ ap Some (sym kept),
+    ∙ rows_more (λ v. value v) (λ k. apply f (map dtype ts) column.of_type (row_in ts k)) column.values i s.value c.loop-index.invariant.2 given in (
+      ap (λ r. r.pieces) more ∙ c.loop-index.invariant.0,
+      c.loop-index.invariant.1 ∙ ap Some (sym kept),
       grown ∙ ap (λ ty. cells_of f (map dtype ts) ty (row_in ts) (i + 1)) (sym kept),
     )
 
@@ -52,9 +47,9 @@ returns-in_err-append_scalar-clause-err c =
     let ts = map columnar_tree c.args.arguments.now in
     let column = c.loop-index.column in
     let s = c.in_ok-scalar.scalar in
-    let typed = row_typed f ts c.loop-index.index s column.of_type c.loop-index.invariant.0 c.in_ok-scalar.ensures.ok in
+    let typed = row_typed f ts c.loop-index.index s column.of_type c.loop-index.invariant.1 c.in_ok-scalar.ensures.ok in
     let long : length column.values ≡ c.loop-index.index =
-    sym (length-map column.values (λ v. value v)) ∙ ap length c.loop-index.invariant.1
+    sym (length-map column.values (λ v. value v)) ∙ ap length c.loop-index.invariant.2
     ∙ length-map-range_with_len (λ k. apply f (map dtype ts) column.of_type (row_in ts k)) 0 c.loop-index.index in
     let last = c.loop-index-test.true in
     let top : c.args.len < 2 ^ 64 = c.ranges.len.fits in
@@ -62,7 +57,7 @@ returns-in_err-append_scalar-clause-err c =
     let p = err_from_is_err_and c.from_residual-in_err-append_scalar.result c.from_residual-in_err-append_scalar.ensures.1 in
     rw p.1 (subst (IsUnapplied f ts c.args.len) (sym p.2) (elim c.in_err-append_scalar.ensures.refused [
       | inl memory ↦ inl memory
-      | inr h ↦ absurd (never_refused column s _ typed fits h)
+      | inr h ↦ absurd (never_refused column s _ c.loop-index.invariant.0 typed fits h)
     ]))
 
 pub returns-clause-ok : goal.returns-clause-ok
@@ -72,10 +67,10 @@ returns-clause-ok c =
     let column = c.loop-index.column in
     let ty = column.of_type in
     let all : c.loop-index.index ≡ c.args.len = omega arith in
-    let cells = c.loop-index.invariant.1 ∙ ap (cells_of f (map dtype ts) ty (row_in ts)) all in
-    IfOk-both c.finish.result
-    (λ u new shown. each_built f ts c.args.len ty (canonical_tree u) c.loop-index.invariant.0
-    (built_found column ty c.args.len (cells_of f (map dtype ts) ty (row_in ts) c.args.len) (canonical_tree u) new shown c.dtype-dtype.ensures.unnested
-    c.dtype-dtype.ensures.typed refl cells
+    let cells = c.loop-index.invariant.2 ∙ ap (cells_of f (map dtype ts) ty (row_in ts)) all in
+    IfOk-weaker c.finish.result _ _
+    (λ u new. each_built f ts c.args.len ty (canonical_tree u) c.loop-index.invariant.1
+    (built_found column ty c.args.len (cells_of f (map dtype ts) ty (row_in ts) c.args.len) (canonical_tree u) c.loop-index.invariant.0 c.dtype-dtype.ensures.grown new refl
+    cells
     (length-map-range_with_len (λ k. apply f (map dtype ts) ty (row_in ts k)) 0 c.args.len)))
-    c.finish.ensures.ok c.finish.ensures.rows
+    c.finish.ensures.ok

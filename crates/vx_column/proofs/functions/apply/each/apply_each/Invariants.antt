@@ -1,4 +1,4 @@
-use Rattle.std.proofs.Common.{◌≡◌, map, Some}
+use Rattle.std.proofs.Common.{◌≡◌, [], map, Some}
 use Rattle.vx_value.specs.Cell.{value}
 use Rattle.vx_fn.specs.ReturnTypes.{return_type}
 use Rattle.vx_tree.specs.Tree.{dtype}
@@ -10,5 +10,6 @@ use Rattle.vx_column.proofs.functions.apply.each.apply_each.Given as goal
 abbrev pub invariant-loop-index : goal.invariant-loop-index
 invariant-loop-index l =
     let ts = map columnar_tree l.arguments in
-    (return_type l.function (map dtype ts) ≡ Some l.column.of_type)
+    (l.column.pieces ≡ [])
+    × (return_type l.function (map dtype ts) ≡ Some l.column.of_type)
     × (map (λ v. value v) l.column.values ≡ cells_of l.function (map dtype ts) l.column.of_type (row_in ts) l.index)
