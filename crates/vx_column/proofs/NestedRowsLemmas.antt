@@ -19,13 +19,13 @@ use Rattle.vx_value.specs.declared.error.VortexError.{VortexError}
 use Rattle.vx_tree.specs.Tree as enc
 use Rattle.vx_tree.specs.Tree.{Tree, node, slots_of, dtype, len, height, slots_height, laid_out}
 use Rattle.vx_tree.specs.Tree.{IsStruct, fields_shapes, with_field, without_fields, struct_row, IsExtension, extension_row}
-use Rattle.vx_tree.specs.Layouts.{tails, row_by_row}
 use Rattle.vx_tree.specs.Cells.{rows, slots_rows, valid_cell}
 use Rattle.vx_tree.specs.Well.{Shape, shape, shape_of, shapes, IsValidity, IsWell, AreWell}
 use Rattle.vx_tree.specs.declared.array.layout.Layout.{Layout}
 use Rattle.vx_tree.specs.declared.array.layout.Layout.TheVariants as layout
 use Rattle.vx_tree.proofs.CellsLemmas.{rows_counted}
 use Rattle.vx_tree.proofs.KindsLemmas.{type_in, len_in}
+use Rattle.vx_tree.proofs.LayoutsLemmas.{cells_in, made_row, cell_in}
 use Rattle.vx_tree.proofs.SlotsLemmas.{IsBelow}
 use Rattle.vx_column.specs.Nulls.{TellsRow, IsRowBy, validity_cells}
 use Rattle.vx_column.specs.Read.{IsRow, IsUnreadRow}
@@ -34,29 +34,10 @@ use Rattle.vx_column.proofs.MaskedRowsLemmas.{validity_tells}
 
 -- ---- the cells of the slots in a row
 
--- the cell of each slot in row i; none if the slot has no such row
-abbrev pub cells_in : ℕ → List (List Cell) → List (List Cell)
-cells_in i css = map (λ cs. take 1 (drop i cs)) css
-
-later_cells : (i : ℕ) (css : List (List Cell)) → cells_in i (tails css) ≡ cells_in (suc i) css
-later_cells i [] = refl
-later_cells i ([] ∷ css) = λ j. take 1 (drop-nil i j) ∷ later_cells i css j
-later_cells i ((c ∷ cs) ∷ css) = ap (λ l. take 1 (drop i cs) ∷ l) (later_cells i css)
-
-made_row : (made : List (List Cell) → Cell) (n i : ℕ) (css : List (List Cell)) → i < n → slice_get (row_by_row made n css) i ≡ Some (made (cells_in i css))
-made_row made zero i css h = absurd (omega arith)
-made_row made (suc n) zero css h = refl
-made_row made (suc n) (suc i) css h = made_row made n i (tails css) (omega arith) ∙ ap (λ x. Some (made x)) (later_cells i css)
-
 -- a row of a column is made of the slots' cells in it
 composed_row : (l : Layout) (xs : List (Option Tree)) (t : Tree) (i : ℕ) → t ≡ node (dtype t) (len t) (enc.composed l) (slots_of xs) → i < len t
     → slice_get (rows t) i ≡ Some ((laid_out l).row (cells_in i (slots_rows (slots_of xs))))
 composed_row l xs t i is lt = ap (λ u. slice_get (rows u) i) is ∙ made_row (laid_out l).row (len t) i (slots_rows (slots_of xs)) lt
-
-cell_in : (cs : List Cell) (i : ℕ) (c : Cell) → slice_get cs i ≡ Some c → take 1 (drop i cs) ≡ c ∷ []
-cell_in [] i c h = absurd (cc)
-cell_in (d ∷ cs) zero c h = let same : d ≡ c = cc in λ j. same j ∷ []
-cell_in (d ∷ cs) (suc i) c h = cell_in cs i c h
 
 -- ---- what a validity makes of a row
 

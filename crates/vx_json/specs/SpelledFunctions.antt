@@ -1,7 +1,8 @@
 -- The function that an object spells.
-use Rattle.std.specs.Prelude.{◌≡◌, refl, ℕ, List, [], ◌∷◌, Bool, true, false, Option, Some, None, option_map, option_and_then, codes, bytes_eq}
+use Rattle.std.specs.Prelude.{◌≡◌, refl, ℕ, ◌+◌, List, [], ◌∷◌, Bool, true, false, Option, Some, None, option_map, option_and_then, codes, bytes_eq}
 use Rattle.std.specs.Map.{lookup}
 use Rattle.serde_json.specs.Data.{Data}
+use Rattle.serde_json.specs.Find.{get, as_str}
 use Rattle.vx_value.specs.Types as type
 use Rattle.vx_value.specs.Types.{DataType}
 use Rattle.vx_value.specs.Decimals.{IsDecimal}
@@ -14,9 +15,11 @@ use Rattle.vx_fn.specs.declared.function.ScalarFnRef.{ScalarFnRef}
 use Rattle.vx_fn.specs.declared.function.ScalarFnRef.TheVariants as function
 use Rattle.vx_fn.specs.declared.functions.between.BetweenOptions.{BetweenOptions}
 use Rattle.vx_fn.specs.declared.functions.between.StrictComparison.{StrictComparison}
+use Rattle.vx_fn.specs.declared.functions.pack.PackOptions.{PackOptions}
 use Rattle.vx_fn.specs.declared.functions.between.StrictComparison.TheVariants.{Strict, NonStrict}
-use Rattle.vx_json.specs.Fields.{keyed, text_at, boolean_at}
-use Rattle.vx_json.specs.SpelledTypes.{is_decimal, is_decimal_Decides, type_at}
+use Rattle.vx_json.specs.Fields.{keyed, text_at, boolean_at, items_at}
+use Rattle.vx_json.specs.SpelledTypes.{is_decimal, is_decimal_Decides, type_at, nullability_spelled, form_keys}
+use Rattle.vx_json.specs.SpelledValues.{all_read}
 
 -- a function without options: its object has exactly the keys `enc`, `fn` and `args`
 abbrev pub without_options : ScalarFnRef → Data → Option ScalarFnRef
@@ -64,6 +67,15 @@ cast d = keyed 4 d (option_map function.Cast (option_and_then declared (type_at 
 abbrev pub get_item : Data → Option ScalarFnRef
 get_item d = keyed 4 d (option_map function.GetItem (text_at (codes "field") d))
 
+-- `pack` has the names of the fields under `names`, and may have `null`: true if its type is nullable
+abbrev pub pack_options : Data → Option PackOptions
+pack_options d =
+    option_and_then (λ nullability. option_map (λ names. record { names = names; nullability = nullability })
+    (option_and_then (all_read as_str) (items_at (codes "names") d))) (nullability_spelled (get (codes "null") d))
+
+abbrev pub pack : Data → Option ScalarFnRef
+pack d = keyed (3 + form_keys (get (codes "null") d)) d (option_map function.Pack (pack_options d))
+
 -- the names of binary operators: a line for each
 abbrev pub named_operators : List (List ℕ × Operator)
 named_operators =
@@ -95,6 +107,7 @@ named_functions =
     ∷ (codes "is_null", without_options function.IsNull)
     ∷ (codes "is_not_null", without_options function.IsNotNull)
     ∷ (codes "get_item", get_item)
+    ∷ (codes "pack", pack)
     ∷ (codes "cast", cast)
     ∷ []
 

@@ -3,16 +3,19 @@
 ghost use Rattle.std.specs.Prelude.{◌≡◌, Some};
 ghost use Rattle.serde_json.specs.View.{view};
 ghost use Rattle.vx_json.specs.Fields.{keyed};
-ghost use Rattle.vx_json.specs.Refused.{IsRead};
-ghost use Rattle.vx_json.specs.SpelledFunctions.{without_options, operator_named, strictness_at, between_options, between, cast, get_item, other_named, function_at};
+ghost use Rattle.serde_json.specs.View.{items_view};
+ghost use Rattle.serde_json.specs.Find.{as_str};
+ghost use Rattle.vx_json.specs.Refused.{IsRead, IsReadAs};
+ghost use Rattle.vx_json.specs.SpelledValues.{all_read};
+ghost use Rattle.vx_json.specs.SpelledFunctions.{without_options, operator_named, strictness_at, between_options, between, cast, get_item, pack_options, pack, other_named, function_at};
 
 use crate::BAD_VALUE;
-use crate::fields::{boolean, check_keys, text};
-use crate::types::type_at;
+use crate::fields::{boolean, check_keys, items, text};
+use crate::types::{form_keys, nullability_at, type_at};
 use serde_json::Value;
 use std::alloc::Global;
-use vx_fn::{BetweenOptions, Operator, ScalarFnRef, StrictComparison};
-use vx_value::{Name, VortexResult};
+use vx_fn::{BetweenOptions, Operator, PackOptions, ScalarFnRef, StrictComparison};
+use vx_value::{FieldNames, Name, VortexResult};
 
 /// Returns `function`. `InvalidArgument(BadValue)` if the object doesn't have exactly `keys` keys.
 fn with_keys(value: &Value, keys: usize, function: ScalarFnRef) -> VortexResult<ScalarFnRef>
@@ -107,6 +110,51 @@ fn get_item(alloc: Global, value: &Value) -> VortexResult<ScalarFnRef>
     with_keys(value, 4, ScalarFnRef::GetItem(name))
 }
 
+/// Returns the name that `value` spells. `InvalidArgument(BadValue)` if it is no text.
+fn name_in(alloc: Global, value: &Value) -> VortexResult<Name>
+    ensures { IsRead (as_str (view value.now)) result }
+{
+    let Some(text) = value.as_str() else {
+        return Err(BAD_VALUE);
+    };
+    Ok(Name::new(alloc, String::from_str(alloc, text)?)?)
+}
+
+/// Returns the names that the values of `list` spell. `InvalidArgument(BadValue)` if one of them is no text.
+fn names_in(alloc: Global, list: &Vec<Value>) -> VortexResult<Vec<Name>>
+    ensures { IsReadAs (λ v. v.items) (all_read as_str (items_view list.now.items)) result }
+{
+    let mut names = Vec::with_capacity(alloc, list.len())?;
+    for value in list {
+        names.push(name_in(alloc, value)?)?;
+    }
+    Ok(names)
+}
+
+/// Returns the options of `pack`. `InvalidArgument(BadValue)` if they aren't spelled.
+fn pack_options(alloc: Global, value: &Value) -> VortexResult<PackOptions>
+    ensures { IsRead (pack_options (view value.now)) result }
+{
+    let Some(nullability) = nullability_at(value) else {
+        return Err(BAD_VALUE);
+    };
+    let Some(list) = items(value, "names") else {
+        return Err(BAD_VALUE);
+    };
+    let names = FieldNames::new(alloc, names_in(alloc, list)?)?;
+    Ok(PackOptions { names, nullability })
+}
+
+/// Reads the function that makes structs of its arguments, whose fields are named under `names`; their type is nullable if `null` is
+/// `true`. `InvalidArgument(BadValue)` if the object doesn't have exactly the keys `enc`, `fn`, `args` and `names`, and `null` too if it
+/// has it.
+fn pack(alloc: Global, value: &Value) -> VortexResult<ScalarFnRef>
+    ensures { IsRead (pack (view value.now)) result }
+{
+    let options = pack_options(alloc, value)?;
+    with_keys(value, 3 + form_keys(value), ScalarFnRef::Pack(options))
+}
+
 /// Reads the function named `name`, which isn't a binary operator, with the options that the object has for it.
 /// `InvalidArgument(BadValue)` if there is none.
 fn other_named(alloc: Global, value: &Value, name: &str) -> VortexResult<ScalarFnRef>
@@ -121,6 +169,7 @@ fn other_named(alloc: Global, value: &Value, name: &str) -> VortexResult<ScalarF
         "is_null" => without_options(value, ScalarFnRef::IsNull),
         "is_not_null" => without_options(value, ScalarFnRef::IsNotNull),
         "get_item" => get_item(alloc, value),
+        "pack" => pack(alloc, value),
         "cast" => cast(alloc, value),
         _ => Err(BAD_VALUE),
     }

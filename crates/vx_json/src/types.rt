@@ -82,7 +82,7 @@ fn decimal_listed(nullability: Nullability, list: &Vec<Value>) -> Option<DType>
 }
 
 /// Returns the nullability of a type: nullable if the value under `null` is `true`.
-fn nullability_at(value: &Value) -> Option<Nullability>
+pub(crate) fn nullability_at(value: &Value) -> Option<Nullability>
     ensures { result ≡ nullability_spelled (get (codes "null") (view value.now)) }
 {
     let Some(spelled) = value.get("null") else {
@@ -96,7 +96,7 @@ fn nullability_at(value: &Value) -> Option<Nullability>
 }
 
 /// Returns the number of keys that spell a type with one key of its own: 2 with `null`, else 1.
-fn form_keys(value: &Value) -> usize
+pub(crate) fn form_keys(value: &Value) -> usize
     ensures { result ≡ form_keys (get (codes "null") (view value.now)) }
 {
     match value.get("null") {

@@ -12,7 +12,7 @@ use crate::optimizer::ArrayOptimizer;
 use std::alloc::Global;
 use vx_fn::{BetweenOptions, Operator, ScalarFnRef};
 use vx_tree::{ArrayRef, ConstantArray, InterleaveArray, IntoArray, ScalarFnArray};
-use vx_value::{ArgKind, DType, Scalar, VortexError, VortexResult, has_columns};
+use vx_value::{ArgKind, DType, Name, Scalar, VortexError, VortexResult, has_columns};
 
 /// The functions as methods. Each makes the node of its function over the array and optimizes it; only `zip` and
 /// `interleave` don't optimize.
@@ -40,6 +40,10 @@ pub trait ArrayBuiltins: Sized {
         ensures same { is_nullable (nullability_of (dtype (tree self.now))) ≡ false → fill_value.of_type ≡ dtype (tree self.now)
             → GivesJust (tree self.now) result };
 
+    /// Returns the field named `name` of each row of the array, which holds structs; null where the struct is.
+    fn get_item(&self, alloc: Global, name: &str) -> VortexResult<ArrayRef>
+        ensures { Calls (fn_of.GetItem name.now) (tree self.now ∷ []) (len (tree self.now)) result };
+
     /// Returns whether each row is null.
     fn is_null(&self, alloc: Global) -> VortexResult<ArrayRef>
         ensures { Calls fn_of.IsNull (tree self.now ∷ []) (len (tree self.now)) result };
@@ -55,6 +59,10 @@ pub trait ArrayBuiltins: Sized {
     /// Returns the negation of each row.
     fn not(&self, alloc: Global) -> VortexResult<ArrayRef>
         ensures { Calls fn_of.Not (tree self.now ∷ []) (len (tree self.now)) result };
+
+    /// Returns whether each row of the array, which holds lists, has the row of `needle` among its elements.
+    fn list_contains(&self, alloc: Global, needle: ArrayRef) -> VortexResult<ArrayRef>
+        ensures { Calls fn_of.ListContains (tree self.now ∷ needle ∷ []) (len (tree self.now)) result };
 
     /// Returns the rows of `if_true` for which the array is true, and the rows of `if_false` elsewhere. The node isn't
     /// optimized.
@@ -105,6 +113,11 @@ impl ArrayBuiltins for ArrayRef {
         call_of_two(alloc, ScalarFnRef::FillNull, self, fill.into_array())
     }
 
+    fn get_item(&self, alloc: Global, name: &str) -> VortexResult<ArrayRef> {
+        let name = Name::new(alloc, String::from_str(alloc, name)?)?;
+        call_of_one(alloc, ScalarFnRef::GetItem(name), self)
+    }
+
     fn is_null(&self, alloc: Global) -> VortexResult<ArrayRef> {
         call_of_one(alloc, ScalarFnRef::IsNull, self)
     }
@@ -119,6 +132,10 @@ impl ArrayBuiltins for ArrayRef {
 
     fn not(&self, alloc: Global) -> VortexResult<ArrayRef> {
         call_of_one(alloc, ScalarFnRef::Not, self)
+    }
+
+    fn list_contains(&self, alloc: Global, needle: ArrayRef) -> VortexResult<ArrayRef> {
+        call_of_two(alloc, ScalarFnRef::ListContains, self, needle)
     }
 
     fn zip(&self, alloc: Global, if_true: ArrayRef, if_false: ArrayRef) -> VortexResult<ArrayRef> {

@@ -8,14 +8,14 @@ use Rattle.vx_value.specs.Cell.{Cell, value}
 use Rattle.vx_mask.specs.Places.{IsRun}
 use Rattle.vx_mask.proofs.Runs.{no_run_of_none}
 use Rattle.vx_tree.specs.Tree as enc
-use Rattle.vx_tree.specs.Tree.{Tree, Data, Slots, node, no_slots, absent, slot, dtype, len, datum, constant_of, slice_of, is_constant, is_dict, is_canonical}
+use Rattle.vx_tree.specs.Tree.{Tree, Data, Slots, node, no_slots, absent, slot, slots_of, dtype, len, datum, constant_of, slice_of, is_constant, is_dict, is_canonical, last_tree}
 use Rattle.vx_tree.specs.Slots.{map_slots, present_from, present_in, HoldsAt, HasSlot}
 use Rattle.vx_tree.specs.Parts.{part_of, column_range}
 use Rattle.vx_tree.specs.Columns.{empty_of}
 use Rattle.vx_tree.specs.NodeValidities.{node_validity}
 use Rattle.vx_tree.specs.Well.{IsWell}
 use Rattle.vx_tree.proofs.SlotsLemmas.{no_shapes}
-use Rattle.vx_rule.specs.Rules.{Row, IsPart, constants, named_by, F1, F2, F3, C1, N1_null, N1_valid, S_whole, S_empty, S1, S2, S3, S4, S5, S6, F5, F6, F7, F8, F9, M1, D1, D2, K1, K2, K3, K4}
+use Rattle.vx_rule.specs.Rules.{Row, IsPart, constants, named_by, item_node, mask_node, validity_column, F1, F2, F3, F4, P1, C1, N1_null, N1_valid, S_whole, S_empty, S1, S2, S3, S4, S5, S6, F5, F6, F7, F8, F9, G1, G2, G3, G4, G4_masked, M1, D1, D2, K1, K2, K3, K4}
 use Rattle.vx_rule.proofs.PushedLemmas.{chosen_if, chosen_else, all_rows, not_all_rows}
 use Rattle.vx_rule.proofs.QuietLemmas.{row_slot}
 
@@ -41,12 +41,20 @@ own_determined : (t u v : Tree) (os ps : List ℕ) → Row None t u os → Row N
 own_determined t u v os ps (F1 ty n bits c e) (F1 _ _ _ _ e') = (refl, refl)
 own_determined t u v os ps (F1 ty n bits c e) (F2 _ _ _ _ e' z) = absurd (cc (e, e'))
 own_determined t u v os ps (F1 ty n bits c e) (F3 _ _ _ _ s' t' e' r) = absurd (cc (e, e'))
+own_determined t u v os ps (F1 ty n bits c e) (F4 _ sty _ k _ ss apart some) = absurd (cc (e, apart.some_left))
 own_determined t u v os ps (F2 ty n bits c e z) (F1 _ _ _ _ e') = absurd (cc (e, e'))
 own_determined t u v os ps (F2 ty n bits c e z) (F2 _ _ _ _ e' z') = (refl, refl)
 own_determined t u v os ps (F2 ty n bits c e z) (F3 _ _ _ _ s' t' e' r) = absurd (no_run_of_none bits z s' t' r)
+own_determined t u v os ps (F2 ty n bits c e z) (F4 _ sty _ k _ ss apart some) = absurd (apart.some z)
 own_determined t u v os ps (F3 ty n bits c a b e r) (F1 _ _ _ _ e') = absurd (cc (e, e'))
 own_determined t u v os ps (F3 ty n bits c a b e r) (F2 _ _ _ _ e' z) = absurd (no_run_of_none bits z a b r)
 own_determined t u v os ps (F3 ty n bits c a b e r) (F3 _ _ _ _ s' t' e' r') = (one_run bits a b s' t' c r r', refl)
+own_determined t u v os ps (F3 ty n bits c a b e r) (F4 _ sty _ k _ ss apart some) = absurd (apart.no_run a b r)
+own_determined t u v os ps (F4 ty sty n k bits ss apart some) (F1 _ _ _ _ e) = absurd (cc (e, apart.some_left))
+own_determined t u v os ps (F4 ty sty n k bits ss apart some) (F2 _ _ _ _ e z) = absurd (apart.some z)
+own_determined t u v os ps (F4 ty sty n k bits ss apart some) (F3 _ _ _ _ a b e r) = absurd (apart.no_run a b r)
+own_determined t u v os ps (F4 ty sty n k bits ss apart some) (F4 _ _ _ _ _ _ other more) = (refl, refl)
+own_determined t u v os ps (P1 ty n options ss) (P1 _ _ _ _) = (refl, refl)
 own_determined t u v os ps (C1 ty n target c e) (C1 _ _ _ _ e') = (refl, refl)
 own_determined t u v os ps (N1_null ty n c e) (N1_null _ _ _ e') = (refl, refl)
 own_determined t u v os ps (N1_valid ty n c e) (N1_valid _ _ _ e') = (refl, refl)
@@ -97,7 +105,7 @@ slice_answered ty n a b c u os (S_empty _ _ _ _ _ l z y) = answer_of_empty a b c
 slice_answered ty n a b c u os (S1 _ sty _ _ _ k s e x p) = answer_of_part a b c p
 slice_answered ty n a b c u os (S2 _ cty _ _ _ k v p) = answer_of_part a b c p
 slice_answered ty n a b c u os (S3 _ cty _ _ _ k d ss h p) = column_answer a b cty k d ss h ∙ answer_of_part a b c p
-slice_answered ty n a b c u os (S4 _ fty _ _ _ k f ss p) = answer_of_part a b c p
+slice_answered ty n a b c u os (S4 _ fty _ _ _ k f ss l p) = answer_of_part a b c p
 slice_answered ty n a b c u os (S5 _ mty _ _ _ k x vs p) = answer_of_part a b c p
 slice_answered ty n a b c u os (S6 _ dty _ _ _ k x vs p) = answer_of_part a b c p
 
@@ -118,14 +126,21 @@ child_determined i t u v os ps (S_empty ty n a b c l z y) row = slice_determined
 child_determined i t u v os ps (S1 ty sty n a b k s e c p) row = slice_determined ty n a b _ u v os ps (S1 ty sty n a b k s e c p) row
 child_determined i t u v os ps (S2 ty cty n a b k x p) row = slice_determined ty n a b _ u v os ps (S2 ty cty n a b k x p) row
 child_determined i t u v os ps (S3 ty cty n a b k d ss h p) row = slice_determined ty n a b _ u v os ps (S3 ty cty n a b k d ss h p) row
-child_determined i t u v os ps (S4 ty fty n a b k f ss p) row = slice_determined ty n a b _ u v os ps (S4 ty fty n a b k f ss p) row
+child_determined i t u v os ps (S4 ty fty n a b k f ss l p) row = slice_determined ty n a b _ u v os ps (S4 ty fty n a b k f ss l p) row
 child_determined i t u v os ps (S5 ty mty n a b k c vs p) row = slice_determined ty n a b _ u v os ps (S5 ty mty n a b k c vs p) row
 child_determined i t u v os ps (S6 ty dty n a b k c vs p) row = slice_determined ty n a b _ u v os ps (S6 ty dty n a b k c vs p) row
 child_determined i t u v os ps (F5 ty fty n k outer inner c) (F5 _ _ _ _ _ _ _) = (refl, refl)
 child_determined i t u v os ps (F6 ty cty n k bits x) (F6 _ _ _ _ _ _) = (refl, refl)
-child_determined i t u v os ps (F7 ty fty n k bits f ss) (F7 _ _ _ _ _ _ _) = (refl, refl)
+child_determined i t u v os ps (F7 ty fty n k bits f ss l) (F7 _ _ _ _ _ _ _ _) = (refl, refl)
 child_determined i t u v os ps (F8 ty mty n k bits c vs) (F8 _ _ _ _ _ _ _) = (refl, refl)
 child_determined i t u v os ps (F9 ty dty n k bits c vs) (F9 _ _ _ _ _ _ _) = (refl, refl)
+child_determined i t u v os ps (G1 ty fty n k name bits c) (G1 _ _ _ _ _ _ _) = (refl, refl)
+child_determined i t u v os ps (G2 ty sty n k a b name c) (G2 _ _ _ _ _ _ _ _) = (refl, refl)
+child_determined i t u v os ps (G3 ty mty s n k name c vs e) (G3 _ _ s' _ _ _ _ _ e') =
+    let same : s ≡ s' = cc in (ap (λ x. mask_node ty n (item_node name x n c) (validity_column n vs)) same, refl)
+child_determined i t u v os ps (G4 ty n k name fs ss c e) (G4 _ _ _ _ _ _ c' e') = let same : c ≡ c' = cc in (same, refl)
+child_determined i t u v os ps (G4_masked ty n k name fs ss c e) (G4_masked _ _ _ _ _ _ c' e') =
+    let same : c ≡ c' = cc in (ap (λ x. mask_node ty n x (validity_column n (slots_of (last_tree ss ∷ [])))) same, refl)
 child_determined i t u v os ps (M1 ty mty n k c m vs) (M1 _ _ _ _ _ _ _) = (refl, refl)
 child_determined i t u v os ps (D1 ty s n k c x) (D1 _ _ _ _ _ _) = (refl, refl)
 child_determined i t u v os ps (D2 ty mty n k codes c vs f g one) (D2 _ _ _ _ _ _ _ _ _ _) = (refl, refl)

@@ -12,7 +12,7 @@ use Rattle.vx_tree.specs.Tree as enc
 use Rattle.vx_tree.specs.Tree.{Tree, Data, Slots, node, no_slots, absent, slot, slots_of, dtype, datum, constant_of}
 use Rattle.vx_tree.specs.Well.{shape, shapes, IsNode, IsWell, AreWell}
 use Rattle.vx_tree.proofs.SlotsLemmas.{no_shapes}
-use Rattle.vx_rule.specs.Rules.{Row, IsQuiet, constants, M1, K1, K2, K3, K4}
+use Rattle.vx_rule.specs.Rules.{Row, IsQuiet, constants, G1, G2, G3, G4, G4_masked, M1, K1, K2, K3, K4}
 use Rattle.vx_rule.specs.Constants.{folds, data_value, slot_value, with_value, constant_values, IsFolded}
 use Rattle.vx_rule.proofs.FitsLemmas.{row_by}
 
@@ -184,6 +184,11 @@ fit_folded ty n f ss t u x os w is ok h g e none =
     subst (λ y. Row (Some 0) y u os) (sym is) (fit_constants ty n f ss u x os well.1 (counted ty n f ss ok) h g e none)
 
 folded_by : (ty : DataType) (n : ℕ) (f : ScalarFnRef) (ss : Slots) → folds f ≡ true → IsFolded f ty n ss None → IsQuiet (Some 0) (node ty n (enc.function f) ss)
+folded_by ty n f ss h none u os (G1 ty' fty n' k name bits c) = absurd (cc (h))
+folded_by ty n f ss h none u os (G2 ty' sty n' k a b name c) = absurd (cc (h))
+folded_by ty n f ss h none u os (G3 ty' mty s n' k name c vs e) = absurd (cc (h))
+folded_by ty n f ss h none u os (G4 ty' n' k name fs ts c e) = absurd (cc (h))
+folded_by ty n f ss h none u os (G4_masked ty' n' k name fs ts c e) = absurd (cc (h))
 folded_by ty n f ss h none u os (M1 ty' mty n' k c m vs) = absurd (cc (h))
 folded_by ty n f ss h none u os (K1 ty' s n' k target v w e) = absurd (cc (none (v ∷ []) refl, e))
 folded_by ty n f ss h none u os (K2 ty' s n' k v w e) = absurd (cc (none (v ∷ []) refl, e))

@@ -34,14 +34,14 @@ use Rattle.vx_rule.proofs.RangesLemmas.{empty_known, copies_clean}
 
 -- ---- what every row needs
 
-filter_bounds : (ty : DataType) (n : ℕ) (bits : List Bool) (c : Tree) → IsNode ty n (enc.filter bits) (shapes (slot c no_slots))
+pub filter_bounds : (ty : DataType) (n : ℕ) (bits : List Bool) (c : Tree) → IsNode ty n (enc.filter bits) (shapes (slot c no_slots))
     → (ty ≡ dtype c) × (n ≡ true_count bits) × (length bits ≡ len c)
 filter_bounds ty n bits c h =
     let is : shape_of c ≡ shape ty (length bits) = first_of h.0 in
     (sym (ap type_in is), h.1, sym (ap len_in is))
 
 -- a well-formed filter of c is `filter_of`
-of_filter : (ty : DataType) (n : ℕ) (bits : List Bool) (c u : Tree) → IsWell (node ty n (enc.filter bits) (slot c no_slots))
+pub of_filter : (ty : DataType) (n : ℕ) (bits : List Bool) (c u : Tree) → IsWell (node ty n (enc.filter bits) (slot c no_slots))
     → (length bits ≡ len c → KeepsExactly (filter_of bits c) u) → KeepsExactly (node ty n (enc.filter bits) (slot c no_slots)) u
 of_filter ty n bits c u w h =
     let s = filter_bounds ty n bits c w.0 in
@@ -125,10 +125,10 @@ F6_keeps ty cty n k bits v w =
 
 -- ---- of a function, and of a masked array
 
-choice_natural : (bits : List Bool) (f : ℕ → Cell) (is : List ℕ) → chosen bits (map f is) ≡ map f (chosen bits is)
+pub choice_natural : (bits : List Bool) (f : ℕ → Cell) (is : List ℕ) → chosen bits (map f is) ≡ map f (chosen bits is)
 choice_natural bits f is = chosen_map f bits is
 
-choice_count : (bits : List Bool) (k : ℕ) → length bits ≡ k → length (chosen bits (range_with_len 0 k)) ≡ true_count bits
+pub choice_count : (bits : List Bool) (k : ℕ) → length bits ≡ k → length (chosen bits (range_with_len 0 k)) ≡ true_count bits
 choice_count bits k long = length-chosen bits (range_with_len 0 k) (omega (arith, long, length-range_with_len 0 k))
 
 pub F7_keeps : (ty fty : DataType) (n k : ℕ) (bits : List Bool) (f : ScalarFnRef) (ss : Slots)

@@ -1,28 +1,32 @@
 -- Each row of the table, up to equations.
-use Rattle.std.proofs.Common.{◌≡◌, ℕ, ◌+◌, ◌-◌, ◌<◌, List, [], ◌∷◌, Option, Some, None, Result, Ok, Err, Bool, true, false, refl, sym, subst, ap, ◌∙◌}
+use Rattle.std.proofs.Common.{◌≡◌, ℕ, ◌+◌, ◌-◌, ◌<◌, List, [], ◌∷◌, length, Option, Some, None, Result, Ok, Err, Bool, true, false, refl, sym, subst, ap, ◌∙◌, arith}
 use Rattle.std.specs.Prelude.{option_map}
-use Rattle.vx_value.specs.Types.{DataType, nullability_of}
+use Rattle.vx_value.specs.Types as type
+use Rattle.vx_value.specs.Types.{DataType, Fields, nullability_of}
 use Rattle.vx_value.specs.Typed.{Typed}
 use Rattle.vx_value.specs.View.{type_of}
 use Rattle.vx_value.specs.declared.dtype.DType.{DType}
-use Rattle.vx_value.specs.declared.dtype.Nullability.TheVariants.{NonNullable}
+use Rattle.vx_value.specs.declared.dtype.Nullability.TheVariants.{NonNullable, Nullable}
 use Rattle.vx_value.specs.declared.error.VortexError.{VortexError}
 use Rattle.vx_mask.specs.Masks.{is_all_true}
 use Rattle.vx_mask.specs.Places.{true_count, combined, IsRun}
 use Rattle.vx_fn.specs.declared.function.ScalarFnRef.{ScalarFnRef}
 use Rattle.vx_fn.specs.declared.function.ScalarFnRef.TheVariants as fn_of
+use Rattle.vx_fn.specs.declared.functions.pack.PackOptions.{PackOptions}
 use Rattle.vx_tree.specs.Tree as enc
-use Rattle.vx_tree.specs.Tree.{Tree, Slots, node, no_slots, slot, slots, slots_of, dtype, len, datum, constant_of, slice_of, filter_of, masked_of, dict_of, is_canonical, is_columnar}
+use Rattle.vx_tree.specs.Tree.{Tree, Slots, node, no_slots, slot, slots, slots_of, dtype, len, datum, constant_of, slice_of, filter_of, masked_of, dict_of, is_canonical, is_columnar, lets_below, last_tree}
 use Rattle.vx_tree.specs.Slots.{map_slots, present_from, present_in, count_slots}
 use Rattle.vx_tree.specs.Parts.{part_of, choice_of, column_range}
 use Rattle.vx_tree.specs.Columns.{empty_of}
 use Rattle.vx_tree.specs.Validities.{truths}
 use Rattle.vx_tree.specs.NodeValidities.{both_of, node_validity}
+use Rattle.vx_tree.specs.declared.array.layout.Layout.TheVariants as layout
 use Rattle.vx_tree.specs.declared.validity.Validity.{Validity}
 use Rattle.vx_rule.specs.declared.raw_node.RawNode.{RawNode}
 use Rattle.vx_rule.specs.Answers.{Answers, IsRaw, IsRawFirst}
+use Rattle.vx_rule.specs.Items.{IsItem}
 use Rattle.vx_rule.specs.Pushes.{IsConstantLike}
-use Rattle.vx_rule.specs.Rules.{Row, IsPart, lets_slice, named_by, taken_of, validity_column, F1, F2, F3, C1, N1_null, N1_valid, S_whole, S_empty, S1, S2, S3, S4, S5, S6, F5, F6, F7, F8, F9, M1, D1, D2}
+use Rattle.vx_rule.specs.Rules.{Row, IsPart, IsApart, lets_slice, named_by, taken_of, validity_column, structs_at, with_absent, item_node, mask_node, field_in, F1, F2, F3, F4, P1, C1, N1_null, N1_valid, S_whole, S_empty, S1, S2, S3, S4, S5, S6, F5, F6, F7, F8, F9, G1, G2, G3, G4, G4_masked, M1, D1, D2}
 use Rattle.vx_rule.proofs.PushLemmas.{masked_mapped}
 use Rattle.vx_rule.specs.Calls.{null_test}
 
@@ -61,7 +65,30 @@ pub fit_F3 : (bits : List Bool) (a b : ℕ) (c u : Tree) (os : List ℕ) → is_
     → Row None (filter_of bits c) u os
 fit_F3 bits a b c u os e r f g = row_for None (filter_of bits c) (slice_of a b c) u [] os (F3 (dtype c) (true_count bits) bits c a b e r) f g
 
+-- the mask of n rows chooses some
+some_rows : (bits : List Bool) (n : ℕ) → length bits ≡ n → (true_count bits ≡ 0 → ⊥) → 0 < n
+unfolding true_count
+some_rows [] n long some = absurd (some refl)
+some_rows (b ∷ bits) n long some = omega (arith, long)
+
+pub fit_F4 : (bits : List Bool) (ss cs : Slots) (x u : Tree) (os : List ℕ) → x ≡ node (dtype x) (len x) (enc.composed layout.Struct) ss → length bits ≡ len x
+    → IsApart bits → cs ≡ map_slots (choice_of bits) ss → u ≡ node (dtype x) (true_count bits) (enc.composed layout.Struct) cs → os ≡ present_from 0 (slots u)
+    → Row None (filter_of bits x) u os
+fit_F4 bits ss cs x u os is long apart choices made g =
+    let ty = dtype x in
+    let whole = node ty (len x) (enc.composed layout.Struct) ss in
+    let made = made ∙ ap (node ty (true_count bits) (enc.composed layout.Struct)) choices in
+    row_by None (filter_of bits whole) (filter_of bits x) (structs_at bits ty ss) u (present_from 0 (map_slots (choice_of bits) ss)) os
+    (F4 ty ty (true_count bits) (len x) bits ss apart (some_rows bits (len x) long apart.some))
+    (ap (filter_of bits) (sym is)) (sym made) (sym (g ∙ ap (λ y. present_from 0 (slots y)) made))
+
 -- ---- of a function by itself
+
+pub fit_P1 : (ty : DataType) (n : ℕ) (options : PackOptions) (ss : Slots) (t u : Tree) (os : List ℕ) → t ≡ node ty n (enc.function (fn_of.Pack options)) ss
+    → u ≡ node ty n (enc.composed layout.Struct) (with_absent ss) → os ≡ [] → Row None t u os
+fit_P1 ty n options ss t u os e f g =
+    row_by None (node ty n (enc.function (fn_of.Pack options)) ss) t (node ty n (enc.composed layout.Struct) (with_absent ss)) u [] os (P1 ty n options ss)
+    (sym e) (sym f) (sym g)
 
 pub fit_C1 : (ty : DataType) (n : ℕ) (target : DType) (t c u : Tree) (os : List ℕ) → t ≡ node ty n (enc.function (fn_of.Cast target)) (slot c no_slots)
     → dtype c ≡ type_of target → u ≡ c → os ≡ [] → Row None t u os
@@ -106,12 +133,12 @@ fit_S3 a b (node ty k d ss) u os h p f g =
     row_for (Some 0) (slice_of a b x) (column_range a b x) u (present_in (column_range a b x)) os (S3 ty ty (b - a) a b k d ss h p) f
     (g ∙ ap (λ y. present_from 0 (slots y)) f)
 
-pub fit_S4 : (a b k : ℕ) (ty : DataType) (f : ScalarFnRef) (ss us : Slots) (x u : Tree) (os : List ℕ) → x ≡ node ty k (enc.function f) ss → IsPart a b (len x)
-    → us ≡ map_slots (slice_of a b) ss → u ≡ node ty (b - a) (enc.function f) us → os ≡ present_from 0 (slots u) → Row (Some 0) (slice_of a b x) u os
-fit_S4 a b k ty f ss us x u os e p m made g =
+pub fit_S4 : (a b k : ℕ) (ty : DataType) (f : ScalarFnRef) (ss us : Slots) (x u : Tree) (os : List ℕ) → lets_below f ≡ true → x ≡ node ty k (enc.function f) ss
+    → IsPart a b (len x) → us ≡ map_slots (slice_of a b) ss → u ≡ node ty (b - a) (enc.function f) us → os ≡ present_from 0 (slots u) → Row (Some 0) (slice_of a b x) u os
+fit_S4 a b k ty f ss us x u os l e p m made g =
     let made = made ∙ ap (node ty (b - a) (enc.function f)) m in
     row_by (Some 0) (slice_of a b (node ty k (enc.function f) ss)) (slice_of a b x) (node ty (b - a) (enc.function f) (map_slots (slice_of a b) ss)) u
-    (present_from 0 (map_slots (slice_of a b) ss)) os (S4 ty ty (b - a) a b k f ss (subst (λ y. IsPart a b (len y)) e p))
+    (present_from 0 (map_slots (slice_of a b) ss)) os (S4 ty ty (b - a) a b k f ss l (subst (λ y. IsPart a b (len y)) e p))
     (ap (slice_of a b) (sym e)) (sym made) (sym (g ∙ ap (λ y. present_from 0 (slots y)) made))
 
 pub fit_S5 : (a b : ℕ) (x c s u : Tree) (v w : Option Tree) (os : List ℕ) → x ≡ masked_of c v → IsPart a b (len x) → s ≡ slice_of a b c
@@ -150,14 +177,14 @@ fit_F6 bits x c u os like f g =
     row_by (Some 0) (filter_of bits (constant_of v (len x))) (filter_of bits x) (constant_of v (true_count bits)) u [] os
     (F6 v.of_type v.of_type (true_count bits) (len x) bits v) (ap (filter_of bits) (sym like.1)) (sym (f ∙ like.2)) (sym g)
 
-pub fit_F7 : (k : ℕ) (bits : List Bool) (ty : DataType) (f : ScalarFnRef) (ss us : Slots) (x u : Tree) (os : List ℕ) → x ≡ node ty k (enc.function f) ss
-    → us ≡ map_slots (choice_of bits) ss → u ≡ node ty (true_count bits) (enc.function f) us → os ≡ present_from 0 (slots u)
+pub fit_F7 : (k : ℕ) (bits : List Bool) (ty : DataType) (f : ScalarFnRef) (ss us : Slots) (x u : Tree) (os : List ℕ) → lets_below f ≡ true
+    → x ≡ node ty k (enc.function f) ss → us ≡ map_slots (choice_of bits) ss → u ≡ node ty (true_count bits) (enc.function f) us → os ≡ present_from 0 (slots u)
     → Row (Some 0) (filter_of bits x) u os
-fit_F7 k bits ty f ss us x u os e m made g =
+fit_F7 k bits ty f ss us x u os l e m made g =
     let made = made ∙ ap (node ty (true_count bits) (enc.function f)) m in
     row_by (Some 0) (filter_of bits (node ty k (enc.function f) ss)) (filter_of bits x)
     (node ty (true_count bits) (enc.function f) (map_slots (choice_of bits) ss)) u
-    (present_from 0 (map_slots (choice_of bits) ss)) os (F7 ty ty (true_count bits) k bits f ss)
+    (present_from 0 (map_slots (choice_of bits) ss)) os (F7 ty ty (true_count bits) k bits f ss l)
     (ap (filter_of bits) (sym e)) (sym made) (sym (g ∙ ap (λ y. present_from 0 (slots y)) made))
 
 pub fit_F8 : (bits : List Bool) (x c s u : Tree) (v w : Option Tree) (os : List ℕ) → x ≡ masked_of c v → s ≡ filter_of bits c
@@ -221,3 +248,48 @@ fit_M1 ty n t x c m y both u v os shape e tells joins made g =
     (node ty n (enc.function fn_of.Mask) (slot c (slot (both_of n m (validity_column n vs)) no_slots))) u [] os
     (M1 ty (dtype (masked_of c v)) n (len c) c m vs) (sym (shape ∙ ap (λ z. node ty n (enc.function fn_of.Mask) (slot z (slot m no_slots))) e))
     (sym (made ∙ ap (λ z. node ty n (enc.function fn_of.Mask) (slot c (slot z no_slots))) (joins ∙ ap (both_of n m) tells))) (sym g)
+
+-- ---- of a child for `get_item`
+
+pub fit_G1 : (name : List ℕ) (bits : List Bool) (t x c y u : Tree) (os : List ℕ) → t ≡ item_node name (dtype t) (len t) x → x ≡ filter_of bits c
+    → y ≡ item_node name (dtype t) (len c) c → u ≡ filter_of bits y → os ≡ 0 ∷ [] → Row (Some 0) t u os
+fit_G1 name bits t x c y u os e is item made g =
+    row_by (Some 0) (item_node name (dtype t) (len t) (filter_of bits c)) t (filter_of bits (item_node name (dtype t) (len c) c)) u (0 ∷ []) os
+    (G1 (dtype t) (dtype c) (len t) (true_count bits) name bits c) (sym (e ∙ ap (item_node name (dtype t) (len t)) is))
+    (sym (made ∙ ap (filter_of bits) item)) (sym g)
+
+pub fit_G2 : (name : List ℕ) (a b : ℕ) (t x c y u : Tree) (os : List ℕ) → t ≡ item_node name (dtype t) (len t) x → x ≡ slice_of a b c
+    → y ≡ item_node name (dtype t) (len c) c → u ≡ slice_of a b y → os ≡ 0 ∷ [] → Row (Some 0) t u os
+fit_G2 name a b t x c y u os e is item made g =
+    row_by (Some 0) (item_node name (dtype t) (len t) (slice_of a b c)) t (slice_of a b (item_node name (dtype t) (len c) c)) u (0 ∷ []) os
+    (G2 (dtype t) (dtype c) (len t) (b - a) a b name c) (sym (e ∙ ap (item_node name (dtype t) (len t)) is))
+    (sym (made ∙ ap (slice_of a b) item)) (sym g)
+
+pub fit_G3 : (name : List ℕ) (t x c y told u : Tree) (v : Option Tree) (os : List ℕ) → t ≡ item_node name (dtype t) (len t) x → x ≡ masked_of c v
+    → len c ≡ len t → IsItem name c y → told ≡ validity_column (len t) (slots_of (v ∷ [])) → u ≡ mask_node (dtype t) (len t) y told → os ≡ 0 ∷ []
+    → Row (Some 0) t u os
+fit_G3 name t x c y told u v os e is long item tells made g =
+    let ty = dtype t in
+    let n = len t in
+    let vs = slots_of (v ∷ []) in
+    let inner : y ≡ item_node name (dtype y) n c = item.1 ∙ ap (λ k. item_node name (dtype y) k c) long in
+    row_by (Some 0) (item_node name ty n (masked_of c v)) t (mask_node ty n (item_node name (dtype y) n c) (validity_column n vs)) u (0 ∷ []) os
+    (G3 ty (dtype (masked_of c v)) (dtype y) n (len c) name c vs item.0) (sym (e ∙ ap (item_node name ty n) is))
+    (sym (made ∙ (λ i. mask_node ty n (inner i) (tells i)))) (sym g)
+
+pub fit_G4 : (name : List ℕ) (fs : Fields) (ss : Slots) (t x c u : Tree) (os : List ℕ) → t ≡ item_node name (dtype t) (len t) x
+    → x ≡ node (type.struct fs NonNullable) (len x) (enc.composed layout.Struct) ss → field_in name fs ss ≡ Some c → u ≡ c → os ≡ [] → Row (Some 0) t u os
+fit_G4 name fs ss t x c u os e is found made g =
+    row_by (Some 0) (item_node name (dtype t) (len t) (node (type.struct fs NonNullable) (len x) (enc.composed layout.Struct) ss)) t c u [] os
+    (G4 (dtype t) (len t) (len x) name fs ss c found) (sym (e ∙ ap (item_node name (dtype t) (len t)) is)) (sym made) (sym g)
+
+pub fit_G4_masked : (name : List ℕ) (fs : Fields) (ss : Slots) (t x c told u : Tree) (v : Option Tree) (os : List ℕ) → t ≡ item_node name (dtype t) (len t) x
+    → x ≡ node (type.struct fs Nullable) (len x) (enc.composed layout.Struct) ss → field_in name fs ss ≡ Some c → v ≡ last_tree ss
+    → told ≡ validity_column (len t) (slots_of (v ∷ [])) → u ≡ mask_node (dtype t) (len t) c told → os ≡ [] → Row (Some 0) t u os
+fit_G4_masked name fs ss t x c told u v os e is found last tells made g =
+    let ty = dtype t in
+    let n = len t in
+    row_by (Some 0) (item_node name ty n (node (type.struct fs Nullable) (len x) (enc.composed layout.Struct) ss)) t
+    (mask_node ty n c (validity_column n (slots_of (last_tree ss ∷ [])))) u [] os
+    (G4_masked ty n (len x) name fs ss c found) (sym (e ∙ ap (item_node name ty n) is))
+    (sym (made ∙ ap (mask_node ty n c) (tells ∙ ap (λ w. validity_column n (slots_of (w ∷ []))) last))) (sym g)

@@ -5,6 +5,10 @@ pub mod RangesLemmas
 pub mod FiltersLemmas
 pub mod FunctionsLemmas
 pub mod MasksLemmas
+mod StructRowsLemmas
+mod ItemsLemmas
+mod StructsLemmas
+mod ItemNodesLemmas
 pub mod DictsLemmas
 pub mod CastsLemmas
 pub mod KeepsLemmas

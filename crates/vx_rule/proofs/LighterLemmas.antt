@@ -1,12 +1,17 @@
 -- What each row does to the weight of its tree, and where it stands.
-use Rattle.std.proofs.Common.{◌≡◌, ℕ, zero, suc, ◌+◌, ◌-◌, ◌*◌, ◌<◌, ◌≤◌, List, [], ◌∷◌, Option, Some, None, Bool, true, false, refl, sym, subst, arith, zero-add}
+use Rattle.std.proofs.Common.{◌≡◌, ℕ, zero, suc, ◌+◌, ◌-◌, ◌*◌, ◌<◌, ◌≤◌, List, [], ◌∷◌, Option, Some, None, Bool, true, false, if◌then◌else◌, refl, sym, subst, ap, arith, zero-add}
+use Rattle.std.specs.Str.{bytes_eq}
+use Rattle.std.proofs.Math.Nat.{mul-le-mul_left}
 use Rattle.vx_value.specs.Types as type
 use Rattle.vx_value.specs.Types.{DataType, Fields, nullability_of}
 use Rattle.vx_value.specs.Values.{Value, null, boolean}
 use Rattle.vx_value.specs.declared.dtype.Nullability.{Nullability}
 use Rattle.vx_value.specs.declared.dtype.Nullability.TheVariants.{NonNullable, Nullable}
+use Rattle.vx_mask.specs.Places.{true_count}
+use Rattle.vx_fn.specs.declared.function.ScalarFnRef.{ScalarFnRef}
+use Rattle.vx_fn.specs.declared.function.ScalarFnRef.TheVariants as fn_of
 use Rattle.vx_tree.specs.Tree as enc
-use Rattle.vx_tree.specs.Tree.{Tree, Data, Slots, node, no_slots, absent, slot, slots_of, datum, constant_of, slice_of, filter_of, dict_of, is_canonical, last_tree}
+use Rattle.vx_tree.specs.Tree.{Tree, Data, Slots, node, no_slots, absent, slot, slots_of, datum, constant_of, slice_of, filter_of, dict_of, is_canonical, last_tree, lets_below}
 use Rattle.vx_tree.specs.Slots.{map_slots, present_from, present_in, count_slots, IsPresent, IsPresentAt}
 use Rattle.vx_tree.specs.Parts.{part_of, part_by, choice_of, choice_by, column_range}
 use Rattle.vx_tree.specs.Columns.{empty_of, empty_fields}
@@ -18,7 +23,7 @@ use Rattle.vx_tree.specs.declared.validity.Validity.{Validity}
 use Rattle.vx_tree.specs.declared.validity.Validity.TheVariants as validity
 use Rattle.vx_tree.specs.Weight.{weight, slots_weights, column_weight, total, excess}
 use Rattle.vx_tree.proofs.WeightLemmas.{weight_low}
-use Rattle.vx_rule.specs.Rules.{Row, ArePresent, validity_column, masked_by, named_by, taken_by, taken_of, F1, F2, F3, C1, N1_null, N1_valid, S_whole, S_empty, S1, S2, S3, S4, S5, S6, F5, F6, F7, F8, F9, M1, D1, D2, K1, K2, K3, K4}
+use Rattle.vx_rule.specs.Rules.{Row, ArePresent, validity_column, masked_by, named_by, taken_by, taken_of, with_absent, field_in, F1, F2, F3, F4, P1, C1, N1_null, N1_valid, S_whole, S_empty, S1, S2, S3, S4, S5, S6, F5, F6, F7, F8, F9, G1, G2, G3, G4, G4_masked, M1, D1, D2, K1, K2, K3, K4}
 use Rattle.vx_rule.proofs.PicksLemmas.{only_slot}
 
 -- ---- weights of what rows make
@@ -94,6 +99,53 @@ canonical_heavy k ty (enc.decimals w zs) ss h some = column_heavy k (slots_weigh
 canonical_heavy k ty (enc.views rs) ss h some = column_heavy k (slots_weights ss) some
 canonical_heavy k ty (enc.composed l) ss h some = column_heavy k (slots_weights ss) some
 canonical_heavy k ty _ ss h some = absurd (cc)
+
+-- ---- functions
+
+-- below which slices and filters pass
+function_heavy : (ty : DataType) (n : ℕ) (f : ScalarFnRef) (ss : Slots) → lets_below f ≡ true → weight (node ty n (enc.function f) ss) ≡ 4 + total (slots_weights ss)
+function_heavy ty n (fn_of.GetItem name) ss l = absurd (cc (l))
+function_heavy ty n _ ss l = refl
+
+-- the field of a filter or a slice, and of a masked array, in squares
+lifted_light : (k x : ℕ) → 2 ≤ k → k ≤ 3 → 3 ≤ x → k * (4 + x * x) < 4 + k * x * (k * x)
+lifted_light zero x low high least = absurd (omega (arith, low))
+lifted_light (suc zero) x low high least = absurd (omega (arith, low))
+lifted_light (suc (suc zero)) x low high least = omega (arith, mul-le-mul_left x least, least)
+lifted_light (suc (suc (suc zero))) x low high least = omega (arith, mul-le-mul_left x least, least)
+lifted_light (suc (suc (suc (suc k)))) x low high least = absurd (omega (arith, high))
+
+-- ---- columns of structs
+
+absent_weights : (ss : Slots) → slots_weights (with_absent ss) ≡ slots_weights ss
+absent_weights no_slots = refl
+absent_weights (absent ss) = absent_weights ss
+absent_weights (slot t ss) = ap (λ ws. weight t ∷ ws) (absent_weights ss)
+
+-- a field, and the structs' validity
+field_light : (name : List ℕ) (fs : Fields) (ss : Slots) (c : Tree) → field_in name fs ss ≡ Some c → weight c ≤ 3 + excess (slots_weights ss)
+field_light name type.no_fields ss c e = absurd (cc)
+field_light name (type.field other t fs) no_slots c e = absurd (cc)
+field_light name (type.field other t fs) (absent ss) c e = absurd (cc)
+field_light name (type.field other t fs) (slot u ss) c e = by_test (bytes_eq name other) (field_light name fs ss c) e
+  where
+    by_test : (b : Bool) → (field_in name fs ss ≡ Some c → weight c ≤ 3 + excess (slots_weights ss)) → (if b then Some u else field_in name fs ss) ≡ Some c
+        → weight c ≤ 3 + excess (slots_weights (slot u ss))
+    by_test true later e = let same : u ≡ c = cc in omega (arith, ap weight same)
+    by_test false later e = omega (arith, later e)
+
+last_light : (n : ℕ) (ss : Slots) → weight (validity_column n (slots_of (last_tree ss ∷ []))) ≤ 3 + excess (slots_weights ss)
+last_light n no_slots = omega arith
+last_light n (absent no_slots) = omega arith
+last_light n (absent (absent ss)) = last_light n (absent ss)
+last_light n (absent (slot t ss)) = last_light n (slot t ss)
+last_light n (slot t no_slots) = omega arith
+last_light n (slot t (absent ss)) = omega (arith, last_light n (absent ss))
+last_light n (slot t (slot u ss)) = omega (arith, last_light n (slot u ss))
+
+-- the square of a number from 3 on is three times the number or more
+square_high : (x : ℕ) → 3 ≤ x → 3 * x ≤ x * x
+square_high x low = omega (arith, mul-le-mul_left x low)
 
 -- ---- dictionaries
 
@@ -273,6 +325,13 @@ pub row_lighter : (w : Option ℕ) (t u : Tree) (os : List ℕ) → Row w t u os
 row_lighter w t u os (F1 ty n bits c e) = omega (arith, weight_low c)
 row_lighter w t u os (F2 ty n bits c e z) = omega (arith, weight_low c, no_rows_light (enc.dtype c))
 row_lighter w t u os (F3 ty n bits c a b e r) = omega (arith, weight_low c)
+row_lighter w t u os (F4 ty sty n k bits ss apart some) = omega (
+  arith,
+  column_heavy k (slots_weights ss) some,
+  column_light (true_count bits) (slots_weights (map_slots (choice_of bits) ss)),
+  choices_light bits ss,
+)
+row_lighter w t u os (P1 ty n options ss) = omega (arith, ap (column_weight n) (absent_weights ss), column_light n (slots_weights ss))
 row_lighter w t u os (C1 ty n target c e) = omega arith
 row_lighter w t u os (N1_null ty n c e) = omega (arith, weight_low c)
 row_lighter w t u os (N1_valid ty n c e) = omega (arith, weight_low c)
@@ -286,14 +345,31 @@ row_lighter w t u os (S3 ty cty n a b k d ss h p) = omega (
   canonical_heavy k cty d ss h
       (omega (arith, p.some_rows, p.not_all)),
 )
-row_lighter w t u os (S4 ty fty n a b k f ss p) = omega (arith, slices_light a b ss)
+row_lighter w t u os (S4 ty fty n a b k f ss l p) =
+    omega (arith, slices_light a b ss, function_heavy fty k f ss l, function_heavy fty (b - a) f (map_slots (slice_of a b) ss) l)
 row_lighter w t u os (S5 ty mty n a b k c vs p) = omega (arith, parts_light a b vs)
 row_lighter w t u os (S6 ty dty n a b k c vs p) = omega arith
 row_lighter w t u os (F5 ty fty n k outer inner c) = omega (arith, weight_low c)
 row_lighter w t u os (F6 ty cty n k bits v) = omega arith
-row_lighter w t u os (F7 ty fty n k bits f ss) = omega (arith, choices_light bits ss)
+row_lighter w t u os (F7 ty fty n k bits f ss l) =
+    omega (arith, choices_light bits ss, function_heavy fty k f ss l, function_heavy fty (true_count bits) f (map_slots (choice_of bits) ss) l)
 row_lighter w t u os (F8 ty mty n k bits c vs) = omega (arith, choices_light bits vs)
 row_lighter w t u os (F9 ty dty n k bits c vs) = omega arith
+row_lighter w t u os (G1 ty fty n k name bits c) = omega (arith, lifted_light 3 (weight c) (omega arith) (omega arith) (weight_low c))
+row_lighter w t u os (G2 ty sty n k a b name c) = omega (arith, lifted_light 2 (weight c) (omega arith) (omega arith) (weight_low c))
+row_lighter w t u os (G3 ty mty s n k name c vs e) = omega (arith, told_light n vs)
+row_lighter w t u os (G4 ty n k name fs ss c e) =
+    let whole = column_weight k (slots_weights ss) in
+    omega (arith, field_light name fs ss c e, column_excess k (slots_weights ss), square_high whole (omega (arith, column_excess k (slots_weights ss))))
+row_lighter w t u os (G4_masked ty n k name fs ss c e) =
+    let whole = column_weight k (slots_weights ss) in
+    omega (
+      arith,
+      field_light name fs ss c e,
+      last_light n ss,
+      column_excess k (slots_weights ss),
+      square_high whole (omega (arith, column_excess k (slots_weights ss))),
+    )
 row_lighter w t u os (M1 ty mty n k c m vs) = omega (arith, told_light n vs)
 row_lighter w t u os (D1 ty s n k c v) = omega (arith, weight_low c, named_light ty n v.value (node_validity c), validity_light c)
 row_lighter w t u os (D2 ty mty n k codes c vs f g one) =
@@ -326,6 +402,8 @@ pub row_present : (w : Option ℕ) (t u : Tree) (os : List ℕ) → Row w t u os
 row_present w t u os (F1 ty n bits c e) = tt
 row_present w t u os (F2 ty n bits c e z) = tt
 row_present w t u os (F3 ty n bits c a b e r) = tt
+row_present w t u os (F4 ty sty n k bits ss apart some) = all_present u
+row_present w t u os (P1 ty n options ss) = tt
 row_present w t u os (C1 ty n target c e) = tt
 row_present w t u os (N1_null ty n c e) = tt
 row_present w t u os (N1_valid ty n c e) = tt
@@ -334,14 +412,19 @@ row_present w t u os (S_empty ty n a b c l z y) = tt
 row_present w t u os (S1 ty sty n a b k s r c p) = tt
 row_present w t u os (S2 ty cty n a b k v p) = tt
 row_present w t u os (S3 ty cty n a b k d ss h p) = all_present u
-row_present w t u os (S4 ty fty n a b k f ss p) = all_present u
+row_present w t u os (S4 ty fty n a b k f ss l p) = all_present u
 row_present w t u os (S5 ty mty n a b k c vs p) = all_present u
 row_present w t u os (S6 ty dty n a b k c vs p) = (tt, tt)
 row_present w t u os (F5 ty fty n k outer inner c) = tt
 row_present w t u os (F6 ty cty n k bits v) = tt
-row_present w t u os (F7 ty fty n k bits f ss) = all_present u
+row_present w t u os (F7 ty fty n k bits f ss l) = all_present u
 row_present w t u os (F8 ty mty n k bits c vs) = all_present u
 row_present w t u os (F9 ty dty n k bits c vs) = (tt, tt)
+row_present w t u os (G1 ty fty n k name bits c) = (tt, tt)
+row_present w t u os (G2 ty sty n k a b name c) = (tt, tt)
+row_present w t u os (G3 ty mty s n k name c vs e) = (tt, tt)
+row_present w t u os (G4 ty n k name fs ss c e) = tt
+row_present w t u os (G4_masked ty n k name fs ss c e) = tt
 row_present w t u os (M1 ty mty n k c m vs) = tt
 row_present w t u os (D1 ty s n k c v) = tt
 row_present w t u os (D2 ty mty n k codes c vs f g one) = all_present u
@@ -357,14 +440,19 @@ row_asked i t u os (S_empty ty n a b c l z y) = tt
 row_asked i t u os (S1 ty sty n a b k s r c p) = tt
 row_asked i t u os (S2 ty cty n a b k v p) = tt
 row_asked i t u os (S3 ty cty n a b k d ss h p) = tt
-row_asked i t u os (S4 ty fty n a b k f ss p) = tt
+row_asked i t u os (S4 ty fty n a b k f ss l p) = tt
 row_asked i t u os (S5 ty mty n a b k c vs p) = tt
 row_asked i t u os (S6 ty dty n a b k c vs p) = tt
 row_asked i t u os (F5 ty fty n k outer inner c) = tt
 row_asked i t u os (F6 ty cty n k bits v) = tt
-row_asked i t u os (F7 ty fty n k bits f ss) = tt
+row_asked i t u os (F7 ty fty n k bits f ss l) = tt
 row_asked i t u os (F8 ty mty n k bits c vs) = tt
 row_asked i t u os (F9 ty dty n k bits c vs) = tt
+row_asked i t u os (G1 ty fty n k name bits c) = tt
+row_asked i t u os (G2 ty sty n k a b name c) = tt
+row_asked i t u os (G3 ty mty s n k name c vs e) = tt
+row_asked i t u os (G4 ty n k name fs ss c e) = tt
+row_asked i t u os (G4_masked ty n k name fs ss c e) = tt
 row_asked i t u os (M1 ty mty n k c m vs) = tt
 row_asked i t u os (D1 ty s n k c v) = tt
 row_asked i t u os (D2 ty mty n k codes c vs f g one) = tt

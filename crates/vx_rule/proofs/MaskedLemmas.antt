@@ -51,6 +51,13 @@ told_rows : (n k : ℕ) (v : Option Tree) → IfSome v IsWell → IsValidity Nul
 told_rows n k None w ok e = (((refl, refl, refl), tt), refl, refl)
 told_rows n k (Some t) w ok e = (w, cc (ok), let same : len t ≡ k = cc (ok) in same ∙ e)
 
+-- of a well-formed masked array x of n rows
+pub masked_told : (n : ℕ) (x c : Tree) (v : Option Tree) → x ≡ masked_of c v → IsWell x → len x ≡ n → (y : Tree) → y ≡ validity_column n (slots_of (v ∷ []))
+    → HasRows (validity.Array y) n
+masked_told n x c v is well long y e =
+    let w : IsWell (masked_of c v) = subst IsWell is well in
+    subst (λ z. HasRows (validity.Array z) n) (sym e) (told_rows n (len c) v (well_second c v w.1) (masked_parts c v w.0) (sym (ap len is) ∙ long))
+
 -- p masks x by m, and x masks c by v
 module _ (ty : DataType) (n : ℕ) (p x m c : Tree) (v : Option Tree) (well : IsWell p)
     (is : p ≡ node ty n (enc.function fn_of.Mask) (slots_of (Some x ∷ Some m ∷ [])))
@@ -65,9 +72,7 @@ module _ (ty : DataType) (n : ℕ) (p x m c : Tree) (v : Option Tree) (well : Is
   child_long = sym (ap len inner) ∙ here.long
 
   pub told_has_rows : (y : Tree) → y ≡ validity_column n (slots_of (v ∷ [])) → HasRows (validity.Array y) n
-  told_has_rows y e =
-      let w : IsWell (masked_of c v) = subst IsWell inner under.0 in
-      subst (λ z. HasRows (validity.Array z) n) (sym e) (told_rows n (len c) v (well_second c v w.1) (masked_parts c v w.0) child_long)
+  told_has_rows y e = masked_told n x c v inner under.0 here.long y e
 
   pub both_node : (y z both : Tree) → both ≡ both_of n y z → IsNode ty n (enc.function fn_of.Mask) (shapes (slots_of (Some c ∷ Some both ∷ [])))
   both_node y z both e =

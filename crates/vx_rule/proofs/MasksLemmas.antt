@@ -56,13 +56,13 @@ valid_at (v ∷ vs) (c ∷ cs) (suc i) e = valid_at vs cs i (omega arith)
 
 -- ---- the validity of n rows, all true if there is none
 
-told_at : (n : ℕ) (vs : Slots) (cs : List Cell) (i : ℕ) → AreWell vs → IsSecond n vs → length cs ≡ n → i < n
+pub told_at : (n : ℕ) (vs : Slots) (cs : List Cell) (i : ℕ) → AreWell vs → IsSecond n vs → length cs ≡ n → i < n
     → get_or (valid_cells (cells_at (slots_rows vs) 0) cs) i fault ≡ valid_cell (get_or (rows (validity_column n vs)) i fault) (get_or cs i fault)
 told_at n no_slots cs i w h long lt = sym (ap (λ v. valid_cell v (get_or cs i fault)) (get_or-replicate n i (value (boolean true)) fault lt))
 told_at n (absent vs) cs i w h long lt = sym (ap (λ v. valid_cell v (get_or cs i fault)) (get_or-replicate n i (value (boolean true)) fault lt))
 told_at n (slot t vs) cs i w h long lt = valid_at (rows t) cs i (rows_counted t w.0 ∙ ap len_in h ∙ sym long)
 
-told_fits : (n : ℕ) (vs : Slots) (i : ℕ) → AreWell vs → IsSecond n vs → i < n → CellFits (type.bool NonNullable) (get_or (rows (validity_column n vs)) i fault)
+pub told_fits : (n : ℕ) (vs : Slots) (i : ℕ) → AreWell vs → IsSecond n vs → i < n → CellFits (type.bool NonNullable) (get_or (rows (validity_column n vs)) i fault)
 told_fits n no_slots i w h lt = subst (CellFits (type.bool NonNullable)) (sym (get_or-replicate n i (value (boolean true)) fault lt)) refl
 told_fits n (absent vs) i w h lt = subst (CellFits (type.bool NonNullable)) (sym (get_or-replicate n i (value (boolean true)) fault lt)) refl
 told_fits n (slot t vs) i w h lt = subst (λ ty. CellFits ty (get_or (rows t) i fault)) (ap type_in h) (fit_at (dtype t) (rows t) i (rows_fit t w.0))
@@ -72,7 +72,7 @@ told_long n no_slots w h = length-replicate n (value (boolean true))
 told_long n (absent vs) w h = length-replicate n (value (boolean true))
 told_long n (slot t vs) w h = rows_counted t w.0 ∙ ap len_in h
 
-told_clean : (n : ℕ) (vs : Slots) → AreClean vs → IsClean (validity_column n vs)
+pub told_clean : (n : ℕ) (vs : Slots) → AreClean vs → IsClean (validity_column n vs)
 told_clean n no_slots c = copies_clean (record { of_type = type.bool NonNullable; value = boolean true }) n
 told_clean n (absent vs) c = copies_clean (record { of_type = type.bool NonNullable; value = boolean true }) n
 told_clean n (slot t vs) c = c.0

@@ -9,14 +9,15 @@ use Rattle.vx_value.specs.Nullabilities.{with_nullability}
 use Rattle.vx_value.specs.declared.dtype.Nullability.TheVariants.{NonNullable, Nullable}
 use Rattle.vx_fn.specs.Meanings.{widen}
 use Rattle.vx_fn.specs.declared.function.ScalarFnRef.{ScalarFnRef}
+use Rattle.vx_fn.specs.declared.function.ScalarFnRef.TheVariants as fn_of
 use Rattle.vx_tree.specs.Tree as enc
-use Rattle.vx_tree.specs.Tree.{Tree, Slots, node, no_slots, absent, slot, slots_of, height, slots_height, dtype, len, datum, constant_of, slice_of, masked_of, dict_of, is_canonical, types_in}
+use Rattle.vx_tree.specs.Tree.{Tree, Slots, node, no_slots, absent, slot, slots_of, height, slots_height, dtype, len, datum, constant_of, slice_of, masked_of, dict_of, is_canonical, types_in, lets_below}
 use Rattle.vx_tree.specs.Slots.{map_slots}
 use Rattle.vx_tree.specs.Parts.{part_of}
 use Rattle.vx_tree.specs.Cells.{node_cells, slots_rows, AreClean}
 use Rattle.vx_tree.specs.Columns.{empty_of}
 use Rattle.vx_tree.specs.Charges.{put_back}
-use Rattle.vx_tree.specs.Cost.{all, cost, slots_cost, slots_extra, all_reached}
+use Rattle.vx_tree.specs.Cost.{all, cost, slots_cost, slots_extra, all_reached, reach}
 use Rattle.vx_tree.specs.Keeps.{KeepsExactly}
 use Rattle.vx_tree.specs.SlotTypes.{is_integer}
 use Rattle.vx_tree.specs.Validities.{HasRange}
@@ -177,6 +178,11 @@ module _ (a b : ℕ) where
   slots_bounded (Some t ∷ xs) (None ∷ ys) h = absurd h.0
   slots_bounded (Some t ∷ xs) (Some u ∷ ys) h = omega (arith, h.0.bounded, slots_bounded xs ys h.1)
 
+-- a function below which slices pass reaches as far as its arguments do
+reach_is : (ty : DataType) (n : ℕ) (f : ScalarFnRef) (ss : Slots) → lets_below f ≡ true → reach (node ty n (enc.function f) ss) ≡ 1 + all_reached (slots_extra all ss)
+reach_is ty n (fn_of.GetItem name) ss l = absurd (cc (l))
+reach_is ty n _ ss l = refl
+
 -- x is the function's node over xs
 module _ (x : Tree) (f : ScalarFnRef) (xs : List (Option Tree)) (shown : x ≡ node (dtype x) (len x) (enc.function f) (slots_of xs))
     (ok : IsNode (dtype x) (len x) (enc.function f) (shapes (slots_of xs))) where
@@ -194,8 +200,8 @@ module _ (x : Tree) (f : ScalarFnRef) (xs : List (Option Tree)) (shown : x ≡ n
     pub function_sized : IsNode (dtype x) (b - a) (enc.function f) (shapes (slots_of ys))
     function_sized = (ok.0, slots_sized a b (len x) ok.0 xs ys slots_pushed ok.1, ok.2)
 
-    pub function_pushed : IsWell x → IsPartOf a b x → (u : Tree) → u ≡ node (dtype x) (b - a) (enc.function f) (slots_of ys) → IsPushed a b x u
-    function_pushed well part u e =
+    pub function_pushed : IsWell x → IsPartOf a b x → lets_below f ≡ true → (u : Tree) → u ≡ node (dtype x) (b - a) (enc.function f) (slots_of ys) → IsPushed a b x u
+    function_pushed well part l u e =
         let ty = dtype x in
         let n = len x in
         let ss = slots_of xs in
@@ -210,9 +216,9 @@ module _ (x : Tree) (f : ScalarFnRef) (xs : List (Option Tree)) (shown : x ≡ n
         subst (λ y. IsPushed a b y u) (sym shown) (subst (IsPushed a b child) (sym e) (record {
           pushed_down =
               ap (node ty (b - a) (enc.function f)) (slots_down a b xs ys slots_pushed)
-              ∙ sym (function_is a b ty n f ss (subst (λ y. IsPart a b (len y)) shown part.0));
+              ∙ sym (function_is a b ty n f ss l (subst (λ y. IsPart a b (len y)) shown part.0));
           exactly = exactly_trans (slice_of a b child) lazily made kept swapped;
-          bounded = omega (arith, slots_bounded a b xs ys slots_pushed);
+          bounded = omega (arith, slots_bounded a b xs ys slots_pushed, reach_is ty n f ss l);
           canonical = λ h. absurd (cc (h));
         }))
 

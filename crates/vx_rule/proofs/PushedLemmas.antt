@@ -7,7 +7,7 @@ use Rattle.vx_value.specs.Types.{DataType}
 use Rattle.vx_value.specs.Typed.{Typed}
 use Rattle.vx_fn.specs.declared.function.ScalarFnRef.{ScalarFnRef}
 use Rattle.vx_tree.specs.Tree as enc
-use Rattle.vx_tree.specs.Tree.{Tree, Data, Slots, node, no_slots, absent, slot, dtype, len, datum, constant_of, slice_of, is_canonical}
+use Rattle.vx_tree.specs.Tree.{Tree, Data, Slots, node, no_slots, absent, slot, dtype, len, datum, constant_of, slice_of, is_canonical, lets_below}
 use Rattle.vx_tree.specs.Slots.{map_slots}
 use Rattle.vx_tree.specs.Parts.{part_of, column_range}
 use Rattle.vx_tree.specs.Columns.{empty_of}
@@ -47,7 +47,8 @@ module _ (a b : ℕ) (t u : Tree) where
 by_range : (a b : ℕ) (t : Tree) → (u : Tree) × (pushed a b t ≡ ranged a b t u)
 by_range a b (node ty n (enc.constant v) no_slots) = (constant_of v (b - a), refl)
 by_range a b (node ty n (enc.slice s e) (slot c no_slots)) = (pushed (s + a) (s + b) c, refl)
-by_range a b (node ty n (enc.function f) ss) = (node ty (b - a) (enc.function f) (pushed_slots a b ss), refl)
+by_range a b (node ty n (enc.function f) ss) =
+    ((if lets_below f then node ty (b - a) (enc.function f) (pushed_slots a b ss) else slice_of a b (node ty n (enc.function f) ss)), refl)
 by_range a b (node ty n enc.masked (slot c vs)) = (node ty (b - a) enc.masked (slot (pushed a b c) (map_slots (part_of a b) vs)), refl)
 by_range a b (node ty n enc.dict (slot c vs)) = (node ty (b - a) enc.dict (slot (pushed a b c) vs), refl)
 by_range a b (node ty n d ss) = ((if is_canonical d then column_range a b (node ty n d ss) else slice_of a b (node ty n d ss)), refl)
@@ -73,9 +74,12 @@ constant_is a b n v part = ranged_part a b (constant_of v n) (constant_of v (b -
 pub slice_is : (a b s e : ℕ) (c : Tree) → IsPart a b (e - s) → pushed a b (slice_of s e c) ≡ pushed (s + a) (s + b) c
 slice_is a b s e c part = ranged_part a b (slice_of s e c) (pushed (s + a) (s + b) c) part
 
-pub function_is : (a b : ℕ) (ty : DataType) (n : ℕ) (f : ScalarFnRef) (ss : Slots) → IsPart a b n
+pub function_is : (a b : ℕ) (ty : DataType) (n : ℕ) (f : ScalarFnRef) (ss : Slots) → lets_below f ≡ true → IsPart a b n
     → pushed a b (node ty n (enc.function f) ss) ≡ node ty (b - a) (enc.function f) (pushed_slots a b ss)
-function_is a b ty n f ss part = ranged_part a b (node ty n (enc.function f) ss) (node ty (b - a) (enc.function f) (pushed_slots a b ss)) part
+function_is a b ty n f ss l part =
+    let t = node ty n (enc.function f) ss in
+    let u = node ty (b - a) (enc.function f) (pushed_slots a b ss) in
+    ranged_part a b t (if lets_below f then u else slice_of a b t) part ∙ chosen_if (lets_below f) u (slice_of a b t) l
 
 pub masked_is : (a b : ℕ) (ty : DataType) (n : ℕ) (c : Tree) (vs : Slots) → IsPart a b n
     → pushed a b (node ty n enc.masked (slot c vs)) ≡ node ty (b - a) enc.masked (slot (pushed a b c) (map_slots (part_of a b) vs))
@@ -100,7 +104,10 @@ column_is a b (node ty n d ss) h part =
 pub lazily_is : (a b : ℕ) (t : Tree) → lets_slice (datum t) ≡ false → IsPart a b (len t) → pushed a b t ≡ slice_of a b t
 lazily_is a b (node ty n (enc.constant v) ss) h part = absurd (cc (h))
 lazily_is a b (node ty n (enc.slice s e) ss) h part = absurd (cc (h))
-lazily_is a b (node ty n (enc.function f) ss) h part = absurd (cc (h))
+lazily_is a b (node ty n (enc.function f) ss) h part =
+    let t = node ty n (enc.function f) ss in
+    let u = node ty (b - a) (enc.function f) (pushed_slots a b ss) in
+    ranged_part a b t (if lets_below f then u else slice_of a b t) part ∙ chosen_else (lets_below f) u (slice_of a b t) h
 lazily_is a b (node ty n enc.masked ss) h part = absurd (cc (h))
 lazily_is a b (node ty n enc.dict ss) h part = absurd (cc (h))
 lazily_is a b (node ty n d ss) h part =

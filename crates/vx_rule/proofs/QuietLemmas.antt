@@ -10,30 +10,32 @@ use Rattle.vx_mask.specs.Places.{true_count, IsRun}
 use Rattle.vx_fn.specs.declared.function.ScalarFnRef.{ScalarFnRef}
 use Rattle.vx_fn.specs.declared.function.ScalarFnRef.TheVariants as fn_of
 use Rattle.vx_tree.specs.Tree as enc
-use Rattle.vx_tree.specs.Tree.{Tree, Data, Slots, node, no_slots, slot, dtype, datum, slice_of, filter_of, dict_of, masked_of, is_filter, is_constant, is_function, is_masked, is_dict, is_slice, is_columnar}
+use Rattle.vx_tree.specs.Tree.{Tree, Data, Slots, node, no_slots, slot, dtype, datum, slice_of, filter_of, dict_of, masked_of, is_filter, is_constant, is_function, is_masked, is_dict, is_slice, is_columnar, is_struct, lets_below}
 use Rattle.vx_rule.specs.Calls.{null_test}
 use Rattle.vx_rule.specs.Tags.{applies}
-use Rattle.vx_rule.specs.Rules.{Row, IsQuiet, F1, F2, F3, C1, N1_null, N1_valid, S_whole, S_empty, S1, S2, S3, S4, S5, S6, F5, F6, F7, F8, F9, M1, D1, D2, K1, K2, K3, K4}
+use Rattle.vx_rule.specs.Rules.{Row, IsQuiet, IsApart, F1, F2, F3, F4, P1, C1, N1_null, N1_valid, S_whole, S_empty, S1, S2, S3, S4, S5, S6, F5, F6, F7, F8, F9, G1, G2, G3, G4, G4_masked, M1, D1, D2, K1, K2, K3, K4}
 
 -- ---- the node itself
 
-pub filter_quiet : (bits : List Bool) (c : Tree) → is_all_true bits ≡ false → (true_count bits ≡ 0 → ⊥) → ((a b : ℕ) → IsRun bits a b → ⊥)
-    → IsQuiet None (filter_of bits c)
-filter_quiet bits c some more apart u os (F1 ty n m x e) = absurd (cc (some, e))
-filter_quiet bits c some more apart u os (F2 ty n m x e z) = more z
-filter_quiet bits c some more apart u os (F3 ty n m x a b e r) = apart a b r
+pub filter_quiet : (bits : List Bool) (c : Tree) → IsApart bits → is_struct (datum c) ≡ false → IsQuiet None (filter_of bits c)
+filter_quiet bits c apart other u os (F1 ty n m x e) = absurd (cc (apart.some_left, e))
+filter_quiet bits c apart other u os (F2 ty n m x e z) = apart.some z
+filter_quiet bits c apart other u os (F3 ty n m x a b e r) = apart.no_run a b r
+filter_quiet bits c apart other u os (F4 ty sty n k m ss h l) = absurd (cc (other))
 
 -- the functions that have a row of their own
 abbrev pub has_own : ScalarFnRef → Bool
 has_own (fn_of.Cast target) = true
 has_own fn_of.IsNull = true
 has_own fn_of.IsNotNull = true
+has_own (fn_of.Pack options) = true
 has_own _ = false
 
 pub function_own_quiet : (ty : DataType) (n : ℕ) (f : ScalarFnRef) (ss : Slots) → has_own f ≡ false → IsQuiet None (node ty n (enc.function f) ss)
 function_own_quiet ty n f ss h u os (C1 ty' n' target c e) = absurd (cc (h))
 function_own_quiet ty n f ss h u os (N1_null ty' n' c e) = absurd (cc (h))
 function_own_quiet ty n f ss h u os (N1_valid ty' n' c e) = absurd (cc (h))
+function_own_quiet ty n f ss h u os (P1 ty' n' options ts) = absurd (cc (h))
 
 cast_by : (ty : DataType) (n : ℕ) (target : DType) (c : Tree) → (dtype c ≡ type_of target → ⊥)
     → IsQuiet None (node ty n (enc.function (fn_of.Cast target)) (slot c no_slots))
@@ -57,6 +59,8 @@ pub own_quiet : (t : Tree) → is_filter (datum t) ≡ false → is_function (da
 own_quiet t f g u os (F1 ty n m x e) = absurd (cc (f))
 own_quiet t f g u os (F2 ty n m x e z) = absurd (cc (f))
 own_quiet t f g u os (F3 ty n m x a b e r) = absurd (cc (f))
+own_quiet t f g u os (F4 ty sty n k m ss h l) = absurd (cc (f))
+own_quiet t f g u os (P1 ty n options ss) = absurd (cc (g))
 own_quiet t f g u os (C1 ty n target c e) = absurd (cc (g))
 own_quiet t f g u os (N1_null ty n c e) = absurd (cc (g))
 own_quiet t f g u os (N1_valid ty n c e) = absurd (cc (g))
@@ -65,7 +69,7 @@ own_quiet t f g u os (N1_valid ty n c e) = absurd (cc (g))
 
 -- the encodings that a filter passes through
 abbrev pub lets_filter : Data → Bool
-lets_filter d = is_filter d || is_constant d || is_function d || is_masked d || is_dict d
+lets_filter d = is_filter d || is_constant d || is_masked d || is_dict d || applies lets_below d
 
 -- the slot whose child has rows: of a dictionary that of its values, and else the first
 abbrev pub slot_asked : Data → ℕ
@@ -78,14 +82,19 @@ row_slot i t u os (S_empty ty n a b c l z y) = refl
 row_slot i t u os (S1 ty sty n a b k s' r c p) = refl
 row_slot i t u os (S2 ty cty n a b k v p) = refl
 row_slot i t u os (S3 ty cty n a b k d ss e p) = refl
-row_slot i t u os (S4 ty fty n a b k f' ss p) = refl
+row_slot i t u os (S4 ty fty n a b k f' ss l p) = refl
 row_slot i t u os (S5 ty mty n a b k c vs p) = refl
 row_slot i t u os (S6 ty dty n a b k c vs p) = refl
 row_slot i t u os (F5 ty fty n k outer inner c) = refl
 row_slot i t u os (F6 ty cty n k bits v) = refl
-row_slot i t u os (F7 ty fty n k bits f' ss) = refl
+row_slot i t u os (F7 ty fty n k bits f' ss l) = refl
 row_slot i t u os (F8 ty mty n k bits c vs) = refl
 row_slot i t u os (F9 ty dty n k bits c vs) = refl
+row_slot i t u os (G1 ty fty n k name bits c) = refl
+row_slot i t u os (G2 ty sty n k a b name c) = refl
+row_slot i t u os (G3 ty mty s' n k name c vs e) = refl
+row_slot i t u os (G4 ty n k name fs ss c e) = refl
+row_slot i t u os (G4_masked ty n k name fs ss c e) = refl
 row_slot i t u os (M1 ty mty n k c m vs) = refl
 row_slot i t u os (D1 ty s' n k c v) = refl
 row_slot i t u os (D2 ty mty n k codes c vs f g h) = refl

@@ -64,7 +64,7 @@ only no_slots s h = absurd (cc)
 only (absent ss) s h = let none : shapes ss ≡ [] = cc in (None, ap absent (no_shapes ss none))
 only (slot t ss) s h = let none : shapes ss ≡ [] = cc in (Some t, ap (slot t) (no_shapes ss none))
 
-slice_bounds : (ty : DataType) (n a b : ℕ) (c : Tree) → IsNode ty n (enc.slice a b) (shapes (slot c no_slots))
+pub slice_bounds : (ty : DataType) (n a b : ℕ) (c : Tree) → IsNode ty n (enc.slice a b) (shapes (slot c no_slots))
     → (ty ≡ dtype c) × (n ≡ b - a) × (a ≤ b) × (b ≤ len c)
 slice_bounds ty n a b c h =
     let is : shape_of c ≡ shape ty h.0 = first_of h.1 in
@@ -150,10 +150,10 @@ S3_keeps ty cty n a b k d ss w e =
 
 -- ---- of a function, and of a masked array
 
-part_natural : (a b : ℕ) (f : ℕ → Cell) (is : List ℕ) → take (b - a) (drop a (map f is)) ≡ map f (take (b - a) (drop a is))
+pub part_natural : (a b : ℕ) (f : ℕ → Cell) (is : List ℕ) → take (b - a) (drop a (map f is)) ≡ map f (take (b - a) (drop a is))
 part_natural a b f is = ap (take (b - a)) (drop-map f a is) ∙ take-map f (b - a) (drop a is)
 
-part_count : (a b k : ℕ) → a ≤ b → b ≤ k → length (take (b - a) (drop a (range_with_len 0 k))) ≡ b - a
+pub part_count : (a b k : ℕ) → a ≤ b → b ≤ k → length (take (b - a) (drop a (range_with_len 0 k))) ≡ b - a
 part_count a b k h l =
     let all = range_with_len 0 k in
     length-take-le (b - a) (drop a all) (omega (arith, length-drop a all, length-range_with_len 0 k))

@@ -28,7 +28,7 @@ use Rattle.vx_tree.specs.declared.validity.Validity.TheVariants as validity
 use Rattle.vx_tree.proofs.NodeValiditiesLemmas.{told_by_node}
 use Rattle.vx_tree.proofs.ValiditiesLemmas.{nullable_set}
 use Rattle.vx_tree.specs.Well.{shape, shape_of, shapes, IsNode, IsNodeOf, IsWell, AreWell, IsValidity}
-use Rattle.vx_rule.specs.Rules.{taken_by, taken_of}
+use Rattle.vx_rule.specs.Rules.{taken_by, taken_of, with_absent}
 
 -- ---- one slot more
 
@@ -342,3 +342,12 @@ masked_copies ty c u h e r = (
     set_own (type.union us m) h = ap (type.union us) (sym h)
     set_own (type.variant m) h = ap type.variant (sym h)
     set_own (type.extension id t) h = ap (type.extension id) (set_own t h)
+
+-- an absent slot behind others
+pub absent_behind : (xs ys : List (Option Tree)) → ys ≡ xs ++ None ∷ [] → slots_of ys ≡ with_absent (slots_of xs)
+absent_behind xs ys e = ap slots_of e ∙ behind xs
+  where
+    behind : (xs : List (Option Tree)) → slots_of (xs ++ None ∷ []) ≡ with_absent (slots_of xs)
+    behind [] = refl
+    behind (None ∷ xs) = ap absent (behind xs)
+    behind (Some t ∷ xs) = ap (slot t) (behind xs)

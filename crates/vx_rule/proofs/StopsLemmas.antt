@@ -5,7 +5,7 @@ use Rattle.std.proofs.Math.Nat.{max-le, le-max_left, le-max_right}
 use Rattle.std.proofs.lemmas.Bool.{cases_Bool, ne_eqb}
 use Rattle.vx_value.specs.Types.{DataType}
 use Rattle.vx_tree.specs.Tree as enc
-use Rattle.vx_tree.specs.Tree.{Tree, Data, Slots, node, no_slots, absent, slot, height, slots_height, dtype, len, datum, constant_of, slice_of, is_canonical, is_columnar}
+use Rattle.vx_tree.specs.Tree.{Tree, Data, Slots, node, no_slots, absent, slot, height, slots_height, dtype, len, datum, constant_of, slice_of, is_canonical, is_columnar, lets_below}
 use Rattle.vx_tree.specs.Slots.{map_slots}
 use Rattle.vx_tree.specs.Parts.{part_of, part_by, column_range}
 use Rattle.vx_tree.specs.Columns.{empty_of, data_range}
@@ -19,7 +19,13 @@ use Rattle.vx_rule.proofs.PushedLemmas.{chosen_else, ranged_part, whole_is, empt
 pub stops : (a b : ℕ) (t : Tree) → IsPart a b (len t) → IsQuiet (Some 0) (slice_of a b t) → pushed a b t ≡ slice_of a b t
 stops a b (node ty n (enc.constant v) no_slots) part quiet = absurd (quiet _ _ (S2 ty ty (b - a) a b n v part))
 stops a b (node ty n (enc.slice s e) (slot c no_slots)) part quiet = absurd (quiet _ _ (S1 ty ty (b - a) a b n s e c part))
-stops a b (node ty n (enc.function f) ss) part quiet = absurd (quiet _ _ (S4 ty ty (b - a) a b n f ss part))
+stops a b (node ty n (enc.function f) ss) part quiet =
+    let t = node ty n (enc.function f) ss in
+    let u = node ty (b - a) (enc.function f) (pushed_slots a b ss) in
+    elim (cases_Bool (lets_below f)) [
+      | inl h ↦ absurd (quiet _ _ (S4 ty ty (b - a) a b n f ss h part))
+      | inr h ↦ ranged_part a b t (if lets_below f then u else slice_of a b t) part ∙ chosen_else (lets_below f) u (slice_of a b t) h
+    ]
 stops a b (node ty n enc.masked (slot c vs)) part quiet = absurd (quiet _ _ (S5 ty ty (b - a) a b n c vs part))
 stops a b (node ty n enc.dict (slot c vs)) part quiet = absurd (quiet _ _ (S6 ty ty (b - a) a b n c vs part))
 stops a b (node ty n d ss) part quiet =
@@ -57,6 +63,10 @@ either_low true second m t u v e x z = x
 either_low false true m t u v e x z = absurd (cc (e))
 either_low false false m t u v e x z = z
 
+chosen_low : (test : Bool) (m : ℕ) (t u : Tree) → height t ≤ m → height u ≤ m → height (if test then t else u) ≤ m
+chosen_low true m t u x y = x
+chosen_low false m t u x y = y
+
 ranged_low : (a b : ℕ) (t u : Tree) → a < b → height u ≤ height t + 1 → height (ranged a b t u) ≤ height t + 1
 ranged_low a b t u some low =
     either_low _ (a == b) (height t + 1) t (empty_of (dtype t)) u (ne_eqb a b (λ e. omega (arith, some))) (omega arith) low
@@ -74,7 +84,10 @@ mutual
       let more : s + a < s + b = omega (arith, some) in
       ranged_low a b (node ty n (enc.slice s e) (slot c no_slots)) (pushed (s + a) (s + b) c) some (omega (arith, pushed_low (s + a) (s + b) c more))
   pushed_low a b (node ty n (enc.function f) ss) some =
-      ranged_low a b (node ty n (enc.function f) ss) (node ty (b - a) (enc.function f) (pushed_slots a b ss)) some (omega (arith, pushed_slots_low a b ss some))
+      let t = node ty n (enc.function f) ss in
+      let u = node ty (b - a) (enc.function f) (pushed_slots a b ss) in
+      ranged_low a b t (if lets_below f then u else slice_of a b t) some
+      (chosen_low (lets_below f) (height t + 1) u (slice_of a b t) (omega (arith, pushed_slots_low a b ss some)) (slice_low a b t))
   pushed_low a b (node ty n enc.masked (slot c vs)) some =
       let first = le-max_left (height c) (slots_height vs) in
       let rest = le-max_right (height c) (slots_height vs) in
@@ -129,7 +142,7 @@ row_passes ty n a b t u os (S2 _ cty _ _ _ k v part) e =
 row_passes ty n a b t u os (S3 _ cty _ _ _ k d ss h part) e =
     let child = node cty k d ss in
     column_passes a b child (column_range a b child) (range_canonical a b d ∙ h) (sym (column_is a b child h part) ∙ e)
-row_passes ty n a b t u os (S4 _ fty _ _ _ k f ss part) e = absurd (cc (ap datum (sym (function_is a b fty k f ss part) ∙ e)))
+row_passes ty n a b t u os (S4 _ fty _ _ _ k f ss l part) e = absurd (cc (ap datum (sym (function_is a b fty k f ss l part) ∙ e)))
 row_passes ty n a b t u os (S5 _ mty _ _ _ k c vs part) e = absurd (cc (ap datum (sym (masked_is a b mty k c vs part) ∙ e)))
 row_passes ty n a b t u os (S6 _ dty _ _ _ k c vs part) e = absurd (cc (ap datum (sym (dict_is a b dty k c vs part) ∙ e)))
 
@@ -145,7 +158,7 @@ row_column ty n a b t u os h (S_empty _ _ _ _ _ l z some) = empty_is a b t z (λ
 row_column ty n a b t u os h (S1 _ sty _ _ _ k s x c part) = absurd (cc (h))
 row_column ty n a b t u os h (S2 _ cty _ _ _ k v part) = ranged_part a b (node cty k (enc.constant v) no_slots) (constant_of v (b - a)) part
 row_column ty n a b t u os h (S3 _ cty _ _ _ k d ss i part) = column_is a b (node cty k d ss) i part
-row_column ty n a b t u os h (S4 _ fty _ _ _ k f ss part) = absurd (cc (h))
+row_column ty n a b t u os h (S4 _ fty _ _ _ k f ss l part) = absurd (cc (h))
 row_column ty n a b t u os h (S5 _ mty _ _ _ k c vs part) = absurd (cc (h))
 row_column ty n a b t u os h (S6 _ dty _ _ _ k c vs part) = absurd (cc (h))
 

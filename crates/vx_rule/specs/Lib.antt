@@ -14,3 +14,4 @@ pub mod Pushes
 pub mod Calls
 pub mod SliceLaws
 pub mod Constants
+pub mod Items

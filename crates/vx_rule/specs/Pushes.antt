@@ -2,7 +2,7 @@
 use Rattle.std.specs.Prelude.{◌≡◌, ◌≤◌, ℕ, ◌+◌, ◌-◌, ◌*◌, ◌==◌, ◌&&◌, if◌then◌else◌, true}
 use Rattle.vx_value.specs.Typed.{Typed}
 use Rattle.vx_tree.specs.Tree as enc
-use Rattle.vx_tree.specs.Tree.{Tree, Slots, node, no_slots, absent, slot, dtype, len, datum, constant_of, slice_of, is_canonical}
+use Rattle.vx_tree.specs.Tree.{Tree, Slots, node, no_slots, absent, slot, dtype, len, datum, constant_of, slice_of, is_canonical, lets_below}
 use Rattle.vx_tree.specs.Slots.{map_slots}
 use Rattle.vx_tree.specs.Parts.{part_of, column_range}
 use Rattle.vx_tree.specs.Columns.{empty_of}
@@ -18,7 +18,9 @@ abbrev mutual
   pub pushed : ℕ → ℕ → Tree → Tree
   pushed a b (node ty n (enc.constant v) no_slots) = ranged a b (node ty n (enc.constant v) no_slots) (constant_of v (b - a))
   pushed a b (node ty n (enc.slice s e) (slot c no_slots)) = ranged a b (node ty n (enc.slice s e) (slot c no_slots)) (pushed (s + a) (s + b) c)
-  pushed a b (node ty n (enc.function f) ss) = ranged a b (node ty n (enc.function f) ss) (node ty (b - a) (enc.function f) (pushed_slots a b ss))
+  pushed a b (node ty n (enc.function f) ss) =
+      ranged a b (node ty n (enc.function f) ss)
+      (if lets_below f then node ty (b - a) (enc.function f) (pushed_slots a b ss) else slice_of a b (node ty n (enc.function f) ss))
   pushed a b (node ty n enc.masked (slot c vs)) =
       ranged a b (node ty n enc.masked (slot c vs)) (node ty (b - a) enc.masked (slot (pushed a b c) (map_slots (part_of a b) vs)))
   pushed a b (node ty n enc.dict (slot c vs)) = ranged a b (node ty n enc.dict (slot c vs)) (node ty (b - a) enc.dict (slot (pushed a b c) vs))

@@ -1,31 +1,43 @@
 -- The table of rewrite rules, a constructor for each row. A row's name is the one that its users see.
-use Rattle.std.specs.Prelude.{◌≡◌, ℕ, ◌+◌, ◌-◌, ◌<◌, ◌≤◌, List, [], ◌∷◌, Option, Some, None, Bool, true, false, ◌||◌}
-use Rattle.vx_value.specs.Types.{DataType, nullability_of}
+use Rattle.std.specs.Prelude.{◌≡◌, ℕ, ◌+◌, ◌-◌, ◌<◌, ◌≤◌, List, [], ◌∷◌, Option, Some, None, Bool, true, false, ◌||◌, if◌then◌else◌}
+use Rattle.std.specs.Str.{bytes_eq}
+use Rattle.vx_value.specs.Types as type
+use Rattle.vx_value.specs.Types.{DataType, Fields, nullability_of}
 use Rattle.vx_value.specs.Typed.{Typed}
 use Rattle.vx_value.specs.Cell.{value}
 use Rattle.vx_value.specs.Values.{Value, null}
 use Rattle.vx_value.specs.View.{type_of}
 use Rattle.vx_value.specs.declared.dtype.DType.{DType}
-use Rattle.vx_value.specs.declared.dtype.Nullability.TheVariants.{NonNullable}
+use Rattle.vx_value.specs.declared.dtype.Nullability.TheVariants.{NonNullable, Nullable}
 use Rattle.vx_mask.specs.Masks.{is_all_true}
 use Rattle.vx_mask.specs.Places.{true_count, combined, IsRun}
 use Rattle.vx_fn.specs.Apply.{apply}
+use Rattle.vx_fn.specs.ReturnTypes.{return_type}
 use Rattle.vx_fn.specs.declared.function.ScalarFnRef.{ScalarFnRef}
 use Rattle.vx_fn.specs.declared.function.ScalarFnRef.TheVariants as fn_of
 use Rattle.vx_fn.specs.declared.functions.between.BetweenOptions.{BetweenOptions}
+use Rattle.vx_fn.specs.declared.functions.pack.PackOptions.{PackOptions}
 use Rattle.vx_tree.specs.Tree as enc
-use Rattle.vx_tree.specs.Tree.{Tree, Data, Slots, node, no_slots, absent, slot, dtype, len, datum, constant_of, slice_of, filter_of, dict_of, is_slice, is_constant, is_function, is_masked, is_dict, is_canonical, is_columnar}
+use Rattle.vx_tree.specs.Tree.{Tree, Data, Slots, node, no_slots, absent, slot, dtype, len, slots_of, datum, constant_of, slice_of, filter_of, dict_of, is_slice, is_constant, is_masked, is_dict, is_canonical, is_columnar, lets_below, last_tree}
 use Rattle.vx_tree.specs.Slots.{map_slots, present_from, present_in, count_slots, IsPresent}
 use Rattle.vx_tree.specs.Parts.{part_of, choice_of, column_range}
 use Rattle.vx_tree.specs.Columns.{empty_of}
 use Rattle.vx_tree.specs.Validities.{truths}
 use Rattle.vx_tree.specs.NodeValidities.{both_of, node_validity}
+use Rattle.vx_tree.specs.declared.array.layout.Layout.TheVariants as layout
 use Rattle.vx_tree.specs.declared.validity.Validity.{Validity}
 use Rattle.vx_tree.specs.declared.validity.Validity.TheVariants as validity
+use Rattle.vx_rule.specs.Tags.{applies}
+
+-- a mask chooses some rows, but neither all nor consecutive ones
+pub record IsApart (bits : List Bool) : Type 0 where
+  pub some_left : is_all_true bits ≡ false
+  pub some : true_count bits ≡ 0 → ⊥
+  pub no_run : (a b : ℕ) → IsRun bits a b → ⊥
 
 -- the encodings that a slice passes through
 abbrev pub lets_slice : Data → Bool
-lets_slice d = is_canonical d || is_slice d || is_constant d || is_function d || is_masked d || is_dict d
+lets_slice d = is_canonical d || is_slice d || is_constant d || is_masked d || is_dict d || applies lets_below d
 
 -- a range with some but not all of k rows
 pub record IsPart (a b k : ℕ) : Type 0 where
@@ -64,6 +76,28 @@ taken_by _ codes t = dict_of codes t
 abbrev pub taken_of : Tree → Tree → Tree
 taken_of codes t = taken_by (datum t) codes t
 
+-- the structs in a column's slots at the true bits
+abbrev pub structs_at : List Bool → DataType → Slots → Tree
+structs_at bits ty ss = node ty (true_count bits) (enc.composed layout.Struct) (map_slots (choice_of bits) ss)
+
+-- the slots, and an absent one behind them
+abbrev pub with_absent : Slots → Slots
+with_absent no_slots = absent no_slots
+with_absent (absent ss) = absent (with_absent ss)
+with_absent (slot t ss) = slot t (with_absent ss)
+
+-- the field of this name in n rows of a tree, and n rows of a tree, null where the other is false
+abbrev pub item_node : List ℕ → DataType → ℕ → Tree → Tree
+item_node name ty n t = node ty n (enc.function (fn_of.GetItem name)) (slot t no_slots)
+
+abbrev pub mask_node : DataType → ℕ → Tree → Tree → Tree
+mask_node ty n t u = node ty n (enc.function fn_of.Mask) (slot t (slot u no_slots))
+
+-- the tree in the slot of the field of this name
+abbrev pub field_in : List ℕ → Fields → Slots → Option Tree
+field_in name (type.field other t fs) (slot c ss) = if bytes_eq name other then Some c else field_in name fs ss
+field_in name fs ss = None
+
 -- Who answers (the node itself, or the child in a slot), the tree, the answer, and the answer's slots that are to be optimized.
 pub data Row : Option ℕ → Tree → Tree → List ℕ → Type 0 where
   -- a filter that chooses all rows is its child, one that chooses none is the empty column, one of consecutive rows is a slice
@@ -72,6 +106,13 @@ pub data Row : Option ℕ → Tree → Tree → List ℕ → Type 0 where
       → Row None (node ty n (enc.filter bits) (slot c no_slots)) (empty_of (dtype c)) []
   F3 : (ty : DataType) (n : ℕ) (bits : List Bool) (c : Tree) (a b : ℕ) → is_all_true bits ≡ false → IsRun bits a b
       → Row None (node ty n (enc.filter bits) (slot c no_slots)) (slice_of a b c) []
+  -- a filter of a column of structs is the column of filtered fields, which is asked after the rows above
+  F4 : (ty sty : DataType) (n k : ℕ) (bits : List Bool) (ss : Slots) → IsApart bits → 0 < k
+      → Row None (node ty n (enc.filter bits) (slot (node sty k (enc.composed layout.Struct) ss) no_slots)) (structs_at bits sty ss)
+      (present_in (structs_at bits sty ss))
+  -- a struct of the arguments is the column of structs
+  P1 : (ty : DataType) (n : ℕ) (options : PackOptions) (ss : Slots)
+      → Row None (node ty n (enc.function (fn_of.Pack options)) ss) (node ty n (enc.composed layout.Struct) (with_absent ss)) []
   -- a cast to the child's own type is the child
   C1 : (ty : DataType) (n : ℕ) (target : DType) (c : Tree) → dtype c ≡ type_of target
       → Row None (node ty n (enc.function (fn_of.Cast target)) (slot c no_slots)) c []
@@ -95,8 +136,8 @@ pub data Row : Option ℕ → Tree → Tree → List ℕ → Type 0 where
   S3 : (ty cty : DataType) (n a b k : ℕ) (d : Data) (ss : Slots) → is_canonical d ≡ true → IsPart a b k
       → Row (Some 0) (node ty n (enc.slice a b) (slot (node cty k d ss) no_slots)) (column_range a b (node cty k d ss))
       (present_in (column_range a b (node cty k d ss)))
-  -- a slice passes below a function
-  S4 : (ty fty : DataType) (n a b k : ℕ) (f : ScalarFnRef) (ss : Slots) → IsPart a b k
+  -- a slice passes below a function, but not below `get_item`
+  S4 : (ty fty : DataType) (n a b k : ℕ) (f : ScalarFnRef) (ss : Slots) → lets_below f ≡ true → IsPart a b k
       → Row (Some 0) (node ty n (enc.slice a b) (slot (node fty k (enc.function f) ss) no_slots))
       (node fty (b - a) (enc.function f) (map_slots (slice_of a b) ss)) (present_from 0 (map_slots (slice_of a b) ss))
   -- a slice passes below a masked array
@@ -113,8 +154,8 @@ pub data Row : Option ℕ → Tree → Tree → List ℕ → Type 0 where
   -- a filter of a constant is a shorter constant
   F6 : (ty cty : DataType) (n k : ℕ) (bits : List Bool) (v : Typed)
       → Row (Some 0) (node ty n (enc.filter bits) (slot (node cty k (enc.constant v) no_slots) no_slots)) (constant_of v (true_count bits)) []
-  -- a filter passes below a function
-  F7 : (ty fty : DataType) (n k : ℕ) (bits : List Bool) (f : ScalarFnRef) (ss : Slots)
+  -- a filter passes below a function, but not below `get_item`
+  F7 : (ty fty : DataType) (n k : ℕ) (bits : List Bool) (f : ScalarFnRef) (ss : Slots) → lets_below f ≡ true
       → Row (Some 0) (node ty n (enc.filter bits) (slot (node fty k (enc.function f) ss) no_slots))
       (node fty (true_count bits) (enc.function f) (map_slots (choice_of bits) ss)) (present_from 0 (map_slots (choice_of bits) ss))
   -- a filter passes below a masked array
@@ -125,6 +166,20 @@ pub data Row : Option ℕ → Tree → Tree → List ℕ → Type 0 where
   F9 : (ty dty : DataType) (n k : ℕ) (bits : List Bool) (c : Tree) (vs : Slots)
       → Row (Some 0) (node ty n (enc.filter bits) (slot (node dty k enc.dict (slot c vs)) no_slots))
       (node dty (true_count bits) enc.dict (slot (filter_of bits c) vs)) (0 ∷ [])
+  -- the field of a filter or a slice is the filter or the slice of the field
+  G1 : (ty fty : DataType) (n k : ℕ) (name : List ℕ) (bits : List Bool) (c : Tree)
+      → Row (Some 0) (item_node name ty n (node fty k (enc.filter bits) (slot c no_slots))) (filter_of bits (item_node name ty (len c) c)) (0 ∷ [])
+  G2 : (ty sty : DataType) (n k a b : ℕ) (name : List ℕ) (c : Tree)
+      → Row (Some 0) (item_node name ty n (node sty k (enc.slice a b) (slot c no_slots))) (slice_of a b (item_node name ty (len c) c)) (0 ∷ [])
+  -- the field of a masked array is the mask of the field
+  G3 : (ty mty s : DataType) (n k : ℕ) (name : List ℕ) (c : Tree) (vs : Slots) → return_type (fn_of.GetItem name) (dtype c ∷ []) ≡ Some s
+      → Row (Some 0) (item_node name ty n (node mty k enc.masked (slot c vs))) (mask_node ty n (item_node name s n c) (validity_column n vs)) (0 ∷ [])
+  -- the field of a column of structs is its column, masked by the structs' validity if they are nullable
+  G4 : (ty : DataType) (n k : ℕ) (name : List ℕ) (fs : Fields) (ss : Slots) (c : Tree) → field_in name fs ss ≡ Some c
+      → Row (Some 0) (item_node name ty n (node (type.struct fs NonNullable) k (enc.composed layout.Struct) ss)) c []
+  G4_masked : (ty : DataType) (n k : ℕ) (name : List ℕ) (fs : Fields) (ss : Slots) (c : Tree) → field_in name fs ss ≡ Some c
+      → Row (Some 0) (item_node name ty n (node (type.struct fs Nullable) k (enc.composed layout.Struct) ss))
+      (mask_node ty n c (validity_column n (slots_of (last_tree ss ∷ [])))) []
   -- a mask of a masked array masks its child by both
   M1 : (ty mty : DataType) (n k : ℕ) (c m : Tree) (vs : Slots)
       → Row (Some 0) (node ty n (enc.function fn_of.Mask) (slot (node mty k enc.masked (slot c vs)) (slot m no_slots)))

@@ -1,33 +1,41 @@
--- A slice passes through these encodings.
-use Rattle.std.proofs.Common.{◌≡◌, true, refl}
+-- A slice passes through these encodings, through a function's node if it passes below the function.
+use Rattle.std.proofs.Common.{◌≡◌, true, refl, sym, ◌∙◌}
 use Rattle.std.specs.Prelude.{◌||◌}
 use Rattle.std.proofs.lemmas.Bool.{or_right}
 use Rattle.vx_tree.specs.Tree as enc
-use Rattle.vx_tree.specs.Tree.{Data, is_slice, is_constant, is_function, is_masked, is_dict, is_nulls, is_bool, is_primitive, is_decimals, is_views, is_flat, is_struct, is_extension, is_composed, is_canonical}
+use Rattle.vx_tree.specs.Tree.{Data, is_slice, is_constant, is_function, is_masked, is_dict, is_nulls, is_bool, is_primitive, is_decimals, is_views, is_flat, is_struct, is_extension, is_composed, is_canonical, lets_below}
 use Rattle.vx_rule.specs.Rules.{lets_slice}
+use Rattle.vx_rule.specs.Tags.{applies, is_open}
 
-pub slice_lets : (d : Data) → is_slice d ≡ true → lets_slice d ≡ true
+pub slice_lets : (d : Data) → is_slice d ≡ true → lets_slice d ≡ is_open d
 slice_lets (enc.slice a b) h = refl
 slice_lets _ h = absurd (cc (h))
 
-pub constant_lets : (d : Data) → is_constant d ≡ true → lets_slice d ≡ true
+pub constant_lets : (d : Data) → is_constant d ≡ true → lets_slice d ≡ is_open d
 constant_lets (enc.constant v) h = refl
 constant_lets _ h = absurd (cc (h))
 
-pub function_lets : (d : Data) → is_function d ≡ true → lets_slice d ≡ true
+pub function_lets : (d : Data) → is_function d ≡ true → lets_slice d ≡ is_open d
 function_lets (enc.function f) h = refl
 function_lets _ h = absurd (cc (h))
 
-pub masked_lets : (d : Data) → is_masked d ≡ true → lets_slice d ≡ true
+pub masked_lets : (d : Data) → is_masked d ≡ true → lets_slice d ≡ is_open d
 masked_lets enc.masked h = refl
 masked_lets _ h = absurd (cc (h))
 
-pub dict_lets : (d : Data) → is_dict d ≡ true → lets_slice d ≡ true
+pub dict_lets : (d : Data) → is_dict d ≡ true → lets_slice d ≡ is_open d
 dict_lets enc.dict h = refl
 dict_lets _ h = absurd (cc (h))
 
 pub column_lets : (d : Data) → is_canonical d ≡ true → lets_slice d ≡ true
-column_lets d h = λ i. h i || is_slice d || is_constant d || is_function d || is_masked d || is_dict d
+column_lets d h = λ i. h i || is_slice d || is_constant d || is_masked d || is_dict d || applies lets_below d
+
+column_open : (d : Data) → is_canonical d ≡ true → is_open d ≡ true
+column_open (enc.function f) h = absurd (cc (h))
+column_open _ h = refl
+
+pub canonical_lets : (d : Data) → is_canonical d ≡ true → lets_slice d ≡ is_open d
+canonical_lets d h = column_lets d h ∙ sym (column_open d h)
 
 -- ---- the canonical encodings
 

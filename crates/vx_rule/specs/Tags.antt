@@ -3,7 +3,7 @@ use Rattle.std.specs.Prelude.{Bool, true, false}
 use Rattle.vx_fn.specs.declared.function.ScalarFnRef.{ScalarFnRef}
 use Rattle.vx_fn.specs.declared.function.ScalarFnRef.TheVariants as fn_of
 use Rattle.vx_tree.specs.Tree as enc
-use Rattle.vx_tree.specs.Tree.{Data}
+use Rattle.vx_tree.specs.Tree.{Data, lets_below}
 
 -- whether it is this function
 abbrev pub is_mask : ScalarFnRef → Bool
@@ -26,7 +26,20 @@ abbrev pub is_fill_null : ScalarFnRef → Bool
 is_fill_null fn_of.FillNull = true
 is_fill_null _ = false
 
+abbrev pub is_pack : ScalarFnRef → Bool
+is_pack (fn_of.Pack options) = true
+is_pack _ = false
+
+abbrev pub is_get_item : ScalarFnRef → Bool
+is_get_item (fn_of.GetItem name) = true
+is_get_item _ = false
+
 -- the node applies a function that passes the test
 abbrev pub applies : (ScalarFnRef → Bool) → Data → Bool
 applies p (enc.function f) = p f
 applies p _ = false
+
+-- what passes below functions passes through the node as far as its function is concerned
+abbrev pub is_open : Data → Bool
+is_open (enc.function f) = lets_below f
+is_open _ = true

@@ -16,8 +16,9 @@ mod table;
 
 pub use adaptors::{
     BetweenReduce, BetweenReduceAdaptor, CastReduce, CastReduceAdaptor, FillNullReduce,
-    FillNullReduceAdaptor, FilterReduce, FilterReduceAdaptor, MaskReduce, MaskReduceAdaptor,
-    NotReduce, NotReduceAdaptor, SliceReduce, SliceReduceAdaptor, TakeReduce, TakeReduceAdaptor,
+    FillNullReduceAdaptor, FilterReduce, FilterReduceAdaptor, GetItemReduce, GetItemReduceAdaptor,
+    MaskReduce, MaskReduceAdaptor, NotReduce, NotReduceAdaptor, SliceReduce, SliceReduceAdaptor,
+    TakeReduce, TakeReduceAdaptor,
 };
 pub use encodings::CanonicalEncoding;
 pub use laws::{push_laws, rule_laws, take_laws};

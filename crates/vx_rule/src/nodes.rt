@@ -4,7 +4,8 @@ ghost use Rattle.std.specs.Prelude.{◌≡◌, ◌≤◌, [], ◌∷◌, Some, I
 ghost use Rattle.vx_value.specs.Errors.{OnlyOutOfMemory};
 ghost use Rattle.vx_value.specs.View.{type_of};
 ghost use Rattle.vx_value.specs.Supported.{has_columns};
-ghost use Rattle.vx_tree.specs.Tree.{dtype, len, datum, node, function, masked, slots_of, masked_of, dict_of, is_function, is_masked, is_dict, is_constant, is_canonical};
+ghost use Rattle.vx_tree.specs.declared.array.layout.Layout.TheVariants as layout;
+ghost use Rattle.vx_tree.specs.Tree.{dtype, len, datum, node, function, masked, composed, slots_of, masked_of, dict_of, is_function, is_masked, is_dict, is_constant, is_canonical};
 ghost use Rattle.vx_tree.specs.Well.{IsNode, IsWell, shapes};
 ghost use Rattle.vx_value.specs.IsOf.{is_of};
 ghost use Rattle.vx_value.specs.View.{cell_of};
@@ -13,15 +14,16 @@ ghost use Rattle.vx_tree.specs.Columns.{empty_of};
 ghost use Rattle.vx_tree.specs.Canonicals.{canonical_tree};
 ghost use Rattle.vx_rule.specs.Rules.{constants};
 ghost use Rattle.vx_rule.specs.Pushes.{IsConstantLike, IsColumnSlice};
+ghost use Rattle.vx_rule.specs.Items.{HasItem, IsItem};
 
 use std::alloc::Global;
 use std::ops::Range;
 use vx_fn::ScalarFnRef;
 use vx_tree::{
-    Array, ArrayKind, ArrayParts, ArrayRef, Canonical, ConstantArray, DictArray, IntoArray, Masked,
-    MaskedData, ScalarFn, ScalarFnData, slice_canonical,
+    Array, ArrayKind, ArrayParts, ArrayRef, Canonical, ConstantArray, DictArray, EmptyArrayData,
+    IntoArray, Masked, MaskedData, ScalarFn, ScalarFnArray, ScalarFnData, Struct, slice_canonical,
 };
-use vx_value::{DType, Scalar, ScalarValue, VortexResult};
+use vx_value::{DType, Name, Scalar, ScalarValue, VortexResult};
 
 /// Returns the function of `array`, which must apply one, and the slots of its arguments.
 pub(crate) fn function_parts(array: &ArrayRef) -> (&ScalarFnRef, &[Option<ArrayRef>])
@@ -54,6 +56,40 @@ pub(crate) fn function_node(
     let payload = ScalarFnData::new(scalar_fn.clone()?);
     let parts = ArrayParts::new(vtable, original.dtype().clone()?, len, payload, slots);
     Ok(Array::from_parts_unchecked(alloc, parts)?.into_array())
+}
+
+/// Makes the column of `len` structs of `original`'s type with these slots, which must be well formed. Fails only with
+/// `OutOfMemory`.
+pub(crate) fn structs_node(
+    alloc: Global,
+    original: &ArrayRef,
+    len: usize,
+    slots: Vec<Option<ArrayRef>>,
+) -> VortexResult<ArrayRef>
+    requires { IsNode (dtype original.now) len (composed layout.Struct) (shapes (slots_of slots.items)) }
+    ensures ok { IfOk result (λ t. t ≡ node (dtype original.now) len (composed layout.Struct) (slots_of slots.items)) }
+    ensures err { OnlyOutOfMemory result }
+{
+    let parts = ArrayParts::new(
+        Struct,
+        original.dtype().clone()?,
+        len,
+        EmptyArrayData,
+        slots,
+    );
+    Ok(Array::from_parts_unchecked(alloc, parts)?.into_array())
+}
+
+/// Makes the node of the field `name` of `child`, which must be a struct with such a field. Fails only with `OutOfMemory`.
+#[tactic(auto, using(crate::proofs::ItemNodesLemmas::item_made, crate::proofs::ItemNodesLemmas::item_unrefused))]
+pub(crate) fn item_of(alloc: Global, name: &Name, child: ArrayRef) -> VortexResult<ArrayRef>
+    requires { HasItem name.now child }
+    ensures ok { IfOk result (λ t. IsItem name.now child t) }
+    ensures err { OnlyOutOfMemory result }
+{
+    let scalar_fn = ScalarFnRef::GetItem(name.clone()?);
+    let children = vec![in alloc; child]?;
+    Ok(ScalarFnArray::try_new(alloc, scalar_fn, children)?.into_array())
 }
 
 /// Returns the child of `array`, which must be masked, and the slot of its validity.

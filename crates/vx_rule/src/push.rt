@@ -7,11 +7,13 @@ ghost use Rattle.vx_tree.specs.Keeps.{KeepsExactly};
 ghost use Rattle.vx_tree.specs.Cost.{cost, reach};
 ghost use Rattle.vx_rule.specs.Rules.{lets_slice, IsPartOf};
 ghost use Rattle.vx_rule.specs.Pushes.{pushed, IsPushed};
+ghost use Rattle.vx_rule.specs.Tags.{is_open};
 
 use crate::nodes::{
     column_slice, constant_like, dict_node, empty_column, function_node, function_parts,
     masked_node,
 };
+use crate::scalar_fns::lets_below;
 use std::alloc::Global;
 use std::ops::Range;
 use vx_tree::{AnyCanonical, ArrayKind, ArrayRef, IntoArray, SliceArray, slice_validity};
@@ -19,7 +21,7 @@ use vx_value::VortexResult;
 
 /// Returns the rows of `array` in `range`, which must be in order and in bounds, with the slice pushed down as far as the rows
 /// S1 to S6 reach. A range of all rows gives the tree itself, and one of no rows the empty column. A node that no row reaches,
-/// such as a filter, is sliced lazily. No buffer of values is copied. The only lazy slices that it adds stand above such nodes,
+/// such as a filter or `get_item`, is sliced lazily. No buffer of values is copied. The only lazy slices that it adds stand above such nodes,
 /// and in the slots of validities, whose rows are sliced lazily unless they are constant. Fails only with `OutOfMemory`. (own)
 pub fn push_slice(alloc: Global, array: &ArrayRef, range: Range<usize>) -> VortexResult<ArrayRef>
     requires { (range.start ≤ range.end) × (range.end ≤ len array.now) }
@@ -50,7 +52,7 @@ fn push(alloc: Global, array: &ArrayRef, range: Range<usize>) -> VortexResult<Ar
     match array.kind() {
         ArrayKind::Constant(_) => constant_like(alloc, array, end - start),
         ArrayKind::Slice(child, from, _) => push(alloc, child, from + start..from + end),
-        ArrayKind::ScalarFn(_, _) => push_function(alloc, array, range),
+        ArrayKind::ScalarFn(f, _) if lets_below(f) => push_function(alloc, array, range),
         ArrayKind::Masked(child, validity) => match push(alloc, child, start..end) {
             Ok(part) => masked_part(alloc, array, child, validity, part, range),
             Err(e) => Err(e),
@@ -69,6 +71,7 @@ fn push(alloc: Global, array: &ArrayRef, range: Range<usize>) -> VortexResult<Ar
 #[cycle(push)]
 fn push_function(alloc: Global, array: &ArrayRef, range: Range<usize>) -> VortexResult<ArrayRef>
     requires function { is_function (datum array.now) ≡ true }
+    requires open { is_open (datum array.now) ≡ true }
     requires part { IsPartOf range.start range.end array.now }
     ensures ok { IfOk result (λ t. IsPushed range.start range.end array.now t) }
     ensures err { OnlyOutOfMemory result }

@@ -2,12 +2,12 @@
 
 ghost use Rattle.std.specs.Prelude.{◌≡◌, Bool};
 ghost use Rattle.vx_fn.specs.declared.function.ScalarFnRef.{ScalarFnRef as Function};
-ghost use Rattle.vx_tree.specs.Tree.{datum};
-ghost use Rattle.vx_rule.specs.Tags.{is_mask, is_cast, is_not, is_between, is_fill_null, applies};
+ghost use Rattle.vx_tree.specs.Tree.{datum, lets_below};
+ghost use Rattle.vx_rule.specs.Tags.{is_get_item, is_mask, is_cast, is_not, is_between, is_fill_null, applies, is_open};
 
 use std::marker::PhantomData;
 use vx_fn::ScalarFnRef;
-use vx_tree::{ArrayRef, Encoding, Matcher};
+use vx_tree::{ArrayKind, ArrayRef, Encoding, Matcher};
 
 /// Tags of functions: types without values. (own)
 pub trait ScalarFnTag {
@@ -88,5 +88,33 @@ impl ScalarFnTag for FillNull {
 
     fn names(scalar_fn: &ScalarFnRef) -> bool {
         matches!(scalar_fn, ScalarFnRef::FillNull)
+    }
+}
+
+/// The tag of `get_item`. (own)
+pub enum GetItem {}
+
+impl ScalarFnTag for GetItem {
+    ghost is_fn = { is_get_item };
+
+    fn names(scalar_fn: &ScalarFnRef) -> bool {
+        matches!(scalar_fn, ScalarFnRef::GetItem(_))
+    }
+}
+
+/// Returns whether slices and filters pass below `scalar_fn`: below every function but `get_item`, which passes below them.
+pub(crate) fn lets_below(scalar_fn: &ScalarFnRef) -> bool
+    ensures { result ≡ lets_below scalar_fn.now }
+{
+    !matches!(scalar_fn, ScalarFnRef::GetItem(_))
+}
+
+/// Returns whether what passes below functions passes through `array`, as far as the function that it may apply is concerned.
+pub(crate) fn is_open(array: &ArrayRef) -> bool
+    ensures { result ≡ is_open (datum array.now) }
+{
+    match array.kind() {
+        ArrayKind::ScalarFn(scalar_fn, _) => lets_below(scalar_fn),
+        _ => true,
     }
 }

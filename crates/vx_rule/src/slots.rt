@@ -8,6 +8,7 @@ ghost use Rattle.vx_tree.specs.Well.{shapes};
 ghost use Rattle.vx_tree.specs.Slots.{map_slots};
 ghost use Rattle.vx_tree.specs.Parts.{choice_of};
 ghost use Rattle.vx_tree.specs.Validities.{truths};
+ghost use Rattle.vx_rule.specs.Rules.{with_absent, validity_column};
 
 use std::alloc::Global;
 use std::ops::Range;
@@ -74,6 +75,20 @@ pub(crate) fn choose_slots(
     Ok(choices)
 }
 
+/// Returns `slots` with an absent one behind them. Fails only with `OutOfMemory`.
+#[tactic(auto, using(crate::proofs::SlotsLemmas::absent_behind))]
+pub(crate) fn with_absent(
+    alloc: Global,
+    slots: &[Option<ArrayRef>],
+) -> VortexResult<Vec<Option<ArrayRef>>>
+    ensures ok { IfOk result (λ v. slots_of v.items ≡ with_absent (slots_of slots.now)) }
+    ensures err { OnlyOutOfMemory result }
+{
+    let mut columns = slots.to_vec(alloc)?;
+    columns.push(None)?;
+    Ok(columns)
+}
+
 /// Returns the tree in the only slot.
 pub(crate) fn only_argument(slots: &[Option<ArrayRef>]) -> &ArrayRef
     requires { (c : Tree) × (slots.now ≡ Some c ∷ []) }
@@ -112,4 +127,19 @@ pub(crate) fn truths(alloc: Global, value: bool, len: usize) -> VortexResult<Arr
 {
     let scalar = Scalar::bool(value, Nullability::NonNullable);
     Ok(ConstantArray::new_unchecked(alloc, scalar, len)?.into_array())
+}
+
+/// Returns the validity in a slot as an array of `len` booleans. Fails only with `OutOfMemory`.
+pub(crate) fn validity_column(
+    alloc: Global,
+    validity: &Option<ArrayRef>,
+    len: usize,
+) -> VortexResult<ArrayRef>
+    ensures ok { IfOk result (λ t. t ≡ validity_column len (slots_of (validity.now ∷ []))) }
+    ensures err { OnlyOutOfMemory result }
+{
+    match validity {
+        Some(tree) => Ok(tree.clone()?),
+        None => truths(alloc, true, len),
+    }
 }

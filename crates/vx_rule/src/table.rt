@@ -43,8 +43,8 @@ fn evaluate_child<V: ReduceVTable>(
     ParentRuleSet::<V>::new().evaluate(alloc, &ArrayView::new(child, payload), parent, slot)
 }
 
-/// Returns the answer of `array` itself, by the rows F1 to F3, C1 and N1: `None` exactly if none of them fits. Fails only with
-/// `OutOfMemory`.
+/// Returns the answer of `array` itself, by the rows F1 to F4, P1, C1 and N1: `None` exactly if none of them fits. Fails only
+/// with `OutOfMemory`.
 pub fn reduce(alloc: Global, array: &ArrayRef) -> VortexResult<Option<RawNode>>
     ensures answer { IfOk result (λ o. IsAnswer None array.now o) }
     ensures err { OnlyOutOfMemory result }
@@ -52,8 +52,8 @@ pub fn reduce(alloc: Global, array: &ArrayRef) -> VortexResult<Option<RawNode>>
     by_encoding!(array.encoding(), evaluate(alloc, array))
 }
 
-/// Returns the answer of `child`, which is in `slot` of `parent`, by the rows S1 to S6, F5 to F9, M1, D1, D2 and K1 to
-/// K4: `None` exactly if none of them fits there. Fails only with `OutOfMemory`.
+/// Returns the answer of `child`, which is in `slot` of `parent`, by the rows S1 to S6, F5 to F9, G1 to G4, M1, D1, D2 and K1
+/// to K4: `None` exactly if none of them fits there. Fails only with `OutOfMemory`.
 pub fn reduce_parent(
     alloc: Global,
     child: &ArrayRef,

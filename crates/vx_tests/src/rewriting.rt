@@ -2,9 +2,10 @@
 
 use std::alloc::Global;
 use std::test::Fail;
+use vx_fn::{PackOptions, ScalarFnRef};
 use vx_opt::{ArrayBuiltins, ArrayOptimizer, ArraySelect, RuleRegistry};
-use vx_tree::{ArrayKind, ArrayRef, ConstantArray, IntoArray, SliceArray};
-use vx_value::{DType, Nullability, PType, Scalar, VortexError, VortexResult};
+use vx_tree::{ArrayKind, ArrayRef, ConstantArray, IntoArray, ScalarFnArray, SliceArray};
+use vx_value::{DType, FieldNames, Name, Nullability, PType, Scalar, VortexError, VortexResult};
 
 /// Returns a constant of `len` rows.
 fn sevens(alloc: Global, len: usize) -> VortexResult<ArrayRef> {
@@ -40,6 +41,26 @@ fn a_hundred_rewrites_at_one_root(rt: HostRuntime) -> Result<(), Fail> {
     let mut rules = RuleRegistry::empty();
     let refused = slices(alloc, 101)?.optimize_recursive(alloc, &mut rules);
     assert!(rt; matches!(refused, Err(e) if e == limit));
+    Ok(())
+}
+
+/// Returns a column of `len` structs with the field `x`.
+fn structs(alloc: Global, len: usize) -> VortexResult<ArrayRef> {
+    let name = Name::new(alloc, String::from_str(alloc, "x")?)?;
+    let names = FieldNames::new(alloc, vec![in alloc; name]?)?;
+    let options = PackOptions {
+        names,
+        nullability: Nullability::NonNullable,
+    };
+    let columns = vec![in alloc; sevens(alloc, len)?]?;
+    let pack = ScalarFnArray::try_new(alloc, ScalarFnRef::Pack(options), columns)?;
+    pack.into_array().optimize(alloc)
+}
+
+#[test]
+fn a_field_is_its_column(rt: HostRuntime) -> Result<(), Fail> {
+    let alloc = rt.alloc();
+    assert!(rt; repeats(&structs(alloc, 3)?.get_item(alloc, "x")?, 7, 3));
     Ok(())
 }
 

@@ -1,11 +1,13 @@
 -- The bound on turns.
-use Rattle.std.proofs.Common.{◌≡◌, ◌+◌, ℕ, true, [], ◌∷◌, arith, ap, refl}
+use Rattle.std.proofs.Common.{◌≡◌, ◌+◌, ℕ, true, false, [], ◌∷◌, arith, ap, refl, sym}
+use Rattle.std.proofs.lemmas.Bool.{false≢true}
 use Rattle.vx_tree.specs.Tree as enc
-use Rattle.vx_tree.specs.Tree.{Tree, Data, Slots, node, no_slots, absent, slot, is_canonical}
+use Rattle.vx_tree.specs.Tree.{Tree, Data, Slots, node, no_slots, absent, slot, is_canonical, lets_below}
 use Rattle.vx_tree.specs.Charges.{put_back, appended}
 use Rattle.vx_tree.specs.Cost.{none, all, cost, slots_cost, all_reached, extra, slots_extra, slots_sum, reach}
 use Rattle.vx_value.specs.Types.{DataType}
 use Rattle.vx_fn.specs.declared.function.ScalarFnRef.{ScalarFnRef}
+use Rattle.vx_fn.specs.declared.function.ScalarFnRef.TheVariants as fn_of
 
 -- a function's bounds are sums over its slots
 slots_paid : (ss : Slots) → slots_cost put_back all ss ≡ slots_sum (λ c. 1 + cost c) ss
@@ -21,8 +23,14 @@ slots_reached (slot t ss) = omega (arith, slots_reached ss)
 pub function_cost : (ty : DataType) (n : ℕ) (f : ScalarFnRef) (ss : Slots) → cost (node ty n (enc.function f) ss) ≡ 3 + slots_sum (λ c. 1 + cost c) ss
 function_cost ty n f ss = omega (arith, slots_paid ss)
 
-pub function_reach : (ty : DataType) (n : ℕ) (f : ScalarFnRef) (ss : Slots) → reach (node ty n (enc.function f) ss) ≡ 1 + slots_sum reach ss
-function_reach ty n f ss = omega (arith, slots_reached ss)
+pub function_reach : (ty : DataType) (n : ℕ) (f : ScalarFnRef) (ss : Slots) → lets_below f ≡ true
+    → reach (node ty n (enc.function f) ss) ≡ 1 + slots_sum reach ss
+function_reach ty n (fn_of.GetItem name) ss h = absurd (false≢true h)
+function_reach ty n _ ss h = omega (arith, slots_reached ss)
+
+pub item_reach : (ty : DataType) (n : ℕ) (f : ScalarFnRef) (ss : Slots) → lets_below f ≡ false → reach (node ty n (enc.function f) ss) ≡ 1
+item_reach ty n (fn_of.GetItem name) ss h = refl
+item_reach ty n _ ss h = absurd (false≢true (sym h))
 
 -- slots that aren't executed cost nothing, and reach nowhere
 pub unpaid : (turns : ℕ → ℕ → ℕ) (ss : Slots) → slots_cost turns none ss ≡ 0

@@ -1,5 +1,6 @@
--- Rows that are made of the slots' rows: how many they are, and ranges and choices of them.
-use Rattle.std.proofs.Common.{◌≡◌, ℕ, zero, suc, ◌+◌, ◌-◌, ◌≤◌, Bool, true, false, List, [], ◌∷◌, length, map, take, drop, refl, sym, ap, ◌∙◌, arith}
+-- Rows that are made of the slots' rows: how many they are, one of them, and ranges and choices of them.
+use Rattle.std.proofs.Common.{◌≡◌, ℕ, zero, suc, ◌+◌, ◌-◌, ◌<◌, ◌≤◌, Bool, true, false, List, [], ◌∷◌, length, map, take, drop, Some, refl, sym, ap, ◌∙◌, arith}
+use Rattle.std.specs.Prelude.{slice_get}
 use Rattle.std.proofs.Math.Seq.{take-nil, drop-nil}
 use Rattle.std.proofs.lemmas.List.{map-id}
 use Rattle.vx_value.specs.Cell.{Cell}
@@ -10,6 +11,27 @@ use Rattle.vx_tree.specs.Layouts.{heads, tails, row_by_row}
 pub made_counted : (made : List (List Cell) → Cell) (n : ℕ) (css : List (List Cell)) → length (row_by_row made n css) ≡ n
 made_counted made zero css = refl
 made_counted made (suc n) css = ap suc (made_counted made n (tails css))
+
+-- ---- of a row
+
+-- the cell of each slot in row i; none if the slot has no such row
+abbrev pub cells_in : ℕ → List (List Cell) → List (List Cell)
+cells_in i css = map (λ cs. take 1 (drop i cs)) css
+
+later_cells : (i : ℕ) (css : List (List Cell)) → cells_in i (tails css) ≡ cells_in (suc i) css
+later_cells i [] = refl
+later_cells i ([] ∷ css) = λ j. take 1 (drop-nil i j) ∷ later_cells i css j
+later_cells i ((c ∷ cs) ∷ css) = ap (λ l. take 1 (drop i cs) ∷ l) (later_cells i css)
+
+pub made_row : (made : List (List Cell) → Cell) (n i : ℕ) (css : List (List Cell)) → i < n → slice_get (row_by_row made n css) i ≡ Some (made (cells_in i css))
+made_row made zero i css h = absurd (omega arith)
+made_row made (suc n) zero css h = refl
+made_row made (suc n) (suc i) css h = made_row made n i (tails css) (omega arith) ∙ ap (λ x. Some (made x)) (later_cells i css)
+
+pub cell_in : (cs : List Cell) (i : ℕ) (c : Cell) → slice_get cs i ≡ Some c → take 1 (drop i cs) ≡ c ∷ []
+cell_in [] i c h = absurd (cc)
+cell_in (d ∷ cs) zero c h = let same : d ≡ c = cc in λ j. same j ∷ []
+cell_in (d ∷ cs) (suc i) c h = cell_in cs i c h
 
 -- slot by slot
 in_slots : (f g h : List Cell → List Cell) → ((cs : List Cell) → f (g cs) ≡ h cs) → (css : List (List Cell)) → map f (map g css) ≡ map h css

@@ -3,11 +3,13 @@ use Rattle.std.proofs.Common.{◌≡◌, ℕ, zero, suc, ◌+◌, ◌*◌, ◌�
 use Rattle.std.specs.Prelude.{◌⊎◌, sum}
 use Rattle.std.proofs.Math.Nat.{mul-le-mul_left}
 use Rattle.std.proofs.lemmas.List.Sums.{sum_by-cons}
+use Rattle.vx_fn.specs.declared.function.ScalarFnRef.{ScalarFnRef}
+use Rattle.vx_fn.specs.declared.function.ScalarFnRef.TheVariants as fn_of
 use Rattle.vx_tree.specs.Tree as enc
 use Rattle.vx_tree.specs.Tree.{Tree, Data, Slots, node, no_slots, absent, slot}
 use Rattle.vx_tree.specs.Slots.{HasSlot, HoldsAt, put, set_slot}
 use Rattle.vx_tree.specs.Charges.{Charge, Executed, none, first, all, put_back, pushed_below, appended, none_reached, first_reached, all_reached}
-use Rattle.vx_tree.specs.Charges.{total, excess, enlarged, product, column_weight, times, added, scaled}
+use Rattle.vx_tree.specs.Charges.{total, excess, enlarged, product, column_weight, times, added, scaled, squared}
 use Rattle.vx_tree.specs.Charges.{column_charge, product_charge, chunk_charge, interleaved_charge}
 use Rattle.vx_tree.specs.Cost.{charge, after, cost, base_cost, slots_cost, slots_extra, reach}
 use Rattle.vx_tree.specs.Weight.{weight, slots_weights}
@@ -216,6 +218,28 @@ product_pays = record {
       omega (arith, first_within (slots_extra all ss), slots_reach all ss h, total_product (slots_weights ss) (bounded_heavy ss h));
 }
 
+-- ---- a node that weighs k more than the square of its slots
+
+square_high : (x : ℕ) → x ≤ x * x
+square_high zero = omega arith
+square_high (suc x) = omega arith
+
+square_less : (k x y : ℕ) → k + x ≤ y → k + x * x ≤ y * y
+square_less k x zero h = let none : x ≡ 0 = omega (arith, h) in let square : x * x ≡ 0 = ap (λ z. z * z) none in omega (arith, h, square)
+square_less k x (suc y) h =
+    let low : x ≤ suc y = omega (arith, h) in
+    omega (arith, product_less k x (suc y) (suc y) h (omega arith), mul-le-mul_left x low)
+
+pub squared_pays : Pays (record { own = 3; for_slot = put_back; left = 0; executed = all; extra = none_reached; weight = squared 4 })
+squared_pays = record {
+  positive = omega arith;
+  slot_paid = λ c e. omega arith;
+  low = λ n ws g. omega arith;
+  less = λ k n vs ws g h. omega (arith, square_less k (total vs) (total ws) (less_total k vs ws h));
+  turns = λ n ss h. omega (arith, put_back_cost all ss h, square_high (total (slots_weights ss)));
+  reached = λ n ss h. omega arith;
+}
+
 -- ---- a node that weighs 3 more than its slots, each of them with 2 added
 
 less_enlarged : (k : ℕ) (vs ws : List ℕ) → IsLess k vs ws → k + enlarged vs ≤ enlarged ws
@@ -244,13 +268,17 @@ interleaved_pays = added_pays 3 4 all none_reached (omega arith) (omega arith) (
 
 -- ---- every encoding's charge pays: a line for each
 
+function_pays : (f : ScalarFnRef) → Pays (charge (enc.function f))
+function_pays (fn_of.GetItem name) = squared_pays
+function_pays _ = added_pays 3 4 all all_reached (omega arith) (omega arith) (omega arith) all_within
+
 pub pays : (d : Data) → Pays (charge d)
 pays (enc.constant v) = added_pays 2 3 none none_reached (omega arith) (omega arith) (omega arith) none_within
 pays (enc.slice a b) = scaled_pays 2 2 all sum (omega arith) (omega arith) (omega arith) (omega arith) sum_within
 pays (enc.filter bits) = scaled_pays 3 3 all none_reached (omega arith) (omega arith) (omega arith) (omega arith) none_within
 pays enc.masked = added_pays 3 8 first all_reached (omega arith) (omega arith) (omega arith) all_within
 pays enc.is_valid = added_pays 2 4 all none_reached (omega arith) (omega arith) (omega arith) none_within
-pays (enc.function f) = added_pays 3 4 all all_reached (omega arith) (omega arith) (omega arith) all_within
+pays (enc.function f) = function_pays f
 pays enc.dict = product_pays
 pays enc.chunked = chunk_pays
 pays enc.interleave = interleaved_pays

@@ -90,6 +90,10 @@ added k n ws = k + total ws
 abbrev pub scaled : ℕ → ℕ → List ℕ → ℕ
 scaled k n ws = times k ws
 
+-- or k more than the square of its slots
+abbrev pub squared : ℕ → ℕ → List ℕ → ℕ
+squared k n ws = k + total ws * total ws
+
 -- ---- charges
 
 -- what a column adds

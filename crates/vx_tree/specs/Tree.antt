@@ -28,7 +28,7 @@ pub use Rattle.vx_tree.specs.Tree.Slice.{slice, slice_of, is_slice, slice_refusa
 pub use Rattle.vx_tree.specs.Tree.Filter.{filter, filter_of, is_filter, filter_refusal, filter_meaning}
 pub use Rattle.vx_tree.specs.Tree.Masked.{masked, masked_of, is_masked, IsMasked, mask_refusal, masked_refusal, both_of, joined, masked_meaning}
 pub use Rattle.vx_tree.specs.Tree.ScalarFnValidity.{is_valid, validity_in, is_validity, validity_refusal, validity_meaning}
-pub use Rattle.vx_tree.specs.Tree.ScalarFn.{function, call_of, is_function, all_present, all_long, arity_refusal, result_refusal, slots_refusal}
+pub use Rattle.vx_tree.specs.Tree.ScalarFn.{function, call_of, is_function, lets_below, all_present, all_long, arity_refusal, result_refusal, slots_refusal}
 pub use Rattle.vx_tree.specs.Shapes.{types_in}
 pub use Rattle.vx_tree.specs.Tree.ScalarFn.{types_refusal, lengths_refusal, function_refusal, function_meaning}
 pub use Rattle.vx_tree.specs.Tree.Dict.{dict, dict_of, is_dict, codes_refusal, named_refusal, pair_refusal, dict_refusal, IsDict, dict_meaning}

@@ -3,7 +3,7 @@
 ghost use Rattle.std.specs.Prelude.{◌≡◌, ◌+◌, ◌-◌, ◌*◌, ◌<◌, ◌≤◌, ℕ, Bool, List, true, ◌↔◌, Option, None};
 ghost use Rattle.vx_value.specs.Types.{DataType};
 ghost use Rattle.vx_value.specs.Typed.{Typed};
-ghost use Rattle.vx_tree.specs.Tree.{Tree, Slots, Data, len, slice_of, filter_of, node, constant, slice, filter, masked, is_valid, function, dict, chunked, interleave, slot, no_slots, is_canonical, id_of};
+ghost use Rattle.vx_tree.specs.Tree.{Tree, Slots, Data, len, slice_of, filter_of, node, constant, slice, filter, masked, is_valid, function, dict, chunked, interleave, slot, no_slots, is_canonical, id_of, lets_below};
 ghost use Rattle.vx_tree.specs.Cells.{rows};
 ghost use Rattle.vx_mask.specs.Places.{combined};
 ghost use Rattle.vx_tree.specs.Slots.{put, HasSlot};
@@ -54,7 +54,9 @@ pub fn execution_bounds()
     ensures validities { (ty : DataType) (n : ℕ) (c : Tree) → cost (node ty n is_valid (slot c no_slots)) ≡ cost c + 3 }
     ensures validity_reach { (ty : DataType) (n : ℕ) (c : Tree) → reach (node ty n is_valid (slot c no_slots)) ≡ 1 }
     ensures functions { (ty : DataType) (n : ℕ) (f : ScalarFnOf) (ss : Slots) → cost (node ty n (function f) ss) ≡ 3 + slots_sum (λ c. 1 + cost c) ss }
-    ensures function_reach { (ty : DataType) (n : ℕ) (f : ScalarFnOf) (ss : Slots) → reach (node ty n (function f) ss) ≡ 1 + slots_sum reach ss }
+    ensures function_reach { (ty : DataType) (n : ℕ) (f : ScalarFnOf) (ss : Slots) → lets_below f ≡ true
+        → reach (node ty n (function f) ss) ≡ 1 + slots_sum reach ss }
+    ensures item_reach { (ty : DataType) (n : ℕ) (f : ScalarFnOf) (ss : Slots) → lets_below f ≡ false → reach (node ty n (function f) ss) ≡ 1 }
     ensures dicts { (ty : DataType) (n : ℕ) (k v : Tree) → cost (node ty n dict (slot k (slot v no_slots))) ≡ 3 + (1 + cost k) + (1 + cost v) }
     ensures dict_reach { (ty : DataType) (n : ℕ) (k v : Tree) → reach (node ty n dict (slot k (slot v no_slots))) ≡ 1 + reach k }
     ensures chunks { (ty : DataType) (n : ℕ) (ss : Slots) → cost (node ty n chunked ss) ≡ 2 + slots_sum (λ c. 2 + cost c) ss }

@@ -1,4 +1,4 @@
-//! Functions whose first argument is the child: the rows M1 and K1 to K4.
+//! Functions whose first argument is the child: the rows G1 to G4, M1 and K1 to K4.
 
 ghost use Rattle.std.specs.Prelude.{◌≡◌, Some, ◌∷◌, []};
 ghost use Rattle.vx_fn.specs.declared.function.ScalarFnRef.TheVariants as fn_of;
@@ -7,12 +7,26 @@ ghost use Rattle.vx_rule.specs.Answers.{Answers};
 
 use crate::raw_node::RawNode;
 use crate::rule::ArrayParentReduceRule;
-use crate::scalar_fns::{Between, Cast, ExactScalarFn, FillNull, Mask, Not};
+use crate::scalar_fns::{Between, Cast, ExactScalarFn, FillNull, GetItem, Mask, Not};
 use crate::slots::{three_arguments, two_arguments};
 use std::alloc::Global;
 use vx_fn::{BetweenOptions, ScalarFnRef};
 use vx_tree::{ArrayKind, ArrayRef, ArrayView, VTable};
-use vx_value::{DType, VortexResult};
+use vx_value::{DType, Name, VortexResult};
+
+/// Encodings that have a row for `get_item` above them. (own)
+pub trait GetItemReduce: VTable {
+    /// Returns the answer for `parent`, the field `name` of `array`: `None` exactly if no row fits. Fails only with
+    /// `OutOfMemory`. (own)
+    fn get_item(
+        alloc: Global,
+        array: &ArrayView<'_, Self>,
+        parent: &ArrayRef,
+        name: &Name,
+    ) -> VortexResult<Option<RawNode>>
+        requires call { IsCallOf (fn_of.GetItem name.now) (array.now.array.now ∷ []) parent.now }
+        ensures { Answers (Some 0) parent.now result };
+}
 
 /// Encodings that have a row for a mask above them.
 pub trait MaskReduce: VTable {
@@ -96,6 +110,25 @@ macro_rules! for_first_argument {
         }
         $answer
     }};
+}
+
+/// The rule of `V` for `get_item` above it. (own)
+#[derive(Debug, Default, Drop)]
+pub struct GetItemReduceAdaptor<V>(pub V);
+
+impl<V: GetItemReduce> ArrayParentReduceRule<V> for GetItemReduceAdaptor<V> {
+    type Parent = ExactScalarFn<GetItem>;
+
+    #[tactic(auto, using(crate::proofs::QuietLemmas::later_quiet, crate::proofs::CallsLemmas::call_of_one))]
+    fn reduce_parent(
+        &self,
+        alloc: Global,
+        child: &ArrayView<'_, V>,
+        parent: &ArrayRef,
+        slot: usize,
+    ) -> VortexResult<Option<RawNode>> {
+        for_first_argument!(parent, slot; ScalarFnRef::GetItem(name), _ => V::get_item(alloc, child, parent, name))
+    }
 }
 
 /// The rule of `V` for a mask above it. Answers only for the first argument.

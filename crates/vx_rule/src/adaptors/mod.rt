@@ -7,7 +7,8 @@ mod take;
 
 pub use call::{
     BetweenReduce, BetweenReduceAdaptor, CastReduce, CastReduceAdaptor, FillNullReduce,
-    FillNullReduceAdaptor, MaskReduce, MaskReduceAdaptor, NotReduce, NotReduceAdaptor,
+    FillNullReduceAdaptor, GetItemReduce, GetItemReduceAdaptor, MaskReduce, MaskReduceAdaptor,
+    NotReduce, NotReduceAdaptor,
 };
 pub use filter::{FilterReduce, FilterReduceAdaptor};
 pub use slice::{SliceReduce, SliceReduceAdaptor};

@@ -3,11 +3,13 @@
 ghost use Rattle.std.specs.Prelude.{◌≡◌, ◌≤◌, ◌<◌, Some, true};
 ghost use Rattle.vx_tree.specs.Tree.{Data, len, datum, slice_of};
 ghost use Rattle.vx_rule.specs.Rules.{IsPartOf, lets_slice};
+ghost use Rattle.vx_rule.specs.Tags.{is_open};
 ghost use Rattle.vx_rule.specs.Answers.{Answers};
 
 use crate::nodes::empty_column;
 use crate::raw_node::RawNode;
 use crate::rule::ArrayParentReduceRule;
+use crate::scalar_fns::is_open;
 use std::alloc::Global;
 use std::ops::Range;
 use vx_tree::{ArrayKind, ArrayRef, ArrayView, Slice, VTable};
@@ -22,15 +24,16 @@ pub trait SliceReduce: VTable {
         array: &ArrayView<'_, Self>,
         range: Range<usize>,
     ) -> VortexResult<Option<RawNode>>
+        requires open { is_open (datum array.now.array.now) ≡ true }
         requires part { IsPartOf range.start range.end array.now.array.now }
         ensures { Answers (Some 0) (slice_of range.start range.end array.now.array.now) result };
 
-    // a slice passes through the encoding
-    ghost lets: { (d : Data) → Self.is_kind d ≡ true → lets_slice d ≡ true };
+    // a slice passes through the encoding, unless it stops above a function
+    ghost lets: { (d : Data) → Self.is_kind d ≡ true → lets_slice d ≡ is_open d };
 }
 
-/// The rule of `V` for a slice above it. A slice of all rows is the child, a slice of no rows is the empty column, and `V`
-/// answers for the rest.
+/// The rule of `V` for a slice above it, which doesn't answer above `get_item`. A slice of all rows is the child, a slice of no
+/// rows is the empty column, and `V` answers for the rest.
 #[derive(Debug, Default, Drop)]
 pub struct SliceReduceAdaptor<V>(pub V);
 
@@ -53,6 +56,7 @@ impl<V: SliceReduce> ArrayParentReduceRule<V> for SliceReduceAdaptor<V> {
 
 /// Returns the answer for the slice of `child` at `range`, which must be in order and in bounds: `None` exactly if no row fits.
 /// Fails only with `OutOfMemory`.
+#[tactic(auto, using(crate::proofs::ChildrenLemmas::slice_stopped))]
 fn slice_of_child<V: SliceReduce>(
     alloc: Global,
     child: &ArrayView<'_, V>,
@@ -61,6 +65,9 @@ fn slice_of_child<V: SliceReduce>(
     requires within { (range.start ≤ range.end) × (range.end ≤ len child.now.array.now) }
     ensures { Answers (Some 0) (slice_of range.start range.end child.now.array.now) result }
 {
+    if !is_open(child.array()) {
+        return Ok(None);
+    }
     if range.start == 0 && range.end == child.len() {
         return whole(alloc, child.array(), range);
     }

@@ -1,23 +1,29 @@
 //! The rules of filters.
 
-ghost use Rattle.std.specs.Prelude.{◌≡◌, Some, None, IfOk, length, true, false};
+ghost use Rattle.std.specs.Prelude.{◌≡◌, ℕ, ◌∷◌, [], Some, None, IfOk, length, true, false};
 ghost use Rattle.vx_value.specs.Errors.{OnlyOutOfMemory};
 ghost use Rattle.vx_mask.specs.Masks.{bits_in, is_all_true};
 ghost use Rattle.vx_mask.specs.Places.{true_count, combined, IsRun};
-ghost use Rattle.vx_tree.specs.Tree.{len, datum, filter_of, is_filter};
+ghost use Rattle.vx_fn.specs.declared.function.ScalarFnRef.TheVariants as fn_of;
+ghost use Rattle.vx_tree.specs.Tree.{len, datum, filter_of, is_filter, is_struct};
+ghost use Rattle.vx_rule.specs.Calls.{IsCallOf};
+ghost use Rattle.vx_rule.specs.Rules.{IsApart};
 ghost use Rattle.vx_rule.specs.Answers.{Answers};
 
-use crate::adaptors::{FilterReduce, FilterReduceAdaptor};
+use crate::adaptors::{FilterReduce, FilterReduceAdaptor, GetItemReduce, GetItemReduceAdaptor};
 use crate::encodings::{own_rules, parent_rules};
-use crate::nodes::empty_column;
+use crate::nodes::{empty_column, item_of, structs_node};
 use crate::raw_node::RawNode;
 use crate::rule::{ArrayReduceRule, DynArrayParentReduceRule};
 use crate::rule_set::ReduceVTable;
+use crate::slots::choose_slots;
 use std::alloc::Global;
 use std::ops::Range;
 use vx_mask::Mask;
-use vx_tree::{ArrayKind, ArrayRef, ArrayView, Filter, FilterArray, IntoArray, SliceArray, VTable};
-use vx_value::VortexResult;
+use vx_tree::{
+    ArrayKind, ArrayRef, ArrayView, Filter, FilterArray, IntoArray, SliceArray, Struct, VTable,
+};
+use vx_value::{Name, VortexResult};
 
 impl ReduceVTable for Filter {
     fn reduce(alloc: Global, array: &ArrayView<'_, Filter>) -> VortexResult<Option<RawNode>> {
@@ -31,7 +37,7 @@ impl ReduceVTable for Filter {
         parent: &ArrayRef,
         slot: usize,
     ) -> VortexResult<Option<RawNode>> {
-        parent_rules!(Filter, alloc, child, parent, slot; FilterReduceAdaptor)
+        parent_rules!(Filter, alloc, child, parent, slot; FilterReduceAdaptor, GetItemReduceAdaptor)
     }
 }
 
@@ -45,14 +51,24 @@ impl FilterReduce for Filter {
     }
 }
 
-/// The rule of a filter whose mask chooses all rows, none, or consecutive ones.
+impl GetItemReduce for Filter {
+    fn get_item(
+        alloc: Global,
+        array: &ArrayView<'_, Filter>,
+        parent: &ArrayRef,
+        name: &Name,
+    ) -> VortexResult<Option<RawNode>> {
+        item_of_filter(alloc, parent, name, array.array())
+    }
+}
+
+/// The rule of a filter whose mask chooses all rows, none, or consecutive ones, and of one of a column of structs.
 #[derive(Clone, Copy, Debug)]
 struct TrivialFilterRule;
 
 impl ArrayReduceRule<Filter> for TrivialFilterRule {
     ghost covers = { λ t. is_filter (datum t) };
 
-    #[tactic(auto, using(crate::proofs::QuietLemmas::filter_quiet))]
     fn reduce(
         &self,
         alloc: Global,
@@ -69,9 +85,56 @@ impl ArrayReduceRule<Filter> for TrivialFilterRule {
         }
         match mask.contiguous_range() {
             Some(range) => filter_of_run(alloc, child, mask, range),
-            None => Ok(None),
+            None => filter_apart(alloc, child, mask),
         }
     }
+}
+
+/// Row G1: the field of a filter is the filter of the field.
+fn item_of_filter(
+    alloc: Global,
+    parent: &ArrayRef,
+    name: &Name,
+    child: &ArrayRef,
+) -> VortexResult<Option<RawNode>>
+    requires filter { is_filter (datum child.now) ≡ true }
+    requires call { IsCallOf (fn_of.GetItem name.now) (child.now ∷ []) parent.now }
+    ensures { Answers (Some 0) parent.now result }
+{
+    parent.well_formed_tree();
+    let ArrayKind::Filter(inner, mask) = child.kind() else {
+        unreachable!()
+    };
+    let item = item_of(alloc, name, inner.clone()?)?;
+    let filter = FilterArray::new(alloc, item, mask.clone()?)?;
+    RawNode::raw_first(alloc, filter.into_array())
+}
+
+/// Row F4, if `child` is a column of structs: its rows at the true bits of `mask`, which are apart. No row fits else.
+fn filter_apart(alloc: Global, child: &ArrayRef, mask: &Mask) -> VortexResult<Option<RawNode>>
+    requires long { length (bits_in mask.now) ≡ len child.now }
+    requires some_left { is_all_true (bits_in mask.now) ≡ false }
+    requires some { ¬ (true_count (bits_in mask.now) ≡ 0) }
+    requires no_run { (a b : ℕ) → ¬ (IsRun (bits_in mask.now) a b) }
+    ensures { Answers None (filter_of (bits_in mask.now) child.now) result }
+{
+    if !child.is::<Struct>() {
+        return Ok(None);
+    }
+    filter_of_structs(alloc, child, mask)
+}
+
+/// Row F4: a filter of a column of structs is the column of filtered fields.
+fn filter_of_structs(alloc: Global, child: &ArrayRef, mask: &Mask) -> VortexResult<Option<RawNode>>
+    requires structs { is_struct (datum child.now) ≡ true }
+    requires long { length (bits_in mask.now) ≡ len child.now }
+    requires apart { IsApart (bits_in mask.now) }
+    ensures { Answers None (filter_of (bits_in mask.now) child.now) result }
+{
+    child.well_formed_tree();
+    let choices = choose_slots(alloc, child.slots(), mask)?;
+    let structs = structs_node(alloc, child, mask.true_count(), choices)?;
+    RawNode::raw(alloc, structs)
 }
 
 /// Row F5: a filter of a filter is one filter, by the combined mask.

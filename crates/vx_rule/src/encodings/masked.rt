@@ -7,21 +7,21 @@ ghost use Rattle.vx_fn.specs.declared.function.ScalarFnRef.TheVariants as fn_of;
 ghost use Rattle.vx_tree.specs.Tree.{dtype, len, datum, slots_of, slice_of, filter_of, dict_of, is_masked, is_columnar};
 ghost use Rattle.vx_value.specs.Types.{nullability_of};
 ghost use Rattle.vx_tree.specs.SlotTypes.{is_integer};
-ghost use Rattle.vx_rule.specs.Rules.{IsPartOf, taken_of, validity_column};
+ghost use Rattle.vx_rule.specs.Rules.{IsPartOf, taken_of};
 ghost use Rattle.vx_rule.specs.Calls.{IsCallOf};
 ghost use Rattle.vx_rule.specs.Answers.{Answers};
 ghost use Rattle.vx_rule.specs.SliceLaws.{masked_lets};
 
 use crate::adaptors::{
-    FilterReduce, FilterReduceAdaptor, MaskReduce, MaskReduceAdaptor, SliceReduce,
-    SliceReduceAdaptor, TakeReduce, TakeReduceAdaptor,
+    FilterReduce, FilterReduceAdaptor, GetItemReduce, GetItemReduceAdaptor, MaskReduce,
+    MaskReduceAdaptor, SliceReduce, SliceReduceAdaptor, TakeReduce, TakeReduceAdaptor,
 };
 use crate::encodings::parent_rules;
-use crate::nodes::{dict_node, function_node, masked_node, masked_parts};
+use crate::nodes::{dict_node, function_node, item_of, masked_node, masked_parts};
 use crate::raw_node::RawNode;
 use crate::rule::DynArrayParentReduceRule;
 use crate::rule_set::ReduceVTable;
-use crate::slots::truths;
+use crate::slots::validity_column;
 use std::alloc::Global;
 use std::ops::Range;
 use vx_fn::ScalarFnRef;
@@ -30,7 +30,7 @@ use vx_tree::{
     AnyColumnar, ArrayKind, ArrayRef, ArrayView, ConstantArray, FilterArray, IntoArray, Masked,
     SliceArray, VTable, and_lazily, choose_validity, slice_validity,
 };
-use vx_value::{Nullability, VortexResult};
+use vx_value::{Name, Nullability, VortexResult};
 
 impl ReduceVTable for Masked {
     #[tactic(auto, using(crate::proofs::QuietLemmas::own_quiet))]
@@ -45,8 +45,8 @@ impl ReduceVTable for Masked {
         parent: &ArrayRef,
         slot: usize,
     ) -> VortexResult<Option<RawNode>> {
-        parent_rules!(Masked, alloc, child, parent, slot; FilterReduceAdaptor, MaskReduceAdaptor, SliceReduceAdaptor,
-            TakeReduceAdaptor)
+        parent_rules!(Masked, alloc, child, parent, slot; FilterReduceAdaptor, GetItemReduceAdaptor, MaskReduceAdaptor,
+            SliceReduceAdaptor, TakeReduceAdaptor)
     }
 }
 
@@ -69,6 +69,17 @@ impl FilterReduce for Masked {
         mask: &Mask,
     ) -> VortexResult<Option<RawNode>> {
         filter_of_masked(alloc, array.array(), mask)
+    }
+}
+
+impl GetItemReduce for Masked {
+    fn get_item(
+        alloc: Global,
+        array: &ArrayView<'_, Masked>,
+        parent: &ArrayRef,
+        name: &Name,
+    ) -> VortexResult<Option<RawNode>> {
+        item_of_masked(alloc, parent, name, array.array())
     }
 }
 
@@ -123,6 +134,27 @@ fn filter_of_masked(alloc: Global, child: &ArrayRef, mask: &Mask) -> VortexResul
     let validity = choose_validity(alloc, validity, mask)?;
     let masked = masked_node(alloc, child, filter.into_array(), validity)?;
     RawNode::raw(alloc, masked)
+}
+
+/// Row G3: the field of a masked array is the mask of the field.
+fn item_of_masked(
+    alloc: Global,
+    parent: &ArrayRef,
+    name: &Name,
+    child: &ArrayRef,
+) -> VortexResult<Option<RawNode>>
+    requires masked { is_masked (datum child.now) ≡ true }
+    requires call { IsCallOf (fn_of.GetItem name.now) (child.now ∷ []) parent.now }
+    ensures { Answers (Some 0) parent.now result }
+{
+    parent.well_formed_tree();
+    let (inner, validity) = masked_parts(child);
+    let len = parent.len();
+    let item = item_of(alloc, name, inner.clone()?)?;
+    let validity = validity_column(alloc, validity, len)?;
+    let slots = vec![in alloc; Some(item), Some(validity)]?;
+    let mask = function_node(alloc, parent, &ScalarFnRef::Mask, len, slots)?;
+    RawNode::raw_first(alloc, mask)
 }
 
 /// Row M1: a mask of a masked array masks its child by both.
@@ -199,15 +231,4 @@ fn take_validity(
         return Ok(Some(rows.into_array()));
     }
     Ok(Some(dict_node(alloc, codes.clone()?, child.clone()?)?))
-}
-
-/// Returns the validity in a masked array's slot as an array of `len` booleans. Fails only with `OutOfMemory`.
-fn validity_column(alloc: Global, validity: &Option<ArrayRef>, len: usize) -> VortexResult<ArrayRef>
-    ensures ok { IfOk result (λ t. t ≡ validity_column len (slots_of (validity.now ∷ []))) }
-    ensures err { OnlyOutOfMemory result }
-{
-    match validity {
-        Some(tree) => Ok(tree.clone()?),
-        None => truths(alloc, true, len),
-    }
 }

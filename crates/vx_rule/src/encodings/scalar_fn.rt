@@ -4,20 +4,22 @@ ghost use Rattle.std.specs.Prelude.{◌≡◌, Some, None, length, true, false};
 ghost use Rattle.vx_value.specs.View.{type_of};
 ghost use Rattle.vx_mask.specs.Masks.{bits_in};
 ghost use Rattle.vx_fn.specs.declared.function.ScalarFnRef.TheVariants as fn_of;
-ghost use Rattle.vx_tree.specs.Tree.{dtype, len, datum, node, function, slot, no_slots, slice_of, filter_of, is_function};
+ghost use Rattle.vx_fn.specs.declared.functions.pack.PackOptions.{PackOptions};
+ghost use Rattle.vx_tree.specs.Tree.{dtype, len, datum, node, function, slot, slots_of, no_slots, slice_of, filter_of, is_function};
 ghost use Rattle.vx_rule.specs.Rules.{IsPartOf};
-ghost use Rattle.vx_rule.specs.Tags.{applies, is_cast};
+ghost use Rattle.vx_rule.specs.Tags.{applies, is_cast, is_pack, is_open};
 ghost use Rattle.vx_rule.specs.Calls.{is_null_test, null_test};
 ghost use Rattle.vx_rule.specs.Answers.{Answers};
 ghost use Rattle.vx_rule.specs.SliceLaws.{function_lets};
 
 use crate::adaptors::{FilterReduce, FilterReduceAdaptor, SliceReduce, SliceReduceAdaptor};
 use crate::encodings::{own_rules, parent_rules};
-use crate::nodes::{function_node, function_parts};
+use crate::nodes::{function_node, function_parts, structs_node};
 use crate::raw_node::RawNode;
 use crate::rule::{ArrayReduceRule, DynArrayParentReduceRule};
 use crate::rule_set::ReduceVTable;
-use crate::slots::{choose_slots, only_argument, slice_slots, truths};
+use crate::scalar_fns::is_open;
+use crate::slots::{choose_slots, only_argument, slice_slots, truths, with_absent};
 use std::alloc::Global;
 use std::ops::Range;
 use vx_fn::ScalarFnRef;
@@ -28,7 +30,7 @@ use vx_value::{DType, VortexResult};
 impl ReduceVTable for ScalarFn {
     #[tactic(auto, using(crate::proofs::ChildrenLemmas::function_rules))]
     fn reduce(alloc: Global, array: &ArrayView<'_, ScalarFn>) -> VortexResult<Option<RawNode>> {
-        own_rules!(alloc, array; TrivialCastRule, TrivialNullTestRule)
+        own_rules!(alloc, array; TrivialCastRule, TrivialNullTestRule, PackRule)
     }
 
     #[tactic(auto, using(crate::proofs::ChildrenLemmas::function_quiet))]
@@ -55,11 +57,15 @@ impl SliceReduce for ScalarFn {
 }
 
 impl FilterReduce for ScalarFn {
+    #[tactic(auto, using(crate::proofs::ChildrenLemmas::filter_shut))]
     fn filter(
         alloc: Global,
         array: &ArrayView<'_, ScalarFn>,
         mask: &Mask,
     ) -> VortexResult<Option<RawNode>> {
+        if !is_open(array.array()) {
+            return Ok(None);
+        }
         filter_of_function(alloc, array.array(), mask)
     }
 }
@@ -109,6 +115,42 @@ impl ArrayReduceRule<ScalarFn> for TrivialNullTestRule {
     }
 }
 
+/// The rule of a struct of arguments.
+#[derive(Clone, Copy, Debug)]
+struct PackRule;
+
+impl ArrayReduceRule<ScalarFn> for PackRule {
+    ghost covers = { λ t. applies is_pack (datum t) };
+
+    fn reduce(
+        &self,
+        alloc: Global,
+        array: &ArrayView<'_, ScalarFn>,
+    ) -> VortexResult<Option<RawNode>> {
+        match array.array().kind() {
+            ArrayKind::ScalarFn(ScalarFnRef::Pack(_), slots) => {
+                struct_of_arguments(alloc, array.array(), slots)
+            }
+            _ => Ok(None),
+        }
+    }
+}
+
+/// Row P1: a struct of arguments is the column of structs, whose validity is absent.
+fn struct_of_arguments(
+    alloc: Global,
+    array: &ArrayRef,
+    slots: &[Option<ArrayRef>],
+) -> VortexResult<Option<RawNode>>
+    requires { (options : PackOptions) × (array.now ≡ node (dtype array.now) (len array.now) (function (fn_of.Pack options)) (slots_of slots.now)) }
+    ensures { Answers None array.now result }
+{
+    array.well_formed_tree();
+    let columns = with_absent(alloc, slots)?;
+    let structs = structs_node(alloc, array, array.len(), columns)?;
+    Ok(Some(RawNode::done(alloc, structs)))
+}
+
 /// Row S4: a slice passes below a function.
 fn slice_of_function(
     alloc: Global,
@@ -116,6 +158,7 @@ fn slice_of_function(
     range: Range<usize>,
 ) -> VortexResult<Option<RawNode>>
     requires function { is_function (datum child.now) ≡ true }
+    requires open { is_open (datum child.now) ≡ true }
     requires part { IsPartOf range.start range.end child.now }
     ensures { Answers (Some 0) (slice_of range.start range.end child.now) result }
 {
@@ -129,6 +172,7 @@ fn slice_of_function(
 /// Row F7: a filter passes below a function.
 fn filter_of_function(alloc: Global, child: &ArrayRef, mask: &Mask) -> VortexResult<Option<RawNode>>
     requires function { is_function (datum child.now) ≡ true }
+    requires open { is_open (datum child.now) ≡ true }
     requires long { length (bits_in mask.now) ≡ len child.now }
     ensures { Answers (Some 0) (filter_of (bits_in mask.now) child.now) result }
 {

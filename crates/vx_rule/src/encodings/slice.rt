@@ -1,20 +1,23 @@
 //! The rules of slices.
 
-ghost use Rattle.std.specs.Prelude.{◌≡◌, Some, None, true};
+ghost use Rattle.std.specs.Prelude.{◌≡◌, ◌∷◌, [], Some, None, true};
+ghost use Rattle.vx_fn.specs.declared.function.ScalarFnRef.TheVariants as fn_of;
 ghost use Rattle.vx_tree.specs.Tree.{datum, slice_of, is_slice};
 ghost use Rattle.vx_rule.specs.Rules.{IsPartOf};
+ghost use Rattle.vx_rule.specs.Calls.{IsCallOf};
 ghost use Rattle.vx_rule.specs.Answers.{Answers};
 ghost use Rattle.vx_rule.specs.SliceLaws.{slice_lets};
 
-use crate::adaptors::{SliceReduce, SliceReduceAdaptor};
+use crate::adaptors::{GetItemReduce, GetItemReduceAdaptor, SliceReduce, SliceReduceAdaptor};
 use crate::encodings::parent_rules;
+use crate::nodes::item_of;
 use crate::raw_node::RawNode;
 use crate::rule::DynArrayParentReduceRule;
 use crate::rule_set::ReduceVTable;
 use std::alloc::Global;
 use std::ops::Range;
 use vx_tree::{ArrayKind, ArrayRef, ArrayView, IntoArray, Slice, SliceArray, VTable};
-use vx_value::VortexResult;
+use vx_value::{Name, VortexResult};
 
 impl ReduceVTable for Slice {
     #[tactic(auto, using(crate::proofs::QuietLemmas::own_quiet))]
@@ -29,7 +32,7 @@ impl ReduceVTable for Slice {
         parent: &ArrayRef,
         slot: usize,
     ) -> VortexResult<Option<RawNode>> {
-        parent_rules!(Slice, alloc, child, parent, slot; SliceReduceAdaptor)
+        parent_rules!(Slice, alloc, child, parent, slot; GetItemReduceAdaptor, SliceReduceAdaptor)
     }
 }
 
@@ -43,6 +46,37 @@ impl SliceReduce for Slice {
     }
 
     ghost lets = { slice_lets };
+}
+
+impl GetItemReduce for Slice {
+    fn get_item(
+        alloc: Global,
+        array: &ArrayView<'_, Slice>,
+        parent: &ArrayRef,
+        name: &Name,
+    ) -> VortexResult<Option<RawNode>> {
+        item_of_slice(alloc, parent, name, array.array())
+    }
+}
+
+/// Row G2: the field of a slice is the slice of the field.
+fn item_of_slice(
+    alloc: Global,
+    parent: &ArrayRef,
+    name: &Name,
+    child: &ArrayRef,
+) -> VortexResult<Option<RawNode>>
+    requires slice { is_slice (datum child.now) ≡ true }
+    requires call { IsCallOf (fn_of.GetItem name.now) (child.now ∷ []) parent.now }
+    ensures { Answers (Some 0) parent.now result }
+{
+    parent.well_formed_tree();
+    let ArrayKind::Slice(inner, start, stop) = child.kind() else {
+        unreachable!()
+    };
+    let item = item_of(alloc, name, inner.clone()?)?;
+    let slice = SliceArray::new(alloc, item, start..stop)?;
+    RawNode::raw_first(alloc, slice.into_array())
 }
 
 /// Row S1: a slice of a slice is one slice.

@@ -11,13 +11,14 @@ use Rattle.vx_fn.specs.Functions.{arity, argument_names, function_id}
 use Rattle.vx_fn.specs.ReturnTypes.{return_type}
 use Rattle.vx_fn.specs.Apply.{apply}
 use Rattle.vx_fn.specs.declared.function.ScalarFnRef.{ScalarFnRef}
+use Rattle.vx_fn.specs.declared.function.ScalarFnRef.TheVariants as fn_of
 use Rattle.vx_tree.specs.Tree.Nodes.{Tree, Data, node, filled_slots}
 pub use Rattle.vx_tree.specs.Tree.Nodes.{function}
 use Rattle.vx_tree.specs.Tree.ScalarFnValidity.{validity_in}
 use Rattle.vx_tree.specs.Conditions.{first_of_both, unless}
 use Rattle.vx_tree.specs.Shapes.{Shape, shape, types_in}
 use Rattle.vx_tree.specs.SlotCells.{row_at}
-use Rattle.vx_tree.specs.Charges.{all, put_back, all_reached, added}
+use Rattle.vx_tree.specs.Charges.{all, put_back, none_reached, all_reached, added, squared}
 use Rattle.vx_tree.specs.Meanings.{Meaning}
 use Rattle.vx_tree.specs.declared.validity.Validity.TheVariants as validity
 
@@ -65,6 +66,21 @@ abbrev pub function_refusal : Id → DataType → ℕ → ScalarFnRef → List (
 function_refusal i ty n f ss =
     first_of_both (slots_refusal f ss) (first_of_both (types_refusal i ty f ss) (lengths_refusal n ss))
 
+-- Slices and filters pass below the function, to its arguments. They don't below `get_item`: that passes below them, to the one field that is read.
+abbrev pub lets_below : ScalarFnRef → Bool
+lets_below (fn_of.GetItem name) = false
+lets_below _ = true
+
+-- how far a slice may have to be pushed below the function, less one, from the same numbers of its arguments
+abbrev pub function_extra : ScalarFnRef → List ℕ → ℕ
+function_extra (fn_of.GetItem name) = none_reached
+function_extra _ = all_reached
+
+-- the weight of the function's node, from those of its arguments
+abbrev pub function_weight : ScalarFnRef → ℕ → List ℕ → ℕ
+function_weight (fn_of.GetItem name) = squared 4
+function_weight _ = added 4
+
 abbrev pub function_meaning : ScalarFnRef → Meaning
 function_meaning f = record {
   id = function_id f;
@@ -73,5 +89,5 @@ function_meaning f = record {
   refusal = λ i ty n ss. function_refusal i ty n f ss;
   cells = λ ty n tys css. map (λ i. apply f tys ty (row_at css i)) (range_with_len 0 n);
   validity = λ ty n ss child. validity.Array (validity_in (node ty n (function f) ss));
-  charge = record { own = 3; for_slot = put_back; left = 0; executed = all; extra = all_reached; weight = added 4 };
+  charge = record { own = 3; for_slot = put_back; left = 0; executed = all; extra = function_extra f; weight = function_weight f };
 }

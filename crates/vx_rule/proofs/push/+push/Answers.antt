@@ -2,7 +2,8 @@ use Rattle.std.proofs.Common.{◌≡◌, arith, Some, None, sym, ap, subst, ◌�
 use Rattle.std.proofs.lemmas.Grind.{common_steps}
 use Rattle.std.proofs.lemmas.List.Elements.{all_zip_more}
 use Rattle.std.proofs.lemmas.Result.{IfOk-weaker}
-use Rattle.vx_tree.specs.Tree.{len}
+use Rattle.vx_tree.specs.Tree.{len, datum}
+use Rattle.vx_rule.specs.Tags.{is_open}
 use Rattle.vx_tree.specs.Columns.{empty_of}
 use Rattle.vx_rule.proofs.PushLemmas.{IsSlotPushed, is_part, whole_pushed, empty_pushed, column_pushed, constant_pushed, inner_pushed}
 use Rattle.vx_rule.proofs.PushLemmas.{child_below, function_sized, function_pushed}
@@ -81,5 +82,6 @@ push_function-returns-clause-ok t c =
     let p = c.function_parts in
     IfOk-weaker c.function_node.result _ _
     (function_pushed c.args.array.now p.result.0.now p.result.1.now p.ensures.shape p.ensures.node c.args.range.start c.args.range.end c.loop-slot.slot-index
-    c.loop-slot.parts.items c.loop-slot-test.false c.loop-slot.invariant p.ensures.well c.requires.part)
+    c.loop-slot.parts.items c.loop-slot-test.false c.loop-slot.invariant p.ensures.well c.requires.part
+    (sym (ap (λ y. is_open (datum y)) p.ensures.shape) ∙ c.requires.open))
     c.function_node.ensures.ok

@@ -1,5 +1,5 @@
 use Rattle.vx_tree.proofs.WeightLemmas.{cost_positive}
-use Rattle.vx_tree.proofs.CostLemmas.{function_cost, function_reach, column_cost, column_reach, masked_cost, masked_reach, chunked_cost, interleave_cost}
+use Rattle.vx_tree.proofs.CostLemmas.{function_cost, function_reach, item_reach, column_cost, column_reach, masked_cost, masked_reach, chunked_cost, interleave_cost}
 use Rattle.vx_tree.proofs.laws.execution_bounds.Goals as goal
 
 pub returns-clause-positive : goal.returns-clause-positive
@@ -16,6 +16,9 @@ returns-clause-functions c = function_cost
 
 pub returns-clause-function_reach : goal.returns-clause-function_reach
 returns-clause-function_reach c = function_reach
+
+pub returns-clause-item_reach : goal.returns-clause-item_reach
+returns-clause-item_reach c = item_reach
 
 pub returns-clause-masks : goal.returns-clause-masks
 returns-clause-masks c = masked_cost

@@ -1,6 +1,7 @@
 use Rattle.std.proofs.Common.{◌≡◌, Some, ap, sym, subst, true, ◌∙◌}
 use Rattle.vx_mask.specs.Masks.{bits_in}
-use Rattle.vx_tree.specs.Tree.{dtype, len, node, function, slots_of, filter_of, all_long}
+use Rattle.vx_rule.specs.Tags.{is_open}
+use Rattle.vx_tree.specs.Tree.{dtype, len, datum, node, function, slots_of, filter_of, all_long}
 use Rattle.vx_tree.specs.Well.{IsNode, shapes}
 use Rattle.vx_rule.proofs.SlotsLemmas.{called_long, chosen_node}
 use Rattle.vx_rule.proofs.FitsLemmas.{fit_F7, raw_row}
@@ -30,5 +31,6 @@ returns c =
     let us = slots_of c.in_ok-choices.choices.items in
     let bits = bits_in c.args.mask.now in
     raw_row (Some 0) (filter_of bits x) c.in_ok-call.call c.raw.result c.raw.ensures
-    (λ u os e g. fit_F7 (len x) bits (dtype x) f (slots_of p.result.1.now) us x u os p.ensures.shape c.in_ok-choices.ensures.ok
+    (λ u os e g. fit_F7 (len x) bits (dtype x) f (slots_of p.result.1.now) us x u os (sym (ap (λ y. is_open (datum y)) p.ensures.shape) ∙ c.requires.open) p.ensures.shape
+    c.in_ok-choices.ensures.ok
     (e ∙ c.in_ok-call.ensures.ok ∙ ap (λ n. node (dtype x) n (function f) us) c.true_count.ensures) g)
