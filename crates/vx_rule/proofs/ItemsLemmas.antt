@@ -1,5 +1,5 @@
 -- What `get_item` above a filter, a slice, a masked array and a column of structs keeps: G1 to G4.
-use Rattle.std.proofs.Common.{◌≡◌, ℕ, zero, suc, ◌+◌, ◌-◌, ◌<◌, ◌≤◌, List, [], ◌∷◌, ◌++◌, length, map, take, drop, get_or, Bool, true, false, if◌then◌else◌}
+use Rattle.std.proofs.Common.{◌≡◌, ℕ, zero, suc, ◌+◌, ◌-◌, ◌<◌, List, [], ◌∷◌, ◌++◌, length, map, take, drop, get_or, Bool, true, false, if◌then◌else◌}
 use Rattle.std.proofs.Common.{Option, Some, None, refl, sym, ap, subst, ◌∙◌, arith}
 use Rattle.std.specs.Prelude.{option_map}
 use Rattle.std.specs.Str.{bytes_eq}
@@ -7,7 +7,7 @@ use Rattle.std.specs.Cmp.{second_so}
 use Rattle.std.specs.List.{range_with_len}
 use Rattle.std.proofs.Math.Seq.{drop-nil}
 use Rattle.std.proofs.lemmas.List.{get_or-replicate}
-use Rattle.std.proofs.lemmas.List.FromFn.{length-map-range_with_len, get_or-map-range_with_len, length-range_with_len}
+use Rattle.std.proofs.lemmas.List.FromFn.{length-map-range_with_len, get_or-map-range_with_len}
 use Rattle.std.proofs.lemmas.Option.{slice_get-get_or}
 use Rattle.vx_value.specs.Types as type
 use Rattle.vx_value.specs.Types.{DataType, Fields, nullability_of}
@@ -25,7 +25,6 @@ use Rattle.vx_fn.specs.ReturnTypes.{return_type}
 use Rattle.vx_fn.specs.declared.function.ScalarFnRef.TheVariants as fn_of
 use Rattle.vx_tree.specs.Tree as enc
 use Rattle.vx_tree.specs.Tree.{Tree, Slots, node, no_slots, absent, slot, slots_of, dtype, len, slice_of, filter_of, fields_shapes, struct_row, last_tree}
-use Rattle.vx_tree.specs.Slots.{map_slots}
 use Rattle.vx_tree.specs.Layouts.{row_by_row}
 use Rattle.vx_tree.specs.Cells.{rows, slots_rows, valid_cell, HasNoFault, IsClean, AreClean}
 use Rattle.vx_tree.specs.Keeps.{CellKeeps, RowsKeep, Keeps, KeepsExactly}
@@ -42,7 +41,7 @@ use Rattle.vx_rule.proofs.FunctionsLemmas.{one_argument}
 use Rattle.vx_rule.proofs.MasksLemmas.{told_at, told_fits, told_clean}
 use Rattle.vx_rule.proofs.PicksLemmas.{exactly_by, rows_are, IsSecond, first_of, masked_slots, function_picked}
 use Rattle.vx_rule.proofs.RangesLemmas.{slice_bounds, part_natural, part_count}
-use Rattle.vx_rule.proofs.StructRowsLemmas.{told_by, item_in, item_applied, item_row, are_slots, field_shape, field_cell, last_told, told_rows, one_cell, last_cells}
+use Rattle.vx_rule.proofs.StructRowsLemmas.{told_by, item_in, item_applied, item_row, are_slots, field_shape, field_cell, last_told, told_rows, one_cell}
 
 -- ---- a field of a struct has a value where the struct has one
 

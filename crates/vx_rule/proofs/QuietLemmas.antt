@@ -5,8 +5,6 @@ use Rattle.vx_value.specs.Types.{DataType, nullability_of}
 use Rattle.vx_value.specs.View.{type_of}
 use Rattle.vx_value.specs.declared.dtype.DType.{DType}
 use Rattle.vx_value.specs.declared.dtype.Nullability.TheVariants.{NonNullable}
-use Rattle.vx_mask.specs.Masks.{is_all_true}
-use Rattle.vx_mask.specs.Places.{true_count, IsRun}
 use Rattle.vx_fn.specs.declared.function.ScalarFnRef.{ScalarFnRef}
 use Rattle.vx_fn.specs.declared.function.ScalarFnRef.TheVariants as fn_of
 use Rattle.vx_tree.specs.Tree as enc

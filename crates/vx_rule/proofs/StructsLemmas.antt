@@ -13,7 +13,7 @@ use Rattle.vx_fn.specs.Apply.{apply}
 use Rattle.vx_fn.specs.Meanings.{widened}
 use Rattle.vx_fn.specs.ReturnTypes.{return_type}
 use Rattle.vx_fn.proofs.GetItemLemmas.{no_place}
-use Rattle.vx_fn.specs.Pack.{fields_with, struct_of, pack_type, on_named}
+use Rattle.vx_fn.specs.Pack.{fields_with, pack_type, on_named}
 use Rattle.vx_fn.specs.declared.function.ScalarFnRef.TheVariants as fn_of
 use Rattle.vx_fn.specs.declared.functions.pack.PackOptions.{PackOptions}
 use Rattle.vx_tree.specs.Tree as enc

@@ -1,9 +1,9 @@
-use Rattle.std.proofs.Common.{arith, ◌≡◌, ◌<◌, length, Some, None, sym, ap, ◌∙◌}
+use Rattle.std.proofs.Common.{arith, ◌≡◌, ◌<◌, length, Some, sym, ap, ◌∙◌}
 use Rattle.vx_value.specs.Types.{struct, nullability_of}
 use Rattle.vx_value.specs.Nested.{field_place}
 use Rattle.vx_value.specs.View.{type_of}
 use Rattle.vx_value.specs.declared.dtype.Nullability.{Nullability}
-use Rattle.vx_tree.specs.Tree.{dtype, slots}
+use Rattle.vx_tree.specs.Tree.{dtype}
 use Rattle.vx_rule.specs.Rules.{field_in}
 use Rattle.vx_rule.proofs.StructsLemmas.{has_place, place_held, field_held}
 use Rattle.vx_rule.proofs.encodings.column.field_column.Goals as goal

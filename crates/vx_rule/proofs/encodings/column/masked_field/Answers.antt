@@ -1,12 +1,12 @@
-use Rattle.std.proofs.Common.{◌≡◌, Some, ◌∷◌, [], ◌++◌, ap, sym, subst, ◌∙◌}
+use Rattle.std.proofs.Common.{◌≡◌, Some, ◌∷◌, [], ap, sym, subst, ◌∙◌}
 use Rattle.vx_value.specs.Types.{struct}
 use Rattle.vx_value.specs.declared.dtype.Nullability.TheVariants.{Nullable}
 use Rattle.vx_fn.specs.declared.function.ScalarFnRef.TheVariants as fn_of
-use Rattle.vx_tree.specs.Tree.{dtype, len, node, function, composed, slots, slots_of, last_tree}
+use Rattle.vx_tree.specs.Tree.{dtype, len, node, function, composed, slots_of}
 use Rattle.vx_tree.specs.Well.{IsNode, shapes}
 use Rattle.vx_tree.specs.declared.array.layout.Layout.TheVariants as layout
 use Rattle.vx_rule.specs.Rules.{validity_column, field_in}
-use Rattle.vx_rule.proofs.ItemNodesLemmas.{mask_well, given_type, given_long}
+use Rattle.vx_rule.proofs.ItemNodesLemmas.{mask_well}
 use Rattle.vx_rule.proofs.StructsLemmas.{struct_shape, structs_node, masked_field_known}
 use Rattle.vx_rule.proofs.FitsLemmas.{fit_G4_masked}
 use Rattle.vx_rule.proofs.encodings.column.masked_field.Goals as goal

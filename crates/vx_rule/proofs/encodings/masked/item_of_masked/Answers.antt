@@ -3,7 +3,7 @@ use Rattle.vx_value.specs.Nullabilities.{with_nullability}
 use Rattle.vx_value.specs.declared.dtype.Nullability.TheVariants.{Nullable}
 use Rattle.vx_fn.specs.declared.function.ScalarFnRef.TheVariants as fn_of
 use Rattle.vx_tree.specs.Tree.{dtype, len, node, function, masked_of, slots_of}
-use Rattle.vx_tree.specs.Well.{IsNode, IsWell, shapes}
+use Rattle.vx_tree.specs.Well.{IsNode, shapes}
 use Rattle.vx_rule.specs.Rules.{validity_column}
 use Rattle.vx_rule.proofs.ItemNodesLemmas.{has_of, masked_has, masked_item_type, mask_well, given_type, given_long, given_has}
 use Rattle.vx_rule.proofs.MaskedLemmas.{masked_told}
