@@ -102,28 +102,33 @@ fn is_unexecuted(alloc: Global, column: Columnar, builder: Builder, error: Vorte
     matches!(executed(alloc, column, builder), Err(e) if e == error)
 }
 
-#[test]
-fn trees_are_executed_into_builders(rt: HostRuntime) -> Result<(), Fail> {
-    let alloc = rt.alloc();
-    let builder = executed(
-        alloc,
-        nines(alloc, Nullability::Nullable)?,
-        builder_of_rows(alloc)?,
-    )?;
-    assert!(rt; builder.len() == 74);
+/// Checks that the constant is executed into a builder of its type.
+fn is_executed(alloc: Global) -> VortexResult<bool> {
+    let column = nines(alloc, Nullability::Nullable)?;
+    let builder = builder_of_rows(alloc)?;
+    Ok(executed(alloc, column, builder)?.len() == 74)
+}
+
+/// Checks that it isn't executed into one of another type.
+fn is_refused_by_type(alloc: Global) -> VortexResult<bool> {
+    let column = nines(alloc, Nullability::Nullable)?;
     let wide = DType::Primitive(PType::I64, Nullability::Nullable);
     let builder = Builder::with_capacity(alloc, wide, 0)?;
-    assert!(rt;
-        is_unexecuted(
-            alloc,
-            nines(alloc, Nullability::Nullable)?,
-            builder,
-            BAD_TYPE
-        )
-    );
-    let len = usize::MAX;
+    Ok(is_unexecuted(alloc, column, builder, BAD_TYPE))
+}
+
+/// Checks that one row isn't executed into a builder of as many as there can be.
+fn is_refused_by_length(alloc: Global) -> VortexResult<bool> {
     let one = Columnar::constant(alloc, Scalar::null(DType::Null), 1)?;
-    let too_long = VortexError::TooLong { len, factor: 1 };
-    assert!(rt; is_unexecuted(alloc, one, builder_of_nulls(alloc, len)?, too_long));
+    let len = usize::MAX;
+    let nulls = builder_of_nulls(alloc, len)?;
+    Ok(is_unexecuted(alloc, one, nulls, VortexError::TooLong { len, factor: 1 }))
+}
+
+#[test]
+fn trees_are_executed_into_builders(rt: HostRuntime) -> Result<(), Fail> {
+    assert!(rt; is_executed(rt.alloc())?);
+    assert!(rt; is_refused_by_type(rt.alloc())?);
+    assert!(rt; is_refused_by_length(rt.alloc())?);
     Ok(())
 }
