@@ -3,6 +3,7 @@
 ghost use Rattle.vx_value.specs.declared.error.VortexError.TheVariants.{OutOfMemory};
 ghost use Rattle.std.specs.Prelude.{◌≡◌};
 
+use crate::id::Id;
 use std::alloc::{AllocError, AllocFailed};
 use thiserror::Error;
 
@@ -53,6 +54,13 @@ pub enum ArgKind {
     BadValue,
 }
 
+/// What a session holds for a pair of a parent's and a child's id. (own)
+#[derive(Clone, Copy, Debug, PartialEq, Eq)]
+pub enum SessionKind {
+    Rule,
+    Kernel,
+}
+
 /// Why a call failed.
 #[derive(Clone, Copy, Debug, PartialEq, Eq, Error)]
 pub enum VortexError {
@@ -87,9 +95,21 @@ pub enum VortexError {
         stop: usize,
         len: usize,
     },
+    /// A rule or kernel that was handed in refused a child with the id `child` of a parent with the id `parent`. It is at `place`,
+    /// counted from 0, in the session's list for these ids.
+    #[error("refused")]
+    Refused {
+        kind: SessionKind,
+        parent: Id,
+        child: Id,
+        place: usize,
+    },
     /// An argument is invalid.
     #[error("{0}")]
     InvalidArgument(ArgKind),
+    /// A node has an encoding that isn't allowed.
+    #[error("normalize forbids encoding ({0})")]
+    ForbiddenEncoding(Id),
 }
 
 /// The result of a fallible call.

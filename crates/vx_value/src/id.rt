@@ -3,6 +3,8 @@
 ghost use Rattle.std.specs.Prelude.{◌≡◌, MatchOption};
 ghost use Rattle.vx_value.specs.Ids.{id_text, IsNoId};
 
+use std::fmt;
+
 /// The id of an encoding or of a function. A function's node has the function's id.
 #[derive(Clone, Copy, Debug, PartialEq, Eq, Hash)]
 pub enum Id {
@@ -118,5 +120,11 @@ impl Id {
             }
         }
         None
+    }
+}
+
+impl fmt::Display for Id {
+    fn fmt<W: fmt::Write>(&self, f: &mut fmt::Formatter<W>) -> fmt::Result {
+        f.write_str(self.as_str())
     }
 }

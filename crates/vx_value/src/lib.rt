@@ -31,7 +31,7 @@ pub use cast::has_cast;
 pub use decimal::{DecimalDType, DecimalType, DecimalValue};
 pub use digits::Digits;
 pub use dtype::{DType, Nullability, PType, Storage};
-pub use error::{ArgKind, VortexError, VortexResult};
+pub use error::{ArgKind, SessionKind, VortexError, VortexResult};
 pub use fitting::{fits, overflow};
 pub use id::Id;
 pub use laws::cast_laws;
