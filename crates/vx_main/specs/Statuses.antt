@@ -1,9 +1,9 @@
 -- The code and the text of each status, and whether it may come before there is an input or a tree.
 use Rattle.std.specs.Prelude.{ℕ, List, codes, Bool, true, false}
 use Rattle.vx_value.specs.declared.error.VortexError.{VortexError}
-use Rattle.vx_value.specs.declared.error.VortexError.TheVariants.{OutOfMemory, Fault, IterationLimit, RewriteLimit, TooLong, OutOfBounds, InvalidArgument}
+use Rattle.vx_value.specs.declared.error.VortexError.TheVariants.{OutOfMemory, Fault, IterationLimit, RewriteLimit, Refused, ForbiddenEncoding, TooLong, OutOfBounds, InvalidArgument}
 use Rattle.vx_main.specs.declared.top.status.Status.{Status}
-use Rattle.vx_main.specs.declared.top.status.Status.TheVariants.{Done, Usage, BadInput, TurnLimit, Memory, ReadFault, WriteFault, TooLarge}
+use Rattle.vx_main.specs.declared.top.status.Status.TheVariants.{Done, Usage, BadInput, TurnLimit, Forbidden, Memory, ReadFault, WriteFault, TooLarge}
 use Rattle.vx_main.specs.declared.top.status.Status.TheVariants as status
 
 abbrev pub code_of : Status → ℕ
@@ -13,6 +13,8 @@ code_of BadInput = 3
 code_of status.Fault = 4
 code_of (TurnLimit limit turns) = 5
 code_of (status.RewriteLimit at_root total) = 6
+code_of (status.Refused kind parent child place) = 7
+code_of (Forbidden id) = 8
 code_of Memory = 9
 code_of ReadFault = 10
 code_of WriteFault = 11
@@ -25,6 +27,8 @@ text_of BadInput = codes "bad input"
 text_of status.Fault = codes "fault"
 text_of (TurnLimit limit turns) = codes "turn limit"
 text_of (status.RewriteLimit at_root total) = codes "rewrite limit"
+text_of (status.Refused kind parent child place) = codes "refused"
+text_of (Forbidden id) = codes "forbidden encoding"
 text_of Memory = codes "out of memory"
 text_of ReadFault = codes "read fault"
 text_of WriteFault = codes "write fault"
@@ -38,6 +42,8 @@ has_no_input BadInput = false
 has_no_input status.Fault = false
 has_no_input (TurnLimit limit turns) = false
 has_no_input (status.RewriteLimit at_root total) = false
+has_no_input (status.Refused kind parent child place) = false
+has_no_input (Forbidden id) = false
 has_no_input Memory = true
 has_no_input ReadFault = true
 has_no_input WriteFault = false
@@ -51,6 +57,8 @@ has_no_tree BadInput = true
 has_no_tree status.Fault = false
 has_no_tree (TurnLimit limit turns) = false
 has_no_tree (status.RewriteLimit at_root total) = false
+has_no_tree (status.Refused kind parent child place) = false
+has_no_tree (Forbidden id) = false
 has_no_tree Memory = true
 has_no_tree ReadFault = true
 has_no_tree WriteFault = false
@@ -62,6 +70,8 @@ status_of OutOfMemory = Memory
 status_of Fault = status.Fault
 status_of (IterationLimit limit) = TurnLimit limit limit
 status_of (RewriteLimit at_root total) = status.RewriteLimit at_root total
+status_of (Refused kind parent child place) = status.Refused kind parent child place
+status_of (ForbiddenEncoding id) = Forbidden id
 status_of (TooLong len factor) = BadInput
 status_of (OutOfBounds start stop len) = BadInput
 status_of (InvalidArgument kind) = BadInput

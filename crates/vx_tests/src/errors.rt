@@ -1,9 +1,9 @@
 //! The texts of errors.
 
 use std::alloc::AllocError;
-use vx_value::{ArgKind, VortexError};
+use vx_value::{ArgKind, Id, SessionKind, VortexError};
 
-static ERROR_TEXTS: [(VortexError, &str); 20] = [
+static ERROR_TEXTS: [(VortexError, &str); 22] = [
     (VortexError::OutOfMemory, "out of memory"),
     (
         VortexError::IterationLimit { limit: 4 },
@@ -25,6 +25,19 @@ static ERROR_TEXTS: [(VortexError, &str); 20] = [
             len: 3,
         },
         "OutOfBounds: 2..1 of length 3",
+    ),
+    (
+        VortexError::Refused {
+            kind: SessionKind::Rule,
+            parent: Id::Slice,
+            child: Id::Primitive,
+            place: 0,
+        },
+        "refused",
+    ),
+    (
+        VortexError::ForbiddenEncoding(Id::Dict),
+        "normalize forbids encoding (vortex.dict)",
     ),
     (
         VortexError::InvalidArgument(ArgKind::SlotCount),

@@ -3,7 +3,7 @@
 ghost use Rattle.std.specs.Prelude.{◌≡◌};
 ghost use Rattle.vx_main.specs.Statuses.{code_of, text_of};
 
-use vx_value::VortexError;
+use vx_value::{Id, SessionKind, VortexError};
 
 /// The outcome of a run: done, or why not. (own)
 #[derive(Clone, Copy, Debug, PartialEq, Eq)]
@@ -17,9 +17,25 @@ pub enum Status {
     /// A row of the tree, or of a node in it, has no value.
     Fault,
     /// The tree wasn't executed within `limit` turns; `turns` were taken.
-    TurnLimit { limit: u64, turns: u64 },
+    TurnLimit {
+        limit: u64,
+        turns: u64,
+    },
     /// The tree wasn't optimized within the limits: `at_root` rewrites were made at one root, and `total` in all.
-    RewriteLimit { at_root: u32, total: u32 },
+    RewriteLimit {
+        at_root: u32,
+        total: u32,
+    },
+    /// A rule or kernel that was handed in refused a child of a parent with these ids. It is at `place`, counted from 0, in the
+    /// session's list for them.
+    Refused {
+        kind: SessionKind,
+        parent: Id,
+        child: Id,
+        place: usize,
+    },
+    /// A node has an encoding that isn't allowed.
+    Forbidden(Id),
     /// Memory ran out.
     Memory,
     /// A read failed.
@@ -27,7 +43,9 @@ pub enum Status {
     /// A write failed. A prefix of the output was written.
     WriteFault,
     /// The input exceeds the limit; `bytes` had arrived when reading stopped.
-    TooLarge { bytes: u64 },
+    TooLarge {
+        bytes: u64,
+    },
 }
 
 impl From<VortexError> for Status {
@@ -43,6 +61,18 @@ impl From<VortexError> for Status {
                 turns: limit,
             },
             VortexError::RewriteLimit { at_root, total } => Status::RewriteLimit { at_root, total },
+            VortexError::Refused {
+                kind,
+                parent,
+                child,
+                place,
+            } => Status::Refused {
+                kind,
+                parent,
+                child,
+                place,
+            },
+            VortexError::ForbiddenEncoding(id) => Status::Forbidden(id),
             VortexError::Fault => Status::Fault,
             VortexError::TooLong { .. } => Status::BadInput,
             VortexError::OutOfBounds { .. } => Status::BadInput,
@@ -63,6 +93,8 @@ impl Status {
             Status::Fault => 4,
             Status::TurnLimit { .. } => 5,
             Status::RewriteLimit { .. } => 6,
+            Status::Refused { .. } => 7,
+            Status::Forbidden(_) => 8,
             Status::Memory => 9,
             Status::ReadFault => 10,
             Status::WriteFault => 11,
@@ -82,6 +114,8 @@ pub fn status_text(status: Status) -> &'static str
         Status::Fault => "fault",
         Status::TurnLimit { .. } => "turn limit",
         Status::RewriteLimit { .. } => "rewrite limit",
+        Status::Refused { .. } => "refused",
+        Status::Forbidden(_) => "forbidden encoding",
         Status::Memory => "out of memory",
         Status::ReadFault => "read fault",
         Status::WriteFault => "write fault",
