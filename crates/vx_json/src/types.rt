@@ -238,7 +238,6 @@ fn map_type(alloc: Global, value: &Value) -> VortexResult<DType>
 
 /// Reads the type of maps whose keys and values are of the types in `list`. `InvalidArgument(BadValue)` if these aren't its items.
 #[cycle(type_in)]
-#[tactic(auto, using(crate::proofs::SpelledTypesLemmas::pair_none))]
 fn map_listed(alloc: Global, nullability: Nullability, list: &Vec<Value>) -> VortexResult<DType>
     ensures { IsReadAs type_of (option_and_then (map_with nullability) (pair_listed (items_view list.now.items))) result }
 {

@@ -1,11 +1,12 @@
-use Rattle.std.proofs.Common.{◌≡◌, ◌+◌, ◌∙◌, subst, None, [], ◌∷◌, ap, map, codes, sym, arith, rules}
+use Rattle.std.proofs.Common.{◌≡◌, refl, inr, length, ◌≢◌, ◌+◌, ◌∙◌, subst, None, [], ◌∷◌, ap, map, codes, sym, arith, rules}
 use Rattle.std.proofs.lemmas.List.{map-append}
+use Rattle.std.specs.Prelude.{option_and_then}
 use Rattle.serde_json.specs.View.{view, items_view}
-use Rattle.vx_json.specs.SpelledTypes.{named_in, named_of, tagged_in, tagged_of, fields_listed, variants_listed}
+use Rattle.vx_json.specs.SpelledTypes.{named_in, named_of, tagged_in, tagged_of, fields_listed, variants_listed, map_with}
 use Rattle.vx_json.proofs.SpelledLemmas.{get_less, list_less, item_less}
 use Rattle.vx_json.specs.Refused.{IsReadAs}
 use Rattle.vx_value.specs.View.{type_of}
-use Rattle.vx_json.proofs.SpelledTypesLemmas.{fields_read, variants_read, map_form}
+use Rattle.vx_json.proofs.SpelledTypesLemmas.{fields_read, variants_read, map_form, pair_none}
 use Rattle.vx_json.proofs.SpelledValuesLemmas.{read_one, read_none, read_all}
 use Rattle.vx_json.proofs.types.+type_in.Goals as goal
 
@@ -126,3 +127,8 @@ object_type-returns-then-has-4 t c =
     let form =
     map_form (view c.args.value.now) (sym c.if-has.ensures) (sym c.if-has-2.ensures) (sym c.if-has-3.ensures) (sym c.if-has-4.ensures) in
     subst (λ o. IsReadAs type_of o c.map_type.result) (sym form) c.map_type.ensures
+
+pub map_listed-returns-in_default : goal.map_listed-returns-in_default
+map_listed-returns-in_default t c =
+    let list = c.args.list.now.items in
+    let other : length list ≢ 2 = search rules in inr (refl, ap (option_and_then (map_with c.args.nullability)) (pair_none list other))
