@@ -71,7 +71,7 @@ nullability_spelled (Some d) = option_map nullable_if (as_bool d)
 abbrev pub form_keys : Option Data → ℕ
 form_keys under = if is_some under then 2 else 1
 
--- the nullability of a form with so many more keys of its own
+-- the nullability of a form with one key of its own, and `more` others
 abbrev pub form_nullability : ℕ → Data → Option Nullability
 form_nullability more d = keyed (more + form_keys (get (codes "null") d)) d (nullability_spelled (get (codes "null") d))
 
@@ -183,8 +183,8 @@ extension_type_spelled d e = keyed 1 d (option_and_then extension_with e)
 
 -- ---- the types that objects spell
 
--- what a value spells as each part of a type: itself a type, a list of two types, one of a name and a type, one of a tag, a name and a type, and a list of
--- such lists
+-- what a value spells as each part of a type: a type itself, a list of two types, one of a name and a type, one of a tag, a name and a type, and a list of
+-- each of the last two
 pub record Parts : Type 0 where
   pub element : Option DataType
   pub pair : Option Pair

@@ -62,7 +62,7 @@ bytes_spelled Bytes d = option_and_then hex_bytes (as_str d)
 bytes_spelled _ d = None
 
 -- `true` or `false` for a boolean, a whole number for an integer, a string for a decimal, text and bytes: a line for each storage that has a spelling; type
--- null has none. That a number is in the range of the type is a condition of the whole value, below
+-- null has none. That an integer is in the range of the type is a condition of the whole value, below
 abbrev pub value_stored : Storage → Data → Option Value
 value_stored Bits d = option_map boolean (as_bool d)
 value_stored (Integers p) d = option_map integer (integer_in d)
@@ -123,8 +123,9 @@ object_spelled (type.struct fs n) d under = keyed (fields_count fs) d (option_ma
 object_spelled (type.variant n) d under = keyed 2 d (variant_spelled d under)
 object_spelled _ d under = None
 
--- the value that is spelled, of a type, and of what an extension is stored as: of a list or a fixed-size list an array of its elements, of a map one of
--- `[key,value]`, of a union `[tag,value]`, of a struct an object of exactly its fields, and of a variant `{"type":T,"value":v}`
+-- what is spelled as a value of a type, of an extension as what it is stored as: for a list or a fixed-size list an array of its elements, for a map an
+-- array of `[key,value]`, for a union `[tag,value]`, for a struct an object of exactly its fields, and for a variant `{"type":T,"value":v}`. That the value
+-- is of the type, as that a fixed-size list has its size, is a condition of the whole, below
 abbrev mutual
   pub value_in : DataType → Data → Option Value
   value_in t (json.array ds) = array_spelled (bare t) (λ e. items_in e ds) (λ k v. entries_in k v ds) (λ us. chosen_in us ds)
@@ -160,7 +161,7 @@ abbrev mutual
   value_under k t no_members = None
   value_under k t (member l d ms) = match_ordering (slice_cmp nat_cmp k l) (value_under k t ms) (value_in t d) (value_under k t ms)
 
--- the value, if it is of the type and each list in it fits
+-- the value, if it is of the type, and each list in it fits the type of its elements
 abbrev pub if_sound : DataType → Value → Option Value
 if_sound t v = if is_of t v && is_none (list_overflow t v) then Some v else None
 
