@@ -1,4 +1,4 @@
-use Rattle.std.proofs.Common.{◌≡◌, ◌≢◌, ◌+◌, ◌<◌, ◌++◌, ◌∙◌, OnOk, length, nat_lt, true, ap, subst, sym, refl, arith, rules, string_bytes}
+use Rattle.std.proofs.Common.{◌≡◌, ◌≢◌, ◌<◌, ◌++◌, ◌∙◌, OnOk, length, nat_lt, true, ap, subst, sym, refl, arith, rules, string_bytes}
 use Rattle.std.proofs.Math.ListN.{get_or}
 use Rattle.vx_fn.proofs.ArityLemmas.{two_read}
 use Rattle.vx_value.specs.Values.{height, values_height, fields}
