@@ -41,7 +41,7 @@ get_less k (object ms) e p = omega (arith, member_less k ms e p)
 get_less k _ e p = absurd (cc)
 
 -- a list under a key is less deep by two, and its values no deeper than it
-array_less : (e : Data) (ds : Items) → as_array e ≡ Some ds → items_depth ds < depth e
+pub array_less : (e : Data) (ds : Items) → as_array e ≡ Some ds → items_depth ds < depth e
 array_less (array es) ds p = let same : es ≡ ds = cc in omega (arith, ap items_depth same)
 array_less _ ds p = absurd (cc)
 

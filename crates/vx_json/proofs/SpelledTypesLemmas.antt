@@ -1,26 +1,27 @@
--- The type that a text without the mark names, lists that aren't of two items, and the types that objects spell.
+-- The type that a text without the mark names, lists of another number of items, and the types that objects spell.
 use Rattle.std.proofs.Common.{◌≡◌, ◌≢◌, ℕ, ◌-◌, List, ◌++◌, length, map, take, drop, [], ◌∷◌, Bool, true, false, Option, Some, None, option_and_then, refl, sym, ap, ◌∙◌}
-use Rattle.std.proofs.lemmas.Bool.{and_parts, and_from}
 use Rattle.std.proofs.lemmas.List.{take-append-drop}
 use Rattle.std.proofs.lemmas.Slice.Eq.{bytes_eq-Decides}
-use Rattle.std.specs.Ordering.{nat_cmp}
+use Rattle.std.specs.declared.cmp.Ordering.{Ordering}
+use Rattle.std.specs.declared.cmp.Ordering.TheVariants.{Less, Equal, Greater}
+use Rattle.std.specs.Ordering.{nat_cmp, match_ordering}
 use Rattle.std.specs.Cmp.Lexicographic.{slice_cmp}
-use Rattle.std.specs.Prelude.{bytes_eq, codes, if◌then◌else◌}
-use Rattle.vx_value.specs.Types.{DataType, null, field}
-use Rattle.vx_value.specs.Supported.{has_columns, have_columns}
-use Rattle.vx_value.specs.View.{type_of, fields_of}
+use Rattle.std.specs.Prelude.{bytes_eq, codes, is_some, if◌then◌else◌}
+use Rattle.vx_value.specs.Types.{DataType, null, field, alternative}
+use Rattle.vx_value.specs.View.{type_of, fields_of, variants_of}
 use Rattle.vx_value.specs.declared.dtype.Nullability.TheVariants.{NonNullable, Nullable}
 use Rattle.vx_value.specs.declared.nested.Field.{Field}
+use Rattle.vx_value.specs.declared.nested.UnionVariant.{UnionVariant}
 use Rattle.serde_json.specs.Data.{Data, array, object, Items, no_items, item, Members, no_members, member}
-use Rattle.serde_json.specs.Find.{get_member, as_array, as_str}
+use Rattle.serde_json.specs.Find.{get, get_member, as_array, as_str}
 use Rattle.serde_json.specs.View.{view, items_view}
 use Rattle.serde_json.specs.declared.value.Value.{Value}
 use Rattle.vx_value.specs.declared.dtype.Nullability.{Nullability}
-use Rattle.vx_json.specs.SpelledTypes.{is_marked, unmarked, type_named, type_spelled, decimal_listed, type_in}
-use Rattle.vx_json.specs.SpelledTypes.{named_by, named_first, pair_in, named_in, each_named, each_in, named_under, each_under, object_type, object_type_spelled}
-use Rattle.vx_json.specs.SpelledTypes.{fields_named, named_of}
+use Rattle.vx_json.specs.SpelledTypes.{is_marked, unmarked, type_named, type_spelled, decimal_listed, tag_spelled}
+use Rattle.vx_json.specs.SpelledTypes.{Parts, no_parts, both, first_of, parts_in, parts_under, type_in, named_in, tagged_in}
+use Rattle.vx_json.specs.SpelledTypes.{pair_listed, named_listed, tagged_listed, fields_listed, variants_listed, object_type, object_type_spelled, map_type_spelled, listed_at}
+use Rattle.vx_json.specs.SpelledTypes.{fields_named, variants_tagged, named_of, tagged_of}
 use Rattle.vx_json.specs.SpelledValues.{all_read}
-use Rattle.vx_json.proofs.UnderKeysLemmas.{under_by, listed_by}
 
 unmarked_no : (text : List ℕ) → ((front : List ℕ) → text ≢ front ++ codes "?") → is_marked text ≡ false
 unmarked_no text h = by_test (is_marked text) refl
@@ -44,41 +45,69 @@ listed_none m (v ∷ []) h = refl
 listed_none m (v ∷ w ∷ []) h = absurd (h refl)
 listed_none m (v ∷ w ∷ x ∷ vs) h = refl
 
--- nor one of a name and a type
-without_type : (name : Option (List ℕ)) → named_by name None ≡ None
-without_type None = refl
-without_type (Some n) = refl
+-- nor one of two types, of a name and a type, or of a tag, a name and a type
+without_second : {A B : Type 0} (o : Option A) → both {B = B} o None ≡ None
+without_second None = refl
+without_second (Some a) = refl
 
-pub pair_none : (vs : List Value) → length vs ≢ 2 → pair_in (items_view vs) ≡ None
+pub pair_none : (vs : List Value) → length vs ≢ 2 → pair_listed (items_view vs) ≡ None
 pair_none [] h = refl
-pair_none (v ∷ []) h = without_type (as_str (view v))
+pair_none (v ∷ []) h = without_second (type_in (view v))
 pair_none (v ∷ w ∷ []) h = absurd (h refl)
-pair_none (v ∷ w ∷ x ∷ vs) h = without_type (as_str (view v))
+pair_none (v ∷ w ∷ x ∷ vs) h = without_second (type_in (view v))
 
--- a list of both is one
-pub pair_listed : (v w : Value) → pair_in (items_view (v ∷ w ∷ [])) ≡ named_by (as_str (view v)) (type_in (view w))
-pair_listed v w = refl
+pub named_none : (vs : List Value) → length vs ≢ 2 → named_listed (items_view vs) ≡ None
+named_none [] h = refl
+named_none (v ∷ []) h = without_second (as_str (view v))
+named_none (v ∷ w ∷ []) h = absurd (h refl)
+named_none (v ∷ w ∷ x ∷ vs) h = without_second (as_str (view v))
 
--- the named types of a list are those that its items spell
-pub each_read : (ds : Items) → each_named ds ≡ all_read named_in ds
-each_read no_items = refl
-each_read (item d ds) = ap (named_first (named_in d)) (each_read ds)
+pub tagged_none : (vs : List Value) → length vs ≢ 3 → tagged_listed (items_view vs) ≡ None
+tagged_none [] h = refl
+tagged_none (v ∷ []) h = without_second (tag_spelled (view v))
+tagged_none (v ∷ w ∷ []) h = ap (both (tag_spelled (view v))) (without_second (as_str (view w))) ∙ without_second (tag_spelled (view v))
+tagged_none (v ∷ w ∷ x ∷ []) h = absurd (h refl)
+tagged_none (v ∷ w ∷ x ∷ y ∷ vs) h = ap (both (tag_spelled (view v))) (without_second (as_str (view w))) ∙ without_second (tag_spelled (view v))
 
--- the named type, and the list of named types, under a key
-named_under-get : (k : List ℕ) (ms : Members) → named_under k ms ≡ option_and_then named_in (get_member k ms)
-named_under-get k no_members = refl
-named_under-get k (member l d ms) = under_by named_in (slice_cmp nat_cmp k l) d (named_under k ms) (get_member k ms) (named_under-get k ms)
+-- the named and the tagged types of a list are those that its items spell
+pub fields_read : (ds : Items) → fields_listed ds ≡ all_read named_in ds
+fields_read no_items = refl
+fields_read (item d ds) = ap (first_of (named_in d)) (fields_read ds)
 
-list_named : (d : Data) → each_in d ≡ option_and_then each_named (as_array d)
-list_named (array ds) = refl
-list_named _ = refl
+pub variants_read : (ds : Items) → variants_listed ds ≡ all_read tagged_in ds
+variants_read no_items = refl
+variants_read (item d ds) = ap (first_of (tagged_in d)) (variants_read ds)
 
-each_under-get : (k : List ℕ) (ms : Members) → each_under k ms ≡ option_and_then each_in (get_member k ms)
-each_under-get k no_members = refl
-each_under-get k (member l d ms) = under_by each_in (slice_cmp nat_cmp k l) d (each_under k ms) (get_member k ms) (each_under-get k ms)
+-- the parts under a key are those that the value there spells
+abbrev parts_found : Option Data → Parts
+parts_found None = no_parts
+parts_found (Some d) = parts_in d
 
-each_under-items : (k : List ℕ) (ms : Members) → each_under k ms ≡ option_and_then each_named (option_and_then as_array (get_member k ms))
-each_under-items k ms = each_under-get k ms ∙ listed_by each_in each_named list_named (get_member k ms)
+found_by : (o : Ordering) (d : Data) (t : Parts) (found : Option Data) → t ≡ parts_found found
+    → match_ordering o t (parts_in d) t ≡ parts_found (match_ordering o found (Some d) found)
+found_by Less d t found p = p
+found_by Equal d t found p = refl
+found_by Greater d t found p = p
+
+parts_under-get : (k : List ℕ) (ms : Members) → parts_under k ms ≡ parts_found (get_member k ms)
+parts_under-get k no_members = refl
+parts_under-get k (member l d ms) = found_by (slice_cmp nat_cmp k l) d (parts_under k ms) (get_member k ms) (parts_under-get k ms)
+
+abbrev listed : {A : Type 0} → (Items → Option A) → Option Data → Option A
+listed of_items found = option_and_then of_items (option_and_then as_array found)
+
+-- and each part is what the reader looks for
+found_parts : (found : Option Data) → parts_found found ≡ record {
+  element = option_and_then type_in found;
+  pair = listed pair_listed found;
+  named = listed named_listed found;
+  tagged = listed tagged_listed found;
+  fields = listed fields_listed found;
+  variants = listed variants_listed found;
+}
+found_parts None = refl
+found_parts (Some (array ds)) = refl
+found_parts (Some _) = refl
 
 -- the type that a value spells: a text names it, and an object spells it by what stands under its keys
 abbrev pub type_by : Option (List ℕ) → Data → Option DataType
@@ -86,18 +115,24 @@ type_by (Some text) d = type_spelled text
 type_by None d = object_type_spelled d
 
 pub spelled_type : (d : Data) → type_in d ≡ type_by (as_str d) d
-spelled_type (object ms) = λ i. object_type (object ms) (λ k. named_under-get k ms i) (λ k. each_under-items k ms i)
+spelled_type (object ms) = λ i. object_type (object ms) (λ k. (parts_under-get k ms ∙ found_parts (get_member k ms)) i)
 spelled_type _ = refl
 
--- the fields of the program are those that are named
+-- an object with a map's key, and none of those in front of it
+pub map_form : (d : Data) → is_some (get (codes "decimal") d) ≡ false → is_some (get (codes "list") d) ≡ false → is_some (get (codes "fsl") d) ≡ false
+    → is_some (get (codes "map") d) ≡ true → object_type_spelled d ≡ map_type_spelled d (listed_at pair_listed (codes "map") d)
+map_form d a b c e = rw (a, b, c, e) refl
+
+-- the fields of the program are those that are named, and its variants those that are tagged
 pub fields_same : (fs : List Field) → fields_named (map named_of fs) ≡ fields_of fs
 fields_same [] = refl
 fields_same (f ∷ fs) = ap (field f.name (type_of f.dtype)) (fields_same fs)
 
--- one field more that has columns
-pub columns_more : (fs : List Field) (f : Field) → have_columns (fields_of fs) ≡ true → has_columns (type_of f.dtype) ≡ true →
-    have_columns (fields_of (fs ++ f ∷ [])) ≡ true
-columns_more [] f h e = and_from (has_columns (type_of f.dtype)) true e refl
-columns_more (g ∷ fs) f h e =
-    let both = and_parts (has_columns (type_of g.dtype)) (have_columns (fields_of fs)) h in
-    and_from (has_columns (type_of g.dtype)) (have_columns (fields_of (fs ++ f ∷ []))) both.0 (columns_more fs f both.1 e)
+pub variants_same : (vs : List UnionVariant) → variants_tagged (map tagged_of vs) ≡ variants_of vs
+variants_same [] = refl
+variants_same (v ∷ vs) = ap (alternative v.tag v.name (type_of v.dtype)) (variants_same vs)
+
+-- a test that doesn't fail
+pub true_unless : (b : Bool) → (b ≡ false → ⊥) → b ≡ true
+true_unless true h = refl
+true_unless false h = absurd (h refl)

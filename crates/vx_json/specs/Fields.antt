@@ -1,7 +1,7 @@
 -- The values under the keys of an object.
-use Rattle.std.specs.Prelude.{ℕ, ◌+◌, ◌==◌, List, Bool, ◌&&◌, if◌then◌else◌, Option, None, is_some, option_and_then}
+use Rattle.std.specs.Prelude.{ℕ, ◌+◌, ◌==◌, List, Bool, if◌then◌else◌, Option, None, option_and_then}
 use Rattle.serde_json.specs.Data.{Data, object, Items, Members, no_members, member}
-use Rattle.serde_json.specs.Find.{get, as_bool, as_number, as_str, as_array, as_object, as_u64}
+use Rattle.serde_json.specs.Find.{get, as_bool, as_number, as_str, as_array, as_u64}
 
 -- the number of keys of an object, or 0 for another value
 abbrev pub members_count : Members → ℕ
@@ -15,13 +15,6 @@ member_count _ = 0
 -- `answer` if the object has exactly n keys, else None
 abbrev pub keyed : {A : Type 0} → ℕ → Data → Option A → Option A
 keyed n d answer = if member_count d == n then answer else None
-
--- an object of exactly n members, also of none, and `answer` for it
-abbrev pub is_object_of : ℕ → Data → Bool
-is_object_of n d = is_some (as_object d) && (member_count d == n)
-
-abbrev pub object_of : {A : Type 0} → ℕ → Data → Option A → Option A
-object_of n d answer = if is_object_of n d then answer else None
 
 -- an unsigned whole number
 abbrev pub whole_number : Data → Option ℕ

@@ -16,7 +16,7 @@ use Rattle.vx_tree.specs.Rows.{boolean_rows, integer_rows, decimal_rows, bytes_r
 use Rattle.vx_tree.specs.Validities.{child_of}
 use Rattle.vx_json.specs.Fields.{keyed, items_at}
 use Rattle.vx_json.specs.SpelledNulls.{null_keys, validity_spelled}
-use Rattle.vx_json.specs.SpelledTypes.{type_at}
+use Rattle.vx_json.specs.SpelledTypes.{column_type_at}
 use Rattle.vx_json.specs.SpelledValues.{integer_spelled, decimal_spelled, bytes_spelled, or_null, value_spelled, all_read}
 use Rattle.vx_json.specs.declared.nulls.Nulls.{Nulls}
 use Rattle.vx_tree.specs.Views.{packed}
@@ -44,7 +44,7 @@ abbrev pub column_of_rows : DataType → Items → Option Tree
 column_of_rows ty ds = if is_nested ty then nested_rows ty ds else flat_rows ty ds
 
 abbrev pub col_spelled : Data → Option Tree
-col_spelled d = keyed 3 d (option_and_then (λ ty. option_and_then (column_of_rows ty) (items_at (codes "rows") d)) (type_at d))
+col_spelled d = keyed 3 d (option_and_then (λ ty. option_and_then (column_of_rows ty) (items_at (codes "rows") d)) (column_type_at d))
 
 -- `{"enc":"flat","type":T,"values":[..]}`, or with `"validity"` too: a column of the values, never null; a line for each storage that has a spelling
 abbrev pub flat_of : DataType → ℕ → enc.Data → Nulls → Option Tree
@@ -65,4 +65,4 @@ column_of_values nulls ty = values_stored (nullability_of ty) (storage_of ty) nu
 
 abbrev pub flat_spelled : Data → Nulls → Option Tree
 flat_spelled d nulls =
-    keyed (3 + null_keys nulls) d (option_and_then (λ ty. option_and_then (column_of_values nulls ty) (items_at (codes "values") d)) (type_at d))
+    keyed (3 + null_keys nulls) d (option_and_then (λ ty. option_and_then (column_of_values nulls ty) (items_at (codes "values") d)) (column_type_at d))

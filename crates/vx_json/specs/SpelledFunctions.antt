@@ -18,7 +18,7 @@ use Rattle.vx_fn.specs.declared.functions.between.StrictComparison.{StrictCompar
 use Rattle.vx_fn.specs.declared.functions.pack.PackOptions.{PackOptions}
 use Rattle.vx_fn.specs.declared.functions.between.StrictComparison.TheVariants.{Strict, NonStrict}
 use Rattle.vx_json.specs.Fields.{keyed, text_at, boolean_at, items_at}
-use Rattle.vx_json.specs.SpelledTypes.{is_decimal, is_decimal_Decides, type_at, nullability_spelled, form_keys}
+use Rattle.vx_json.specs.SpelledTypes.{is_decimal, is_decimal_Decides, column_type_at, nullability_spelled, form_keys}
 use Rattle.vx_json.specs.SpelledValues.{all_read}
 
 -- a function without options: its object has exactly the keys `enc`, `fn` and `args`
@@ -61,7 +61,7 @@ declared _ = None
 
 -- `cast` has its target under `type`
 abbrev pub cast : Data → Option ScalarFnRef
-cast d = keyed 4 d (option_map function.Cast (option_and_then declared (type_at d)))
+cast d = keyed 4 d (option_map function.Cast (option_and_then declared (column_type_at d)))
 
 -- `get_item` has the name of the field under `field`
 abbrev pub get_item : Data → Option ScalarFnRef

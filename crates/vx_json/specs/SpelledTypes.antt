@@ -1,5 +1,5 @@
--- The type that JSON spells: a text names it, or an object spells one of decimals, a struct or an extension.
-use Rattle.std.specs.Prelude.{◌≡◌, ℕ, ◌-◌, nat_le, List, [], ◌∷◌, length, take, drop, codes, bytes_eq}
+-- The type that JSON spells: a text names it, or an object spells it by its parts.
+use Rattle.std.specs.Prelude.{◌≡◌, ℕ, ◌+◌, ◌-◌, ◌^◌, nat_le, nat_lt, List, [], ◌∷◌, length, take, drop, codes, bytes_eq}
 use Rattle.std.specs.Prelude.{Bool, true, false, ◌&&◌, if◌then◌else◌, Option, Some, None, is_some, option_map, option_and_then}
 use Rattle.std.specs.Bool.{Decides}
 use Rattle.std.specs.Map.{lookup}
@@ -10,15 +10,18 @@ use Rattle.std.proofs.lemmas.Bool.{and_parts, and_from, leb-true, le-leb}
 use Rattle.serde_json.specs.Data as json
 use Rattle.serde_json.specs.Data.{Data, Items, no_items, item, Members, no_members, member}
 use Rattle.serde_json.specs.Find.{get, as_bool, as_str}
-use Rattle.vx_value.specs.Types.{DataType, null, bool, primitive, decimal, utf8, binary, struct, extension, Fields, no_fields, field}
+use Rattle.vx_value.specs.Types as type
+use Rattle.vx_value.specs.Types.{DataType, null, bool, primitive, decimal, utf8, binary, struct, extension, Fields, no_fields, field, Variants}
 use Rattle.vx_value.specs.Decimals.{IsDecimal}
-use Rattle.vx_value.specs.Nested.{are_fields, is_id}
+use Rattle.vx_value.specs.Nested.{are_fields, are_variants, is_map, is_id}
+use Rattle.vx_value.specs.Supported.{has_columns}
 use Rattle.vx_value.specs.View.{type_of}
 use Rattle.vx_value.specs.declared.dtype.Nullability.{Nullability}
 use Rattle.vx_value.specs.declared.dtype.Nullability.TheVariants.{NonNullable, Nullable}
 use Rattle.vx_value.specs.declared.dtype.PType.TheVariants.{U8, U16, U32, U64, I8, I16, I32, I64}
 use Rattle.vx_value.specs.declared.nested.Field.{Field}
-use Rattle.vx_json.specs.Fields.{keyed, whole_number, items_at}
+use Rattle.vx_value.specs.declared.nested.UnionVariant.{UnionVariant}
+use Rattle.vx_json.specs.Fields.{keyed, whole_number, number_at, items_at}
 
 -- the types of either nullability that have a name: a line for each
 abbrev pub named_types : List (List ℕ × (Nullability → DataType))
@@ -34,6 +37,7 @@ named_types =
     ∷ (codes "i64", primitive I64)
     ∷ (codes "utf8", utf8)
     ∷ (codes "binary", binary)
+    ∷ (codes "variant", type.variant)
     ∷ []
 
 -- the type of the name, with this nullability
@@ -67,9 +71,13 @@ nullability_spelled (Some d) = option_map nullable_if (as_bool d)
 abbrev pub form_keys : Option Data → ℕ
 form_keys under = if is_some under then 2 else 1
 
--- the type of a form with this key of its own, by its nullability
+-- the nullability of a form with one key of its own, and `more` others
+abbrev pub form_nullability : ℕ → Data → Option Nullability
+form_nullability more d = keyed (more + form_keys (get (codes "null") d)) d (nullability_spelled (get (codes "null") d))
+
+-- the type of a form with one key of its own, by its nullability
 abbrev pub nullable_form : Data → (Nullability → Option DataType) → Option DataType
-nullable_form d form = keyed (form_keys (get (codes "null") d)) d (option_and_then form (nullability_spelled (get (codes "null") d)))
+nullable_form d form = option_and_then form (form_nullability 0 d)
 
 -- ---- `{"decimal":[P,S]}`, or with `"null"` too: the type of decimals of precision P and scale S
 
@@ -96,6 +104,35 @@ decimal_listed m _ = None
 abbrev pub decimal_type_spelled : Data → Option DataType
 decimal_type_spelled d = nullable_form d (λ m. option_and_then (decimal_listed m) (items_at (codes "decimal") d))
 
+-- ---- `{"list":T}`, or with `"null"` too: the type of lists of elements of type T
+
+abbrev pub list_type_spelled : Data → Option DataType → Option DataType
+list_type_spelled d element = option_and_then (λ t. option_map (type.list t) (form_nullability 0 d)) element
+
+-- ---- `{"fsl":T,"size":N}`, or with `"null"` too: the type of lists of N elements of type T, N below 2^32
+
+abbrev pub sized : ℕ → Option ℕ
+sized n = if nat_lt n (2 ^ 32) then Some n else None
+
+abbrev pub size_at : Data → Option ℕ
+size_at d = option_and_then sized (number_at (codes "size") d)
+
+abbrev pub fixed_size_list_type_spelled : Data → Option DataType → Option DataType
+fixed_size_list_type_spelled d element =
+    option_and_then (λ t. option_and_then (λ n. option_map (type.fixed_size_list t n) (form_nullability 1 d)) (size_at d)) element
+
+-- ---- `{"map":[K,V]}`, or with `"null"` too: the type of maps of keys of type K, which isn't nullable, and values of type V
+
+-- the types of the keys and of the values
+abbrev pub Pair : Type 0
+Pair = DataType × DataType
+
+abbrev pub map_with : Nullability → Pair → Option DataType
+map_with m p = if is_map p.0 p.1 then Some (type.map p.0 p.1 m) else None
+
+abbrev pub map_type_spelled : Data → Option Pair → Option DataType
+map_type_spelled d pair = nullable_form d (λ m. option_and_then (map_with m) pair)
+
 -- ---- `{"struct":[["name",T],..]}`, or with `"null"` too: the type of structs of these fields, no two of which have one name
 
 -- a name and a type
@@ -112,6 +149,30 @@ struct_with fs m = if are_fields (fields_named fs) then Some (struct (fields_nam
 abbrev pub struct_type_spelled : Data → Option (List Named) → Option DataType
 struct_type_spelled d fs = option_and_then (λ named. nullable_form d (struct_with named)) fs
 
+-- ---- `{"union":[[tag,"name",T],..]}`, or with `"null"` too: the type of unions of these variants, of which there is one at least, and no two of which have
+-- one tag or one name
+
+-- a tag is a byte
+abbrev pub byte : ℕ → Option ℕ
+byte n = if nat_lt n 256 then Some n else None
+
+abbrev pub tag_spelled : Data → Option ℕ
+tag_spelled d = option_and_then byte (whole_number d)
+
+-- a tag, a name and a type
+abbrev pub Tagged : Type 0
+Tagged = ℕ × Named
+
+abbrev pub variants_tagged : List Tagged → Variants
+variants_tagged [] = type.no_variants
+variants_tagged (v ∷ vs) = type.alternative v.0 v.1.0 v.1.1 (variants_tagged vs)
+
+abbrev pub union_with : List Tagged → Nullability → Option DataType
+union_with vs m = if are_variants (variants_tagged vs) then Some (type.union (variants_tagged vs) m) else None
+
+abbrev pub union_type_spelled : Data → Option (List Tagged) → Option DataType
+union_type_spelled d vs = option_and_then (λ tagged. nullable_form d (union_with tagged)) vs
+
 -- ---- `{"ext":["id",T]}`: the extension with this id, which isn't empty, that is stored as T
 
 abbrev pub extension_with : Named → Option DataType
@@ -122,95 +183,143 @@ extension_type_spelled d e = keyed 1 d (option_and_then extension_with e)
 
 -- ---- the types that objects spell
 
--- the keys of the forms, and the type that an object of each spells, given the named type and the list of named types under each key: a line for each
-abbrev pub type_forms : Data → (List ℕ → Option Named) → (List ℕ → Option (List Named)) → List (List ℕ × Option DataType)
-type_forms d named listed =
+-- what a value spells as each part of a type: a type itself, a list of two types, one of a name and a type, one of a tag, a name and a type, and a list of
+-- each of the last two
+pub record Parts : Type 0 where
+  pub element : Option DataType
+  pub pair : Option Pair
+  pub named : Option Named
+  pub tagged : Option Tagged
+  pub fields : Option (List Named)
+  pub variants : Option (List Tagged)
+
+abbrev pub no_parts : Parts
+no_parts = record { element = None; pair = None; named = None; tagged = None; fields = None; variants = None }
+
+-- no part but a type
+abbrev pub element_alone : Option DataType → Parts
+element_alone t = record { element = t; pair = None; named = None; tagged = None; fields = None; variants = None }
+
+-- the keys of the forms, and the type that an object of each spells, given the parts under each key: a line for each
+abbrev pub type_forms : Data → (List ℕ → Parts) → List (List ℕ × Option DataType)
+type_forms d parts =
     (codes "decimal", decimal_type_spelled d)
-    ∷ (codes "struct", struct_type_spelled d (listed (codes "struct")))
-    ∷ (codes "ext", extension_type_spelled d (named (codes "ext")))
+    ∷ (codes "list", list_type_spelled d (parts (codes "list")).element)
+    ∷ (codes "fsl", fixed_size_list_type_spelled d (parts (codes "fsl")).element)
+    ∷ (codes "map", map_type_spelled d (parts (codes "map")).pair)
+    ∷ (codes "struct", struct_type_spelled d (parts (codes "struct")).fields)
+    ∷ (codes "union", union_type_spelled d (parts (codes "union")).variants)
+    ∷ (codes "ext", extension_type_spelled d (parts (codes "ext")).named)
     ∷ []
 
 -- the type of the form whose key the object has
-abbrev pub object_type : Data → (List ℕ → Option Named) → (List ℕ → Option (List Named)) → Option DataType
-object_type d named listed = option_flatten (lookup (λ k. is_some (get k d)) (type_forms d named listed))
+abbrev pub object_type : Data → (List ℕ → Parts) → Option DataType
+object_type d parts = option_flatten (lookup (λ k. is_some (get k d)) (type_forms d parts))
 
 -- ---- the type that a value spells
 
-abbrev pub named_by : Option (List ℕ) → Option DataType → Option Named
-named_by name ty = option_and_then (λ n. option_map (λ t. (n, t)) ty) name
+-- both of two
+abbrev pub both : {A B : Type 0} → Option A → Option B → Option (A × B)
+both a b = option_and_then (λ x. option_map (λ y. (x, y)) b) a
 
--- the type of the only item of a list, if there are no others
-abbrev pub if_alone : Items → Option DataType → Option DataType
-if_alone no_items ty = ty
-if_alone _ ty = None
+-- one in front of others
+abbrev pub first_of : {A : Type 0} → Option A → Option (List A) → Option (List A)
+first_of one others = option_and_then (λ a. option_map (λ rest. a ∷ rest) others) one
 
--- a named type in front of a list of them
-abbrev pub named_first : Option Named → Option (List Named) → Option (List Named)
-named_first named others = option_and_then (λ t. option_map (λ ts. t ∷ ts) others) named
+-- what the only item of a list spells, if there are no others
+abbrev pub if_alone : {A : Type 0} → Items → Option A → Option A
+if_alone no_items answer = answer
+if_alone _ answer = None
 
--- the type, the named type and the list of named types that a value spells, and those under a key
+-- what a value spells, what a list does, and what stands under a key
 abbrev mutual
-  pub type_in : Data → Option DataType
-  type_in json.null = None
-  type_in (json.boolean b) = None
-  type_in (json.number n) = None
-  type_in (json.string text) = type_spelled text
-  type_in (json.array ds) = None
-  type_in (json.object ms) = object_type (json.object ms) (λ k. named_under k ms) (λ k. each_under k ms)
+  pub parts_in : Data → Parts
+  parts_in (json.string text) = element_alone (type_spelled text)
+  parts_in (json.object ms) = element_alone (object_type (json.object ms) (λ k. parts_under k ms))
+  parts_in (json.array ds) = record {
+    element = None;
+    pair = pair_listed ds;
+    named = named_listed ds;
+    tagged = tagged_listed ds;
+    fields = fields_listed ds;
+    variants = variants_listed ds;
+  }
+  parts_in _ = no_parts
 
-  -- of the only item of a list
+  pub parts_under : List ℕ → Members → Parts
+  parts_under k no_members = no_parts
+  parts_under k (member l d ms) = match_ordering (slice_cmp nat_cmp k l) (parts_under k ms) (parts_in d) (parts_under k ms)
+
+  -- the type of the only item
   pub type_alone : Items → Option DataType
   type_alone no_items = None
-  type_alone (item d ds) = if_alone ds (type_in d)
+  type_alone (item d ds) = if_alone ds (parts_in d).element
 
-  -- a list of the name and the type
-  pub named_in : Data → Option Named
-  named_in json.null = None
-  named_in (json.boolean b) = None
-  named_in (json.number n) = None
-  named_in (json.string text) = None
-  named_in (json.array ds) = pair_in ds
-  named_in (json.object ms) = None
+  pub pair_listed : Items → Option Pair
+  pair_listed no_items = None
+  pair_listed (item d ds) = both (parts_in d).element (type_alone ds)
 
-  pub pair_in : Items → Option Named
-  pair_in no_items = None
-  pair_in (item d ds) = named_by (as_str d) (type_alone ds)
+  pub named_listed : Items → Option Named
+  named_listed no_items = None
+  named_listed (item d ds) = both (as_str d) (type_alone ds)
 
-  pub each_named : Items → Option (List Named)
-  each_named no_items = Some []
-  each_named (item d ds) = named_first (named_in d) (each_named ds)
+  pub tagged_listed : Items → Option Tagged
+  tagged_listed no_items = None
+  tagged_listed (item d ds) = both (tag_spelled d) (named_listed ds)
 
-  pub each_in : Data → Option (List Named)
-  each_in json.null = None
-  each_in (json.boolean b) = None
-  each_in (json.number n) = None
-  each_in (json.string text) = None
-  each_in (json.array ds) = each_named ds
-  each_in (json.object ms) = None
+  pub fields_listed : Items → Option (List Named)
+  fields_listed no_items = Some []
+  fields_listed (item d ds) = first_of (parts_in d).named (fields_listed ds)
 
-  pub named_under : List ℕ → Members → Option Named
-  named_under k no_members = None
-  named_under k (member l d ms) = match_ordering (slice_cmp nat_cmp k l) (named_under k ms) (named_in d) (named_under k ms)
+  pub variants_listed : Items → Option (List Tagged)
+  variants_listed no_items = Some []
+  variants_listed (item d ds) = first_of (parts_in d).tagged (variants_listed ds)
 
-  pub each_under : List ℕ → Members → Option (List Named)
-  each_under k no_members = None
-  each_under k (member l d ms) = match_ordering (slice_cmp nat_cmp k l) (each_under k ms) (each_in d) (each_under k ms)
+abbrev pub type_in : Data → Option DataType
+type_in d = (parts_in d).element
 
--- the type under `type`
-abbrev pub type_at : Data → Option DataType
-type_at d = option_and_then type_in (get (codes "type") d)
+abbrev pub named_in : Data → Option Named
+named_in d = (parts_in d).named
+
+abbrev pub tagged_in : Data → Option Tagged
+tagged_in d = (parts_in d).tagged
 
 -- ---- the same by look-ups of keys, as the reader does it
 
-abbrev pub named_at : List ℕ → Data → Option Named
-named_at k d = option_and_then named_in (get k d)
+abbrev pub element_at : List ℕ → Data → Option DataType
+element_at k d = option_and_then type_in (get k d)
 
-abbrev pub each_at : List ℕ → Data → Option (List Named)
-each_at k d = option_and_then each_named (items_at k d)
+abbrev pub listed_at : {A : Type 0} → (Items → Option A) → List ℕ → Data → Option A
+listed_at listed k d = option_and_then listed (items_at k d)
+
+abbrev pub parts_at : List ℕ → Data → Parts
+parts_at k d = record {
+  element = element_at k d;
+  pair = listed_at pair_listed k d;
+  named = listed_at named_listed k d;
+  tagged = listed_at tagged_listed k d;
+  fields = listed_at fields_listed k d;
+  variants = listed_at variants_listed k d;
+}
 
 abbrev pub object_type_spelled : Data → Option DataType
-object_type_spelled d = object_type d (λ k. named_at k d) (λ k. each_at k d)
+object_type_spelled d = object_type d (λ k. parts_at k d)
 
--- the named type that a field of the program stands for
+-- the type under `type`
+abbrev pub type_at : Data → Option DataType
+type_at d = element_at (codes "type") d
+
+-- the type under `type` of a node's rows, of which there have to be columns
+abbrev pub if_columns : DataType → Option DataType
+if_columns t = if has_columns t then Some t else None
+
+abbrev pub column_type_at : Data → Option DataType
+column_type_at d = option_and_then if_columns (type_at d)
+
+-- ---- the named and the tagged type that the program's parts stand for
+
 abbrev pub named_of : Field → Named
 named_of f = (f.name, type_of f.dtype)
+
+abbrev pub tagged_of : UnionVariant → Tagged
+tagged_of v = (v.tag, (v.name, type_of v.dtype))

@@ -18,8 +18,9 @@ use crate::column_values::{column, column_values};
 use crate::fields::{check_keys, items};
 use crate::nulls::Nulls;
 use crate::row_nulls::NoNulls;
-use crate::types::type_at;
-use crate::values::{are_nulls, scalar};
+use crate::scalars::scalar;
+use crate::types::column_type_at;
+use crate::values::are_nulls;
 use serde_json::Value;
 use std::alloc::Global;
 use vx_column::Builder;
@@ -32,7 +33,7 @@ pub(crate) fn col(alloc: Global, value: &Value) -> VortexResult<ArrayRef>
     ensures { IsRead (col_spelled (view value.now)) result }
 {
     check_keys(value, 3)?;
-    let dtype = type_at(alloc, value)?;
+    let dtype = column_type_at(alloc, value)?;
     let Some(list) = items(value, "rows") else {
         return Err(BAD_VALUE);
     };
@@ -120,7 +121,7 @@ pub(crate) fn flat(alloc: Global, value: &Value, nulls: &Nulls) -> VortexResult<
     ensures { IsRead (flat_spelled (view value.now) nulls.now) result }
 {
     check_keys(value, 3 + nulls.keys())?;
-    let dtype = type_at(alloc, value)?;
+    let dtype = column_type_at(alloc, value)?;
     let Some(list) = items(value, "values") else {
         return Err(BAD_VALUE);
     };

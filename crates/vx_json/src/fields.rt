@@ -1,8 +1,9 @@
 //! The values under the keys of an object, one function for each kind.
 
-ghost use Rattle.std.specs.Prelude.{◌≡◌, ◌==◌, true, false, option_map, MatchResult};
+ghost use Rattle.std.specs.Prelude.{◌≡◌, ◌==◌, true, false, is_some, option_map, MatchResult};
+ghost use Rattle.serde_json.specs.Find.{get};
 ghost use Rattle.serde_json.specs.View.{view, items_view};
-ghost use Rattle.vx_json.specs.Fields.{member_count, is_object_of, boolean_at, text_at, number_at, items_at};
+ghost use Rattle.vx_json.specs.Fields.{member_count, boolean_at, text_at, number_at, items_at};
 
 use crate::BAD_VALUE;
 use serde_json::Value;
@@ -31,17 +32,11 @@ pub(crate) fn check_keys(value: &Value, keys: usize) -> VortexResult<()>
     }
 }
 
-/// Checks that `value` is an object of exactly `members` members, also for 0. `InvalidArgument(BadValue)` if it isn't.
-pub(crate) fn check_object(value: &Value, members: usize) -> VortexResult<()>
-    ensures { MatchResult result
-        (λ _. is_object_of members (view value.now) ≡ true)
-        (λ e. (e ≡ VortexError.InvalidArgument ArgKind.BadValue) × (is_object_of members (view value.now) ≡ false)) }
+/// Checks whether there is a value under `key`.
+pub(crate) fn has(value: &Value, key: &str) -> bool
+    ensures { result ≡ is_some (get key.now (view value.now)) }
 {
-    if value.is_object() && count(value) == members {
-        Ok(())
-    } else {
-        Err(BAD_VALUE)
-    }
+    value.get(key).is_some()
 }
 
 /// Returns the boolean under `key`.

@@ -11,7 +11,7 @@ ghost use Rattle.vx_json.specs.SpelledFunctions.{without_options, operator_named
 
 use crate::BAD_VALUE;
 use crate::fields::{boolean, check_keys, items, text};
-use crate::types::{form_keys, nullability_at, type_at};
+use crate::types::{column_type_at, form_keys, name_in, nullability_at};
 use serde_json::Value;
 use std::alloc::Global;
 use vx_fn::{BetweenOptions, Operator, PackOptions, ScalarFnRef, StrictComparison};
@@ -91,7 +91,7 @@ fn between(value: &Value) -> VortexResult<ScalarFnRef>
 fn cast(alloc: Global, value: &Value) -> VortexResult<ScalarFnRef>
     ensures { IsRead (cast (view value.now)) result }
 {
-    let target = type_at(alloc, value)?;
+    let target = column_type_at(alloc, value)?;
     if target.is_nested() {
         return Err(BAD_VALUE);
     }
@@ -108,16 +108,6 @@ fn get_item(alloc: Global, value: &Value) -> VortexResult<ScalarFnRef>
     };
     let name = Name::new(alloc, String::from_str(alloc, field)?)?;
     with_keys(value, 4, ScalarFnRef::GetItem(name))
-}
-
-/// Returns the name that `value` spells. `InvalidArgument(BadValue)` if it is no text.
-fn name_in(alloc: Global, value: &Value) -> VortexResult<Name>
-    ensures { IsRead (as_str (view value.now)) result }
-{
-    let Some(text) = value.as_str() else {
-        return Err(BAD_VALUE);
-    };
-    Ok(Name::new(alloc, String::from_str(alloc, text)?)?)
 }
 
 /// Returns the names that the values of `list` spell. `InvalidArgument(BadValue)` if one of them is no text.

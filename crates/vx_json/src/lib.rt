@@ -12,6 +12,7 @@ mod nodes;
 mod nulls;
 mod numbers;
 mod row_nulls;
+mod scalars;
 mod text;
 mod tree;
 mod types;

@@ -11,15 +11,21 @@
 //! `{"enc":"ext","id":"year","storage":{..}}`.
 //!
 //! A type is a name, followed by `?` if the type is nullable; `null` is always nullable, and takes no `?`. Other types are objects:
-//! `{"decimal":[4,2]}` has 4 digits, 2 of them behind the point, `{"struct":[["x","i32"],["y","utf8?"]]}` has these fields, no two of
-//! one name, and `{"ext":["year","i32"]}` is the extension with the id `year`, which isn't empty, stored as `i32`. A type of decimals or
-//! structs is nullable with the further key `"null":true`; an extension is if its storage is.
+//! `{"decimal":[4,2]}` has 4 digits, 2 of them behind the point; `{"list":"i32"}` has lists of integers, and `{"fsl":"i32","size":3}` lists
+//! of three; `{"map":["utf8","i32"]}` has keys, whose type isn't nullable, and values; `{"struct":[["x","i32"],["y","utf8?"]]}` has these
+//! fields, no two of one name; `{"union":[[5,"int","i32"],[7,"text","utf8"]]}` has a value of one of these variants, of which there is at
+//! least one, each with a byte as its tag, and no two of one tag or one name; and `{"ext":["year","i32"]}` is the extension with the id
+//! `year`, which isn't empty, stored as `i32`. These types are nullable with the further key `"null":true`; an extension is if its
+//! storage is.
 //!
 //! The only value of type `null` is `null`. A value of type `utf8` is a string, and one of type `binary` a string of two
 //! lower-case hexadecimal digits for each byte. A decimal is a string of its unscaled integer, without `+`, leading zeros or
-//! `-0`: `"4200"` for 42.00. A struct is an object of exactly its fields, in any order, and an extension is spelled as its storage.
+//! `-0`: `"4200"` for 42.00. A list is an array of its elements, a map an array of `[key,value]` for each entry, and a union an array of its
+//! tag and its value. A struct is an object of exactly its fields, in any order, and a value of type `variant` is `{"type":T,"value":v}`,
+//! with its own type. An extension is spelled as its storage.
 //!
-//! Columns of structs and of extensions are spelled by `struct`, `ext` and `constant`, none by `col`, `flat` or `chunked`.
+//! Columns of structs and of extensions are spelled by `struct`, `ext`, `constant` and `col`, none by `flat`. There are no columns of lists,
+//! maps, unions and variants, so no node has such a type, or one with such a part.
 
 ghost use Rattle.std.specs.Prelude.{◌≡◌, ◌⊎◌, Some, None, IfOk, IfErr};
 ghost use Rattle.serde_json.specs.View.{view, items_view};

@@ -8,7 +8,7 @@ use Rattle.vx_tree.specs.declared.validity.Validity.{Validity}
 use Rattle.vx_json.specs.Fields.{keyed, number_at}
 use Rattle.vx_json.specs.Refused.{unless_refused}
 use Rattle.vx_json.specs.SpelledNulls.{null_keys, validity_spelled}
-use Rattle.vx_json.specs.SpelledTypes.{type_at}
+use Rattle.vx_json.specs.SpelledTypes.{column_type_at}
 use Rattle.vx_json.specs.declared.nulls.Nulls.{Nulls}
 
 -- `{"enc":"struct","type":T,"len":n,"fields":[{..},{..}]}`, or with `"validity"` too: n rows of the structs whose fields are the rows of the trees, if
@@ -21,4 +21,4 @@ struct_with n ts nulls ty = option_and_then (struct_by ty n ts) (validity_spelle
 
 abbrev pub struct_spelled : Data → List Tree → Nulls → Option Tree
 struct_spelled d ts nulls =
-    keyed (4 + null_keys nulls) d (option_and_then (λ n. option_and_then (struct_with n ts nulls) (type_at d)) (number_at (codes "len") d))
+    keyed (4 + null_keys nulls) d (option_and_then (λ n. option_and_then (struct_with n ts nulls) (column_type_at d)) (number_at (codes "len") d))

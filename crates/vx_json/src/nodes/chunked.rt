@@ -6,7 +6,7 @@ ghost use Rattle.vx_json.specs.SpelledNodes.Chunked.{chunked_spelled};
 
 use crate::BAD_VALUE;
 use crate::fields::check_keys;
-use crate::types::type_at;
+use crate::types::column_type_at;
 use serde_json::Value;
 use std::alloc::Global;
 use vx_tree::{ArrayRef, ChunkedArray, IntoArray};
@@ -17,7 +17,7 @@ pub(crate) fn read(alloc: Global, value: &Value, chunks: Vec<ArrayRef>) -> Vorte
     ensures { IsRead (chunked_spelled (view value.now) chunks.items) result }
 {
     check_keys(value, 3)?;
-    let dtype = type_at(alloc, value)?;
+    let dtype = column_type_at(alloc, value)?;
     match ChunkedArray::try_new(alloc, chunks, dtype) {
         Ok(node) => Ok(node.into_array()),
         Err(VortexError::OutOfMemory) => Err(VortexError::OutOfMemory),

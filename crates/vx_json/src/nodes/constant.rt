@@ -8,8 +8,8 @@ ghost use Rattle.vx_json.specs.SpelledNodes.Constant.{scalar_spelled, constant_s
 
 use crate::BAD_VALUE;
 use crate::fields::{check_keys, number};
-use crate::types::type_at;
-use crate::values::scalar;
+use crate::scalars::scalar;
+use crate::types::column_type_at;
 use serde_json::Value;
 use std::alloc::Global;
 use vx_tree::{ArrayRef, ConstantArray, IntoArray};
@@ -23,7 +23,7 @@ fn constant_value(alloc: Global, value: &Value) -> VortexResult<Scalar>
     let Some(spelled) = value.get("value") else {
         return Err(BAD_VALUE);
     };
-    let dtype = type_at(alloc, value)?;
+    let dtype = column_type_at(alloc, value)?;
     scalar(alloc, &dtype, spelled)
 }
 

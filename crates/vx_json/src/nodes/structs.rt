@@ -8,7 +8,7 @@ ghost use Rattle.vx_json.specs.SpelledNodes.Struct.{struct_by, struct_spelled};
 use crate::BAD_VALUE;
 use crate::fields::{check_keys, number};
 use crate::nulls::Nulls;
-use crate::types::type_at;
+use crate::types::column_type_at;
 use serde_json::Value;
 use std::alloc::Global;
 use vx_tree::{ArrayRef, IntoArray, StructArray, Validity};
@@ -45,7 +45,7 @@ pub(crate) fn read(
     let Some(len) = number(value, "len") else {
         return Err(BAD_VALUE);
     };
-    let dtype = type_at(alloc, value)?;
+    let dtype = column_type_at(alloc, value)?;
     let validity = nulls.validity(dtype.nullability(), len as usize)?;
     column(alloc, dtype, len as usize, columns, &validity)
 }

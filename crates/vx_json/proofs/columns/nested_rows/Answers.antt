@@ -9,7 +9,7 @@ use Rattle.vx_column.proofs.EachLemmas.{never_refused}
 use Rattle.vx_column.proofs.GrownLemmas.{plain_grown}
 use Rattle.vx_json.specs.Refused.{IsRefused}
 use Rattle.vx_json.specs.SpelledColumns.{nested_rows}
-use Rattle.vx_json.specs.SpelledValues.{value_spelled, all_read}
+use Rattle.vx_json.specs.SpelledValues.{value_spelled}
 use Rattle.vx_json.proofs.NestedRowsLemmas.{value_read, value_unread}
 use Rattle.vx_json.proofs.SpelledValuesLemmas.{read_one, read_none, read_all}
 use Rattle.vx_json.proofs.columns.nested_rows.Goals as goal

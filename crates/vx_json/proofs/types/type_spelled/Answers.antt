@@ -3,8 +3,8 @@ use Rattle.std.proofs.lemmas.Str.Pattern.{strip_suffix_char}
 use Rattle.vx_json.proofs.SpelledTypesLemmas.{unmarked_spelled}
 use Rattle.vx_json.proofs.types.type_spelled.Goals as goal
 
-pub returns-in-None-clause-spelled : goal.returns-in-None-clause-spelled
-returns-in-None-clause-spelled c =
+pub returns-in-None : goal.returns-in-None
+returns-in-None c =
     let text = c.args.text.now in
     let unmarked = strip_suffix_char 63 text None c.in-None.ensures.cases (omega arith) in
-    c.type_named-in-None.ensures.spelled ∙ sym (unmarked_spelled text (sym c.if-eq.ensures) unmarked)
+    c.type_named-in-None.ensures ∙ sym (unmarked_spelled text (sym c.if-eq.ensures) unmarked)

@@ -1,4 +1,4 @@
-use Rattle.std.proofs.Common.{◌≡◌, ℕ, suc, ◌+◌, ◌∙◌, ◌++◌, [], ◌∷◌, ap, sym, subst, inl, inr, take, append_assoc, arith, string_bytes}
+use Rattle.std.proofs.Common.{◌≡◌, suc, ◌+◌, ◌∙◌, ◌++◌, [], ◌∷◌, ap, sym, subst, inl, inr, take, append_assoc, arith, string_bytes}
 use Rattle.std.proofs.lemmas.Result.{err_from_is_err_and}
 use Rattle.vx_tree.specs.Tree.{dtype}
 use Rattle.vx_tree.specs.Cells.{rows}

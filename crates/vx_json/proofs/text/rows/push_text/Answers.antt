@@ -1,4 +1,4 @@
-use Rattle.std.proofs.Common.{◌≡◌, ◌++◌, OnOk, subst, ◌∙◌, false, rules, string_bytes}
+use Rattle.std.proofs.Common.{◌≡◌, ◌++◌, OnOk, subst, false, rules, string_bytes}
 use Rattle.std.specs.List.{list_any}
 use Rattle.vx_json.specs.RowText.{has_escape}
 use Rattle.vx_json.proofs.RowTextLemmas.{plain_quoted}

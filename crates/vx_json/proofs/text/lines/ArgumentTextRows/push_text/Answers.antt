@@ -1,12 +1,6 @@
-use Rattle.std.proofs.Common.{◌≡◌, ◌++◌, ◌∙◌, ap, false, string_bytes}
-use Rattle.vx_value.specs.Storage.{is_nested}
-use Rattle.vx_value.proofs.SupportedLemmas.{unnested_columns}
+use Rattle.std.proofs.Common.{◌++◌, ◌∙◌, ap, string_bytes}
 use Rattle.vx_json.proofs.OutputLemmas.{argument_unnested, scalar_text}
 use Rattle.vx_json.proofs.text.lines.ArgumentTextRows.push_text.Goals as goal
-
-pub push_row-requires : goal.push_row-requires
-push_row-requires c =
-    unnested_columns c.in_ok-scalar.field-0.of_type (ap is_nested c.in_ok-scalar.ensures.typed ∙ argument_unnested _ c.requires.0 c.requires.2)
 
 pub returns-clause-ok : goal.returns-clause-ok
 returns-clause-ok c =
