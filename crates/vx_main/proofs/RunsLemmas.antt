@@ -1,6 +1,6 @@
 -- The answer of a run.
-use Rattle.std.specs.Prelude.{IfSome}
-use Rattle.std.proofs.Common.{◌≡◌, ◌⊎◌, inl, inr, ℕ, ◌≤◌, ◌<◌, List, Option, Some, None, true, arith, sym, subst, ◌∙◌}
+use Rattle.std.specs.Prelude.{IfSome, length}
+use Rattle.std.proofs.Common.{◌≡◌, ◌⊎◌, inl, inr, ℕ, ◌≤◌, ◌<◌, List, Option, Some, None, true, refl, arith, sym, subst, ◌∙◌}
 use Rattle.std.proofs.lemmas.Option.{same_Some}
 use Rattle.vx_value.specs.declared.error.VortexError.{VortexError}
 use Rattle.vx_value.specs.declared.error.VortexError.TheVariants as error
@@ -14,12 +14,14 @@ use Rattle.vx_tree.specs.Columns.{IsLawful}
 use Rattle.vx_exec.specs.Steps.{IsStopped}
 use Rattle.vx_exec.specs.Moves.{IsExecuted, GoesOn}
 use Rattle.vx_json.specs.Spelled.{Spells, SpellsNone}
+use Rattle.vx_main.specs.Limits.{input_limit}
 use Rattle.vx_main.specs.Streams.{TakesAll}
 use Rattle.vx_main.specs.Commands.{limit_of, reads_tree}
 use Rattle.vx_json.specs.Output.{Shows}
 use Rattle.vx_main.specs.Runs.{Answers, IsSource, IsUnprepared, HasNoAnswer, Owes, is_column}
 use Rattle.vx_main.specs.Statuses.{status_of, has_no_tree}
 use Rattle.vx_main.specs.declared.top.status.Status.{Status}
+use Rattle.vx_main.specs.declared.top.status.Status.TheVariants as status
 use Rattle.vx_main.specs.declared.top.words.Command.{Command}
 use Rattle.vx_main.specs.declared.top.words.Command.TheVariants.{Run, Optimize, Help, Version}
 
@@ -121,3 +123,28 @@ never_unspelled r c None new bytes read text taken is_read a = tt
 never_unspelled r c (Some xs) None bytes read text taken is_read a = absurd taken
 never_unspelled r c (Some xs) (Some ys) bytes read text taken is_read a =
     λ none. absurd (none a.tree (subst (λ bs. Spells bs a.tree) (is_read ∙ sym taken.0) a.spelled))
+
+-- nor do they if they have no answer, unless the status says that there is no tree
+pub unspelled : (r : Status) (c : Command) (old new : Option (List ℕ)) (bytes read : List ℕ) → TakesAll old new bytes → read ≡ bytes
+    → HasNoAnswer c read r → IfSome old (λ bs. SpellsNone bs → has_no_tree r ≡ true)
+unspelled r c None new bytes read taken is_read h = tt
+unspelled r c (Some xs) None bytes read taken is_read h = absurd taken
+unspelled r c (Some xs) (Some ys) bytes read taken is_read h =
+    λ none. by r (subst (λ bs. HasNoAnswer c bs r) (is_read ∙ sym taken.0) h) none
+  where
+    by : (r : Status) → HasNoAnswer c xs r → SpellsNone xs → has_no_tree r ≡ true
+    by status.Memory h none = refl
+    by status.BadInput h none = refl
+    by status.Fault h none = absurd (none h.tree h.spelled)
+    by (status.TurnLimit n turns) h none = absurd (none h.2.tree h.2.spelled)
+    by (status.RewriteLimit at_root total) h none = absurd (none h.tree h.spelled)
+    by _ h none = absurd h
+
+-- what is bad input fits, and spells no tree
+pub bad : (r : Status) (c : Command) (old new : Option (List ℕ)) (bytes read : List ℕ) → TakesAll old new bytes → read ≡ bytes → length bytes ≤ input_limit
+    → HasNoAnswer c read r → r ≡ status.BadInput → IfSome old (λ bs. (length bs ≤ input_limit) × SpellsNone bs)
+bad r c None new bytes read taken is_read fits h is = tt
+bad r c (Some xs) None bytes read taken is_read fits h is = absurd taken
+bad r c (Some xs) (Some ys) bytes read taken is_read fits h is =
+    subst (λ bs. (length bs ≤ input_limit) × SpellsNone bs) (sym taken.0)
+    (fits, subst (λ bs. HasNoAnswer c bs status.BadInput) is_read (subst (λ x. HasNoAnswer c read x) is h))

@@ -1,7 +1,7 @@
 use Rattle.std.proofs.Common.{rules, ◌≡◌, ◌∙◌, Some, true, sym}
 use Rattle.vx_main.proofs.StreamsLemmas.{taken_to_the_end}
 use Rattle.vx_main.specs.Commands.{reads_tree}
-use Rattle.vx_main.proofs.RunsLemmas.{owed, never_unspelled}
+use Rattle.vx_main.proofs.RunsLemmas.{owed, never_unspelled, unspelled, bad}
 use Rattle.vx_main.proofs.top.run.run.Goals as goal
 
 pub returns-in-Ok-answer-clause-read_whole : goal.returns-in-Ok-answer-clause-read_whole
@@ -30,3 +30,11 @@ returns-in-Ok-answer-clause-headline g c = λ d named done.
 
 pub returns-in-Ok-answer-clause-bad_input_comes : goal.returns-in-Ok-answer-clause-bad_input_comes
 returns-in-Ok-answer-clause-bad_input_comes g c = λ reads. never_unspelled _ _ _ _ _ _ _ c.in-Ok.ensures.all c.as_slice.ensures.value c.in-Ok-answer.ensures.ok
+
+pub returns-clause-bad_input : goal.returns-clause-bad_input
+returns-clause-bad_input g c = λ is.
+    (search rules, bad c.in-Err.status c.in-Some.command _ _ _ _ c.in-Ok.ensures.all c.as_slice.ensures.value c.in-Ok.ensures.fits c.in-Err.ensures.causes is)
+
+pub returns-clause-bad_input_comes : goal.returns-clause-bad_input_comes
+returns-clause-bad_input_comes g c = λ reads.
+    unspelled c.in-Err.status c.in-Some.command _ _ _ _ c.in-Ok.ensures.all c.as_slice.ensures.value c.in-Err.ensures.causes
