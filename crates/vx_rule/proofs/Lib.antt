@@ -24,3 +24,5 @@ mod ChildrenLemmas
 mod ConstantsLemmas
 mod CombinedLemmas
 mod MaskedLemmas
+mod WeighingsLemmas
+mod StructCastsLemmas

@@ -15,3 +15,8 @@ pub mod Calls
 pub mod SliceLaws
 pub mod Constants
 pub mod Items
+pub mod Counts
+pub mod Weighings
+pub mod Entries
+pub mod Builtins
+pub mod StructCasts

@@ -1,0 +1,6 @@
+//! Rules that are built in, as entries of a session.
+
+mod builtin;
+mod struct_cast;
+
+pub use builtin::{BuiltinKind, BuiltinRule, RegisteredBuiltin, builtin_rules};
