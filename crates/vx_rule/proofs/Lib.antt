@@ -26,3 +26,4 @@ mod CombinedLemmas
 mod MaskedLemmas
 mod WeighingsLemmas
 mod StructCastsLemmas
+mod DictFunctionsLemmas

@@ -20,3 +20,4 @@ pub mod Weighings
 pub mod Entries
 pub mod Builtins
 pub mod StructCasts
+pub mod DictFunctions

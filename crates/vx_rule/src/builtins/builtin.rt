@@ -6,7 +6,7 @@ ghost use Rattle.vx_tree.specs.Slots.{HasSlot};
 ghost use Rattle.vx_rule.specs.Counts.{MayStand, spent_after};
 ghost use Rattle.vx_rule.specs.Builtins.{builtin_rules, IsBuiltinAnswer, BuiltinAnswers};
 
-use crate::builtins::struct_cast;
+use crate::builtins::{dict_fn, struct_cast};
 use crate::raw_node::RawNode;
 use crate::spent::Spent;
 use std::alloc::Global;
@@ -18,6 +18,8 @@ use vx_value::{Id, VortexResult};
 pub enum BuiltinKind {
     /// A cast of a column of structs to a struct type is the column of the casts of its fields, if no struct is null by a validity.
     StructCast,
+    /// A negation, a comparison or `between` of a dictionary and constants is the dictionary of the function of its values.
+    DictFn,
 }
 
 /// A rule that is built in, with the ids of the parents and of the children for which a session has it. (own)
@@ -29,11 +31,28 @@ pub struct RegisteredBuiltin {
 }
 
 /// The rules of a session with built-ins.
-const BUILTIN_RULES: &[RegisteredBuiltin] = &[RegisteredBuiltin {
-    parent: Id::Cast,
-    child: Id::Struct,
-    kind: BuiltinKind::StructCast,
-}];
+const BUILTIN_RULES: &[RegisteredBuiltin] = &[
+    RegisteredBuiltin {
+        parent: Id::Cast,
+        child: Id::Struct,
+        kind: BuiltinKind::StructCast,
+    },
+    RegisteredBuiltin {
+        parent: Id::Not,
+        child: Id::Dict,
+        kind: BuiltinKind::DictFn,
+    },
+    RegisteredBuiltin {
+        parent: Id::Binary,
+        child: Id::Dict,
+        kind: BuiltinKind::DictFn,
+    },
+    RegisteredBuiltin {
+        parent: Id::Between,
+        child: Id::Dict,
+        kind: BuiltinKind::DictFn,
+    },
+];
 
 /// Returns the rules of a session with built-ins, in the order of registration. (own)
 pub fn builtin_rules() -> &'static [RegisteredBuiltin]
@@ -107,6 +126,7 @@ impl BuiltinKind {
     {
         match self {
             BuiltinKind::StructCast => struct_cast::answer(alloc, child, parent, slot),
+            BuiltinKind::DictFn => dict_fn::answer(alloc, child, parent, slot),
         }
     }
 }
