@@ -12,7 +12,7 @@ use Rattle.vx_tree.proofs.SlotsLemmas.{put_same, put_twice, put_has, has_present
 use Rattle.vx_rule.specs.Rules.{Rewrites}
 use Rattle.vx_rule.proofs.KeepsLemmas.{row_keeps}
 use Rattle.vx_rule.proofs.LighterLemmas.{row_lighter}
-use Rattle.vx_opt.specs.Derives.{Step, Derives, Reaches, at_here, below_all, spent_by, count_at, same_place, IsDerived, IsAtPlace}
+use Rattle.vx_opt.specs.Derives.{Step, Derives, Reaches, at_here, below_all, spent_by, count_at, same_place, IsDerived, ReachesAt}
 
 -- ---- steps
 
@@ -133,9 +133,8 @@ derived_as t u x n s y m q h a b c = record {
   by_answers = h.by_answers ∙ c;
 }
 
-pub place_here : (t u : Tree) (x n s : ℕ) → IsDerived t u x n s → IsAtPlace t x n s
-place_here t u x n s h = record {
-  tree = u;
+pub reaches_here : (t u : Tree) (x n s : ℕ) → IsDerived t u x n s → ReachesAt t u x n s
+reaches_here t u x n s h = record {
   steps = h.steps;
   reaches = h.reaches;
   counted = h.counted;
@@ -144,31 +143,28 @@ place_here t u x n s h = record {
   at_one = omega (arith, h.at_top);
 }
 
-pub place_after : (t u : Tree) (x n s k m q : ℕ) → IsDerived t u x n s → IsAtPlace u k m q → IsAtPlace t k (n + m) (s + q)
-place_after t u x n s k m q h g = record {
-  tree = g.tree;
+pub reaches_after : (t u v : Tree) (x n s k m q : ℕ) → IsDerived t u x n s → ReachesAt u v k m q → ReachesAt t v k (n + m) (s + q)
+reaches_after t u v x n s k m q h g = record {
   steps = h.steps ++ g.steps;
-  reaches = reaches_trans t u g.tree h.steps g.steps h.reaches g.reaches;
+  reaches = reaches_trans t u v h.steps g.steps h.reaches g.reaches;
   counted = omega (arith, length-append h.steps g.steps, h.counted, g.counted);
   by_answers = omega (arith, spent-append h.steps g.steps, h.by_answers, g.by_answers);
   place = g.place;
   at_one = omega (arith, count_append g.place h.steps g.steps, g.at_one);
 }
 
-pub place_inside : (i : ℕ) (c t : Tree) (k n s : ℕ) → HasSlot i c t → IsAtPlace c k n s → IsAtPlace t k n s
-place_inside i c t k n s w h = record {
-  tree = put i h.tree t;
+pub reaches_below : (i : ℕ) (c d t : Tree) (k n s : ℕ) → HasSlot i c t → ReachesAt c d k n s → ReachesAt t (put i d t) k n s
+reaches_below i c d t k n s w h = record {
   steps = below_all i h.steps;
-  reaches = reaches_inside i c h.tree t h.steps w h.reaches;
+  reaches = reaches_inside i c d t h.steps w h.reaches;
   counted = below-length i h.steps ∙ h.counted;
   by_answers = below-spent i h.steps ∙ h.by_answers;
   place = i ∷ h.place;
   at_one = omega (arith, h.at_one, count_inside i h.place h.steps);
 }
 
-pub place_as : (t : Tree) (k n s m q : ℕ) → IsAtPlace t k n s → n ≡ m → s ≡ q → IsAtPlace t k m q
-place_as t k n s m q h b c = record {
-  tree = h.tree;
+pub reaches_as : (t u : Tree) (k n s m q : ℕ) → ReachesAt t u k n s → n ≡ m → s ≡ q → ReachesAt t u k m q
+reaches_as t u k n s m q h b c = record {
   steps = h.steps;
   reaches = h.reaches;
   counted = h.counted ∙ b;

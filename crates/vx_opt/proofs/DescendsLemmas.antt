@@ -6,7 +6,7 @@ use Rattle.vx_tree.specs.Keeps.{Keeps}
 use Rattle.vx_opt.specs.Limits.{root_limit}
 use Rattle.vx_opt.specs.Derives.{IsDerived, IsAtPlace}
 use Rattle.vx_opt.specs.Descends.{Descends, DescendsIn, DescendsTo, DescendsToIn, descends, first, over, into, at_root, below, in_slot}
-use Rattle.vx_opt.proofs.DerivesLemmas.{derived_refl, derived_trans, derived_inside, derived_as, place_after, place_inside}
+use Rattle.vx_opt.proofs.DerivesLemmas.{derived_refl, derived_trans, derived_inside, derived_as, reaches_after, reaches_below}
 use Rattle.vx_opt.proofs.PassLemmas.{optimizes_rewritten, comes_at}
 
 mutual
@@ -25,14 +25,16 @@ mutual
 
 mutual
   pub descends_at : (t : Tree) (k n s : ℕ) → DescendsTo t k n s → IsAtPlace t k n s
-  descends_at _ _ _ _ (at_root t k n s h) = comes_at t k n s h
+  descends_at _ _ _ _ (at_root t u k n s h) = (u, comes_at t u k n s h)
   descends_at _ _ _ _ (below t r k n s m q h g) =
       let o = optimizes_rewritten t r n s h in
-      place_after t r o.0 n s k m q o.1 (descends_in_at r k m q g)
+      let i = descends_in_at r k m q g in
+      (i.0, reaches_after t r i.0 o.0 n s k m q o.1 i.1)
 
   descends_in_at : (t : Tree) (k n s : ℕ) → DescendsToIn t k n s → IsAtPlace t k n s
   descends_in_at _ _ _ _ (in_slot i t u c k m q n s h w g) =
-      place_after t u 0 m q k n s (descends_in_derived i t u m q h) (place_inside i c u k n s w (descends_at c k n s g))
+      let o = descends_at c k n s g in
+      (put i o.0 u, reaches_after t u (put i o.0 u) 0 m q k n s (descends_in_derived i t u m q h) (reaches_below i c o.0 u k n s w o.1))
 
 pub descends_keeps : (t u : Tree) (n s : ℕ) → Descends t u n s → Keeps t u
 descends_keeps t u n s h = (descends_rewritten t u n s h).1.reaches.keeps

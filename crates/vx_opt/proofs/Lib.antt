@@ -1,8 +1,11 @@
 pub mod SlotsLemmas
+pub mod EntriesLemmas
+pub mod AskingLemmas
 pub mod DerivesLemmas
 pub mod PassLemmas
 pub mod DescendsLemmas
 pub mod CountedLemmas
+pub mod PassedLemmas
 pub mod AnswersLemmas
 pub mod SelectLemmas
 pub mod BuiltinsLemmas

@@ -8,9 +8,9 @@ use Rattle.vx_tree.specs.Weight.{weight}
 use Rattle.vx_rule.specs.Rules.{Rewrites, IsSettled, IsQuiet}
 use Rattle.vx_rule.proofs.LighterLemmas.{row_asked}
 use Rattle.vx_opt.specs.Limits.{root_limit}
-use Rattle.vx_opt.specs.Derives.{at_here, IsDerived, IsAtPlace}
+use Rattle.vx_opt.specs.Derives.{at_here, IsDerived, ReachesAt}
 use Rattle.vx_opt.specs.Pass.{IsFirst, Answered, Runs, RunsIn, Optimizes, ComesTo, ComesToIn, start, pass, none, one_more, ends, here, within, in_slot}
-use Rattle.vx_opt.proofs.DerivesLemmas.{reaches_row, reaches_answer, derived_refl, derived_trans, derived_inside, derived_as, place_here, place_after, place_inside, place_as}
+use Rattle.vx_opt.proofs.DerivesLemmas.{reaches_row, reaches_answer, derived_refl, derived_trans, derived_inside, derived_as, reaches_here, reaches_after, reaches_below, reaches_as}
 
 below_count : (j : ℕ) (ss : Slots) → IsPresentAt j ss → j < count_slots ss
 below_count j no_slots h = absurd h
@@ -75,15 +75,19 @@ mutual
   optimizes_rewritten _ _ _ _ (ends t u k n s h l g) = (k, runs_derived t u k n s h, l)
 
 mutual
-  pub comes_at : (t : Tree) (k n s : ℕ) → ComesTo t k n s → IsAtPlace t k n s
-  comes_at _ _ _ _ (here t u v os k n s r h w a) =
-      place_here t v (suc k) (suc n) (s + r) (next_derived t u v os k n s r (runs_derived t u k n s h) w a)
-  comes_at _ _ _ _ (within t u v os j n s r k m q h l w a i) = place_as t k (suc n + m) (s + r + q) (suc (n + m)) (s + r + q)
-      (place_after t v (suc j) (suc n) (s + r) k m q (next_derived t u v os j n s r (runs_derived t u j n s h) w a) (comes_in os v k m q i)) (omega arith) refl
+  pub comes_at : (t u : Tree) (k n s : ℕ) → ComesTo t u k n s → ReachesAt t u k n s
+  comes_at _ _ _ _ _ (here t u v os k n s r h w a) =
+      reaches_here t v (suc k) (suc n) (s + r) (next_derived t u v os k n s r (runs_derived t u k n s h) w a)
+  comes_at _ _ _ _ _ (within t u v x os j n s r k m q h l w a i) = reaches_as t x k (suc n + m) (s + r + q) (suc (n + m)) (s + r + q)
+      (reaches_after t v x (suc j) (suc n) (s + r) k m q (next_derived t u v os j n s r (runs_derived t u j n s h) w a) (comes_in os v x k m q i))
+      (omega arith) refl
 
-  comes_in : (os : List ℕ) (t : Tree) (k n s : ℕ) → ComesToIn os t k n s → IsAtPlace t k n s
-  comes_in _ _ _ _ _ (in_slot os ps i t u c m q k n s h w g) =
-      place_after t u 0 m q k n s (runs_in_derived os t u m q h) (place_inside i c u k n s w (comes_at c k n s g))
+  pub comes_in : (os : List ℕ) (t u : Tree) (k n s : ℕ) → ComesToIn os t u k n s → ReachesAt t u k n s
+  comes_in _ _ _ _ _ _ (in_slot os ps i t u c d m q k n s h w g) =
+      reaches_after t u (put i d u) 0 m q k n s (runs_in_derived os t u m q h) (reaches_below i c d u k n s w (comes_at c d k n s g))
 
 pub optimizes_keeps : (t u : Tree) (n s : ℕ) → Optimizes t u n s → Keeps t u
 optimizes_keeps t u n s h = (optimizes_rewritten t u n s h).1.reaches.keeps
+
+pub comes_keeps : (t u : Tree) (k n s : ℕ) → ComesTo t u k n s → Keeps t u
+comes_keeps t u k n s h = (comes_at t u k n s h).reaches.keeps

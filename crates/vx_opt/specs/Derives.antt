@@ -69,12 +69,15 @@ pub record IsDerived (t u : Tree) (top total spent : ℕ) : Type 0 where
   pub counted : length steps ≡ total
   pub by_answers : spent_by steps ≡ spent
 
--- t derives a tree by this many steps, at least this many of them at one place, and which spent this much
-pub record IsAtPlace (t : Tree) (at_root total spent : ℕ) : Type 0 where
-  pub tree : Tree
+-- u comes from t by this many steps, at least this many of them at one place, and which spent this much
+pub record ReachesAt (t u : Tree) (at_root total spent : ℕ) : Type 0 where
   pub steps : List Step
-  pub reaches : Reaches t tree steps
+  pub reaches : Reaches t u steps
   pub counted : length steps ≡ total
   pub by_answers : spent_by steps ≡ spent
   pub place : List ℕ
   pub at_one : at_root ≤ count_at place steps
+
+-- t derives a tree so
+abbrev pub IsAtPlace : Tree → ℕ → ℕ → ℕ → Type 0
+IsAtPlace t at_root total spent = (u : Tree) × ReachesAt t u at_root total spent

@@ -19,7 +19,7 @@ mutual
 mutual
   -- so descending, t comes to a rewrite that is number k at its root and number n in all, when s was spent
   pub data DescendsTo : Tree → ℕ → ℕ → ℕ → Type 0 where
-    at_root : (t : Tree) (k n s : ℕ) → ComesTo t k n s → DescendsTo t k n s
+    at_root : (t u : Tree) (k n s : ℕ) → ComesTo t u k n s → DescendsTo t k n s
     below : (t r : Tree) (k n s m q : ℕ) → Optimizes t r n s → DescendsToIn r k m q → DescendsTo t k (n + m) (s + q)
 
   -- in one of the slots of t, those before which have descended

@@ -4,6 +4,10 @@ pub use Rattle.vx_tree.specs.Slots
 pub use Rattle.vx_tree.specs.Keeps
 pub use Rattle.vx_tree.specs.Weight
 pub use Rattle.vx_rule.specs.Rules
+pub use Rattle.vx_rule.specs.Counts
+pub mod Entries
+pub mod Asking
+pub mod Progress
 pub mod Limits
 pub mod Derives
 pub mod Pass

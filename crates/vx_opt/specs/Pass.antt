@@ -6,7 +6,6 @@ use Rattle.vx_tree.specs.Keeps.{Keeps}
 use Rattle.vx_tree.specs.Well.{IsWell}
 use Rattle.vx_tree.specs.Weight.{weight}
 use Rattle.vx_rule.specs.Rules.{Row, IsQuiet, IsSettled}
-use Rattle.vx_rule.specs.declared.raw_node.RawNode.{RawNode}
 use Rattle.vx_opt.specs.Limits.{root_limit}
 
 -- no row fits any that is asked before w: the node itself is asked first, then its slots in order
@@ -17,11 +16,6 @@ AreQuietBefore (Some i) t = IsQuiet None t × ((j : ℕ) → j < i → IsQuiet (
 -- u is the answer of the first that has a row
 abbrev pub IsFirst : Tree → Tree → List ℕ → Type 0
 IsFirst t u os = (w : Option ℕ) × Row w t u os × AreQuietBefore w t
-
--- the first answer, or None if no row fits
-abbrev pub IsPass : Tree → Option RawNode → Type 0
-IsPass t None = IsSettled t
-IsPass t (Some r) = IsFirst t r.tree r.optimize.items
 
 -- the answer of an entry that was handed in, for some slot: it is asked before the child's own rows, and its answer may stand for the tree
 abbrev pub IsHandedIn : Tree → Tree → Type 0
@@ -51,13 +45,14 @@ mutual
     ends : (t u : Tree) (k n s : ℕ) → Runs t u k n s → k ≤ root_limit → IsSettled u → Optimizes t u n s
 
 mutual
-  -- optimizing t comes to a rewrite that is number k at its root and number n in all, when s was spent; each root before took no more than it may
-  pub data ComesTo : Tree → ℕ → ℕ → ℕ → Type 0 where
-    here : (t u v : Tree) (os : List ℕ) (k n s r : ℕ) → Runs t u k n s → IsWell u → Answered u v os r → ComesTo t (suc k) (suc n) (s + r)
-    within : (t u v : Tree) (os : List ℕ) (j n s r k m q : ℕ) → Runs t u j n s → suc j ≤ root_limit → IsWell u → Answered u v os r
-        → ComesToIn os v k m q → ComesTo t k (suc (n + m)) (s + r + q)
+  -- optimizing t comes to a rewrite that is number k at its root and number n in all, when s was spent, and makes u of t; each root before took no more
+  -- than it may. The named slots of the last answer aren't optimized.
+  pub data ComesTo : Tree → Tree → ℕ → ℕ → ℕ → Type 0 where
+    here : (t u v : Tree) (os : List ℕ) (k n s r : ℕ) → Runs t u k n s → IsWell u → Answered u v os r → ComesTo t v (suc k) (suc n) (s + r)
+    within : (t u v w : Tree) (os : List ℕ) (j n s r k m q : ℕ) → Runs t u j n s → suc j ≤ root_limit → IsWell u → Answered u v os r
+        → ComesToIn os v w k m q → ComesTo t w k (suc (n + m)) (s + r + q)
 
   -- so does optimizing these slots of t, in one of them
-  pub data ComesToIn : List ℕ → Tree → ℕ → ℕ → ℕ → Type 0 where
-    in_slot : (os ps : List ℕ) (i : ℕ) (t u c : Tree) (m q k n s : ℕ) → RunsIn os t u m q → HasSlot i c u → ComesTo c k n s
-        → ComesToIn (os ++ (i ∷ ps)) t k (m + n) (q + s)
+  pub data ComesToIn : List ℕ → Tree → Tree → ℕ → ℕ → ℕ → Type 0 where
+    in_slot : (os ps : List ℕ) (i : ℕ) (t u c d : Tree) (m q k n s : ℕ) → RunsIn os t u m q → HasSlot i c u → ComesTo c d k n s
+        → ComesToIn (os ++ (i ∷ ps)) t (put i d u) k (m + n) (q + s)

@@ -9,7 +9,7 @@ ghost use Rattle.vx_tree.specs.Well.{IsWell};
 ghost use Rattle.vx_tree.specs.Weight.{weight};
 ghost use Rattle.vx_rule.specs.Rules.{Rewrites};
 ghost use Rattle.vx_opt.specs.Select.{IsRange, IsMaskOf};
-ghost use Rattle.vx_opt.specs.Derives.{Step, Reaches, IsAtPlace, at_here, below_all};
+ghost use Rattle.vx_opt.specs.Derives.{Step, Reaches, ReachesAt, IsAtPlace, at_here, below_all};
 ghost use Rattle.vx_opt.specs.Pass.{Optimizes, ComesTo};
 ghost use Rattle.vx_opt.specs.Descends.{Descends, DescendsTo};
 ghost use Rattle.vx_opt.specs.Answers.{IsRewritten};
@@ -28,7 +28,7 @@ pub fn deriving_laws()
 pub fn optimizing_laws()
     ensures optimizes { (t u : Tree) (n s : ℕ) → Optimizes t u n s → IsRewritten t u n s }
     ensures descends { (t u : Tree) (n s : ℕ) → Descends t u n s → IsRewritten t u n s }
-    ensures comes { (t : Tree) (k n s : ℕ) → ComesTo t k n s → IsAtPlace t k n s }
+    ensures comes { (t u : Tree) (k n s : ℕ) → ComesTo t u k n s → ReachesAt t u k n s }
     ensures descends_to { (t : Tree) (k n s : ℕ) → DescendsTo t k n s → IsAtPlace t k n s }
 {}
 

@@ -1,55 +1,61 @@
-use Rattle.std.proofs.Common.{◌≡◌, arith, refl, ◌∙◌}
+use Rattle.std.proofs.Common.{◌≡◌, arith, ap, subst, sym, refl, ◌∙◌}
+use Rattle.vx_opt.specs.Entries.{entries_of}
+use Rattle.vx_opt.proofs.CountedLemmas.{slot_fits, fails_here, given_up, passed_on, sink_start, root_ended, root_limited, sunk_failed, child_given_up, put_failed, sunk_taken, sunk_passed, sunk_end, ending_as}
 use Rattle.vx_opt.proofs.DescendsLemmas.{descends_keeps}
-use Rattle.vx_opt.proofs.CountedLemmas.{passed_on, slot_fits, slot_descended, slot_passed, slot_stopped_below, sink_start, sink_go, sink_stopped, sink_end, descends_then, descends_stopped}
 use Rattle.vx_opt.proofs.descend.+descend.Goals as goal
+use Rattle.vx_opt.proofs.descend.+descend.Goals.{then-has_child+in_ok-parent+in_ok-child+in_ok-current-2, else-has_child}
 
-pub descend-returns : goal.descend-returns
-descend-returns t c =
-    descends_then c.args.array c.in_ok-root.root c.args.total.now c.optimize_root.new.total c.descend_slots.new.total c.descend_slots.result
-    c.in_ok-root.ensures c.descend_slots.ensures
+pub returns-then-depth-eq18446744073709551615 : goal.returns-then-depth-eq18446744073709551615
+returns-then-depth-eq18446744073709551615 g t c = fails_here _ _ refl
 
-pub descend-returns-in_err-root : goal.descend-returns-in_err-root
-descend-returns-in_err-root t c =
-    passed_on _ _ _ _ c.from_residual.ensures.1 (descends_stopped c.args.array c.args.total.now c.in_err-root.field-0.0 c.in_err-root.ensures)
+pub returns-in_err-progress : goal.returns-in_err-progress
+returns-in_err-progress g t c = passed_on _ _ _ _ c.from_residual.ensures.1 (given_up _ _ _ _ _ c.in_err-progress.ensures)
 
-pub descend_slot-put-requires-clause-fits : goal.descend_slot-put-requires-clause-fits
-descend_slot-put-requires-clause-fits t c =
-    let o = c.in_ok-child.ensures in
-    slot_fits c.args.slot c.in_ok-parent.child c.in_ok-parent.parent c.args.array c.in_ok-parent.ensures.ok c.in_ok-child.child
-    (descends_keeps c.in_ok-parent.child c.in_ok-child.child o.count 0 o.done)
+pub returns-in_err-current : goal.returns-in_err-current
+returns-in_err-current g t c =
+    passed_on _ _ _ _ c.from_residual-in_err-current.ensures.1 (root_limited _ _ _ _ _ _ _ c.in_err-current.ensures c.in_ok-progress.ensures)
 
-pub descend_slot-returns : goal.descend_slot-returns
-descend_slot-returns t c =
-    rw c.in_ok-put.ensures.ok
-    (slot_descended c.args.slot c.in_ok-parent.child c.in_ok-parent.parent c.args.array c.in_ok-parent.ensures.ok
-    c.in_ok-child.child c.args.total.now c.descend.new.total c.in_ok-child.ensures)
+pub loop-slot-init : goal.loop-slot-init
+loop-slot-init g t c =
+    sink_start _ _ _ (root_ended _ _ _ _ _ _ _ c.in_ok-current.ensures c.in_ok-progress.ensures).room
 
-pub descend_slot-returns-then-not-has_child : goal.descend_slot-returns-then-not-has_child
-descend_slot-returns-then-not-has_child t c =
-    slot_passed c.args.slot c.args.array c.args.total.now c.requires (c.if-not-has_child.ensures.no refl)
+pub returns-in_err-parent : goal.returns-in_err-parent
+returns-in_err-parent g t c =
+    passed_on _ _ _ _ c.from_residual-in_err-parent.ensures.1
+    (sunk_failed _ _ _ _ _ _ (root_ended _ _ _ _ _ _ _ c.in_ok-current.ensures c.in_ok-progress.ensures) _ _ _ _ c.loop-slot.invariant _
+    c.in_err-parent.ensures.err)
 
-pub descend_slot-returns-in_err-child : goal.descend_slot-returns-in_err-child
-descend_slot-returns-in_err-child t c =
+pub returns-in_err-child : goal.returns-in_err-child
+returns-in_err-child g t c =
     passed_on _ _ _ _ c.from_residual-in_err-child.ensures.1
-    (slot_stopped_below c.args.slot c.in_ok-parent.child c.args.array c.args.total.now c.in_err-child.field-0.0 c.in_ok-parent.ensures.ok.3
-    c.in_err-child.ensures)
+    (child_given_up _ _ _ _ _ _ (root_ended _ _ _ _ _ _ _ c.in_ok-current.ensures c.in_ok-progress.ensures) _ _ _ _ c.loop-slot.invariant _ _ _
+    c.in_ok-parent.ensures.ok.3 c.in_err-child.ensures)
 
-pub descend_slots-loop-slot-init : goal.descend_slots-loop-slot-init
-descend_slots-loop-slot-init t c = sink_start c.args.array c.args.total.now c.requires
+pub returns-in_err-current-2 : goal.returns-in_err-current-2
+returns-in_err-current-2 g t c =
+    passed_on _ _ _ _ c.from_residual-in_err-current-2.ensures.1
+    (put_failed _ _ _ _ _ _ (root_ended _ _ _ _ _ _ _ c.in_ok-current.ensures c.in_ok-progress.ensures) _ _ _ _ c.loop-slot.invariant _ _ _ _ _
+    c.in_ok-child.ensures c.in_err-current-2.ensures.err)
 
-pub descend_slots-returns-in_err-current : goal.descend_slots-returns-in_err-current
-descend_slots-returns-in_err-current t c =
-    passed_on _ _ _ _ c.from_residual.ensures.1
-    (sink_stopped c.loop-slot.slot c.args.array c.loop-slot.current c.args.total.now c.loop-slot.total c.in_err-current.field-0.0 c.loop-slot.invariant
-    c.in_err-current.ensures)
+pub put-requires-clause-fits : goal.put-requires-clause-fits
+put-requires-clause-fits g t c =
+    slot_fits _ _ _ _ c.in_ok-parent.ensures.ok _
+    (descends_keeps _ _ c.in_ok-child.ensures.count c.in_ok-child.ensures.spent c.in_ok-child.ensures.done)
 
-pub descend_slots-loop-slot-preserved : goal.descend_slots-loop-slot-preserved
-descend_slots-loop-slot-preserved t c =
-    sink_go c.loop-slot.slot c.args.array c.loop-slot.current c.in_ok-current.current c.args.total.now c.loop-slot.total c.descend_slot.new.total
-    c.loop-slot.invariant c.in_ok-current.ensures
+pub loop-slot-preserved : goal.loop-slot-preserved
+loop-slot-preserved g t c =
+    let root = root_ended _ _ _ _ _ _ _ c.in_ok-current.ensures c.in_ok-progress.ensures in
+    elim c.if-has_child.branch [
+      | then-has_child+in_ok-parent+in_ok-child+in_ok-current-2 w ↦
+          ending_as _ _ _ _ _ _ _ w.total-is (ap (λ r. entries_of (λ v. (g.dyn-1.0.entry v).1) r) w.rules-is)
+          (sunk_taken _ _ _ _ _ _ root _ _ _ _ c.loop-slot.invariant _ _ _ _ w.in_ok-parent.ensures.ok _ _ w.in_ok-child.ensures
+          (w.current-is ∙ w.in_ok-current-2.ensures.ok))
+      | else-has_child w ↦
+          ending_as _ _ _ _ _ _ _ w.total-is (ap (λ r. entries_of (λ v. (g.dyn-1.0.entry v).1) r) w.rules-is)
+          (sunk_passed _ _ _ _ _ _ root _ _ _ _ c.loop-slot.invariant _ w.current-is (w.if-has_child.ensures.no refl))
+    ]
 
-pub descend_slots-returns : goal.descend_slots-returns
-descend_slots-returns t c =
-    let e : c.loop-slot.slot ≡ c.number_of_slots-slot-end.result = omega (arith, c.loop-slot.auto.slot-end) in
-    sink_end c.loop-slot.slot c.args.array c.loop-slot.current c.args.total.now c.loop-slot.total (e ∙ c.number_of_slots-slot-end.ensures)
-    c.loop-slot.invariant
+pub returns : goal.returns
+returns g t c =
+    sunk_end _ _ _ _ _ _ (root_ended _ _ _ _ _ _ _ c.in_ok-current.ensures c.in_ok-progress.ensures) _ _ _ _ c.loop-slot.invariant
+    (omega (arith, c.loop-slot-test.false, c.loop-slot.auto.slot-end, c.number_of_slots-slot-end.ensures))
