@@ -6,3 +6,4 @@ pub mod WaitingLemmas
 pub mod ContentsLemmas
 pub mod DictLemmas
 pub mod InterleaveLemmas
+pub mod KernelsLemmas

@@ -11,3 +11,4 @@ pub mod Contents
 pub mod Steps
 pub mod Waiting
 pub mod Told
+pub mod Kernels

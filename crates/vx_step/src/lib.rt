@@ -7,6 +7,7 @@ mod dict;
 mod filter;
 mod function;
 mod interleave;
+mod kernels;
 mod masked;
 mod require;
 mod slice;
@@ -15,5 +16,6 @@ mod validity;
 mod whole;
 
 pub use builders::append_to_builder;
+pub use kernels::{BuiltinKernel, BuiltinKernelKind, RegisteredBuiltinKernel, builtin_kernels};
 pub use steps::{DonePredicate, ExecutionResult, ExecutionStep, SlotTarget, step};
 pub use vx_tree::{Bool, Primitive, Suspended};
