@@ -1,18 +1,18 @@
 //! The loop of turns.
 
-ghost use Rattle.std.specs.Prelude.{◌≡◌, ◌⊎◌, ◌≤◌, ◌<◌, ℕ, IsOk, IfOk, IfErr, OnOk, Err, true};
+ghost use Rattle.std.specs.Prelude.{⊤, ◌≡◌, ◌⊎◌, ◌≤◌, ◌<◌, ℕ, IsOk, IfOk, IfErr, OnOk, Err, true};
 ghost use Rattle.vx_tree.specs.Tree.{datum, is_canonical};
 ghost use Rattle.vx_tree.specs.Firm.{KeepsFirmly};
 ghost use Rattle.vx_tree.specs.Cost.{cost};
 ghost use Rattle.vx_step.specs.Steps.{IsStopped};
 ghost use Rattle.vx_exec.specs.Moves.{IsExecuted, GoesOn, FaultsIn};
+ghost use Rattle.vx_exec.specs.Budgets.{budget_of};
 ghost use Rattle.vx_exec.specs.Limits.{default_turns};
 
 use crate::session::VortexSession;
 use crate::turn::{Focus, Frame, Turn, take_turn};
 use std::alloc::Global;
 use std::fmt;
-use std::marker::Model;
 use vx_tree::{ArrayRef, Matcher};
 use vx_value::{VortexError, VortexResult};
 
@@ -28,18 +28,12 @@ pub struct ExecutionCtx {
     turns: u64,
 }
 
-impl Model for ExecutionCtx {
-    ghost use Rattle.vx_exec.specs.Budgets.{Budget};
-
-    ghost Value = { Budget };
-
-    ghost view = { λ c. record { limit = c.limit; turns = c.turns } };
-}
-
 impl ExecutionCtx {
     /// Creates a context that owns `session` until `into_session` hands it back, with the limit `DEFAULT_TURNS`.
     pub fn new(alloc: Global, session: VortexSession) -> Self
-        ensures { result ≡ record { limit = default_turns; turns = 0 } }
+        requires { ⊤ }
+        ensures session { result.session ≡ session }
+        ensures budget { budget_of result ≡ record { limit = default_turns; turns = 0 } }
     {
         ExecutionCtx {
             alloc,
@@ -51,14 +45,18 @@ impl ExecutionCtx {
 
     /// Sets the limit, in turns. (own)
     pub fn with_limit(self, limit: u64) -> Self
-        ensures { result ≡ record { limit = limit; turns = self.turns } }
+        requires { ⊤ }
+        ensures session { result.session ≡ self.session }
+        ensures budget { budget_of result ≡ record { limit = limit; turns = self.turns } }
     {
         ExecutionCtx { limit, ..self }
     }
 
     /// Sets the allocator.
     pub fn with_allocator(self, alloc: Global) -> Self
-        ensures { result ≡ self }
+        requires { ⊤ }
+        ensures session { result.session ≡ self.session }
+        ensures budget { budget_of result ≡ budget_of self }
     {
         ExecutionCtx { alloc, ..self }
     }
@@ -69,12 +67,18 @@ impl ExecutionCtx {
     }
 
     /// Returns the session.
-    pub fn session(&self) -> &VortexSession {
+    pub fn session(&self) -> &VortexSession
+        requires { ⊤ }
+        ensures { result.now ≡ self.now.session }
+    {
         &self.session
     }
 
     /// Hands the session back. (own)
-    pub fn into_session(self) -> VortexSession {
+    pub fn into_session(self) -> VortexSession
+        requires { ⊤ }
+        ensures { result ≡ self.session }
+    {
         let ExecutionCtx {
             alloc: _,
             session,
@@ -93,7 +97,8 @@ impl ExecutionCtx {
 
     /// Counts turns from 0.
     pub(crate) fn restart(&mut self)
-        ensures { self.new ≡ record { limit = self.old.limit; turns = 0 } }
+        ensures session { self.new.session ≡ self.old.session }
+        ensures budget { budget_of self.new ≡ record { limit = self.old.limit; turns = 0 } }
     {
         self.turns = 0;
     }
@@ -122,6 +127,7 @@ impl fmt::Display for ExecutionCtx {
 /// node in it, has no value; `OutOfMemory`.
 #[tactic(auto, using(crate::proofs::MovesLemmas::loop_moves, crate::proofs::MovesLemmas::executed, crate::proofs::MovesLemmas::reached_root, crate::proofs::MovesLemmas::takes_a_turn, crate::proofs::MovesLemmas::returned_as_it_is))]
 pub fn execute_until<M: Matcher>(array: ArrayRef, ctx: &mut ExecutionCtx) -> VortexResult<ArrayRef>
+    requires { ⊤ }
     ensures ok { IfOk result
         (λ u. KeepsFirmly array u × ((M.fits u ≡ true) ⊎ (is_canonical (datum u) ≡ true))) }
     ensures executed { IfOk result (IsExecuted M.fits array ctx.new.turns) }
@@ -136,6 +142,7 @@ pub fn execute_until<M: Matcher>(array: ArrayRef, ctx: &mut ExecutionCtx) -> Vor
     ensures fault { result ≡ Err VortexError.Fault → FaultsIn M.fits array ctx.new.turns }
     ensures told { ctx.new.turns ≤ ctx.old.limit }
     ensures kept { ctx.new.limit ≡ ctx.old.limit }
+    ensures session { ctx.new.session ≡ ctx.old.session }
 {
     let mut frames: Vec<Frame> = Vec::new(ctx.alloc);
     array.well_formed_tree();

@@ -2,8 +2,9 @@
 
 ghost use Rattle.vx_tree.specs.Tree.{Tree, datum, is_canonical, is_columnar};
 ghost use Rattle.vx_tree.specs.Canonicals.{canonical_tree, columnar_tree};
+ghost use Rattle.vx_exec.specs.Budgets.{budget_of};
 ghost use Rattle.vx_exec.specs.Executions.{IsExecution};
-ghost use Rattle.std.specs.Prelude.{Bool};
+ghost use Rattle.std.specs.Prelude.{⊤, ◌≡◌, Bool};
 
 use crate::context::{ExecutionCtx, execute_until};
 use vx_tree::{AnyCanonical, AnyColumnar, ArrayRef, Canonical, Columnar, Matcher};
@@ -24,7 +25,9 @@ pub trait Executable: Sized {
     /// `IterationLimit` if the limit of turns was reached and the root isn't executed; `Fault` only if a row of `array`, or of a
     /// node in it, has no value; `OutOfMemory`.
     fn execute(array: ArrayRef, ctx: &mut ExecutionCtx) -> VortexResult<Self>
-        ensures { IsExecution fits tree_in array ctx.old ctx.new result };
+        requires { ⊤ }
+        ensures execution { IsExecution fits tree_in array (budget_of ctx.old) (budget_of ctx.new) result }
+        ensures session { ctx.new.session ≡ ctx.old.session };
 }
 
 /// A column: canonical, or a constant.
@@ -68,15 +71,21 @@ pub trait ArrayExecute: Sized {
 
     /// Executes the tree to `E`, as `Executable::execute` says.
     fn execute<E: Executable>(self, ctx: &mut ExecutionCtx) -> VortexResult<E>
-        ensures { IsExecution E.fits E.tree_in (tree self) ctx.old ctx.new result };
+        requires { ⊤ }
+        ensures execution { IsExecution E.fits E.tree_in (tree self) (budget_of ctx.old) (budget_of ctx.new) result }
+        ensures session { ctx.new.session ≡ ctx.old.session };
 
     /// Executes the tree to `E` under a name, which nothing reads.
     fn execute_as<E: Executable>(self, name: &str, ctx: &mut ExecutionCtx) -> VortexResult<E>
-        ensures { IsExecution E.fits E.tree_in (tree self) ctx.old ctx.new result };
+        requires { ⊤ }
+        ensures execution { IsExecution E.fits E.tree_in (tree self) (budget_of ctx.old) (budget_of ctx.new) result }
+        ensures session { ctx.new.session ≡ ctx.old.session };
 
     /// Executes the tree until its root matches `M` or is canonical.
     fn execute_until<M: Matcher>(self, ctx: &mut ExecutionCtx) -> VortexResult<ArrayRef>
-        ensures { IsExecution M.fits (λ t. t) (tree self) ctx.old ctx.new result };
+        requires { ⊤ }
+        ensures execution { IsExecution M.fits (λ t. t) (tree self) (budget_of ctx.old) (budget_of ctx.new) result }
+        ensures session { ctx.new.session ≡ ctx.old.session };
 }
 
 impl ArrayExecute for ArrayRef {

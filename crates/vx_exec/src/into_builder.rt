@@ -1,9 +1,10 @@
 //! Trees executed and appended to builders.
 
-ghost use Rattle.std.specs.Prelude.{◌≡◌, None, Some, MatchResult};
+ghost use Rattle.std.specs.Prelude.{⊤, ◌≡◌, None, Some, MatchResult};
 ghost use Rattle.vx_tree.specs.Tree.{dtype, len};
 ghost use Rattle.vx_column.specs.Built.{length_refusal};
 ghost use Rattle.vx_column.specs.Grown.{count, column_refusal, type_refusal};
+ghost use Rattle.vx_exec.specs.Budgets.{budget_of};
 ghost use Rattle.vx_exec.specs.Executions.{IsAppending};
 
 use crate::context::ExecutionCtx;
@@ -26,7 +27,9 @@ pub fn execute_into_builder(
     builder: Builder,
     ctx: &mut ExecutionCtx,
 ) -> VortexResult<Builder>
-    ensures { IsAppending array builder ctx.old ctx.new result }
+    requires { ⊤ }
+    ensures appending { IsAppending array builder (budget_of ctx.old) (budget_of ctx.new) result }
+    ensures session { ctx.new.session ≡ ctx.old.session }
 {
     ctx.restart();
     match check_rows(&array, &builder) {

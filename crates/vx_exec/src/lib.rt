@@ -10,5 +10,5 @@ mod turn;
 pub use context::{DEFAULT_TURNS, ExecutionCtx, execute_until};
 pub use executable::{ArrayExecute, Executable};
 pub use into_builder::execute_into_builder;
-pub use session::{ArrayKernels, VortexSession, VortexSessionExecute};
+pub use session::{ArrayKernels, VortexSession};
 pub use turn::{Focus, Frame, Turn, take_turn};
