@@ -52,6 +52,11 @@ reads_tree (Some (Optimize limit)) = true
 reads_tree (Some Help) = false
 reads_tree (Some Version) = false
 
+-- whether the command asks the session's rules
+abbrev pub asks_rules : Option Command → Bool
+asks_rules (Some (Optimize limit)) = true
+asks_rules _ = false
+
 -- the turns that the command allows
 abbrev pub limit_of : Command → ℕ
 limit_of (Run limit) = limit

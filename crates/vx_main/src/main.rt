@@ -1,7 +1,7 @@
 //! The program `vx`: reads a tree, executes it and prints its rows.
 #![tactic(auto)]
 
-ghost use Rattle.std.specs.Prelude.{◌≡◌, ◌↔◌, None, drop};
+ghost use Rattle.std.specs.Prelude.{◌≡◌, ◌⊎◌, None, drop};
 ghost use Rattle.std.specs.IoError.{error_kind};
 ghost use Rattle.vx_main.specs.Commands.{texts, command_of};
 ghost use Rattle.std.specs.declared.io.ErrorKind.TheVariants as failure;
@@ -51,16 +51,20 @@ fn status_of(error: &io::Error) -> Status
     }
 }
 
-/// Runs `words` on the standard streams.
+/// Runs `words` on the standard streams, with the entries that are built in.
 fn run_words(rt: &HostRuntime, words: &Vec<String>) -> Status
-    ensures usage { (result ≡ Status.Usage) ↔ (command_of (texts words.now.items) ≡ None) }
+    ensures usage { result ≡ Status.Usage → command_of (texts words.now.items) ≡ None }
+    ensures usage_comes { command_of (texts words.now.items) ≡ None → (result ≡ Status.Usage) ⊎ (result ≡ Status.Memory) }
 {
+    let Ok(mut session) = VortexSession::with_builtins(rt.alloc()) else {
+        return Status::Memory;
+    };
     run(
         rt.alloc(),
         words,
         &mut StdinSource::new(rt.stdin()),
         &mut StdoutSink::new(rt.stdout()),
-        &mut VortexSession::empty(),
+        &mut session,
     )
 }
 

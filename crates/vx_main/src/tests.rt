@@ -1,13 +1,18 @@
-//! Streams that come in pieces, and fail in the middle.
+//! Streams that come in pieces, and fail in the middle; a rule that refuses.
 
 use crate::streams::{
     Failed, MemSink, MemSource, PlainSink, PlainSource, ReadError, Sink, Source, StdinSource,
     StdoutSink, read_all, write_all,
 };
+use crate::top::{Status, run};
 use std::alloc::Global;
 use std::io;
 use std::io::{Read, Write};
 use std::test::Fail;
+use vx_exec::VortexSession;
+use vx_rule::{DynReduceParentRule, RawNode, RuleEntry, Spent};
+use vx_tree::ArrayRef;
+use vx_value::{Id, SessionKind, VortexError, VortexResult};
 
 /// 141 bytes: nine pieces of 16, and a read that finds the end.
 const INPUT: &str =
@@ -118,4 +123,73 @@ fn a_writer_without_room_fails(rt: HostRuntime) {
     let mut room = [0u8; 4];
     assert!(rt; is_taken(&mut StdoutSink::new(room.as_mut_slice()), true));
     assert!(rt; room == *b"type");
+}
+
+/// A rule that refuses each child.
+#[derive(Drop)]
+struct Refusing {
+    refusals: u64,
+    spent: Spent,
+}
+
+impl DynReduceParentRule for Refusing {
+    ghost refusals = { λ r. r.refusals };
+
+    ghost spent_so_far = { λ r. r.spent.total };
+
+    fn reduce_parent(
+        &mut self,
+        _alloc: Global,
+        child: &ArrayRef,
+        parent: &ArrayRef,
+        slot: usize,
+    ) -> VortexResult<Option<RawNode>> {
+        self.refusals = self.refusals.saturating_add(1);
+        Err(VortexError::Refused {
+            kind: SessionKind::Kernel,
+            parent: child.encoding_id(),
+            child: parent.encoding_id(),
+            place: slot,
+        })
+    }
+
+    fn spent(&self) -> u64 {
+        self.spent.count()
+    }
+}
+
+/// Runs `word` on the negation of a column of booleans, in `session`.
+fn negate(alloc: Global, word: &str, session: &mut VortexSession) -> VortexResult<Status> {
+    let words = vec![in alloc; String::from_str(alloc, word)?]?;
+    let input = r#"{"enc":"fn","fn":"not","args":[{"enc":"col","type":"bool","rows":[true]}]}"#;
+    let mut source = PlainSource::new(input.as_bytes());
+    Ok(run(
+        alloc,
+        &words,
+        &mut source,
+        &mut PlainSink::new(alloc),
+        session,
+    ))
+}
+
+#[test]
+fn a_rule_that_refuses(rt: HostRuntime) -> Result<(), Fail> {
+    let alloc = rt.alloc();
+    let mut session = VortexSession::empty(alloc);
+    let rule = Refusing {
+        refusals: 0,
+        spent: Spent::new(),
+    };
+    let entry = RuleEntry::Boxed(Box::new(alloc, rule)?);
+    session.kernels.rules.register(Id::Not, Id::Bool, entry)?;
+    assert!(rt; negate(alloc, "run", &mut session)? == Status::Done);
+    let refused = Status::Refused {
+        kind: SessionKind::Rule,
+        parent: Id::Not,
+        child: Id::Bool,
+        place: 0,
+    };
+    assert!(rt; negate(alloc, "optimize", &mut session)? == refused);
+    assert!(rt; session.kernels.rules.find(Id::Not, Id::Bool) == 1);
+    Ok(())
 }
