@@ -3,7 +3,7 @@
 use std::alloc::Global;
 use std::test::Fail;
 use vx_column::Builder;
-use vx_exec::{VortexSession, VortexSessionExecute, execute_into_builder};
+use vx_exec::{VortexSession, execute_into_builder};
 use vx_tree::{ArrayKind, Columnar, IntoArray, Validity};
 use vx_value::{ArgKind, DType, Nullability, PType, Scalar, VortexError, VortexResult};
 
@@ -93,7 +93,7 @@ fn columns_are_appended(rt: HostRuntime) -> Result<(), Fail> {
 
 /// Executes `column` into `builder`.
 fn executed(alloc: Global, column: Columnar, builder: Builder) -> VortexResult<Builder> {
-    let mut ctx = VortexSession::empty().create_execution_ctx(alloc);
+    let mut ctx = VortexSession::empty(alloc).create_execution_ctx(alloc);
     execute_into_builder(column.into_array(), builder, &mut ctx)
 }
 

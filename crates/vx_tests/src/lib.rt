@@ -22,6 +22,8 @@ mod rewriting;
 #[cfg(test)]
 mod rows;
 #[cfg(test)]
+mod rules;
+#[cfg(test)]
 mod sharing;
 #[cfg(test)]
 mod steps;

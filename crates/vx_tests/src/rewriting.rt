@@ -38,14 +38,14 @@ fn a_hundred_rewrites_at_one_root(rt: HostRuntime) -> Result<(), Fail> {
         at_root: 101,
         total: 101,
     };
-    let mut rules = RuleRegistry::empty();
+    let mut rules = RuleRegistry::empty(alloc);
     let refused = slices(alloc, 101)?.optimize_recursive(alloc, &mut rules);
     assert!(rt; matches!(refused, Err(e) if e == limit));
     Ok(())
 }
 
 /// Returns a column of `len` structs with the field `x`.
-fn structs(alloc: Global, len: usize) -> VortexResult<ArrayRef> {
+pub(crate) fn structs(alloc: Global, len: usize) -> VortexResult<ArrayRef> {
     let name = Name::new(alloc, String::from_str(alloc, "x")?)?;
     let names = FieldNames::new(alloc, vec![in alloc; name]?)?;
     let options = PackOptions {

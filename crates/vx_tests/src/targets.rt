@@ -2,7 +2,7 @@
 
 use std::alloc::Global;
 use std::test::Fail;
-use vx_exec::{ArrayExecute, ExecutionCtx, VortexSession, VortexSessionExecute};
+use vx_exec::{ArrayExecute, ExecutionCtx, VortexSession};
 use vx_json::{column_text, tree_of_bytes};
 use vx_tree::{AnyCanonical, ArrayRef, Canonical, Columnar};
 use vx_value::VortexResult;
@@ -10,20 +10,19 @@ use vx_value::VortexResult;
 const SLICE: &[u8] =
     b"{\"enc\":\"slice\",\"start\":1,\"stop\":3,\"child\":{\"enc\":\"constant\",\"type\":\"i32\",\"value\":7,\"len\":5}}";
 
-fn context(alloc: Global) -> ExecutionCtx {
-    VortexSession::empty().create_execution_ctx(alloc)
-}
-
 fn to_columnar(alloc: Global) -> VortexResult<Columnar> {
-    tree_of_bytes(alloc, SLICE)?.execute(&mut context(alloc))
+    let mut ctx = VortexSession::empty(alloc).create_execution_ctx(alloc);
+    tree_of_bytes(alloc, SLICE)?.execute(&mut ctx)
 }
 
 fn to_canonical(alloc: Global) -> VortexResult<Canonical> {
-    tree_of_bytes(alloc, SLICE)?.execute_as("test", &mut context(alloc))
+    let mut ctx = VortexSession::empty(alloc).create_execution_ctx(alloc);
+    tree_of_bytes(alloc, SLICE)?.execute_as("test", &mut ctx)
 }
 
 fn until_canonical(alloc: Global) -> VortexResult<ArrayRef> {
-    tree_of_bytes(alloc, SLICE)?.execute_until::<AnyCanonical>(&mut context(alloc))
+    let mut ctx = VortexSession::empty(alloc).create_execution_ctx(alloc);
+    tree_of_bytes(alloc, SLICE)?.execute_until::<AnyCanonical>(&mut ctx)
 }
 
 #[test]
@@ -40,7 +39,7 @@ fn a_tree_is_executed_to_each_target(rt: HostRuntime) -> Result<(), Fail> {
 #[test]
 fn a_context_hands_its_session_back(rt: HostRuntime) -> Result<(), Fail> {
     let alloc = rt.alloc();
-    let ctx = ExecutionCtx::new(alloc, VortexSession::empty()).with_allocator(alloc);
+    let ctx = ExecutionCtx::new(alloc, VortexSession::empty(alloc)).with_allocator(alloc);
     assert!(rt; format!(in alloc; "{ctx}")?.as_str() == "exec");
     let session = ctx.with_limit(5).into_session();
     assert!(rt; session.create_execution_ctx(alloc).limit() == 4_194_304);
